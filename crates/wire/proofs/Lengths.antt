@@ -1,0 +1,21 @@
+-- How long what is written is.
+use Rattle.std.proofs.Common.{◌≡◌, ℕ, ◌+◌, List, ◌++◌, length, replicate, append_assoc}
+use Rattle.std.proofs.lemmas.List.{length-replicate, length-append}
+use Rattle.byteorder.specs.Numbers.{length-bytes_low_first}
+use Rattle.wire.specs.Written.{le, zeros}
+
+pub length-le : (len n : ℕ) → length (le len n) ≡ len
+unfolding le
+length-le len n = length-bytes_low_first 0 len n
+
+pub length-zeros : (n : ℕ) → length (zeros n) ≡ n
+unfolding zeros
+length-zeros n = length-replicate {A = ℕ} n 0
+
+pub length-cat : (a b : List ℕ) → length (a ++ b) ≡ length a + length b
+length-cat a b = length-append a b
+
+pub cat_assoc : (a b c : List ℕ) → (a ++ b) ++ c ≡ a ++ (b ++ c)
+cat_assoc a b c = append_assoc a b c
+
+pub ruleset lengths = (length-le, length-zeros, length-cat, cat_assoc)

@@ -1,0 +1,5 @@
+use Rattle.wire.proofs.Again.{request_written}
+use Rattle.wire.proofs.encoding.encode_request.Goals as goal
+
+pub returns-clause-again : goal.returns-clause-again
+returns-clause-again c frame fits is = request_written frame c.args.request.now fits is

@@ -1,0 +1,108 @@
+-- Reading from left to right, with the first fault that is met.
+use Rattle.std.specs.Prelude.{◌≡◌, ℕ, ◌+◌, ◌*◌, List, [], ◌∷◌, length, take, drop, Option, Some, None, Result, Ok, Err, Bool, true, false, ◌&&◌, ◌||◌, nat_lt, nat_le, ◌==◌, if◌then◌else◌, codes}
+use Rattle.std.specs.Str.{is_utf8, bytes_eq}
+use Rattle.std.specs.List.{position, list_any}
+use Rattle.byteorder.specs.Endian.{little_number}
+use Rattle.wire.specs.declared.fault.WireFault.{WireFault}
+use Rattle.wire.specs.declared.fault.WireFault.TheVariants.{Opcode, Body, NameLong, NameBad, Frame}
+use Rattle.wire.specs.declared.request.Request.{Request}
+use Rattle.wire.specs.declared.request.Operation.{Operation}
+use Rattle.wire.specs.Grammar.{Field, number, unread, text, counted, limited, anything, Value, num, name, bytes, layout, opcode_of, values_of, opcode_in, unique_in, node_in, body_in}
+
+infixl 10 ◌>>=◌
+abbrev pub ◌>>=◌ : {A B : Type 0} → Result A WireFault → (A → Result B WireFault) → Result B WireFault
+(Ok x) >>= f = f x
+(Err e) >>= f = Err e
+
+-- what a function returned, seen by view, is what reading gives
+abbrev pub Gives : {X Y : Type 0} → (X → Y) → Result X WireFault → Result Y WireFault → Type 0
+Gives view (Ok x) read = read ≡ Ok (view x)
+Gives view (Err e) read = read ≡ Err e
+
+-- ---- one field: its value and the bytes after it
+
+abbrev pub number_at : ℕ → List ℕ → Result (ℕ × List ℕ) WireFault
+number_at len body = if nat_lt (length body) len then Err Body else Ok (little_number len body, drop len body)
+
+abbrev pub unread_at : ℕ → List ℕ → Result (List ℕ) WireFault
+unread_at len body = if nat_lt (length body) len then Err Body else Ok (drop len body)
+
+-- the text before a zero byte, by where that stands
+abbrev pub text_before : Option ℕ → List ℕ → Result (List ℕ × List ℕ) WireFault
+text_before None body = Err Body
+text_before (Some end) body = Ok (take end body, drop (end + 1) body)
+
+abbrev pub text_at : List ℕ → Result (List ℕ × List ℕ) WireFault
+text_at body = text_before (position (λ b. b == 0) body) body
+
+abbrev pub counted_at : (unit gap limit : ℕ) → List ℕ → Result (List ℕ) WireFault
+counted_at unit gap limit body =
+    if nat_lt (length body) (4 + gap) then Err Body
+    else (if nat_le (little_number 4 body) limit && length (drop (4 + gap) body) == unit * little_number 4 body then Ok (drop (4 + gap) body) else Err Body)
+
+abbrev pub limited_at : ℕ → List ℕ → Result (ℕ × List ℕ) WireFault
+limited_at limit body = number_at 4 body >>= λ x. (if nat_le x.0 limit then Ok x else Err Body)
+
+-- nothing is left
+abbrev pub ended : List ℕ → Result Bool WireFault
+ended body = if length body == 0 then Ok true else Err Body
+
+-- ---- the values of a body, before its names are tested
+
+abbrev pub values_at : List Field → List ℕ → Result (List Value) WireFault
+values_at [] body = ended body >>= λ _. Ok []
+values_at (number len ∷ fields) body = number_at len body >>= λ x. values_at fields x.1 >>= λ values. Ok (num x.0 ∷ values)
+values_at (unread len ∷ fields) body = unread_at len body >>= λ rest. values_at fields rest
+values_at (text ∷ fields) body = text_at body >>= λ x. values_at fields x.1 >>= λ values. Ok (name x.0 ∷ values)
+values_at (counted unit gap limit ∷ []) body = counted_at unit gap limit body >>= λ d. Ok (bytes d ∷ [])
+values_at (counted unit gap limit ∷ _ ∷ _) body = Err Body
+values_at (limited limit ∷ fields) body = limited_at limit body >>= λ x. values_at fields x.1 >>= λ values. Ok (num x.0 ∷ values)
+values_at (anything ∷ []) body = Ok []
+values_at (anything ∷ _ ∷ _) body = Err Body
+
+-- ---- names
+
+abbrev pub utf8_at : List ℕ → Result (List ℕ) WireFault
+utf8_at t = if is_utf8 t then Ok t else Err NameBad
+
+abbrev pub name_at : List ℕ → Result (List ℕ) WireFault
+name_at t =
+    if length t == 0 then Err NameBad
+    else (if nat_lt 255 (length t) then Err NameLong
+    else utf8_at t >>= λ u. (if bytes_eq u (codes ".") || bytes_eq u (codes "..") || list_any (λ b. b == 47) u then Err NameBad else Ok u))
+
+-- each name in turn
+abbrev pub named : List Value → Result Bool WireFault
+named [] = Ok true
+named (name t ∷ values) = name_at t >>= λ _. named values
+named (num _ ∷ values) = named values
+named (bytes _ ∷ values) = named values
+
+-- ---- an operation and a frame
+
+abbrev pub fields_at : List Field → List ℕ → Result (List Value) WireFault
+fields_at fields body = values_at fields body >>= λ values. named values >>= λ _. Ok values
+
+abbrev pub operation_by : Option (List Field) → ℕ → List ℕ → Result (ℕ × List Value) WireFault
+operation_by None opcode body = Err Opcode
+operation_by (Some fields) opcode body = fields_at fields body >>= λ values. Ok (opcode, values)
+
+unfoldable pub operation_at : ℕ → List ℕ → Result (ℕ × List Value) WireFault
+operation_at opcode body = operation_by (layout opcode) opcode body
+
+-- an operation without where its bytes lie
+abbrev pub told : Operation → ℕ × List Value
+told operation = (opcode_of operation, values_of operation)
+
+-- the frame is as long as its header says, and neither too short nor too long
+abbrev pub is_framed : List ℕ → Bool
+is_framed frame = nat_le 40 (length frame) && nat_le (length frame) 69632 && little_number 4 frame == length frame
+
+abbrev pub header_at : List ℕ → Result (ℕ × ℕ × ℕ × List ℕ) WireFault
+header_at frame = if is_framed frame then Ok (opcode_in frame, unique_in frame, node_in frame, body_in frame) else Err Frame
+
+unfoldable pub request_at : List ℕ → Result (ℕ × ℕ × (ℕ × List Value)) WireFault
+request_at frame = header_at frame >>= λ h. operation_at h.0 h.3 >>= λ x. Ok (h.1, h.2, x)
+
+abbrev pub told_request : Request → ℕ × ℕ × (ℕ × List Value)
+told_request r = (r.unique, r.node, told r.operation)

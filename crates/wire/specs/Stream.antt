@@ -1,0 +1,45 @@
+-- A stream cut into frames, each as long as its first four bytes say.
+use Rattle.std.specs.Prelude.{◌≡◌, ℕ, ◌+◌, ◌<◌, ◌≤◌, ◌⊎◌, List, [], ◌∷◌, ◌++◌, length, Option, Some, None}
+use Rattle.std.specs.List.{AllByRecursion}
+use Rattle.byteorder.specs.Endian.{little_number}
+use Rattle.wire.specs.Grammar.{IsFramed}
+
+-- what a cutter holds: the bytes that are in no frame handed out, and the length that stopped it
+pub record Cutting : Type 0 where
+  pub kept : List ℕ
+  pub stopped : Option ℕ
+
+-- the length that stands next
+abbrev pub len_in : List ℕ → ℕ
+len_in kept = little_number 4 kept
+
+-- a length that a frame may have
+pub record IsLawful (len : ℕ) : Type 0 where
+  pub long : 40 ≤ len
+  pub short : len ≤ 69632
+
+-- a length stands next that no frame has
+pub record BeginsBadly (kept : List ℕ) (len : ℕ) : Type 0 where
+  pub there : 4 ≤ length kept
+  pub is : len ≡ len_in kept
+  pub lawless : (len < 40) ⊎ (69632 < len)
+
+-- neither a whole frame stands next, nor a length that no frame has
+abbrev pub IsPartial : List ℕ → Type 0
+IsPartial kept = (length kept < 4) ⊎ (IsLawful (len_in kept) × (length kept < len_in kept))
+
+-- what stopped the cutter, if anything, stands next
+abbrev pub StoppedBy : List ℕ → Option ℕ → Type 0
+StoppedBy kept None = Unit {0}
+StoppedBy kept (Some len) = BeginsBadly kept len
+
+-- frames, one after another
+abbrev pub joined : List (List ℕ) → List ℕ
+joined [] = []
+joined (frame ∷ frames) = frame ++ joined frames
+
+-- the stream is these frames, and then a rest that begins with no whole frame
+pub record Splits (stream : List ℕ) (frames : List (List ℕ)) (rest : List ℕ) : Type 0 where
+  pub whole : stream ≡ joined frames ++ rest
+  pub each : AllByRecursion IsFramed frames
+  pub ends : (frame more : List ℕ) → IsFramed frame → rest ≡ frame ++ more → ⊥

@@ -1,0 +1,128 @@
+//! A stream of bytes, cut into frames.
+
+ghost use Rattle.std.specs.Prelude.{◌≡◌, ℕ, List, ◌+◌, ◌≤◌, ◌↔◌, ◌++◌, [], length, drop, OnOk, OnErr, IfOk, IfSome, IfNone, Some, None, Err};
+ghost use Rattle.wire.specs.Grammar.{IsFramed};
+ghost use Rattle.wire.specs.Stream.{BeginsBadly, IsPartial, Splits};
+ghost use Rattle.wire.specs.declared.cutter.CutFault.TheVariants.{Memory};
+
+use crate::standing::{Standing, standing_in};
+use std::alloc::{AllocError, Global};
+use std::marker::Model;
+
+/// Why no frame can be handed out, or no bytes taken.
+#[derive(Clone, Copy, Debug, PartialEq, Eq)]
+pub enum CutFault {
+    /// No frame has this length. No frame is handed out and no byte taken from then on.
+    BadLength { len: u32 },
+    /// Memory was refused. The cutter is as it was.
+    Memory,
+}
+
+impl From<AllocError> for CutFault {
+    ghost from_gives = { λ _ e. e ≡ Memory };
+
+    fn from(_e: AllocError) -> CutFault {
+        CutFault::Memory
+    }
+}
+
+/// Takes the bytes of a stream in any pieces, and hands out its frames.
+#[derive(Drop)]
+pub struct Cutter {
+    alloc: Global,
+    /// The bytes from `start` on are in no frame that was handed out.
+    buffer: Vec<u8>,
+    start: usize,
+    stopped: Option<u32>,
+}
+
+impl Model for Cutter {
+    ghost use Rattle.std.specs.Prelude.{◌≤◌, length, drop};
+    ghost use Rattle.wire.specs.Stream.{Cutting};
+
+    ghost Value = { Cutting };
+
+    ghost view = { λ c. record { kept = drop c.start c.buffer.items; stopped = c.stopped } };
+
+    ghost use Rattle.wire.specs.Stream.{StoppedBy};
+
+    ghost invariant = { λ c. (c.start ≤ length c.buffer.items) × StoppedBy (drop c.start c.buffer.items) c.stopped };
+}
+
+/// Moves what stands from a place on to the front.
+fn shift(buffer: &mut Vec<u8>, start: usize)
+    requires { start ≤ length buffer.old.items }
+    ensures { buffer.new.items ≡ drop start buffer.old.items }
+{
+    let left = buffer.len() - start;
+    buffer.copy_within(start.., 0);
+    buffer.truncate(left);
+}
+
+impl Cutter {
+    pub fn new(alloc: Global) -> Self
+        ensures { result ≡ record { kept = []; stopped = None } }
+    {
+        Cutter {
+            alloc,
+            buffer: Vec::new(alloc),
+            start: 0,
+            stopped: None,
+        }
+    }
+
+    /// How many bytes are in no frame that was handed out.
+    pub fn rest(&self) -> usize
+        ensures { result ≡ length self.now.kept }
+    {
+        self.buffer.len() - self.start
+    }
+
+    /// Takes the next piece. An `Err` changes nothing.
+    pub fn feed(&mut self, piece: &[u8]) -> Result<(), CutFault>
+        ensures ok { OnOk result (self.new ≡ record self.old { kept = self.old.kept ++ piece.now }) }
+        ensures err { OnErr result (self.new ≡ self.old) }
+        ensures bad { (len : ℕ) → (result ≡ Err (CutFault.BadLength len)) ↔ (self.old.stopped ≡ Some len) }
+    {
+        if let Some(len) = self.stopped {
+            return Err(CutFault::BadLength { len });
+        }
+        if self.start > 0 && self.start >= self.buffer.len() - self.start {
+            shift(&mut self.buffer, self.start);
+            self.start = 0;
+        }
+        self.buffer.extend_from_slice(piece)?;
+        Ok(())
+    }
+
+    /// The next whole frame, if it is there.
+    pub fn next(&mut self) -> Result<Option<Vec<u8>>, CutFault>
+        ensures frame { IfOk result (λ o. IfSome o (λ f. (self.old.kept ≡ f.items ++ self.new.kept) × IsFramed f.items × (self.new.stopped ≡ self.old.stopped))) }
+        ensures none { IfOk result (λ o. IfNone o (IsPartial self.old.kept × (self.new ≡ self.old))) }
+        ensures bad { (len : ℕ) → (result ≡ Err (CutFault.BadLength len)) ↔ BeginsBadly self.old.kept len }
+        ensures for_good { (len : ℕ) → result ≡ Err (CutFault.BadLength len) → self.new ≡ record self.old { stopped = Some len } }
+        ensures memory { result ≡ Err CutFault.Memory → self.new ≡ self.old }
+    {
+        if let Some(len) = self.stopped {
+            return Err(CutFault::BadLength { len });
+        }
+        match standing_in(&self.buffer[self.start..]) {
+            Standing::Partial => Ok(None),
+            Standing::Bad(len) => {
+                self.stopped = Some(len);
+                Err(CutFault::BadLength { len })
+            }
+            Standing::Whole(len) => {
+                let end = self.start + len;
+                let frame = Vec::from_slice(self.alloc, &self.buffer[self.start..end])?;
+                self.start = end;
+                Ok(Some(frame))
+            }
+        }
+    }
+}
+
+/// A stream is one list of frames and one rest, so how it was cut into pieces makes no difference.
+pub fn one_split()
+    ensures { (fs gs : List (List ℕ)) (r q stream : List ℕ) → Splits stream fs r → Splits stream gs q → (fs ≡ gs) × (r ≡ q) }
+{}
