@@ -1,0 +1,18 @@
+-- How a call on a memory tree ended.
+use Rattle.std.specs.Prelude.{◌≡◌, Result, Ok, Err, List}
+use Rattle.backing.specs.declared.call.Answer.{Answer}
+use Rattle.backing.specs.declared.refusal.Refusal.{Refusal}
+use Rattle.backing.specs.declared.refusal.Refusal.TheVariants.{Errno, Memory}
+use Rattle.backing.specs.Tree.{Tree}
+use Rattle.backing.specs.Calls.{Asked, Test, tests_of, PassesAll, Refuses, Does}
+
+-- It did its work; or the first test that failed gave the error; or there was no memory. Only its work changes the tree.
+abbrev pub Ends : Tree → Asked → Result Answer Refusal → Tree → Type 0
+Ends old call (Ok answer) new = PassesAll old (tests_of call) × Does old call answer new
+Ends old call (Err (Errno errno)) new = Refuses old (tests_of call) errno × (new ≡ old)
+Ends old call (Err Memory) new = new ≡ old
+
+-- why these tests did not all pass, unless there was no memory
+abbrev pub Refusing : Tree → List Test → Refusal → Type 0
+Refusing at tests (Errno errno) = Refuses at tests errno
+Refusing at tests Memory = Unit {0}
