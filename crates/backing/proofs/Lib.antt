@@ -4,5 +4,10 @@ pub mod Listing
 pub mod Lawful
 pub mod Putting
 pub mod WriteLemmas
+pub mod Tests
+pub mod Relocating
+pub mod PathSetting
+pub mod Renaming
+pub mod Ending
 pub mod PathLemmas
 pub mod Looking

@@ -5,3 +5,6 @@ pub mod Device
 pub mod Entries
 pub mod Refusals
 pub mod Items
+pub mod Moves
+pub mod Memory
+pub mod Known

@@ -1,8 +1,10 @@
 -- How a call on a memory tree ended.
-use Rattle.std.specs.Prelude.{◌≡◌, Result, Ok, Err, List}
+use Rattle.std.specs.Prelude.{ℤ, ◌≡◌, Result, Ok, Err, Option, Some, None, List}
 use Rattle.backing.specs.declared.call.Answer.{Answer}
 use Rattle.backing.specs.declared.refusal.Refusal.{Refusal}
 use Rattle.backing.specs.declared.refusal.Refusal.TheVariants.{Errno, Memory}
+use Rattle.backing.specs.declared.call.Answer.TheVariants.{Fault}
+use Rattle.backing.specs.declared.errno.TheConstants.{ENOMEM}
 use Rattle.backing.specs.Tree.{Tree}
 use Rattle.backing.specs.Calls.{Asked, Test, tests_of, PassesAll, Refuses, Does}
 
@@ -16,3 +18,24 @@ Ends old call (Err Memory) new = new ≡ old
 abbrev pub Refusing : Tree → List Test → Refusal → Type 0
 Refusing at tests (Errno errno) = Refuses at tests errno
 Refusing at tests Memory = Unit {0}
+
+abbrev pub errno_of : Refusal → ℤ
+errno_of (Errno errno) = errno
+errno_of Memory = ENOMEM
+
+-- the error number of a call that fails after its work
+abbrev pub errno_after : Result Answer Refusal → ℤ → ℤ
+errno_after (Ok answer) errno = errno
+errno_after (Err (Errno refused)) errno = errno
+errno_after (Err Memory) errno = ENOMEM
+
+-- whether it was done, or its error number
+abbrev pub settled : Result Answer Refusal → Result (Unit {0}) ℤ
+settled (Ok answer) = Ok tt
+settled (Err refusal) = Err (errno_of refusal)
+
+-- the tree's own answer, a refusal too, and none where there was no memory
+abbrev pub answered : Result Answer Refusal → Option Answer
+answered (Ok answer) = Some answer
+answered (Err (Errno errno)) = Some (Fault errno)
+answered (Err Memory) = None

@@ -2,6 +2,7 @@
 
 ghost use Rattle.std.specs.Prelude.{◌≡◌, ℤ};
 
+use crate::errno::ENOMEM;
 use std::alloc::{AllocError, AllocFailed};
 
 /// Why a call did not do its work.
@@ -11,6 +12,20 @@ pub enum Refusal {
     Errno(i32),
     /// There is no memory.
     Memory,
+}
+
+impl Refusal {
+    ghost use Rattle.backing.specs.Refusals.{errno_of};
+
+    /// Its error number.
+    pub fn errno(self) -> i32
+        ensures { result ≡ errno_of self }
+    {
+        match self {
+            Refusal::Errno(errno) => errno,
+            Refusal::Memory => ENOMEM,
+        }
+    }
 }
 
 impl From<i32> for Refusal {
