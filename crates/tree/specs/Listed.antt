@@ -1,12 +1,13 @@
 -- Nodes that stand in a list, in any order.
-use Rattle.std.specs.Prelude.{ℕ, ◌≡◌, ◌≤◌, ◌+◌, ◌<◌, ◌==◌, if◌then◌else◌, List, [], ◌∷◌, ◌++◌, Option, Some, None, length, reverse, sum_by}
+use Rattle.std.specs.Prelude.{ℕ, ◌≡◌, ◌≤◌, ◌+◌, ◌<◌, ◌==◌, if◌then◌else◌, List, [], ◌∷◌, ◌++◌, Some, None, length, reverse, sum_by, slice_index_or, ◌⊎◌}
 use Rattle.std.specs.Ordering.{nat_cmp}
 use Rattle.std.specs.FinMap as map
 use Rattle.paths.specs.Fronts.{Name, Names, path_bytes}
 use Rattle.tree.specs.declared.nodes.Node.{Node}
 use Rattle.tree.specs.declared.nodes.TreeFault.{TreeFault}
 use Rattle.tree.specs.declared.nodes.TreeFault.TheVariants as fault
-use Rattle.tree.specs.Places.{Lookup, IsPathOf, IsTree}
+use Rattle.tree.specs.declared.nodes.Place.TheVariants as place
+use Rattle.tree.specs.Places.{Lookup, IsPathOf, IsTree, Leads}
 
 -- the first node of a list that bears the number
 abbrev pub node_at : List Node → Lookup
@@ -27,6 +28,14 @@ pub record IsGrown (xs : List Node) : Type 0 where
 pub record IsKept (xs : List Node) (living limit : ℕ) : Type 0 where
   pub grown : IsGrown xs
   pub within : living ≤ limit
+
+-- the node of that index is not cut, and does not lead to the root
+abbrev pub IsStray : List Node → ℕ → Type 0
+IsStray xs k = (d : Node) → ((slice_index_or xs k d).place ≡ place.Cut → ⊥) × (Leads (node_at xs) (slice_index_or xs k d).number → ⊥)
+
+-- the node of that index is cut, or leads to the root
+abbrev pub IsSettled : List Node → ℕ → Type 0
+IsSettled xs k = (d : Node) → ((slice_index_or xs k d).place ≡ place.Cut) ⊎ Leads (node_at xs) (slice_index_or xs k d).number
 
 -- the nodes with their numbers
 abbrev pub entries : List Node → List (ℕ × Node)

@@ -1,10 +1,10 @@
 //! How a list of nodes changes. No step takes memory.
 
-ghost use Rattle.std.specs.Prelude.{true, false, ◌≡◌, ◌≢◌, ◌<◌, ◌≤◌, ◌+◌, ℕ, ◌++◌, None, Some, slice_get, slice_set, slice_index_or, vec_len, vec_capacity, MatchOption};
+ghost use Rattle.std.specs.Prelude.{true, false, ◌≡◌, ◌≢◌, ◌<◌, ◌≤◌, ◌+◌, ℕ, ◌++◌, None, Some, slice_get, slice_set, slice_index_or, vec_len, vec_capacity, length};
 ghost use Rattle.tree.specs.declared.nodes.Node.{Node};
 ghost use Rattle.tree.specs.declared.nodes.Place.TheVariants as Place;
-ghost use Rattle.tree.specs.Places.{IsAlive, IsNamed, IsPathOf, HasChild, IsFree, Leads, with_node, without, born_node};
-ghost use Rattle.tree.specs.Listed.{node_at, IsDistinct, IsGrown, counts_of};
+ghost use Rattle.tree.specs.Places.{IsAlive, IsRooted, IsNamed, IsPathOf, HasChild, IsFree, Leads, with_node, without, born_node};
+ghost use Rattle.tree.specs.Listed.{node_at, IsDistinct, IsGrown, IsStray, IsSettled, counts_of};
 ghost use Rattle.tree.specs.Moves.{IsBorn, CutsBelow, CanRelink, IsFreed, Moves, moved_node, cut_node};
 
 use crate::lookups::{climbs_to, find_in, index_of};
@@ -38,11 +38,24 @@ fn cut_below(nodes: &mut Vec<Node>, i: usize, _number: u64)
 {
     cut_one(nodes, i);
     for k in 0..nodes.len() {
-        let node = &nodes[k];
-        if matches!(node.place, Place::Cut) || climbs_to(nodes.as_slice(), node.number, 1) {
-            continue;
+        if is_stray(nodes.as_slice(), k) {
+            cut_one(nodes, k);
         }
-        cut_one(nodes, k);
+    }
+}
+
+/// Whether the node of that index is not cut, though it leads to the root no more.
+fn is_stray(nodes: &[Node], k: usize) -> bool
+    requires within { k < length nodes.now }
+    requires distinct { IsDistinct nodes.now }
+    requires rooted { IsRooted (node_at nodes.now) }
+    ensures yes { result ≡ true → IsStray nodes.now k }
+    ensures no { result ≡ false → IsSettled nodes.now k }
+{
+    let node = &nodes[k];
+    match &node.place {
+        Place::Cut => false,
+        _ => !climbs_to(nodes, node.number, 1),
     }
 }
 

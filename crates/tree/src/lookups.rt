@@ -158,7 +158,12 @@ pub(crate) fn expect_path(nodes: &[Node], number: u64) -> Result<(), TreeFault>
 }
 
 /// The names from the root down to the node, and then those handed in, which run upwards and have so many bytes.
-pub(crate) fn climb(nodes: &[Node], number: u64, below: Vec<Name>, below_bytes: usize) -> Result<Vec<Name>, TreeFault>
+pub(crate) fn climb(
+    nodes: &[Node],
+    number: u64,
+    below: Vec<Name>,
+    below_bytes: usize,
+) -> Result<Vec<Name>, TreeFault>
     requires grown { IsGrown nodes.now }
     requires leads { Leads (node_at nodes.now) number }
     requires bytes { below_bytes ≡ path_bytes below.items }
