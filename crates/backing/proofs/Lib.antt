@@ -9,5 +9,6 @@ pub mod Relocating
 pub mod PathSetting
 pub mod Renaming
 pub mod Ending
+pub mod Witnesses
 pub mod PathLemmas
 pub mod Looking

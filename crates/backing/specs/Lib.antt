@@ -8,3 +8,4 @@ pub mod Items
 pub mod Moves
 pub mod Memory
 pub mod Known
+pub mod Explained

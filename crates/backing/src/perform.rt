@@ -135,7 +135,7 @@ fn errno_after(ended: Result<Answer, Refusal>, errno: i32) -> i32
 }
 
 /// The answer of a failure, which is counted.
-fn fail(failures: &mut u64, errno: i32) -> Answer
+pub fn fail(failures: &mut u64, errno: i32) -> Answer
     ensures answer { result ≡ Answer.Fault errno }
     ensures counted { failures.new ≡ counted failures.old 1 }
 {

@@ -1,0 +1,38 @@
+-- When a directory whose tree is not known may tell a fault.
+use Rattle.std.specs.Prelude.{ℕ, ℤ, ◌≡◌, ◌≤◌, ◌⊎◌, List}
+use Rattle.backing.specs.declared.call.Answer.{Answer}
+use Rattle.backing.specs.declared.call.Answer.TheVariants.{Fault}
+use Rattle.backing.specs.declared.errno.TheConstants.{EBUSY, ENOENT, EEXIST, ENOTDIR, EISDIR, EINVAL, ENOTEMPTY}
+use Rattle.backing.specs.declared.folder.trouble.Reason.{Reason}
+use Rattle.backing.specs.declared.folder.trouble.Reason.TheVariants.{Root, Nothing, Taken, NoFolder, Folder, Below, Names}
+use Rattle.backing.specs.Tree.{Tree, IsTree}
+use Rattle.backing.specs.Calls.{Asked, Test, Refuses, tests_of}
+use Rattle.backing.specs.Device.{Rises}
+
+abbrev pub errno_of : Reason → ℤ
+errno_of Root = EBUSY
+errno_of Nothing = ENOENT
+errno_of Taken = EEXIST
+errno_of NoFolder = ENOTDIR
+errno_of Folder = EISDIR
+errno_of Below = EINVAL
+errno_of Names = ENOTEMPTY
+
+-- some tree refuses these tests with that error
+pub record Explained (tests : List Test) (errno : ℤ) : Type 0 where
+  pub at : Tree
+  pub is_tree : IsTree at
+  pub refuses : Refuses at tests errno
+
+-- some tree refuses the call with that error
+abbrev pub Explains : Asked → ℤ → Type 0
+Explains call errno = Explained (tests_of call) errno
+
+abbrev pub IsNoFault : Answer → Type 0
+IsNoFault (Fault errno) = ⊥
+IsNoFault answer = Unit {0}
+
+-- A fault comes only where the count of failures rose, or where some tree refuses the call so.
+pub record Tells (before : ℕ) (call : Asked) (answer : Answer) (after : ℕ) : Type 0 where
+  pub never_falls : before ≤ after
+  pub why : (errno : ℤ) → answer ≡ Fault errno → Explains call errno ⊎ Rises before 1 after

@@ -1,0 +1,135 @@
+//! The way down a path of the file system.
+
+use super::trouble::{Reason, Trouble};
+use crate::errno::EINVAL;
+use paths::{Name, Path};
+use std::alloc::{AllocError, Global};
+use std::fs::{File, Metadata};
+use std::io::ErrorKind;
+use std::os::unix::fs::MetadataExt;
+use std::rt::Files;
+use std::{fs, io};
+
+/// Which file it is, and how long it was.
+#[derive(Clone, Copy)]
+pub struct Identity {
+    device: u64,
+    inode: u64,
+    pub size: u64,
+}
+
+impl Identity {
+    pub fn of(metadata: &Metadata) -> Identity {
+        Identity {
+            device: metadata.dev(),
+            inode: metadata.ino(),
+            size: metadata.size(),
+        }
+    }
+
+    /// Whether the open file is the one that was found.
+    pub fn is_of(&self, metadata: &Metadata) -> bool {
+        self.device == metadata.dev() && self.inode == metadata.ino()
+    }
+}
+
+/// What stands at a path.
+#[derive(Clone, Copy)]
+pub enum Found {
+    Nothing,
+    Folder(Identity),
+    File(Identity),
+    /// Neither a file nor a folder. It is never followed or opened.
+    Hidden,
+}
+
+/// A path of the file system that grows from the root down, always in one buffer.
+#[derive(Drop)]
+pub struct Walk {
+    root: String,
+    top: Identity,
+    path: String,
+}
+
+impl Walk {
+    pub fn new(alloc: Global, root: String, top: Identity) -> Walk {
+        Walk {
+            root,
+            top,
+            path: String::new(alloc),
+        }
+    }
+
+    /// Where it stands.
+    pub fn path(&self) -> &str {
+        self.path.as_str()
+    }
+
+    /// Back to the root.
+    pub fn start(&mut self) -> Result<(), AllocError> {
+        self.path.clear();
+        self.path.push_str(self.root.as_str())
+    }
+
+    /// Goes down by a name, if a folder can hold it.
+    pub fn enter(&mut self, name: &Name) -> Result<(), Trouble> {
+        let text = name.as_str();
+        if !is_lawful(text) {
+            return Err(Trouble::Failed(EINVAL));
+        }
+        self.path.push_str("/")?;
+        self.path.push_str(text)?;
+        Ok(())
+    }
+
+    /// Goes down from the root, and answers what stands there: one `lstat` for each name.
+    pub fn find<R: Files>(&mut self, rt: &R, names: &[Name]) -> Result<Found, Trouble> {
+        self.start()?;
+        let mut found = Found::Folder(self.top);
+        for name in names {
+            expect_folder(found)?;
+            self.enter(name)?;
+            found = look(rt, self.path())?;
+        }
+        Ok(found)
+    }
+}
+
+/// Whether a folder of the system can hold that name: it is not empty, not `.` or `..`, and has neither `/` nor NUL.
+fn is_lawful(text: &str) -> bool {
+    let mut plain = !text.is_empty() && text != "." && text != "..";
+    for byte in text.as_bytes() {
+        if *byte == b'/' || *byte == 0 {
+            plain = false;
+        }
+    }
+    plain
+}
+
+/// What stands at that very path, its links not followed: one `lstat`.
+pub fn look<R: Files>(rt: &R, path: &str) -> Result<Found, Trouble> {
+    match fs::symlink_metadata(rt, path) {
+        Ok(metadata) => Ok(found_of(&metadata)),
+        Err(error) if error.kind() == ErrorKind::NotFound => Ok(Found::Nothing),
+        Err(error) => Err(Trouble::from(error)),
+    }
+}
+
+fn found_of(metadata: &Metadata) -> Found {
+    if metadata.is_dir() {
+        Found::Folder(Identity::of(metadata))
+    } else if metadata.is_file() {
+        Found::File(Identity::of(metadata))
+    } else {
+        Found::Hidden
+    }
+}
+
+/// Something below it can be reached.
+fn expect_folder(found: Found) -> Result<(), Trouble> {
+    match found {
+        Found::Folder(_) => Ok(()),
+        Found::File(_) => Err(Trouble::Refused(Reason::NoFolder)),
+        Found::Nothing | Found::Hidden => Err(Trouble::Refused(Reason::Nothing)),
+    }
+}
