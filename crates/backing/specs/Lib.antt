@@ -9,3 +9,4 @@ pub mod Moves
 pub mod Memory
 pub mod Known
 pub mod Explained
+pub mod SharedTree

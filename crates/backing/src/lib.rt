@@ -17,6 +17,7 @@ mod plans;
 mod reading;
 mod refusal;
 mod removing;
+mod shared;
 mod writing;
 
 pub use bytes::Bytes;
@@ -25,3 +26,4 @@ pub use calls::{Calls, KnownTree};
 pub use folder::Folder;
 pub use memory::MemTree;
 pub use plans::Fault;
+pub use shared::Shared;

@@ -79,7 +79,8 @@ impl MemTree {
 
     /// How many of its calls have failed.
     pub fn failures(&self) -> u64
-        ensures { result ≡ self.now.failed }
+        ensures failed { result ≡ self.now.failed }
+        ensures tree { IsTree (memory_tree self.now) }
     {
         self.failures
     }
