@@ -8,7 +8,7 @@ use Rattle.backing.specs.declared.errno.TheConstants.{ENOMEM}
 use Rattle.backing.specs.declared.refusal.Refusal.{Refusal}
 use Rattle.backing.specs.declared.refusal.Refusal.TheVariants.{Errno, Memory}
 use Rattle.backing.specs.Tree.{Tree}
-use Rattle.backing.specs.Calls.{Asked, AskMake, AskMakeDir, AskWrite, Works, Does}
+use Rattle.backing.specs.Calls.{Asked, AskMake, AskMakeDir, AskWrite, Works, Starves, Does}
 use Rattle.backing.specs.Device.{Device, Sound, After}
 use Rattle.backing.specs.Memory.{Treated, PutsDir, PutsFile, counted}
 use Rattle.backing.specs.Refusals.{Ends, answered, errno_after, settled}
@@ -24,7 +24,7 @@ works_answered old new call (Ok own) answer ends is = subst (λ (a : Answer). Wo
 works_answered old new call (Err (Errno errno)) answer ends is = subst (λ (a : Answer). Works old call a new) (same_Some (Fault errno) answer is) (works_refused old new call errno ends)
 works_answered old new call (Err Memory) answer ends is = cc
 
-unanswered : (old new : Tree) (call : Asked) (ended : Result Answer Refusal) → Ends old call ended new → answered ended ≡ None → new ≡ old
+unanswered : (old new : Tree) (call : Asked) (ended : Result Answer Refusal) → Ends old call ended new → answered ended ≡ None → Starves old call × (new ≡ old)
 unanswered old new call (Ok own) ends is = cc
 unanswered old new call (Err (Errno errno)) ends is = cc
 unanswered old new call (Err Memory) ends is = ends
@@ -33,17 +33,17 @@ pub soundly_answered : (old new : Tree) (n : ℕ) (call : Asked) (ended : Result
 soundly_answered old new n call ended found answer ends is some = inl (works_answered old new call ended answer ends (sym is ∙ some), none_counted n)
 
 pub no_memory : (old new : Tree) (n m : ℕ) (device : Device) (call : Asked) (ended : Result Answer Refusal) (found : Option Answer) (answer : Answer) → Ends old call ended new → found ≡ answered ended → found ≡ None → answer ≡ Fault ENOMEM → m ≡ counted n 1 → Treated old n device call answer new m
-no_memory old new n m device call ended found answer ends is none fault count = inr (fault, unanswered old new call ended ends (sym is ∙ none), count)
+no_memory old new n m device call ended found answer ends is none fault count = let it = unanswered old new call ended ends (sym is ∙ none) in inr (it.0, fault, it.1, count)
 
 pub after_work : (old new : Tree) (n m : ℕ) (call : Asked) (ended : Result Answer Refusal) (errno : ℤ) (answer : Answer) → Ends old call ended new → answer ≡ Fault (errno_after ended errno) → m ≡ counted n 1 → Treated old n (After errno) call answer new m
 after_work old new n m call (Ok own) errno answer ends is count = inl ((is, (own, inl ends)), count)
 after_work old new n m call (Err (Errno refused)) errno answer ends is count = inl ((is, (Fault refused, works_refused old new call refused ends)), count)
-after_work old new n m call (Err Memory) errno answer ends is count = inr (is, ends, count)
+after_work old new n m call (Err Memory) errno answer ends is count = inr (ends.0, is, ends.1, count)
 
 pub puts_dir : (old new : Tree) (p : Names) (ended : Result Answer Refusal) → Ends old (AskMakeDir p) ended new → PutsDir old p (settled ended) new
 puts_dir old new p (Ok answer) ends = inl (ends.0, (refl, ends.1.1))
 puts_dir old new p (Err (Errno errno)) ends = inl (works_refused old new (AskMakeDir p) errno ends)
-puts_dir old new p (Err Memory) ends = inr (refl, ends)
+puts_dir old new p (Err Memory) ends = inr (ends.0, refl, ends.1)
 
 pub puts_no_file : (old new : Tree) (p : Names) (bytes : List ℕ) (made : Result Answer Refusal) (errno : ℤ) → Ends old (AskMake p) made new → settled made ≡ Err errno → PutsFile old p bytes (Err errno) new
 puts_no_file old new p bytes (Ok answer) errno ends is = cc
@@ -52,7 +52,7 @@ puts_no_file old new p bytes (Err (Errno refused)) errno ends is =
     inl (inl (subst (λ (n : ℤ). Works old (AskMake p) (Fault n) new) e (works_refused old new (AskMake p) refused ends)))
 puts_no_file old new p bytes (Err Memory) errno ends is =
     let e : ENOMEM ≡ errno = cc in
-    inl (inr (sym e, ends))
+    inl (inr (ends.0, sym e, ends.1))
 
 works_made : (old mid : Tree) (p : Names) (made : Result Answer Refusal) (done : Unit {0}) → Ends old (AskMake p) made mid → settled made ≡ Ok done → Works old (AskMake p) Done mid
 works_made old mid p (Ok answer) done ends is = inl (ends.0, (refl, ends.1.1))
@@ -67,4 +67,4 @@ puts_file old mid new p bytes made (Ok answer) done makes is ends =
     let wrote = does_wrote mid new p bytes answer ends.1 in
     (mid, works_made old mid p made done makes is, (wrote.0, inl (ends.0, wrote.1)))
 puts_file old mid new p bytes made (Err (Errno errno)) done makes is ends = inr (mid, works_made old mid p made done makes is, inl (works_refused mid new (AskWrite p 0 bytes) errno ends))
-puts_file old mid new p bytes made (Err Memory) done makes is ends = inr (mid, works_made old mid p made done makes is, inr (refl, ends))
+puts_file old mid new p bytes made (Err Memory) done makes is ends = inr (mid, works_made old mid p made done makes is, inr (ends.0, refl, ends.1))

@@ -10,5 +10,6 @@ pub mod PathSetting
 pub mod Renaming
 pub mod Ending
 pub mod Witnesses
+pub mod Keeping
 pub mod PathLemmas
 pub mod Looking

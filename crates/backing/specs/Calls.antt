@@ -153,3 +153,21 @@ Does old (AskSync p) answer new = (answer ≡ Done) × (new ≡ old)
 -- and no change.
 abbrev pub Works : Tree → Asked → Answer → Tree → Type 0
 Works old call answer new = (PassesAll old (tests_of call) × Does old call answer new) ⊎ ((errno : ℤ) × Refuses old (tests_of call) errno × (answer ≡ Fault errno) × (new ≡ old))
+
+-- the calls that a tree in memory takes memory for
+abbrev pub TakesMemory : Asked → Type 0
+TakesMemory (AskStat p) = ⊥
+TakesMemory (AskList p) = Unit {0}
+TakesMemory (AskMake p) = Unit {0}
+TakesMemory (AskMakeDir p) = Unit {0}
+TakesMemory (AskRemove p) = ⊥
+TakesMemory (AskRemoveDir p) = ⊥
+TakesMemory (AskRename s t) = Unit {0}
+TakesMemory (AskRead p offset size) = Unit {0}
+TakesMemory (AskWrite p offset piece) = Unit {0}
+TakesMemory (AskSetLen p size) = Unit {0}
+TakesMemory (AskSync p) = ⊥
+
+-- Nothing but want of memory keeps the tree from doing the call's work.
+abbrev pub Starves : Tree → Asked → Type 0
+Starves old call = PassesAll old (tests_of call) × TakesMemory call

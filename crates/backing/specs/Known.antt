@@ -12,7 +12,7 @@ rises before by after e = record { never_falls = omega arith; counts = λ room. 
 
 treated_known : (old new : Tree) (before after : ℕ) (device : Device) (call : Asked) (answer : Answer) → Treated old before device call answer new after → Counted old before call answer new after
 treated_known old new before after device call answer (inl (performs, count)) = (device, performs, rises before (faulty device) after count)
-treated_known old new before after device call answer (inr (answers, stays, count)) = (Before ENOMEM, (answers, stays), rises before 1 after count)
+treated_known old new before after device call answer (inr (starves, answers, stays, count)) = (Before ENOMEM, (answers, stays), rises before 1 after count)
 
 pub memory_known : (old new : Memory) (call : Asked) (answer : Answer) → Gives old call answer new → Counted (memory_tree old) old.failed call answer (memory_tree new) new.failed
 memory_known old new call answer given = treated_known (memory_tree old) (memory_tree new) old.failed new.failed (next_device old.plans old.made) call answer given.treated

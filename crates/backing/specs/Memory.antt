@@ -9,7 +9,7 @@ use Rattle.backing.specs.declared.plans.Plan.{Plan}
 use Rattle.backing.specs.declared.plans.Fault.{Fault as Planned}
 use Rattle.backing.specs.declared.plans.Fault.TheVariants as planned
 use Rattle.backing.specs.Tree.{Tree, IsTree}
-use Rattle.backing.specs.Calls.{Asked, AskMake, AskMakeDir, AskWrite, Works}
+use Rattle.backing.specs.Calls.{Asked, AskMake, AskMakeDir, AskWrite, Works, Starves}
 use Rattle.backing.specs.Device.{Device, Sound, Before, After, Performs, faulty}
 use Rattle.backing.specs.Entries.{tree_of}
 
@@ -46,9 +46,10 @@ counted n by = n + min by (2 ^ 64 - 1 - n)
 abbrev pub next_device : List Plan → ℕ → Device
 next_device plans made = if nat_lt made (2 ^ 64 - 1) then planned_at plans (made + 1) else Sound
 
--- The call is the tree's, as the device treats it; or memory was refused, which changes nothing and counts as a failure.
+-- The call is the tree's, as the device treats it; or memory was refused for its work, which changes nothing and counts as
+-- a failure.
 abbrev pub Treated : Tree → ℕ → Device → Asked → Answer → Tree → ℕ → Type 0
-Treated old before device call answer new after = (Performs old device call answer new × (after ≡ counted before (faulty device))) ⊎ ((answer ≡ Fault ENOMEM) × (new ≡ old) × (after ≡ counted before 1))
+Treated old before device call answer new after = (Performs old device call answer new × (after ≡ counted before (faulty device))) ⊎ (Starves old call × (answer ≡ Fault ENOMEM) × (new ≡ old) × (after ≡ counted before 1))
 
 -- a call, and what it leaves
 pub record Gives (old : Memory) (call : Asked) (answer : Answer) (new : Memory) : Type 0 where
@@ -66,9 +67,9 @@ pub record SameBut (old new : Memory) : Type 0 where
 -- what a folder that is put there is, and why it is not
 abbrev pub PutsDir : Tree → Names → Result (Unit {0}) ℤ → Tree → Type 0
 PutsDir old p (Ok done) new = Works old (AskMakeDir p) Done new
-PutsDir old p (Err errno) new = Works old (AskMakeDir p) (Fault errno) new ⊎ ((errno ≡ ENOMEM) × (new ≡ old))
+PutsDir old p (Err errno) new = Works old (AskMakeDir p) (Fault errno) new ⊎ (Starves old (AskMakeDir p) × (errno ≡ ENOMEM) × (new ≡ old))
 
 -- a file is made and then written; where the write fails, the empty file stays
 abbrev pub PutsFile : Tree → Names → List ℕ → Result (Unit {0}) ℤ → Tree → Type 0
 PutsFile old p bytes (Ok done) new = (mid : Tree) × Works old (AskMake p) Done mid × ((n : ℕ) × Works mid (AskWrite p 0 bytes) (Wrote n) new)
-PutsFile old p bytes (Err errno) new = (Works old (AskMake p) (Fault errno) new ⊎ ((errno ≡ ENOMEM) × (new ≡ old))) ⊎ ((mid : Tree) × Works old (AskMake p) Done mid × (Works mid (AskWrite p 0 bytes) (Fault errno) new ⊎ ((errno ≡ ENOMEM) × (new ≡ mid))))
+PutsFile old p bytes (Err errno) new = (Works old (AskMake p) (Fault errno) new ⊎ (Starves old (AskMake p) × (errno ≡ ENOMEM) × (new ≡ old))) ⊎ ((mid : Tree) × Works old (AskMake p) Done mid × (Works mid (AskWrite p 0 bytes) (Fault errno) new ⊎ (Starves mid (AskWrite p 0 bytes) × (errno ≡ ENOMEM) × (new ≡ mid))))

@@ -6,18 +6,18 @@ use Rattle.backing.specs.declared.refusal.Refusal.TheVariants.{Errno, Memory}
 use Rattle.backing.specs.declared.call.Answer.TheVariants.{Fault}
 use Rattle.backing.specs.declared.errno.TheConstants.{ENOMEM}
 use Rattle.backing.specs.Tree.{Tree}
-use Rattle.backing.specs.Calls.{Asked, Test, tests_of, PassesAll, Refuses, Does}
+use Rattle.backing.specs.Calls.{Asked, Test, tests_of, PassesAll, Refuses, Does, Starves}
 
--- It did its work; or the first test that failed gave the error; or there was no memory. Only its work changes the tree.
+-- It did its work; or the first test that failed gave the error; or there was no memory for its work. Only its work changes the tree.
 abbrev pub Ends : Tree → Asked → Result Answer Refusal → Tree → Type 0
 Ends old call (Ok answer) new = PassesAll old (tests_of call) × Does old call answer new
 Ends old call (Err (Errno errno)) new = Refuses old (tests_of call) errno × (new ≡ old)
-Ends old call (Err Memory) new = new ≡ old
+Ends old call (Err Memory) new = Starves old call × (new ≡ old)
 
--- why these tests did not all pass, unless there was no memory
+-- why these tests did not all pass, unless they did and there was no memory
 abbrev pub Refusing : Tree → List Test → Refusal → Type 0
 Refusing at tests (Errno errno) = Refuses at tests errno
-Refusing at tests Memory = Unit {0}
+Refusing at tests Memory = PassesAll at tests
 
 abbrev pub errno_of : Refusal → ℤ
 errno_of (Errno errno) = errno

@@ -5,10 +5,11 @@ use crate::places::sample_folder;
 use backing::Folder;
 use std::fs;
 use std::os::unix::fs::symlink;
+use std::os::unix::net::UnixListener;
 use std::test::Fail;
 
 #[test]
-fn links_are_not_shown(rt: HostRuntime) -> Result<(), Fail> {
+fn links_and_sockets_are_not_shown(rt: HostRuntime) -> Result<(), Fail> {
     let root = sample_folder(&rt, "links")?;
     let alloc = rt.alloc();
     symlink(&rt, "a", format!(in alloc; "{root}/link")?.as_str())?;
@@ -19,6 +20,7 @@ fn links_are_not_shown(rt: HostRuntime) -> Result<(), Fail> {
         format!(in alloc; "{root}/d/out")?.as_str(),
     )?;
     fs::write(&rt, format!(in alloc; "{root}/d/in")?.as_str(), "in")?;
+    let _listener = UnixListener::bind(&rt, format!(in alloc; "{root}/socket")?.as_str())?;
     let mut folder = Folder::open(rt, root.as_str())?;
     let rows: &[(&str, &str)] = &[
         ("list .", "names a d/ e"),
@@ -30,6 +32,9 @@ fn links_are_not_shown(rt: HostRuntime) -> Result<(), Fail> {
         ("make way/new", "fault 2"),
         ("list way", "fault 2"),
         ("remove link", "fault 2"),
+        ("stat socket", "fault 2"),
+        ("read socket 0 9", "fault 2"),
+        ("make socket/x", "fault 2"),
         ("rename link b", "fault 2"),
         ("read d/out 0 9", "fault 2"),
         ("write d/out 0 x", "fault 2"),
