@@ -10,3 +10,4 @@ pub mod Memory
 pub mod Known
 pub mod Explained
 pub mod SharedTree
+pub mod Troubles

@@ -8,7 +8,7 @@ mod walk;
 
 ghost use Rattle.std.specs.Prelude.{◌≡◌, ℕ, IfOk};
 ghost use Rattle.backing.specs.Calls.{asked};
-ghost use Rattle.backing.specs.Explained.{IsNoFault, Tells};
+ghost use Rattle.backing.specs.Explained.{Suits, Tells};
 
 use crate::call::{Answer, Call};
 use crate::calls::Calls;
@@ -88,7 +88,7 @@ fn perform<R: Files<File = File> + AllocGlobal + Clone + Drop>(
     target: &mut Walk,
     call: Call<'_>,
 ) -> Result<Answer, Trouble>
-    ensures { IfOk result IsNoFault }
+    ensures { IfOk result (Suits (asked call.entry)) }
 {
     match call {
         Call::Stat(path) => stat(rt, walk, path),
@@ -107,7 +107,7 @@ fn perform<R: Files<File = File> + AllocGlobal + Clone + Drop>(
 
 /// The answer, and one failure more unless the call was done or what was found explains its error.
 fn conclude(failures: &mut u64, call: Call<'_>, ended: Result<Answer, Trouble>) -> Answer
-    requires { IfOk ended IsNoFault }
+    requires { IfOk ended (Suits (asked call)) }
     ensures { Tells failures.old (asked call.entry) result failures.new }
 {
     match ended {

@@ -1,7 +1,8 @@
 //! Calls on the names of a real folder.
 
 ghost use Rattle.std.specs.Prelude.{IfOk};
-ghost use Rattle.backing.specs.Explained.{IsNoFault};
+ghost use Rattle.backing.specs.Calls.{AskList, AskMake, AskMakeDir, AskRemove, AskRemoveDir, AskRename};
+ghost use Rattle.backing.specs.Explained.{Suits};
 
 use super::files::find_file;
 use super::trouble::{Reason, Trouble};
@@ -21,7 +22,7 @@ pub fn list<R: Files + AllocGlobal + Clone + Drop>(
     walk: &mut Walk,
     path: &Path,
 ) -> Result<Answer, Trouble>
-    ensures { IfOk result IsNoFault }
+    ensures { IfOk result (Suits (AskList path.now)) }
 {
     find_folder(rt, walk, path)?;
     let mut list = Vec::new(rt.alloc());
@@ -60,7 +61,7 @@ fn push_child(list: &mut Vec<Child>, alloc: Global, name: &str, kind: Kind) -> R
 
 /// Makes an empty file: `open` with `O_EXCL`, `close`.
 pub fn make<R: Files<File = File>>(rt: &R, walk: &mut Walk, path: &Path) -> Result<Answer, Trouble>
-    ensures { IfOk result IsNoFault }
+    ensures { IfOk result (Suits (AskMake path.now)) }
 {
     find_place(rt, walk, path)?;
     let _made = File::create_new(rt, walk.path())?;
@@ -69,7 +70,7 @@ pub fn make<R: Files<File = File>>(rt: &R, walk: &mut Walk, path: &Path) -> Resu
 
 /// Makes an empty folder: `mkdir`.
 pub fn make_dir<R: Files>(rt: &R, walk: &mut Walk, path: &Path) -> Result<Answer, Trouble>
-    ensures { IfOk result IsNoFault }
+    ensures { IfOk result (Suits (AskMakeDir path.now)) }
 {
     find_place(rt, walk, path)?;
     fs::create_dir(rt, walk.path())?;
@@ -78,7 +79,7 @@ pub fn make_dir<R: Files>(rt: &R, walk: &mut Walk, path: &Path) -> Result<Answer
 
 /// Removes the file: `unlink`.
 pub fn remove<R: Files>(rt: &R, walk: &mut Walk, path: &Path) -> Result<Answer, Trouble>
-    ensures { IfOk result IsNoFault }
+    ensures { IfOk result (Suits (AskRemove path.now)) }
 {
     find_file(rt, walk, path)?;
     fs::remove_file(rt, walk.path())?;
@@ -91,7 +92,7 @@ pub fn remove_dir<R: Files + AllocGlobal + Clone + Drop>(
     walk: &mut Walk,
     path: &Path,
 ) -> Result<Answer, Trouble>
-    ensures { IfOk result IsNoFault }
+    ensures { IfOk result (Suits (AskRemoveDir path.now)) }
 {
     if path.len() == 0 {
         return Err(Trouble::Refused(Reason::Root));
@@ -110,7 +111,7 @@ pub fn rename<R: Files + AllocGlobal + Clone + Drop>(
     from: &Path,
     to: &Path,
 ) -> Result<Answer, Trouble>
-    ensures { IfOk result IsNoFault }
+    ensures { IfOk result (Suits (AskRename from.now to.now)) }
 {
     if from.len() == 0 || to.len() == 0 {
         return Err(Trouble::Refused(Reason::Root));

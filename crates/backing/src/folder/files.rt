@@ -1,7 +1,8 @@
 //! Calls on what a real file holds.
 
 ghost use Rattle.std.specs.Prelude.{IfOk};
-ghost use Rattle.backing.specs.Explained.{IsNoFault};
+ghost use Rattle.backing.specs.Calls.{AskStat, AskRead, AskWrite, AskSetLen, AskSync};
+ghost use Rattle.backing.specs.Explained.{Suits};
 
 use super::trouble::{Reason, Trouble};
 use super::walk::{Found, Identity, Walk};
@@ -16,7 +17,7 @@ use std::rt::Files;
 
 /// What stands at the path.
 pub fn stat<R: Files>(rt: &R, walk: &mut Walk, path: &Path) -> Result<Answer, Trouble>
-    ensures { IfOk result IsNoFault }
+    ensures { IfOk result (Suits (AskStat path.now)) }
 {
     match walk.find(rt, path.names())? {
         Found::Folder(_) => Ok(Answer::Stat {
@@ -39,7 +40,7 @@ pub fn read<R: Files<File = File> + AllocGlobal>(
     offset: u64,
     size: u32,
 ) -> Result<Answer, Trouble>
-    ensures { IfOk result IsNoFault }
+    ensures { IfOk result (Suits (AskRead path.now offset size)) }
 {
     let identity = find_file(rt, walk, path)?;
     let file = File::open(rt, walk.path())?;
@@ -72,7 +73,7 @@ pub fn write<R: Files<File = File>>(
     offset: u64,
     piece: &[u8],
 ) -> Result<Answer, Trouble>
-    ensures { IfOk result IsNoFault }
+    ensures { IfOk result (Suits (AskWrite path.now offset piece.now)) }
 {
     let identity = find_file(rt, walk, path)?;
     if piece.is_empty() {
@@ -91,7 +92,7 @@ pub fn set_len<R: Files<File = File>>(
     path: &Path,
     size: u64,
 ) -> Result<Answer, Trouble>
-    ensures { IfOk result IsNoFault }
+    ensures { IfOk result (Suits (AskSetLen path.now size)) }
 {
     let identity = find_file(rt, walk, path)?;
     let file = open_to_write(rt, walk.path())?;
@@ -102,7 +103,7 @@ pub fn set_len<R: Files<File = File>>(
 
 /// Brings the file or the folder to the disk: `open`, `fstat`, `fsync`, `close`.
 pub fn sync<R: Files<File = File>>(rt: &R, walk: &mut Walk, path: &Path) -> Result<Answer, Trouble>
-    ensures { IfOk result IsNoFault }
+    ensures { IfOk result (Suits (AskSync path.now)) }
 {
     let identity = match walk.find(rt, path.names())? {
         Found::Folder(identity) => identity,

@@ -1,6 +1,7 @@
 //! Why a call on a real folder did not do its work.
 
 ghost use Rattle.std.specs.Prelude.{◌≡◌};
+ghost use Rattle.backing.specs.Troubles.{number_of};
 
 use crate::errno::{
     EACCES, EBUSY, EEXIST, EINVAL, EIO, EISDIR, ENOENT, ENOMEM, ENOTDIR, ENOTEMPTY,
@@ -57,25 +58,43 @@ pub enum Trouble {
 }
 
 impl From<io::Error> for Trouble {
+    ghost use Rattle.std.specs.IoError.{error_kind};
+    ghost use Rattle.backing.specs.Troubles.{number_of};
+    ghost use Rattle.backing.specs.declared.folder.trouble.Trouble.TheVariants as Trouble;
+
+    ghost from_gives = { λ error trouble. trouble ≡ Trouble.Failed (number_of (error_kind error)) };
+
     fn from(error: io::Error) -> Trouble {
-        Trouble::Failed(errno_of(error.kind()))
+        Trouble::Failed(number_of(error.kind()))
     }
 }
 
 impl From<AllocError> for Trouble {
+    ghost use Rattle.backing.specs.declared.folder.trouble.Trouble.TheVariants as Trouble;
+    ghost use Rattle.backing.specs.declared.errno.TheConstants.{ENOMEM};
+
+    ghost from_gives = { λ _ trouble. trouble ≡ Trouble.Failed ENOMEM };
+
     fn from(_: AllocError) -> Trouble {
         Trouble::Failed(ENOMEM)
     }
 }
 
 impl<T: Drop> From<AllocFailed<T>> for Trouble {
+    ghost use Rattle.backing.specs.declared.folder.trouble.Trouble.TheVariants as Trouble;
+    ghost use Rattle.backing.specs.declared.errno.TheConstants.{ENOMEM};
+
+    ghost from_gives = { λ _ trouble. trouble ≡ Trouble.Failed ENOMEM };
+
     fn from(_: AllocFailed<T>) -> Trouble {
         Trouble::Failed(ENOMEM)
     }
 }
 
 /// The error number that a failure of the system is told by.
-fn errno_of(kind: ErrorKind) -> i32 {
+fn number_of(kind: ErrorKind) -> i32
+    ensures { result ≡ number_of kind }
+{
     match kind {
         ErrorKind::NotFound => ENOENT,
         ErrorKind::PermissionDenied => EACCES,
