@@ -1,0 +1,3 @@
+//! Whether an image is lawful.
+
+mod nodes;
