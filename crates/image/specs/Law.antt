@@ -4,7 +4,7 @@ use Rattle.std.specs.Prelude.{ℕ, ◌+◌, ◌<◌, ◌≡◌, ◌≢◌, ◌==
 use Rattle.std.specs.List.{list_any}
 use Rattle.ledger.specs.declared.postings.Posting.{Posting}
 use Rattle.ledger.specs.declared.postings.Posting.TheVariants.{Born, Entry, Back, Forget}
-use Rattle.ledger.specs.Sums.{births_of, entries_of, given_of, IsNeverNegative}
+use Rattle.ledger.specs.Sums.{number_of, births_of, entries_of, given_of, IsNeverNegative}
 use Rattle.tree.specs.declared.nodes.Key.{Key}
 use Rattle.tree.specs.declared.nodes.Node.{Node}
 use Rattle.tree.specs.declared.nodes.Place.TheVariants.{Named}
@@ -13,13 +13,6 @@ use Rattle.image.specs.declared.data.Image.{Image}
 use Rattle.image.specs.declared.data.Record.{Record}
 
 -- ---- the ledger
-
--- the number that a posting is about
-abbrev pub number_of : Posting → ℕ
-number_of (Born n g) = n
-number_of (Entry n g) = n
-number_of (Back n g) = n
-number_of (Forget n g amount) = n
 
 -- a posting may stand after those: a birth bears the number of births of its number before it as its generation,
 -- and all else stands after the birth of its number and generation

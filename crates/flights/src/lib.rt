@@ -1,0 +1,6 @@
+//! The requests in flight: what each was begun with, the nodes that it pins, and what it may still add.
+#![tactic(auto)]
+
+mod data;
+
+pub use data::{Flight, Given, Givens, Pins, Promise, Stage, Want, Work};

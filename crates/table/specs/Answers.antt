@@ -1,0 +1,27 @@
+-- What contracts see of tickets and answers.
+use Rattle.std.specs.Prelude.{ℕ, ◌+◌, Bool, List, [], ◌∷◌, Option, Some, None}
+use Rattle.flights.specs.declared.data.Given.{Given}
+use Rattle.paths.specs.Fronts.{Names}
+
+-- a request that goes on: its id, and its path when it began
+pub record Claim : Type 0 where
+  pub id : ℕ
+  pub path : Names
+
+-- what a finished request gives: a node or none for each of its names
+pub record Answer : Type 0 where
+  pub id : ℕ
+  pub given : List (Option Given)
+  pub lost : Bool
+
+-- what a settle did
+pub record Settlement : Type 0 where
+  pub id : ℕ
+  pub entries : ℕ
+  pub taken : Bool
+
+-- how many nodes were given
+abbrev pub entries_in : List (Option Given) → ℕ
+entries_in [] = 0
+entries_in (None ∷ gs) = entries_in gs
+entries_in (Some g ∷ gs) = 1 + entries_in gs

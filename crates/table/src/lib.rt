@@ -1,0 +1,8 @@
+//! The locked state of a path-based server: nodes with lookup counts, their ledger, and the requests in flight.
+//!
+//! Each call is one atomic step. The type keeps the law of the crate `image` over every run of steps.
+#![tactic(auto)]
+
+mod data;
+
+pub use data::{Answered, Begin, Limits, Outcome, Settled, Ticket};
