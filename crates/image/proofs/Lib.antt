@@ -1,3 +1,4 @@
 pub mod Listed
 pub mod Pairs
 pub mod Trees
+pub mod Ledgers

@@ -1,3 +1,4 @@
 //! Whether an image is lawful.
 
 mod nodes;
+mod postings;
