@@ -1,8 +1,8 @@
 -- What a ledger in order tells, read from its end.
-use Rattle.std.proofs.Common.{ℕ, ◌+◌, ◌-◌, ◌<◌, ◌≤◌, ◌^◌, ◌≡◌, ◌==◌, ◌&&◌, Bool, true, false, cond, List, [], ◌∷◌, ◌++◌, Contains, length, get_or, take, drop, refl, sym, ap, ◌∙◌, subst, length-take, arith}
+use Rattle.std.proofs.Common.{ℕ, ◌+◌, ◌-◌, ◌<◌, ◌≤◌, ◌≡◌, ◌==◌, ◌&&◌, true, false, cond, List, Contains, length, get_or, take, drop, refl, sym, ap, ◌∙◌, subst, length-take, arith}
 use Rattle.std.specs.Prelude.{All, sum_by}
 use Rattle.std.proofs.lemmas.Bool.{eq-eqb, eqb-true, cond-true, and_parts, and_from, false_from_ne_true}
-use Rattle.std.proofs.lemmas.List.{take_all, take_more, take-take, get_or-take, get_or_default}
+use Rattle.std.proofs.lemmas.List.{take_more, take-take, get_or-take}
 use Rattle.std.proofs.lemmas.List.Sums.{sum_by-le, sum_by-take-drop, sum_by-drop_more, sum_by_more}
 use Rattle.ledger.specs.declared.postings.Posting.{Posting}
 use Rattle.ledger.specs.declared.postings.Posting.TheVariants.{Born, Entry, Back, Forget}

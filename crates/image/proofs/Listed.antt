@@ -1,11 +1,9 @@
 -- What holds of each node of a list, and what holds of each node that a look-up gives.
-use Rattle.std.proofs.Common.{ℕ, ◌+◌, ◌<◌, ◌≡◌, zero, suc, true, false, List, [], ◌∷◌, Some, length, get_or, refl, sym, ap, ◌∙◌, subst, ◌⊎◌, inl, inr, arith}
+use Rattle.std.proofs.Common.{ℕ, ◌<◌, ◌≡◌, zero, suc, List, [], ◌∷◌, Some, length, get_or, sym, ap, ◌∙◌, subst, inl, inr, arith}
 use Rattle.std.specs.Prelude.{All, AllPairs}
 use Rattle.std.proofs.lemmas.Bool.{cases_order}
-use Rattle.std.proofs.lemmas.List.{get_or_default}
 use Rattle.paths.specs.Fronts.{Name}
 use Rattle.tree.specs.declared.nodes.Node.{Node}
-use Rattle.tree.specs.declared.nodes.Key.{Key}
 use Rattle.tree.specs.declared.nodes.Place.TheVariants.{Named}
 use Rattle.tree.specs.Places.{node_at, IsDistinct, IsNamed}
 use Rattle.tree.proofs.Lookups.{node_at_number, node_at_some, found_node, node_at_found}

@@ -1,6 +1,6 @@
 -- The law of a table. It is said of three things: where each number leads (`at`), the ledger, and which numbers
 -- the records pin.
-use Rattle.std.specs.Prelude.{ℕ, ◌+◌, ◌<◌, ◌≡◌, ◌≢◌, ◌==◌, ◌⊎◌, Bool, true, false, List, Option, Some, All, AllPairs, Contains, take, length, slice_index_or}
+use Rattle.std.specs.Prelude.{ℕ, ◌+◌, ◌<◌, ◌≡◌, ◌≢◌, ◌==◌, ◌⊎◌, Bool, true, false, List, Some, All, AllPairs, Contains, take, length, slice_index_or}
 use Rattle.std.specs.List.{list_any}
 use Rattle.ledger.specs.declared.postings.Posting.{Posting}
 use Rattle.ledger.specs.declared.postings.Posting.TheVariants.{Born, Entry, Back, Forget}

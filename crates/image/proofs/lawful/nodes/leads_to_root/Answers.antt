@@ -1,9 +1,9 @@
-use Rattle.std.proofs.Common.{ℕ, ◌≡◌, ◌≤◌, IsTrue, None, Some, length, rules, arith, subst, sym, ◌∙◌}
+use Rattle.std.proofs.Common.{ℕ, ◌≡◌, None, Some, length, rules, arith, subst, sym, ◌∙◌}
 use Rattle.std.proofs.lemmas.Option.{none-some}
 use Rattle.paths.specs.Fronts.{Name}
 use Rattle.tree.specs.Places.{node_at, IsNamed}
 use Rattle.tree.proofs.Climbing.{place_same}
-use Rattle.tree.proofs.Stepping.{IsStepped, IsStepped-up, Leads-root, stuck, too_far}
+use Rattle.tree.proofs.Stepping.{IsStepped, IsStepped-up, stuck, too_far}
 use Rattle.image.proofs.lawful.nodes.leads_to_root.Goals as goal
 
 pub returns-in_default : goal.returns-in_default

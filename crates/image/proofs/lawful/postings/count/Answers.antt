@@ -1,6 +1,5 @@
-use Rattle.std.proofs.Common.{◌≤◌, ◌≡◌, IsTrue, length, get_or, rules, arith, ◌-◌}
+use Rattle.std.proofs.Common.{◌≡◌, get_or, rules, arith, ◌-◌}
 use Rattle.ledger.specs.declared.postings.Posting.TheVariants.{Born}
-use Rattle.ledger.specs.Sums.{entries_of, given_of}
 use Rattle.ledger.proofs.SumsLemmas.{given_of-le}
 use Rattle.image.proofs.Ledgers.{after_birth, all_after_none, given_short}
 use Rattle.image.proofs.lawful.postings.count.Goals as goal
