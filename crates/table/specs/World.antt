@@ -2,7 +2,9 @@
 use Rattle.std.specs.Prelude.{ℕ, ◌+◌, ◌<◌, ◌≤◌, ◌≡◌, ◌⊎◌, true, List, [], Option, Some, length}
 use Rattle.ledger.specs.declared.postings.Posting.{Posting}
 use Rattle.tree.specs.declared.nodes.Key.{Key}
-use Rattle.tree.specs.Places.{Lookup, IsNamed, Leads}
+use Rattle.tree.specs.Places.{Lookup, Nodes, at_in, IsNamed, Leads}
+use Rattle.ledger.specs.Postings.{Postings}
+use Rattle.flights.specs.Listed.{InFlight, flying_of}
 use Rattle.flights.specs.declared.data.Flight.{Flight}
 use Rattle.flights.specs.declared.data.Stage.TheVariants.{Working}
 use Rattle.flights.specs.declared.data.Want.{Want}
@@ -57,3 +59,31 @@ pub record IsLawfulWorld (w : World) : Type 0 where
   pub law : IsLawful w.at w.postings w.flying.pinned
   pub flying : IsFlying w.flying
   pub within : IsWithin w
+
+-- ---- what is kept for the requests that go on
+
+-- there is room for all that may still come, so that only a begin takes memory
+pub record IsReserved (tree : Nodes) (ledger : Postings) (flying : Flying) : Type 0 where
+  pub nodes : flying.nodes ≤ tree.room
+  pub postings : tree.counts + flying.postings ≤ ledger.room
+
+-- the parts of a table as one world
+abbrev pub world_of : Nodes → Postings → InFlight → Limits → World
+world_of tree ledger flights limits = record {
+  at = at_in tree;
+  living = tree.living;
+  counts = tree.counts;
+  postings = ledger.made;
+  flying = record (flying_of flights) { room = 0 };
+  limits = limits;
+}
+
+-- the parts of a table fit each other
+pub record IsKept (tree : Nodes) (ledger : Postings) (flights : InFlight) (limits : Limits) : Type 0 where
+  pub law : IsLawful (at_in tree) ledger.made (flying_of flights).pinned
+  pub flying : IsFlying (flying_of flights)
+  pub ready : AreReady (at_in tree) (flying_of flights).at
+  pub reserved : IsReserved tree ledger (flying_of flights)
+  pub within : IsWithin (world_of tree ledger flights limits)
+  pub node_limit : tree.limit ≡ limits.nodes
+  pub posting_limit : ledger.limit ≡ limits.postings
