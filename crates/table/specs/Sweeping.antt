@@ -1,10 +1,11 @@
 -- What holds while nodes that nothing keeps are dropped one by one.
-use Rattle.std.specs.Prelude.{ℕ, ◌≡◌, ◌≢◌, ◌⊎◌, Bool, List, [], ◌∷◌, Option, Some, None}
+use Rattle.std.specs.Prelude.{ℕ, ◌+◌, ◌≡◌, ◌≢◌, ◌≤◌, ◌⊎◌, Bool, List, [], ◌∷◌, Option, Some, None, length}
 use Rattle.flights.specs.declared.data.Given.{Given}
 use Rattle.tree.specs.declared.nodes.Node.{Node}
 use Rattle.tree.specs.declared.nodes.Place.{Place}
 use Rattle.tree.specs.declared.nodes.Place.TheVariants.{Root, Named, Cut}
-use Rattle.tree.specs.Places.{Lookup, IsTree}
+use Rattle.tree.specs.Places.{Lookup, Nodes, at_in, IsNamed, IsTree}
+use Rattle.ledger.specs.Postings.{Postings}
 use Rattle.ledger.specs.declared.postings.Posting.{Posting}
 use Rattle.image.specs.Law.{HasPlainRoot, IsCounted, IsBornInOrder, AreMarksNamed, ArePinsAlive, HasReason}
 
@@ -45,3 +46,32 @@ abbrev pub numbers_in : List (Option Given) → List ℕ
 numbers_in [] = []
 numbers_in (None ∷ gs) = numbers_in gs
 numbers_in (Some g ∷ gs) = g.number ∷ numbers_in gs
+
+-- nodes with a count of 0 went: the sum of the counts and the limit are the same, and there is no less room
+pub record IsSameRest (old new : Nodes) : Type 0 where
+  pub fewer : new.living ≤ old.living
+  pub counts : new.counts ≡ old.counts
+  pub limit : new.limit ≡ old.limit
+  pub room : old.room ≤ new.room
+
+-- what an entry adds: one to the sum of the counts, and a node at most, none where one stands
+pub record IsEntered (old : Nodes) (made : Postings) (parent : ℕ) (name : List ℕ) (new : Nodes) (more : Postings) : Type 0 where
+  pub born : ℕ
+  pub one : born ≤ 1
+  pub none : (n : ℕ) → IsNamed (at_in old) n parent name → born ≡ 0
+  pub living : new.living ≡ old.living + born
+  pub room : old.room ≤ new.room + born
+  pub counts : new.counts ≡ old.counts + 1
+  pub limit : new.limit ≡ old.limit
+  pub postings : length more.made ≡ length made.made + 1 + born
+  pub posting_room : made.room ≤ more.room + 1 + born
+  pub posting_limit : more.limit ≡ made.limit
+
+-- what is taken back: postings take the place of counts
+pub record IsTakenBack (old : Nodes) (made : Postings) (new : Nodes) (more : Postings) : Type 0 where
+  pub living : new.living ≡ old.living
+  pub room : new.room ≡ old.room
+  pub limit : new.limit ≡ old.limit
+  pub postings : length more.made + new.counts ≤ length made.made + old.counts
+  pub posting_room : made.room + new.counts ≤ more.room + old.counts
+  pub posting_limit : more.limit ≡ made.limit
