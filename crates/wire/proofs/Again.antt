@@ -5,7 +5,8 @@ use Rattle.std.proofs.Math.Nat.{div-zero, mul-div_cancel_left}
 use Rattle.byteorder.specs.Endian.{little_number, little_bytes}
 use Rattle.byteorder.specs.Numbers.{little_number-reads_back, little_from-lt, length-bytes_low_first}
 use Rattle.wire.specs.declared.request.Request.{Request}
-use Rattle.wire.specs.Grammar.{Field, number, unread, text, counted, limited, anything, Value, num, name, bytes, layout, opcode_of, values_of, opcode_in, unique_in, node_in, body_in, Spells, IsBytes, IsFramed, IsLaidOut, IsRequest}
+use Rattle.wire.specs.Fields.{Field, number, unread, text, counted, limited, anything, Value, num, name, bytes, Spells, IsBytes}
+use Rattle.wire.specs.Requests.{layout, opcode_of, values_of, opcode_in, unique_in, node_in, body_in, IsFramed, IsLaidOut, IsRequest}
 use Rattle.wire.specs.Written.{le, zeros, written, written_by, operation_bytes, request_bytes}
 
 zeros_len : (n : ℕ) → length (zeros n) ≡ n

@@ -8,7 +8,7 @@ use Rattle.std.proofs.lemmas.List.Sums.{position_or_len_is, prefix_len_passes, p
 use Rattle.byteorder.specs.Endian.{little_number}
 use Rattle.wire.specs.declared.fault.WireFault.{WireFault}
 use Rattle.wire.specs.declared.fault.WireFault.TheVariants.{Body}
-use Rattle.wire.specs.Grammar.{Field, number, unread, text, counted, limited, anything, Value, num, name, bytes, Spells}
+use Rattle.wire.specs.Fields.{Field, number, unread, text, counted, limited, anything, Value, num, name, bytes, Spells}
 use Rattle.wire.specs.Reading.{◌>>=◌, number_at, unread_at, text_at, text_before, counted_at, limited_at, ended, values_at}
 
 -- the value of a step that did not fail

@@ -11,7 +11,8 @@ use Rattle.std.proofs.lemmas.Slice.Eq.{bytes_eq-Decides}
 use Rattle.std.proofs.lemmas.Str.{IsUtf8-from_is_utf8, is_utf8-from_IsUtf8}
 use Rattle.wire.specs.declared.fault.WireFault.{WireFault}
 use Rattle.wire.specs.declared.fault.WireFault.TheVariants.{Opcode, Body, NameLong, NameBad, Frame}
-use Rattle.wire.specs.Grammar.{Value, num, name, bytes, IsName, names_in}
+use Rattle.wire.specs.Fields.{Value, num, name, bytes}
+use Rattle.wire.specs.Requests.{IsName, names_in}
 use Rattle.wire.specs.Faults.{IsNameFault, IsFirstNameFault}
 use Rattle.wire.specs.Reading.{◌>>=◌, utf8_at, name_at, named}
 

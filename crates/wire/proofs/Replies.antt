@@ -1,0 +1,1 @@
+-- What is written of a reply is that reply, and no other bytes are.
