@@ -1,5 +1,5 @@
 -- What reading a frame gives is the request that the frame is, or the first fault.
-use Rattle.std.proofs.Common.{◌≡◌, ◌≢◌, ℕ, ◌<◌, ◌≤◌, Bool, true, false, cond, eqb, leb, ◌&&◌, List, [], ◌∷◌, length, Option, Some, None, Result, Ok, Err, refl, sym, ap, subst, ◌∙◌, arith, inl, inr}
+use Rattle.std.proofs.Common.{◌≡◌, ℕ, true, eqb, leb, ◌&&◌, List, length, Option, Some, None, Result, Ok, Err, refl, sym, ap, subst, ◌∙◌, inl, inr}
 use Rattle.std.specs.Prelude.{MatchResult, IfOk, IfErr, IsSome, IsOkAnd}
 use Rattle.std.specs.List.{AllByRecursion}
 use Rattle.std.proofs.lemmas.Bool.{and_parts, and_from, leb-true, le-leb, eqb-true, eq-eqb}
@@ -9,9 +9,9 @@ use Rattle.wire.specs.declared.fault.WireFault.TheVariants.{Opcode, Body, NameLo
 use Rattle.wire.specs.declared.header.Header.{Header}
 use Rattle.wire.specs.declared.request.Request.{Request}
 use Rattle.wire.specs.Fields.{Field, Value}
-use Rattle.wire.specs.Requests.{layout, opcode_of, values_of, IsName, names_in, header_in, opcode_in, unique_in, node_in, body_in, IsFramed, IsLaidOut, IsRequest, IsSame}
-use Rattle.wire.specs.Faults.{IsFirstNameFault, HasNameFault, HasBodyFault, IsFirstFault}
-use Rattle.wire.specs.Reading.{◌>>=◌, Gives, values_at, named, fields_at, operation_by, operation_at, told, is_framed, parts_at, request_at, told_request}
+use Rattle.wire.specs.Requests.{layout, values_of, IsName, names_in, header_in, opcode_in, unique_in, node_in, body_in, IsFramed, IsLaidOut, IsRequest, IsSame}
+use Rattle.wire.specs.Faults.{IsFirstNameFault, IsFirstFault}
+use Rattle.wire.specs.Reading.{◌>>=◌, Gives, values_at, named, operation_by, operation_at, is_framed, request_at, told_request}
 use Rattle.wire.proofs.Fields.{values_law, spelled_values}
 use Rattle.wire.proofs.Names.{bind_both, named_law, name_faults, no_first_fault}
 

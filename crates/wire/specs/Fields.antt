@@ -1,5 +1,5 @@
 -- What stands in the body of a frame: fields, one after another. A field is said by how its bytes read.
-use Rattle.std.specs.Prelude.{◌≡◌, ◌≢◌, ℕ, ◌+◌, ◌*◌, ◌<◌, ◌≤◌, List, [], ◌∷◌, ◌++◌, length, drop, All, slice_index}
+use Rattle.std.specs.Prelude.{◌≡◌, ◌≢◌, ℕ, ◌+◌, ◌*◌, ◌^◌, ◌<◌, ◌≤◌, List, [], ◌∷◌, ◌++◌, length, drop, All, slice_index}
 use Rattle.byteorder.specs.Endian.{little_number}
 
 -- what stands in one place of a body
@@ -35,6 +35,17 @@ Spells (counted unit gap limit ∷ []) (bytes d ∷ []) body =
 Spells (limited limit ∷ fields) (num n ∷ values) body = (4 ≤ length body) × (n ≡ little_number 4 body) × (n ≤ limit) × Spells fields values (drop 4 body)
 Spells (anything ∷ []) [] body = Unit {0}
 Spells _ _ _ = ⊥
+
+-- These values can stand in such fields.
+abbrev pub CanTell : List Field → List Value → Type 0
+CanTell [] [] = Unit {0}
+CanTell (number len ∷ fields) (num n ∷ values) = (n < 256 ^ len) × CanTell fields values
+CanTell (unread _ ∷ fields) values = CanTell fields values
+CanTell (text ∷ fields) (name t ∷ values) = All (λ b. b ≢ 0) t × CanTell fields values
+CanTell (counted unit _ limit ∷ []) (bytes d ∷ []) = (count : ℕ) × (count < 256 ^ 4) × (count ≤ limit) × (length d ≡ unit * count)
+CanTell (limited limit ∷ fields) (num n ∷ values) = (n < 256 ^ 4) × (n ≤ limit) × CanTell fields values
+CanTell (anything ∷ []) [] = Unit {0}
+CanTell _ _ = ⊥
 
 abbrev pub u32 : Field
 u32 = number 4

@@ -1,17 +1,15 @@
 //! Requests and replies written as frames. The length of a frame is known first, so a vector grows once at most, and the
 //! writing that follows cannot fail.
 
-ghost use Rattle.std.specs.Prelude.{◌≡◌, ℕ, List, ◌≤◌, ◌+◌, ◌^◌, ◌++◌, length, vec_len, vec_capacity, OnOk, OnErr, pos};
+ghost use Rattle.std.specs.Prelude.{◌≡◌, ℕ, List, ◌≤◌, ◌+◌, ◌^◌, ◌++◌, ◌<◌, length, vec_len, vec_capacity, OnOk, OnErr, pos};
 ghost use Rattle.wire.specs.declared.reply.ReplyBody.TheVariants.{Failed, Done};
-ghost use Rattle.wire.specs.Fields.{IsBytes};
+ghost use Rattle.wire.specs.Fields.{CanTell, IsBytes};
 ghost use Rattle.wire.specs.Requests.{IsRequest, opcode_of};
-ghost use Rattle.wire.specs.Replies.{IsReply, IsAnswer, IsErrno, blocks_of, mode_of, links_of, entry_layout, entry_values};
+ghost use Rattle.wire.specs.Replies.{IsReply, IsAnswer, IsErrno, blocks_of, mode_of, links_of, entry_layout, entry_values, reply_layout, reply_values};
 ghost use Rattle.wire.specs.Written.{written, operation_bytes, request_bytes, reply_bytes, body_bytes, error_word, negated as negated_of};
 
 use crate::opcode::{FORGET, LOOKUP};
-use crate::put::{
-    put_low_u32, put_text, put_u32, put_u32s, put_u64, put_u64s, put_zeros,
-};
+use crate::put::{put_low_u32, put_text, put_u32, put_u32s, put_u64, put_u64s, put_zeros};
 use crate::reply::{Attributes, Entry, Kind, Reply, ReplyBody};
 use crate::request::{HEADER_LEN, Operation, Request};
 use std::alloc::AllocError;
@@ -106,18 +104,16 @@ fn links(kind: Kind) -> u32
 #[tactic(auto, using(crate::proofs::Entries::entries))]
 fn put_entry(out: &mut Vec<u8>, e: &Entry)
     requires { vec_len out.old + 128 ≤ vec_capacity out.old }
-    ensures { out.new.items ≡ out.old.items ++ written entry_layout (entry_values e.now) }
+    ensures items { out.new.items ≡ out.old.items ++ written entry_layout (entry_values e.now) }
+    ensures tells { CanTell entry_layout (entry_values e.now) }
 {
-    let Attributes {
-        kind,
-        size,
-        uid,
-        gid,
-    } = e.attributes;
-    let (blocks, mode, links) = (blocks(size), mode(kind), links(kind));
-    put_u64s(out, &[e.node, e.generation, 1, 1]);
+    let (node, generation) = (e.node, e.generation);
+    let a = &e.attributes;
+    let (size, uid, gid) = (a.size, a.uid, a.gid);
+    let (blocks, mode, links) = (blocks(size), mode(a.kind), links(a.kind));
+    put_u64s(out, &[node, generation, 1, 1]);
     put_u32s(out, &[0, 0]);
-    put_u64s(out, &[e.node, size, blocks, 0, 0, 0]);
+    put_u64s(out, &[node, size, blocks, 0, 0, 0]);
     put_u32s(out, &[0, 0, 0, mode, links, uid, gid, 0, 4096, 0]);
 }
 
@@ -151,7 +147,8 @@ fn body_len(body: &ReplyBody) -> u32
 #[tactic(auto, unfolding(crate::specs::Written::le, crate::specs::Written::body_bytes))]
 fn put_body(out: &mut Vec<u8>, body: &ReplyBody)
     requires { vec_len out.old + length (body_bytes body.now) ≤ vec_capacity out.old }
-    ensures { out.new.items ≡ out.old.items ++ body_bytes body.now }
+    ensures items { out.new.items ≡ out.old.items ++ body_bytes body.now }
+    ensures tells { CanTell (reply_layout body.now) (reply_values body.now) }
 {
     match body {
         ReplyBody::Failed { .. } | ReplyBody::Done => {}
@@ -163,11 +160,14 @@ fn put_body(out: &mut Vec<u8>, body: &ReplyBody)
 fn put_reply(out: &mut Vec<u8>, reply: &Reply, len: u32)
     requires room { vec_len out.old + len ≤ vec_capacity out.old }
     requires len { len ≡ 16 + length (body_bytes reply.now.body) }
-    ensures { out.new.items ≡ out.old.items ++ reply_bytes reply.now }
+    ensures items { out.new.items ≡ out.old.items ++ reply_bytes reply.now }
+    ensures unique { reply.now.unique < 256 ^ 8 }
+    ensures tells { CanTell (reply_layout reply.now.body) (reply_values reply.now.body) }
 {
+    let unique = reply.unique;
     put_u32(out, len);
     put_u32(out, error(&reply.body));
-    put_u64(out, reply.unique);
+    put_u64(out, unique);
     put_body(out, &reply.body);
 }
 
@@ -175,7 +175,7 @@ fn put_reply(out: &mut Vec<u8>, reply: &Reply, len: u32)
 pub fn encode_reply(reply: &Reply, out: &mut Vec<u8>) -> Result<(), AllocError>
     ensures ok { OnOk result (out.new.items ≡ out.old.items ++ reply_bytes reply.now) }
     // What is put is that reply, if it says what a reply may say, and no other bytes are.
-    ensures reply { IsAnswer reply.now.body → IsReply (reply_bytes reply.now) reply.now }
+    ensures reply { OnOk result (IsAnswer reply.now.body → IsReply (reply_bytes reply.now) reply.now) }
     ensures only { (frame : List ℕ) → IsBytes frame → IsReply frame reply.now → frame ≡ reply_bytes reply.now }
     ensures err { OnErr result (out.new.items ≡ out.old.items) }
 {
