@@ -1,0 +1,3 @@
+pub mod Lookups
+mod Kept
+mod Stepping
