@@ -7,11 +7,8 @@ use Rattle.std.specs.declared.alloc.Global.{Global}
 use Rattle.flights.specs.declared.data.Flight.{Flight}
 use Rattle.flights.specs.Flying.{pins_number, pinning, IsFlying}
 use Rattle.flights.specs.Listed.{flight_in, pinned_in, InFlight, in_flight, flying_of, HaveOwnIds}
+use Rattle.flights.proofs.ById.{or_none, pins_number-pinning}
 use Rattle.flights.proofs.Lookups.{flight_in_id, flight_in_found, found_flight}
-
-or_none : (a : Bool) → (a || false) ≡ a
-or_none true = refl
-or_none false = refl
 
 or_assoc : (a b c : Bool) → (a || (b || c)) ≡ ((a || b) || c)
 or_assoc true b c = refl
@@ -40,9 +37,6 @@ list_any-remove : {X : Type 0} → (p : X → Bool) (xs : List X) (i : ℕ) (d :
 list_any-remove p [] i d within = absurd (omega arith)
 list_any-remove p (x ∷ xs) zero d within = or_comm (p x) (list_any p xs)
 list_any-remove p (x ∷ xs) (suc i) d within = ap (λ c. p x || c) (list_any-remove p xs i d (omega arith)) ∙ or_assoc (p x) (list_any p (remove xs i)) (p (get_or xs i d))
-
-pub pins_number-pinning : (f : Flight) (n m : ℕ) → pins_number (pinning f n) m ≡ (pins_number f m || n == m)
-pins_number-pinning f n m = list_any-append (λ (a : ℕ). a == m) f.pins.numbers (n ∷ []) ∙ ap (λ c. pins_number f m || c) (or_none (n == m))
 
 pub pinned_in-push : (fs : List Flight) (g : Flight) → pinned_in (fs ++ g ∷ []) ≡ (λ n. pinned_in fs n || pins_number g n)
 pinned_in-push fs g = fun_ext (λ n. list_any-append (λ (f : Flight). pins_number f n) fs (g ∷ []) ∙ ap (λ c. pinned_in fs n || c) (or_none (pins_number g n)))

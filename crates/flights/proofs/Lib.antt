@@ -1,3 +1,4 @@
-pub mod Lookups
+pub mod ById
+mod Lookups
 mod Kept
 mod Stepping

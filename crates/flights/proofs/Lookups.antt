@@ -1,59 +1,15 @@
 -- What a look-up gives after a request was added, changed or taken out.
-use Rattle.std.proofs.Common.{ℕ, ◌+◌, ◌<◌, ◌≤◌, ◌≡◌, ◌≢◌, ◌==◌, suc, zero, List, [], ◌∷◌, ◌++◌, Option, Some, None, length, get_or, slice_get, set, drop, drop-cons, add-one, refl, sym, ap, ◌∙◌, subst, arith, ◌⊎◌, inl, inr}
+use Rattle.std.proofs.Common.{ℕ, ◌+◌, ◌<◌, ◌≤◌, ◌≡◌, ◌≢◌, suc, zero, List, [], ◌∷◌, ◌++◌, Option, Some, None, length, get_or, slice_get, set, drop, drop-cons, add-one, refl, sym, ap, ◌∙◌, subst, arith, ◌⊎◌, inl, inr}
 use Rattle.std.specs.List.{remove}
-use Rattle.std.proofs.lemmas.Bool.{cases_eq, ne_eqb, eq-eqb, cond-true, cond-false}
-use Rattle.std.proofs.lemmas.Bool.Decides.{nat_tests}
-use Rattle.std.proofs.lemmas.Option.{none-some, same_Some, slice_get-get_or}
+use Rattle.std.proofs.lemmas.Bool.{cases_eq}
+use Rattle.std.proofs.lemmas.Option.{none-some, slice_get-get_or}
 use Rattle.std.proofs.lemmas.List.{get_or_default, get_or-set_same, get_or-set_other, length-set}
 use Rattle.std.proofs.lemmas.List.Edits.{length-remove}
 use Rattle.std.proofs.lemmas.List.Quantifiers.{all_pairs_push, all_pairs_remove}
-use mathlib.Core.Path.{fun_ext}
 use Rattle.flights.specs.declared.data.Flight.{Flight}
 use Rattle.flights.specs.Flying.{Flights, with_flight, without_flight}
 use Rattle.flights.specs.Listed.{flight_in, HaveOwnIds}
-
--- a look-up at another id and at the same one
-pub with_other : (at : Flights) (n : ℕ) (f : Flight) (m : ℕ) → (n ≡ m → ⊥) → with_flight at n f m ≡ at m
-with_other at n f m ne = cond-false (n == m) (Some f) (at m) (ne_eqb n m ne)
-
-pub with_same : (at : Flights) (n : ℕ) (f : Flight) → with_flight at n f n ≡ Some f
-with_same at n f = cond-true (n == n) (Some f) (at n) (eq-eqb n n refl)
-
-pub without_other : (at : Flights) (n m : ℕ) → (n ≡ m → ⊥) → without_flight at n m ≡ at m
-without_other at n m ne = cond-false (n == m) None (at m) (ne_eqb n m ne)
-
-pub without_same : (at : Flights) (n : ℕ) → without_flight at n n ≡ None
-without_same at n = cond-true (n == n) None (at n) (eq-eqb n n refl)
-
--- who is found after one was taken out was found before, and is another
-pub without_some : (at : Flights) (n m : ℕ) (f : Flight) → without_flight at n m ≡ Some f → (n ≡ m → ⊥) × (at m ≡ Some f)
-without_some at n m f h = elim (cases_eq n m) [
-  | inl e ↦ absurd (none-some f (sym (subst (λ k. without_flight at n k ≡ None) e (without_same at n)) ∙ h))
-  | inr ne ↦ (ne, sym (without_other at n m ne) ∙ h)
-]
-
--- who is found after a write is the written one, or was found before
-pub with_some : (at : Flights) (n : ℕ) (g : Flight) (m : ℕ) (f : Flight) → with_flight at n g m ≡ Some f → ((n ≡ m) × (g ≡ f)) ⊎ ((n ≡ m → ⊥) × (at m ≡ Some f))
-with_some at n g m f h = elim (cases_eq n m) [
-  | inl e ↦ inl (e, same_Some g f (sym (subst (λ k. with_flight at n g k ≡ Some g) e (with_same at n g)) ∙ h))
-  | inr ne ↦ inr (ne, sym (with_other at n g m ne) ∙ h)
-]
-
--- two changes at different ids, in either order
-with_swap : (at : Flights) (n k : ℕ) (f g : Flight) → (n ≡ k → ⊥) → with_flight (with_flight at n f) k g ≡ with_flight (with_flight at k g) n f
-with_swap at n k f g ne = fun_ext (λ m. grind (arith, nat_tests))
-
-pub with_twice : (at : Flights) (n : ℕ) (f g : Flight) → with_flight (with_flight at n f) n g ≡ with_flight at n g
-with_twice at n f g = fun_ext (λ m. grind (arith, nat_tests))
-
-without_with : (at : Flights) (n : ℕ) (f : Flight) → at n ≡ None → without_flight (with_flight at n f) n ≡ at
-without_with at n f h = fun_ext (λ m. elim (cases_eq n m) [
-  | inl e ↦ let P : ℕ → Type 0 = λ k. without_flight (with_flight at n f) n k ≡ at k in subst P e (without_same (with_flight at n f) n ∙ sym h)
-  | inr ne ↦ without_other (with_flight at n f) n m ne ∙ with_other at n f m ne
-])
-
-without_swap : (at : Flights) (n k : ℕ) (f : Flight) → (n ≡ k → ⊥) → with_flight (without_flight at k) n f ≡ without_flight (with_flight at n f) k
-without_swap at n k f ne = fun_ext (λ m. grind (arith, nat_tests))
+use Rattle.flights.proofs.ById.{with_same, with_other, with_some, with_swap, with_twice, without_other, without_with, without_swap}
 
 -- the request that an id leads to has it
 pub flight_in_id : (fs : List Flight) (n : ℕ) (f : Flight) → flight_in fs n ≡ Some f → f.id ≡ n

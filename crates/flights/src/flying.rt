@@ -1,6 +1,6 @@
 //! The requests in flight, with the totals of what is promised to them.
 
-ghost use Rattle.std.specs.Prelude.{true, false, ◌≡◌, ◌≢◌, ◌<◌, ◌≤◌, ◌+◌, ◌^◌, ℕ, None, Some, IfNone, IfSome, OnOk, IsTrue, AllPairs, ◌↔◌, option_copied, length};
+ghost use Rattle.std.specs.Prelude.{true, false, ◌≡◌, ◌≢◌, ◌<◌, ◌≤◌, ◌+◌, ◌^◌, ℕ, None, Some, IfNone, IfSome, IsOk, OnOk, IsTrue, AllPairs, ◌↔◌, option_copied, length};
 ghost use Rattle.flights.specs.declared.data.Flight.{Flight};
 ghost use Rattle.flights.specs.Flying.{none_flying, nodes_promised, postings_promised, IsFlying, HasNoneWorking, HasNoneAnswered, Adds, Answers, PinsMore, Goes};
 ghost use Rattle.flights.specs.Listed.{flying_of, flight_in, pinned_in};
@@ -54,7 +54,8 @@ impl Flights {
 
     /// Whether none is in flight.
     pub fn is_empty(&self) -> bool
-        ensures { IsTrue result ↔ ((flying_of self.now).many ≡ 0) }
+        ensures many { IsTrue result ↔ ((flying_of self.now).many ≡ 0) }
+        ensures law { IsFlying (flying_of self.now) }
     {
         self.flights.is_empty()
     }
@@ -76,11 +77,12 @@ impl Flights {
         self.flights.iter().find(|f| f.id == id)
     }
 
-    /// The least number that is the id of none.
+    /// A number that is the id of none.
     pub fn free_id(&self) -> u64
-        ensures { (flying_of self.now).at result ≡ None }
+        ensures free { (flying_of self.now).at result ≡ None }
+        ensures law { IsFlying (flying_of self.now) }
     {
-        least_free(self.flights.as_slice())
+        least_free(&self.flights)
     }
 
     /// Whether one of them pins the number.
@@ -94,6 +96,7 @@ impl Flights {
     /// Makes room for one more.
     pub fn reserve(&mut self) -> Result<(), AllocError>
         ensures ok { OnOk result (0 < (flying_of self.new).room) }
+        ensures had_room { 0 < (flying_of self.old).room → IsOk result }
         ensures same { flying_of self.new ≡ record (flying_of self.old) { room = (flying_of self.new).room } }
         ensures room { (flying_of self.old).room ≤ (flying_of self.new).room }
         ensures law { IsFlying (flying_of self.new) }
