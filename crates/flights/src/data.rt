@@ -55,6 +55,15 @@ impl Model for Givens {
 }
 
 impl Givens {
+    /// None, without memory.
+    pub fn new(alloc: Global) -> Givens
+        ensures { result.items ≡ [] }
+    {
+        Givens {
+            given: Vec::new(alloc),
+        }
+    }
+
     /// None yet, with room for so many.
     pub fn with_capacity(alloc: Global, capacity: usize) -> Result<Givens, AllocError>
         ensures { IfOk result (λ g. g ≡ record { items = []; room = capacity }) }
@@ -137,6 +146,8 @@ impl Pins {
 #[derive(Drop)]
 pub struct Work {
     pub want: Want,
+    /// The want's name once more: a node that is born is put into the tree under two keys.
+    pub copy: Name,
     pub promise: Promise,
     /// Where its answer is put, so that the end of the work takes no memory.
     pub answer: Givens,

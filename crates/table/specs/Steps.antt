@@ -146,15 +146,22 @@ pub record Bears (at : Lookup) (ps : List Posting) (parent : ℕ) (name : List �
 abbrev pub Enters : Lookup → List Posting → ℕ → List ℕ → Given → Lookup → List Posting → Type 0
 Enters at ps parent name g at' ps' = EntersAgain at ps parent name g at' ps' ⊎ Bears at ps parent name g at' ps'
 
--- the client is given an entry of its name, and the request pins the node until it is settled
-pub record GivesName (old : World) (id : ℕ) (work : Work) (parent : ℕ) (name : List ℕ) (answer : Answer) (new : World) : Type 0 where
+-- the client is given an entry of the name, and the request pins the node until it is settled
+pub record GivesEntry (old : World) (id : ℕ) (f : Flight) (parent : ℕ) (name : List ℕ) (answer : Answer) (new : World) : Type 0 where
   pub given : Given
-  pub mid : Flying
   pub answer_is : answer ≡ record { id = id; given = Some given ∷ []; lost = false }
-  pub ends : Answers old.flying id work mid
-  pub pins : PinsMore mid id (answered ends.flight) given.number new.flying
   pub entry : Enters old.at old.postings parent name given new.at new.postings
+  pub pins : PinsMore old.flying id f given.number new.flying
   pub limits : new.limits ≡ old.limits
+
+abbrev pub Gives : World → ℕ → Flight → Want → Answer → World → Type 0
+Gives old id f (Name parent name) answer new = GivesEntry old id f parent name answer new
+
+-- the work on the request ends, and it gives an entry
+pub record GivesName (old : World) (id : ℕ) (work : Work) (parent : ℕ) (name : List ℕ) (answer : Answer) (new : World) : Type 0 where
+  pub mid : Flying
+  pub ends : Answers old.flying id work mid
+  pub gives : GivesEntry (record old { flying = mid }) id (answered ends.flight) parent name answer new
 
 -- the request gives nothing, and keeps its pins
 pub record Fails (old : World) (id : ℕ) (work : Work) (given : List (Option Given)) (answer : Answer) (new : World) : Type 0 where

@@ -1,6 +1,7 @@
 -- What holds while nodes that nothing keeps are dropped one by one.
 use Rattle.std.specs.Prelude.{ℕ, ◌+◌, ◌≡◌, ◌≢◌, ◌≤◌, ◌⊎◌, Bool, List, [], ◌∷◌, Option, Some, None, length}
 use Rattle.flights.specs.declared.data.Given.{Given}
+use Rattle.paths.specs.Fronts.{Name}
 use Rattle.tree.specs.declared.nodes.Node.{Node}
 use Rattle.tree.specs.declared.nodes.Place.{Place}
 use Rattle.tree.specs.declared.nodes.Place.TheVariants.{Root, Named, Cut}
@@ -54,11 +55,8 @@ pub record IsSameRest (old new : Nodes) : Type 0 where
   pub limit : new.limit ≡ old.limit
   pub room : old.room ≤ new.room
 
--- what an entry adds: one to the sum of the counts, and a node at most, none where one stands
-pub record IsEntered (old : Nodes) (made : Postings) (parent : ℕ) (name : List ℕ) (new : Nodes) (more : Postings) : Type 0 where
-  pub born : ℕ
-  pub one : born ≤ 1
-  pub none : (n : ℕ) → IsNamed (at_in old) n parent name → born ≡ 0
+-- what an entry adds, with a birth or without one: one to the sum of the counts, and so many nodes and postings
+pub record IsOneMore (born : ℕ) (old : Nodes) (made : Postings) (new : Nodes) (more : Postings) : Type 0 where
   pub living : new.living ≡ old.living + born
   pub room : old.room ≤ new.room + born
   pub counts : new.counts ≡ old.counts + 1
@@ -66,6 +64,17 @@ pub record IsEntered (old : Nodes) (made : Postings) (parent : ℕ) (name : List
   pub postings : length more.made ≡ length made.made + 1 + born
   pub posting_room : made.room ≤ more.room + 1 + born
   pub posting_limit : more.limit ≡ made.limit
+
+-- a node is born at most, and none where one is named so
+pub record IsEntered (old : Nodes) (made : Postings) (parent : ℕ) (name : Name) (new : Nodes) (more : Postings) : Type 0 where
+  pub born : ℕ
+  pub one : born ≤ 1
+  pub none : (n : ℕ) → IsNamed (at_in old) n parent name → born ≡ 0
+  pub more_is : IsOneMore born old made new more
+
+-- who is named so stays named so
+abbrev pub KeepsNames : Lookup → Lookup → Type 0
+KeepsNames old new = (n p : ℕ) (name : Name) → IsNamed old n p name → IsNamed new n p name
 
 -- what is taken back: postings take the place of counts
 pub record IsTakenBack (old : Nodes) (made : Postings) (new : Nodes) (more : Postings) : Type 0 where

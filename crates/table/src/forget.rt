@@ -4,39 +4,33 @@ ghost use Rattle.std.specs.Prelude.{◌≡◌};
 ghost use Rattle.table.specs.Steps.{Forgets};
 ghost use Rattle.table.specs.World.{IsKept, world_of};
 
-use crate::data::Limits;
+use crate::state::State;
 use crate::sweep::{Suspects, sweep};
-use flights::Flights;
-use ledger::{Ledger, Posting};
-use tree::Tree;
+use ledger::Posting;
 
-/// Takes the smaller of `n` and the node's count from it, and says how much.
-pub fn forget(
-    tree: &mut Tree,
-    ledger: &mut Ledger,
-    flights: &Flights,
-    _limits: &Limits,
-    number: u64,
-    n: u64,
-) -> u64
-    requires { IsKept tree.old ledger.old flights.now _limits.now }
-    ensures forgets { Forgets (world_of tree.old ledger.old flights.now _limits.now) number n result (world_of tree.new ledger.new flights.now _limits.now) }
-    ensures kept { IsKept tree.new ledger.new flights.now _limits.now }
-{
-    let Some(node) = tree.at(number) else {
-        return 0;
-    };
-    let amount = n.min(node.count);
-    if amount == 0 {
-        return 0;
+impl State {
+    /// Takes the smaller of `n` and the node's count from it, and says how much.
+    pub fn forget(&mut self, number: u64, n: u64) -> u64
+        requires { IsKept self.old }
+        ensures forgets { Forgets (world_of self.old) number n result (world_of self.new) }
+        ensures kept { IsKept self.new }
+    {
+        let Some(node) = self.tree.at(number) else {
+            return 0;
+        };
+        let amount = n.min(node.count);
+        if amount == 0 {
+            return 0;
+        }
+        let (generation, count) = (node.generation, node.count - amount);
+        self.tree.set_count(number, count);
+        self.counts -= amount;
+        self.ledger.post(Posting::Forget {
+            number,
+            generation,
+            amount,
+        });
+        sweep(&mut self.tree, &self.flights, number, &Suspects::none());
+        amount
     }
-    let (generation, count) = (node.generation, node.count - amount);
-    tree.set_count(number, count);
-    ledger.post(Posting::Forget {
-        number,
-        generation,
-        amount,
-    });
-    sweep(tree, flights, number, &Suspects::none());
-    amount
 }

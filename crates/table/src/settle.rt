@@ -7,7 +7,8 @@ ghost use Rattle.table.specs.Sweeping.{IsAmong, IsNearly, IsTakenBack, numbers_i
 ghost use Rattle.table.specs.World.{IsKept, world_of};
 ghost use Rattle.tree.specs.Places.{at_in};
 
-use crate::data::{Answered, Limits, Settled};
+use crate::data::{Answered, Settled};
+use crate::state::State;
 use crate::sweep::{Suspects, sweep_all};
 use flights::{Flights, Given};
 use ledger::{Ledger, Posting};
@@ -17,16 +18,19 @@ use tree::Tree;
 fn take_back(
     tree: &mut Tree,
     ledger: &mut Ledger,
+    counts: &mut u64,
     _flights: &Flights,
     given: Given,
     _suspects: &Suspects<'_>,
 )
+    requires counts { counts.old ≡ tree.old.counts }
     requires nearly { IsNearly (at_in tree.old) ledger.old.made (flying_of _flights.now).pinned _suspects.now }
     requires suspect { IsAmong given.number _suspects.now }
     requires room { tree.old.counts ≤ ledger.old.room }
     ensures back { TakesBack (at_in tree.old) ledger.old.made given (at_in tree.new) ledger.new.made ⊎ TakesNone (at_in tree.old) ledger.old.made given (at_in tree.new) ledger.new.made }
     ensures nearly { IsNearly (at_in tree.new) ledger.new.made (flying_of _flights.now).pinned _suspects.now }
     ensures rest { IsTakenBack tree.old ledger.old tree.new ledger.new }
+    ensures counts { counts.new ≡ tree.new.counts }
 {
     let Some(node) = tree.at(given.number) else {
         return;
@@ -39,6 +43,7 @@ fn take_back(
     }
     let count = node.count - 1;
     tree.set_count(given.number, count);
+    *counts -= 1;
     ledger.post(Posting::Back {
         number: given.number,
         generation: given.generation,
@@ -49,53 +54,58 @@ fn take_back(
 fn take_all_back(
     tree: &mut Tree,
     ledger: &mut Ledger,
+    counts: &mut u64,
     flights: &Flights,
     given: &[Option<Given>],
     pins: &[u64],
 )
+    requires counts { counts.old ≡ tree.old.counts }
     requires nearly { IsNearly (at_in tree.old) ledger.old.made (flying_of flights.now).pinned (numbers_in given.now ++ pins.now) }
     requires room { tree.old.counts ≤ ledger.old.room }
     ensures back { TakesAllBack (at_in tree.old) ledger.old.made given.now (at_in tree.new) ledger.new.made }
     ensures nearly { IsNearly (at_in tree.new) ledger.new.made (flying_of flights.now).pinned (numbers_in given.now ++ pins.now) }
     ensures rest { IsTakenBack tree.old ledger.old tree.new ledger.new }
+    ensures counts { counts.new ≡ tree.new.counts }
 {
     let suspects = Suspects::new(given, pins);
     for entry in given {
         match entry {
-            Some(entry) => take_back(tree, ledger, flights, *entry, &suspects),
+            Some(entry) => take_back(tree, ledger, counts, flights, *entry, &suspects),
             None => {}
         }
     }
 }
 
-/// Ends a request: its record goes, and what was not taken is taken back.
-pub fn settle(
-    tree: &mut Tree,
-    ledger: &mut Ledger,
-    flights: &mut Flights,
-    _limits: &Limits,
-    answered: Answered,
-    taken: bool,
-) -> Settled
-    requires { IsKept tree.old ledger.old flights.old _limits.now }
-    ensures settles { Settles (world_of tree.old ledger.old flights.old _limits.now) answered taken result (world_of tree.new ledger.new flights.new _limits.now) }
-    ensures kept { IsKept tree.new ledger.new flights.new _limits.now }
-{
-    let Answered { id, given, lost } = answered;
-    let settled = Settled {
-        id,
-        entries: given.entries(),
-        taken,
-    };
-    if lost {
-        return settled;
+impl State {
+    /// Ends a request: its record goes, and what was not taken is taken back.
+    pub fn settle(&mut self, answered: Answered, taken: bool) -> Settled
+        requires { IsKept self.old }
+        ensures settles { Settles (world_of self.old) answered taken result (world_of self.new) }
+        ensures kept { IsKept self.new }
+    {
+        let Answered { id, given, lost } = answered;
+        let settled = Settled {
+            id,
+            entries: given.entries(),
+            taken,
+        };
+        if lost {
+            return settled;
+        }
+        let Some(pins) = self.flights.take(id) else {
+            return settled;
+        };
+        let untaken = if taken { &[] } else { given.as_slice() };
+        let pins = pins.as_slice();
+        take_all_back(
+            &mut self.tree,
+            &mut self.ledger,
+            &mut self.counts,
+            &self.flights,
+            untaken,
+            pins,
+        );
+        sweep_all(&mut self.tree, &self.flights, Suspects::new(untaken, pins));
+        settled
     }
-    let Some(pins) = flights.take(id) else {
-        return settled;
-    };
-    let untaken = if taken { &[] } else { given.as_slice() };
-    let pins = pins.as_slice();
-    take_all_back(tree, ledger, flights, untaken, pins);
-    sweep_all(tree, flights, Suspects::new(untaken, pins));
-    settled
 }
