@@ -13,14 +13,8 @@ use Rattle.tree.specs.Places.{Lookup, with_node, without, HasChild}
 use Rattle.tree.proofs.Lookups.{with_same, with_other, with_some, cases_option}
 use Rattle.image.specs.Law.{MayStand, IsUnborne, IsCounted, IsBornInOrder, HasPlainRoot, AreMarksNamed, ArePinsAlive}
 use Rattle.table.specs.Steps.{IsSwept}
+use Rattle.table.specs.Sweeping.{IsBooked}
 use Rattle.table.proofs.Ordered.{IsOrdered-push}
-
-pub record IsBooked (at : Lookup) (ps : List Posting) (pinned : ℕ → Bool) : Type 0 where
-  pub root : HasPlainRoot at ps
-  pub counted : IsCounted at ps
-  pub born : IsBornInOrder at ps
-  pub marks : AreMarksNamed at
-  pub pins : ArePinsAlive at pinned
 
 -- a pinned number leads somewhere after a write
 pins_write : (at : Lookup) (pinned : ℕ → Bool) (n : ℕ) (y : Node) → ArePinsAlive at pinned → ArePinsAlive (with_node at n y) pinned

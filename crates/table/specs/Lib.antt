@@ -1,3 +1,4 @@
 pub mod Answers
 pub mod World
 pub mod Steps
+pub mod Sweeping

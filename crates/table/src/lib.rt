@@ -3,6 +3,12 @@
 //! Each call is one atomic step. The type keeps the law of the crate `image` over every run of steps.
 #![tactic(auto)]
 
+mod begin;
 mod data;
+mod finish;
+mod forget;
+mod settle;
+mod state;
+mod sweep;
 
 pub use data::{Answered, Begin, Limits, Outcome, Settled, Ticket};

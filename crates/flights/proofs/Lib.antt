@@ -1,0 +1,4 @@
+pub mod ById
+mod Lookups
+mod Kept
+mod Stepping
