@@ -10,7 +10,7 @@ use Rattle.ledger.proofs.SumsLemmas.{never_negative-push}
 use Rattle.ledger.proofs.Touches.{Touches, cases_pair, entries_of-touched, given_of-touched, entries_of-untouched, given_of-untouched, births_of-untouched, births_of-born, births_of-born_else, entries_of-born, given_of-born}
 use Rattle.tree.specs.declared.nodes.Node.{Node}
 use Rattle.tree.specs.Places.{Lookup, with_node, without, HasChild}
-use Rattle.tree.proofs.Lookups.{with_same, with_other, with_some, cases_option}
+use Rattle.tree.proofs.LookupLemmas.{with_same, with_other, with_some, cases_option}
 use Rattle.image.specs.Law.{MayStand, IsUnborne, IsCounted, IsBornInOrder, HasPlainRoot, AreMarksNamed, ArePinsAlive}
 use Rattle.table.specs.Steps.{IsSwept}
 use Rattle.table.specs.Sweeping.{IsBooked}

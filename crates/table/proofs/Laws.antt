@@ -10,7 +10,7 @@ use Rattle.tree.specs.declared.nodes.Key.{Key}
 use Rattle.tree.specs.declared.nodes.Node.{Node}
 use Rattle.tree.specs.declared.nodes.Place.TheVariants.{Root, Named}
 use Rattle.tree.specs.Places.{Lookup, with_node, IsNamed, IsTree}
-use Rattle.tree.proofs.Lookups.{with_same, with_other, with_some, with_twice}
+use Rattle.tree.proofs.LookupLemmas.{with_same, with_other, with_some, with_twice}
 use Rattle.image.specs.Law.{IsLawful, HasReason, HaveReasons, ArePinsAlive}
 use Rattle.table.specs.Steps.{IsSwept}
 use Rattle.table.specs.Sweeping.{HaveReasonsBut, IsBooked, IsPruned, IsNearly}

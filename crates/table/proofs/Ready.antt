@@ -4,7 +4,7 @@ use Rattle.std.proofs.lemmas.Bool.{cases_eq, ne_eqb, eq-eqb, cond-true, cond-fal
 use Rattle.std.proofs.lemmas.Option.{none-some, same_Some}
 use Rattle.tree.specs.declared.nodes.Node.{Node}
 use Rattle.tree.specs.Places.{Lookup, with_node, IsNamed, HasChild, Reaches, IsBelow, Leads}
-use Rattle.tree.proofs.Lookups.{with_same, with_other, cases_option}
+use Rattle.tree.proofs.LookupLemmas.{with_same, with_other, cases_option}
 use Rattle.flights.specs.declared.data.Flight.{Flight}
 use Rattle.flights.specs.declared.data.Stage.TheVariants.{Working, Answered}
 use Rattle.flights.specs.declared.data.Want.{Want}

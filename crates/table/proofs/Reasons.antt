@@ -7,7 +7,7 @@ use Rattle.tree.specs.declared.nodes.Node.{Node}
 use Rattle.tree.specs.declared.nodes.Place.{Place}
 use Rattle.tree.specs.declared.nodes.Place.TheVariants.{Root, Named, Cut}
 use Rattle.tree.specs.Places.{Lookup, with_node, without, IsNamed, HasChild, IsTree}
-use Rattle.tree.proofs.Lookups.{without_some, without_other, without_same, with_other, with_same, with_some, cases_option}
+use Rattle.tree.proofs.LookupLemmas.{without_some, without_other, without_same, with_other, with_same, with_some, cases_option}
 use Rattle.image.specs.Law.{HasReason, HaveReasons}
 use Rattle.table.specs.Steps.{IsNeedless, IsSwept}
 use Rattle.table.specs.Sweeping.{IsAmong, HaveReasonsBut, IsPruned, parent_in}

@@ -124,7 +124,7 @@ impl State {
         ensures finishes { Finishes (world_of self.old) ticket.id outcome result (world_of self.new) }
         ensures kept { IsKept self.new }
     {
-        let Ticket { id, .. } = ticket;
+        let Ticket { id, path: _ } = ticket;
         let Some(work) = self.flights.answer(id) else {
             return Answered {
                 id,
