@@ -3,3 +3,9 @@ pub mod Booked
 pub mod Reasons
 pub mod Laws
 pub mod Ready
+pub mod Kept
+pub mod Backs
+pub mod Settling
+pub mod Entering
+pub mod Giving
+pub mod Finishing

@@ -1,16 +1,16 @@
 -- Who has a reason to stay after a node was dropped or changed, and what a sweep leaves.
-use Rattle.std.proofs.Common.{ℕ, ◌+◌, ◌<◌, ◌≡◌, ◌≢◌, ◌||◌, Bool, true, false, List, [], ◌∷◌, ◌++◌, reverse, Option, Some, None, MatchOption, refl, sym, ap, ◌∙◌, subst, ◌⊎◌, inl, inr, arith}
+use Rattle.std.proofs.Common.{ℕ, ◌+◌, ◌<◌, ◌≤◌, ◌≡◌, ◌≢◌, ◌||◌, Bool, true, false, List, [], ◌∷◌, ◌++◌, reverse, Option, Some, None, MatchOption, refl, sym, ap, ◌∙◌, subst, ◌⊎◌, inl, inr, arith}
 use Rattle.std.proofs.lemmas.Bool.{cases_eq, true≢false, or_cases}
 use Rattle.std.proofs.lemmas.Option.{none-some, same_Some}
 use Rattle.tree.specs.declared.nodes.Key.{Key}
 use Rattle.tree.specs.declared.nodes.Node.{Node}
 use Rattle.tree.specs.declared.nodes.Place.{Place}
 use Rattle.tree.specs.declared.nodes.Place.TheVariants.{Root, Named, Cut}
-use Rattle.tree.specs.Places.{Lookup, with_node, without, IsNamed, HasChild, IsTree}
+use Rattle.tree.specs.Places.{Lookup, Nodes, with_node, without, IsNamed, HasChild, IsTree}
 use Rattle.tree.proofs.LookupLemmas.{without_some, without_other, without_same, with_other, with_same, with_some, cases_option}
 use Rattle.image.specs.Law.{HasReason, HaveReasons}
 use Rattle.table.specs.Steps.{IsNeedless, IsSwept}
-use Rattle.table.specs.Sweeping.{IsAmong, HaveReasonsBut, IsPruned, parent_in}
+use Rattle.table.specs.Sweeping.{IsAmong, HaveReasonsBut, IsPruned, IsSameRest, parent_in}
 
 -- ---- dropping
 
@@ -180,4 +180,25 @@ pub IsPruned-gone : (at : Lookup) (pinned : ℕ → Bool) (number : ℕ) (rest :
 IsPruned-gone at pinned number rest none pruned = record {
   tree = pruned.tree;
   reasons = HaveReasons-all at pinned number rest (λ y stands not_root. absurd (none-some y (sym none ∙ stands))) pruned.reasons;
+}
+
+-- the node goes, and its parent may have lost its last reason
+pub IsPruned-drop : (at new : Lookup) (pinned : ℕ → Bool) (number : ℕ) (rest : List ℕ) (x : Node) → at number ≡ Some x → new ≡ without at number → IsTree new → IsNeedless at pinned number x → IsPruned at pinned (number ∷ rest) → (o : Option ℕ) → o ≡ parent_in x.place
+    → MatchOption o (IsPruned new pinned rest) (λ p. IsPruned new pinned (p ∷ rest))
+IsPruned-drop at new pinned number rest x stood gone tree needless pruned None is =
+    let after = reasons_after at pinned number rest x stood x.place refl needless pruned in
+    let reasons = subst (λ o. MatchOption o (HaveReasonsBut (without at number) pinned rest) (λ p. HaveReasonsBut (without at number) pinned (p ∷ rest))) (sym is) after in
+    record { tree = tree; reasons = subst (λ a. HaveReasonsBut a pinned rest) (sym gone) reasons }
+IsPruned-drop at new pinned number rest x stood gone tree needless pruned (Some p) is =
+    let after = reasons_after at pinned number rest x stood x.place refl needless pruned in
+    let reasons = subst (λ o. MatchOption o (HaveReasonsBut (without at number) pinned rest) (λ p. HaveReasonsBut (without at number) pinned (p ∷ rest))) (sym is) after in
+    record { tree = tree; reasons = subst (λ a. HaveReasonsBut a pinned (p ∷ rest)) (sym gone) reasons }
+
+-- what stays the same over two sweeps
+pub IsSameRest-trans : (a b c : Nodes) → IsSameRest a b → IsSameRest b c → IsSameRest a c
+IsSameRest-trans a b c first then = record {
+  fewer = omega (arith, first.fewer, then.fewer);
+  counts = then.counts ∙ first.counts;
+  limit = then.limit ∙ first.limit;
+  room = omega (arith, first.room, then.room);
 }

@@ -7,8 +7,7 @@ use Rattle.ledger.specs.Sums.{births_of}
 use Rattle.paths.specs.Fronts.{Names, path_bytes}
 use Rattle.tree.specs.declared.nodes.Node.{Node}
 use Rattle.tree.specs.declared.nodes.Place.TheVariants.{Named}
-use Rattle.tree.specs.Places.{Lookup, with_node, IsNamed, IsFree, HasChild, Leads}
-use Rattle.tree.specs.Moves.{IsPathOf}
+use Rattle.tree.specs.Places.{Lookup, with_node, IsNamed, IsFree, HasChild, Leads, IsPathOf}
 use Rattle.flights.specs.declared.data.Flight.{Flight}
 use Rattle.flights.specs.declared.data.Given.{Given}
 use Rattle.flights.specs.declared.data.Promise.{Promise}
@@ -204,16 +203,16 @@ TakesAllBack at ps (Some g ∷ gs) at' ps' =
     (mid : Lookup) × (qs : List Posting) × (TakesBack at ps g mid qs ⊎ TakesNone at ps g mid qs) × TakesAllBack mid qs gs at' ps'
 
 -- what goes back: nothing where the reply was taken
-abbrev pub untaken : Bool → List (Option Given) → List (Option Given)
-untaken true gs = []
-untaken false gs = gs
+abbrev pub untaken_of : Bool → List (Option Given) → List (Option Given)
+untaken_of true gs = []
+untaken_of false gs = gs
 
 -- the request goes with its pins, what was not taken goes back, and then what nothing keeps any more goes
 pub record EndsFor (old : World) (answer : Answer) (taken : Bool) (new : World) : Type 0 where
   pub pins : List ℕ
   pub goes : Goes old.flying answer.id pins new.flying
   pub mid : Lookup
-  pub back : TakesAllBack old.at old.postings (untaken taken answer.given) mid new.postings
+  pub back : TakesAllBack old.at old.postings (untaken_of taken answer.given) mid new.postings
   pub swept : IsSwept new.flying.pinned mid new.at
   pub limits : new.limits ≡ old.limits
 

@@ -1,11 +1,12 @@
 -- All that a table keeps, and the law of it.
-use Rattle.std.specs.Prelude.{ℕ, ◌+◌, ◌<◌, ◌≤◌, ◌≡◌, ◌⊎◌, true, List, [], Option, Some, length}
+use Rattle.std.specs.Prelude.{ℕ, ◌+◌, ◌^◌, ◌<◌, ◌≤◌, ◌≡◌, ◌⊎◌, true, List, [], Option, Some, length}
 use Rattle.ledger.specs.declared.postings.Posting.{Posting}
 use Rattle.tree.specs.declared.nodes.Key.{Key}
 use Rattle.tree.specs.Places.{Lookup, Nodes, at_in, IsNamed, Leads}
 use Rattle.ledger.specs.Postings.{Postings}
 use Rattle.flights.specs.Listed.{flying_of}
 use Rattle.flights.specs.declared.data.Flight.{Flight}
+use Rattle.flights.specs.declared.data.Promise.{Promise}
 use Rattle.flights.specs.declared.data.Stage.TheVariants.{Working, Answered}
 use Rattle.flights.specs.declared.data.Want.{Want}
 use Rattle.flights.specs.declared.data.Want.TheVariants.{Name}
@@ -88,13 +89,15 @@ pub record IsKept (s : State) : Type 0 where
   pub counts : s.counts ≡ s.tree.counts
   pub node_limit : s.tree.limit ≡ s.limits.nodes
   pub posting_limit : s.ledger.limit ≡ s.limits.postings
+  -- the limits fit their type
+  pub short : (s.limits.nodes < 2 ^ 64) × (s.limits.postings < 2 ^ 64)
 
--- beside what is promised to others there is room for what this work was promised
-pub record IsRoomFor (s : State) (work : Work) : Type 0 where
-  pub nodes : (flying_of s.flights).nodes + work.promise.nodes ≤ s.tree.room
-  pub postings : s.tree.counts + (flying_of s.flights).postings + work.promise.postings ≤ s.ledger.room
-  pub nodes_within : s.tree.living + (flying_of s.flights).nodes + work.promise.nodes ≤ s.limits.nodes
-  pub postings_within : length s.ledger.made + s.tree.counts + (flying_of s.flights).postings + work.promise.postings ≤ s.limits.postings
+-- beside what is promised to others there is room for this promise
+pub record IsRoomFor (s : State) (promise : Promise) : Type 0 where
+  pub nodes : (flying_of s.flights).nodes + promise.nodes ≤ s.tree.room
+  pub postings : s.tree.counts + (flying_of s.flights).postings + promise.postings ≤ s.ledger.room
+  pub nodes_within : s.tree.living + (flying_of s.flights).nodes + promise.nodes ≤ s.limits.nodes
+  pub postings_within : length s.ledger.made + s.tree.counts + (flying_of s.flights).postings + promise.postings ≤ s.limits.postings
 
 -- a request whose work has ended still has what it relied on
 pub record IsEnding (s : State) (id : ℕ) (work : Work) : Type 0 where
@@ -102,4 +105,15 @@ pub record IsEnding (s : State) (id : ℕ) (work : Work) : Type 0 where
   pub here : (flying_of s.flights).at id ≡ Some flight
   pub answered : flight.stage ≡ Answered
   pub ready : IsReadyFor (at_in s.tree) flight work work.want
-  pub room : IsRoomFor s work
+  pub room : IsRoomFor s work.promise
+
+-- the same of a request for a name
+pub record IsNameEnding (s : State) (id parent : ℕ) (name : List ℕ) (promise : Promise) : Type 0 where
+  pub flight : Flight
+  pub here : (flying_of s.flights).at id ≡ Some flight
+  pub answered : flight.stage ≡ Answered
+  pub pin_room : 0 < flight.pins.room
+  pub leads : Leads (at_in s.tree) parent
+  pub node : (promise.nodes ≡ 1) ⊎ ((n : ℕ) × IsNamed (at_in s.tree) n parent name)
+  pub three : promise.postings ≡ 3
+  pub room : IsRoomFor s promise

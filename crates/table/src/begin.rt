@@ -22,7 +22,6 @@ const ENTRY_POSTINGS: u64 = 3;
 
 /// The error number of a path that cannot be had.
 fn path_errno(fault: TreeFault) -> i32
-    ensures { result ≡ errno_of fault }
 {
     match fault {
         TreeFault::Unknown | TreeFault::Cut => ESTALE,

@@ -1,16 +1,17 @@
 //! The end of the work on a request.
 
-ghost use Rattle.std.specs.Prelude.{◌≡◌, ◌≢◌, ◌≤◌, ◌<◌, ◌+◌, ◌^◌, ℕ, List, Some, None, [], ◌∷◌, length};
+ghost use Rattle.std.specs.Prelude.{◌≡◌, ◌≢◌, ◌≤◌, ◌<◌, ◌+◌, ◌^◌, ℕ, List, Some, None, false, [], ◌∷◌, length};
 ghost use Rattle.flights.specs.Listed.{flying_of};
+ghost use Rattle.flights.specs.declared.data.Want.TheVariants as Want;
 ghost use Rattle.image.specs.Law.{IsLawful};
-ghost use Rattle.table.specs.Steps.{Bears, Enters, EntersAgain, Finishes, Gives};
+ghost use Rattle.table.specs.Steps.{Bears, Enters, EntersAgain, Finishes, Gives, GivesEntry};
 ghost use Rattle.table.specs.Sweeping.{IsEntered, IsOneMore, KeepsNames};
-ghost use Rattle.table.specs.World.{IsEnding, IsKept, world_of};
+ghost use Rattle.table.specs.World.{IsEnding, IsKept, IsNameEnding, world_of};
 ghost use Rattle.tree.specs.Places.{at_in, IsAlive, IsFree, IsNamed, Leads};
 
 use crate::data::{Answered, Outcome, Ticket};
 use crate::state::State;
-use flights::{Flights, Given, Givens, Want, Work};
+use flights::{Flights, Given, Givens, Promise, Want, Work};
 use ledger::{Ledger, Posting};
 use tree::{Key, Tree};
 
@@ -91,22 +92,33 @@ fn give_nothing(id: u64, work: Work) -> Answered
     }
 }
 
+/// The name under a parent that was wanted.
+fn key_of(want: Want) -> Key
+    ensures { want ≡ Want.Name result.parent result.name }
+{
+    match want {
+        Want::Name { parent, name } => Key { parent, name },
+    }
+}
+
 impl State {
-    /// Gives an entry of the name that a request was begun with, and lets the request pin its node.
-    fn give(&mut self, id: u64, work: Work) -> Answered
+    /// Gives an entry of the name, and lets the request pin its node.
+    fn give_name(
+        &mut self,
+        id: u64,
+        key: Key,
+        copy: Key,
+        _promise: Promise,
+        answer: Givens,
+    ) -> Answered
         requires kept { IsKept self.old }
-        requires ending { IsEnding self.old id work }
-        ensures gives { (e : IsEnding self.old id work) → Gives (world_of self.old) id e.flight work.want result (world_of self.new) }
+        requires ending { IsNameEnding self.old id key.parent key.name _promise }
+        requires room { 0 < answer.room }
+        requires unanswered { answer.items ≡ [] }
+        ensures gives { (e : IsNameEnding self.old id key.parent key.name _promise) → GivesEntry (world_of self.old) id e.flight key.parent key.name result (world_of self.new) }
         ensures kept { IsKept self.new }
     {
-        let Work {
-            want: Want::Name { parent, name },
-            copy,
-            mut answer,
-            ..
-        } = work;
-        let key = Key { parent, name };
-        let copy = Key { parent, name: copy };
+        let mut answer = answer;
         let given = enter(&mut self.tree, &mut self.ledger, &self.flights, key, copy);
         self.counts += 1;
         self.flights.pin(id, given.number);
@@ -116,6 +128,27 @@ impl State {
             given: answer,
             lost: false,
         }
+    }
+
+    /// Gives an entry of what a request was begun with.
+    fn give(&mut self, id: u64, work: Work) -> Answered
+        requires kept { IsKept self.old }
+        requires ending { IsEnding self.old id work }
+        ensures gives { (e : IsEnding self.old id work) → Gives (world_of self.old) id e.flight work.want result (world_of self.new) }
+        ensures kept { IsKept self.new }
+    {
+        let Work {
+            want,
+            copy,
+            promise,
+            answer,
+        } = work;
+        let key = key_of(want);
+        let copy = Key {
+            parent: key.parent,
+            name: copy,
+        };
+        self.give_name(id, key, copy, promise, answer)
     }
 
     /// Ends the work on a request: the client is given what its want asks for, or nothing.

@@ -5,7 +5,7 @@ ghost use Rattle.table.specs.Steps.{Forgets};
 ghost use Rattle.table.specs.World.{IsKept, world_of};
 
 use crate::state::State;
-use crate::sweep::{Suspects, sweep};
+use crate::sweep::sweep;
 use ledger::Posting;
 
 impl State {
@@ -30,7 +30,7 @@ impl State {
             generation,
             amount,
         });
-        sweep(&mut self.tree, &self.flights, number, &Suspects::none());
+        sweep(&mut self.tree, &self.flights, number, &[], &[]);
         amount
     }
 }

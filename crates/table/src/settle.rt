@@ -2,15 +2,15 @@
 
 ghost use Rattle.std.specs.Prelude.{◌≡◌, ◌≤◌, ◌+◌, ◌⊎◌, ◌++◌};
 ghost use Rattle.flights.specs.Listed.{flying_of};
-ghost use Rattle.table.specs.Steps.{Settles, TakesAllBack, TakesBack, TakesNone};
+ghost use Rattle.table.specs.Steps.{Settles, TakesAllBack, TakesBack, TakesNone, untaken_of};
 ghost use Rattle.table.specs.Sweeping.{IsAmong, IsNearly, IsTakenBack, numbers_in};
 ghost use Rattle.table.specs.World.{IsKept, world_of};
 ghost use Rattle.tree.specs.Places.{at_in};
 
 use crate::data::{Answered, Settled};
 use crate::state::State;
-use crate::sweep::{Suspects, sweep_all};
-use flights::{Flights, Given};
+use crate::sweep::{sweep_given, sweep_pins};
+use flights::{Flights, Given, Givens};
 use ledger::{Ledger, Posting};
 use tree::Tree;
 
@@ -20,33 +20,34 @@ fn take_back(
     ledger: &mut Ledger,
     counts: &mut u64,
     _flights: &Flights,
-    given: Given,
-    _suspects: &Suspects<'_>,
+    entry: Given,
+    _given: &[Option<Given>],
+    _pins: &[u64],
 )
     requires counts { counts.old ≡ tree.old.counts }
-    requires nearly { IsNearly (at_in tree.old) ledger.old.made (flying_of _flights.now).pinned _suspects.now }
-    requires suspect { IsAmong given.number _suspects.now }
+    requires nearly { IsNearly (at_in tree.old) ledger.old.made (flying_of _flights.now).pinned (numbers_in _given.now ++ _pins.now) }
+    requires suspect { IsAmong entry.number (numbers_in _given.now ++ _pins.now) }
     requires room { tree.old.counts ≤ ledger.old.room }
-    ensures back { TakesBack (at_in tree.old) ledger.old.made given (at_in tree.new) ledger.new.made ⊎ TakesNone (at_in tree.old) ledger.old.made given (at_in tree.new) ledger.new.made }
-    ensures nearly { IsNearly (at_in tree.new) ledger.new.made (flying_of _flights.now).pinned _suspects.now }
+    ensures back { TakesBack (at_in tree.old) ledger.old.made entry (at_in tree.new) ledger.new.made ⊎ TakesNone (at_in tree.old) ledger.old.made entry (at_in tree.new) ledger.new.made }
+    ensures nearly { IsNearly (at_in tree.new) ledger.new.made (flying_of _flights.now).pinned (numbers_in _given.now ++ _pins.now) }
     ensures rest { IsTakenBack tree.old ledger.old tree.new ledger.new }
     ensures counts { counts.new ≡ tree.new.counts }
 {
-    let Some(node) = tree.at(given.number) else {
+    let Some(node) = tree.at(entry.number) else {
         return;
     };
-    if node.generation != given.generation {
+    if node.generation != entry.generation {
         return;
     }
     if node.count == 0 {
         return;
     }
     let count = node.count - 1;
-    tree.set_count(given.number, count);
+    tree.set_count(entry.number, count);
     *counts -= 1;
     ledger.post(Posting::Back {
-        number: given.number,
-        generation: given.generation,
+        number: entry.number,
+        generation: entry.generation,
     });
 }
 
@@ -67,13 +68,19 @@ fn take_all_back(
     ensures rest { IsTakenBack tree.old ledger.old tree.new ledger.new }
     ensures counts { counts.new ≡ tree.new.counts }
 {
-    let suspects = Suspects::new(given, pins);
     for entry in given {
         match entry {
-            Some(entry) => take_back(tree, ledger, counts, flights, *entry, &suspects),
+            Some(entry) => take_back(tree, ledger, counts, flights, *entry, given, pins),
             None => {}
         }
     }
+}
+
+/// The entries that go back: none where the reply was taken.
+fn untaken(given: &Givens, taken: bool) -> &[Option<Given>]
+    ensures { result.now ≡ untaken_of taken given.now.items }
+{
+    if taken { &[] } else { given.as_slice() }
 }
 
 impl State {
@@ -95,7 +102,7 @@ impl State {
         let Some(pins) = self.flights.take(id) else {
             return settled;
         };
-        let untaken = if taken { &[] } else { given.as_slice() };
+        let untaken = untaken(&given, taken);
         let pins = pins.as_slice();
         take_all_back(
             &mut self.tree,
@@ -105,7 +112,8 @@ impl State {
             untaken,
             pins,
         );
-        sweep_all(&mut self.tree, &self.flights, Suspects::new(untaken, pins));
+        sweep_given(&mut self.tree, &self.flights, untaken, pins);
+        sweep_pins(&mut self.tree, &self.flights, pins);
         settled
     }
 }

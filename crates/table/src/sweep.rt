@@ -8,58 +8,7 @@ ghost use Rattle.table.specs.Sweeping.{IsPruned, IsSameRest, numbers_in, parent_
 ghost use Rattle.tree.specs.Places.{at_in};
 
 use flights::{Flights, Given};
-use std::marker::Model;
 use tree::{Node, Place, Tree};
-
-/// The numbers of nodes that may have lost their last reason: those given, and then those pinned.
-#[derive(Drop)]
-pub struct Suspects<'a> {
-    given: &'a [Option<Given>],
-    pins: &'a [u64],
-}
-
-impl<'a> Model for Suspects<'a> {
-    ghost use Rattle.std.specs.Prelude.{ℕ, List, ◌++◌};
-    ghost use Rattle.table.specs.Sweeping.{numbers_in};
-
-    ghost Value = { List ℕ };
-
-    ghost view = { λ s. numbers_in s.given.now ++ s.pins.now };
-}
-
-impl<'a> Suspects<'a> {
-    pub fn new(given: &'a [Option<Given>], pins: &'a [u64]) -> Suspects<'a>
-        ensures { result ≡ numbers_in given.now ++ pins.now }
-    {
-        Suspects { given, pins }
-    }
-
-    /// No number.
-    pub fn none() -> Suspects<'a>
-        ensures { result ≡ [] }
-    {
-        Suspects {
-            given: &[],
-            pins: &[],
-        }
-    }
-
-    /// The next number.
-    fn next(&mut self) -> Option<u64>
-        ensures none { IfNone result (self.old ≡ []) }
-        ensures some { IfSome result (λ n. self.old ≡ n ∷ self.new) }
-    {
-        while let Some((given, rest)) = self.given.split_first() {
-            self.given = rest;
-            if let Some(given) = given {
-                return Some(given.number);
-            }
-        }
-        let (number, rest) = self.pins.split_first()?;
-        self.pins = rest;
-        Some(*number)
-    }
-}
 
 /// Whether something keeps the node.
 fn is_needed(tree: &Tree, flights: &Flights, number: u64, node: &Node) -> bool
@@ -96,10 +45,11 @@ fn drop_needless(
     tree: &mut Tree,
     flights: &Flights,
     number: u64,
-    _rest: &Suspects<'_>,
+    _given: &[Option<Given>],
+    _pins: &[u64],
 ) -> Option<u64>
-    requires { IsPruned (at_in tree.old) (flying_of flights.now).pinned (number ∷ _rest.now) }
-    ensures pruned { MatchOption result (IsPruned (at_in tree.new) (flying_of flights.now).pinned _rest.now) (λ p. IsPruned (at_in tree.new) (flying_of flights.now).pinned (p ∷ _rest.now)) }
+    requires { IsPruned (at_in tree.old) (flying_of flights.now).pinned (number ∷ (numbers_in _given.now ++ _pins.now)) }
+    ensures pruned { MatchOption result (IsPruned (at_in tree.new) (flying_of flights.now).pinned (numbers_in _given.now ++ _pins.now)) (λ p. IsPruned (at_in tree.new) (flying_of flights.now).pinned (p ∷ (numbers_in _given.now ++ _pins.now))) }
     ensures swept { IsSwept (flying_of flights.now).pinned (at_in tree.old) (at_in tree.new) }
     ensures fewer { IfSome result (λ p. tree.new.living < tree.old.living) }
     ensures rest { IsSameRest tree.old tree.new }
@@ -115,28 +65,52 @@ fn drop_needless(
     parent
 }
 
-/// Drops the node if nothing keeps it, then its parent, and so on.
-pub fn sweep(tree: &mut Tree, flights: &Flights, number: u64, rest: &Suspects<'_>)
-    requires { IsPruned (at_in tree.old) (flying_of flights.now).pinned (number ∷ rest.now) }
-    ensures pruned { IsPruned (at_in tree.new) (flying_of flights.now).pinned rest.now }
+/// Drops the node if nothing keeps it, then its parent, and so on. The nodes given and pinned may lack a reason.
+pub fn sweep(
+    tree: &mut Tree,
+    flights: &Flights,
+    number: u64,
+    given: &[Option<Given>],
+    pins: &[u64],
+)
+    requires { IsPruned (at_in tree.old) (flying_of flights.now).pinned (number ∷ (numbers_in given.now ++ pins.now)) }
+    ensures pruned { IsPruned (at_in tree.new) (flying_of flights.now).pinned (numbers_in given.now ++ pins.now) }
     ensures swept { IsSwept (flying_of flights.now).pinned (at_in tree.old) (at_in tree.new) }
     ensures rest { IsSameRest tree.old tree.new }
 {
     let mut number = number;
-    while let Some(parent) = drop_needless(tree, flights, number, rest) {
+    while let Some(parent) = drop_needless(tree, flights, number, given, pins) {
         number = parent;
     }
 }
 
-/// Drops what nothing keeps of these nodes, and then of their parents.
-pub fn sweep_all(tree: &mut Tree, flights: &Flights, suspects: Suspects<'_>)
-    requires { IsPruned (at_in tree.old) (flying_of flights.now).pinned suspects }
+/// Drops what nothing keeps of the nodes given, and then of their parents.
+pub fn sweep_given(tree: &mut Tree, flights: &Flights, given: &[Option<Given>], pins: &[u64])
+    requires { IsPruned (at_in tree.old) (flying_of flights.now).pinned (numbers_in given.now ++ pins.now) }
+    ensures pruned { IsPruned (at_in tree.new) (flying_of flights.now).pinned pins.now }
+    ensures swept { IsSwept (flying_of flights.now).pinned (at_in tree.old) (at_in tree.new) }
+    ensures rest { IsSameRest tree.old tree.new }
+{
+    let mut left = given;
+    while let Some((entry, rest)) = left.split_first() {
+        match entry {
+            Some(entry) => sweep(tree, flights, entry.number, rest, pins),
+            None => {}
+        }
+        left = rest;
+    }
+}
+
+/// Drops what nothing keeps of the nodes pinned, and then of their parents.
+pub fn sweep_pins(tree: &mut Tree, flights: &Flights, pins: &[u64])
+    requires { IsPruned (at_in tree.old) (flying_of flights.now).pinned pins.now }
     ensures pruned { IsPruned (at_in tree.new) (flying_of flights.now).pinned [] }
     ensures swept { IsSwept (flying_of flights.now).pinned (at_in tree.old) (at_in tree.new) }
     ensures rest { IsSameRest tree.old tree.new }
 {
-    let mut suspects = suspects;
-    while let Some(number) = suspects.next() {
-        sweep(tree, flights, number, &suspects);
+    let mut left = pins;
+    while let Some((number, rest)) = left.split_first() {
+        sweep(tree, flights, *number, &[], rest);
+        left = rest;
     }
 }
