@@ -1,10 +1,11 @@
 -- Lists of records after a change of one, a removal and an addition.
-use Rattle.std.proofs.Common.{ℕ, ◌<◌, ◌≡◌, ◌≢◌, ◌==◌, suc, zero, true, false, not, if◌then◌else◌, List, [], ◌∷◌, ◌++◌, Some, None, length, get_or, slice_get, set, drop, map, refl, sym, ap, ◌∙◌, subst, arith, inl, inr, drop-cons}
+use Rattle.std.proofs.Common.{◌≤◌, ◌+◌, cond, Option, ℕ, ◌<◌, ◌≡◌, ◌≢◌, ◌==◌, suc, zero, true, false, not, if◌then◌else◌, List, [], ◌∷◌, ◌++◌, Some, None, length, get_or, slice_get, set, drop, map, refl, sym, ap, ◌∙◌, subst, arith, inl, inr, drop-cons}
 use Rattle.std.specs.List.{AllPairs, remove}
 use Rattle.std.proofs.lemmas.Bool.{cases_Bool, cases_eq, false≢true, true≢false, eq-eqb, ne_eqb, cond-true, cond-false}
 use Rattle.std.proofs.lemmas.Option.{none-some, same_Some, slice_get-get_or}
 use Rattle.std.proofs.lemmas.List.{get_or_default, get_or-map, length-map}
 use Rattle.std.proofs.lemmas.List.Elements.{All-map, All-filter, All-push, All-weaker}
+use Rattle.std.proofs.lemmas.List.Sums.{length-filter, count_by-le-length}
 use Rattle.std.proofs.lemmas.List.Kept.{AllPairs-filter}
 use Rattle.std.proofs.lemmas.List.Quantifiers.{all_pairs_push}
 use Rattle.holds.specs.declared.records.Record.{Record}
@@ -150,3 +151,49 @@ AreApart-nil = record {
   apart = λ i j d below within. absurd (omega arith);
   bare = λ k d within. absurd (omega arith);
 }
+
+-- without the record that bears n, the others are found as before
+without-other : (n k : ℕ) → (n ≡ k → ⊥) → (rs : List Record) → record_at (without_id n rs) k ≡ record_at rs k
+without-other n k ne [] = refl
+without-other n k ne (x ∷ rs) = elim (cases_eq x.id n) [
+  | inl e ↦
+      let gone : not (x.id == n) ≡ false = ap not (eq-eqb x.id n e) in
+      let other : x.id ≡ k → ⊥ = λ e'. ne (sym e ∙ e') in
+      ap (λ (ys : List Record). record_at ys k) (cond-false (not (x.id == n)) (x ∷ without_id n rs) (without_id n rs) gone)
+      ∙ (without-other n k ne rs ∙ sym (cond-false (x.id == k) (Some x) (record_at rs k) (ne_eqb x.id k other)))
+  | inr other ↦
+      let kept : not (x.id == n) ≡ true = ap not (ne_eqb x.id n other) in
+      ap (λ (ys : List Record). record_at ys k) (cond-true (not (x.id == n)) (x ∷ without_id n rs) (without_id n rs) kept)
+      ∙ ap (λ (o : Option Record). cond (x.id == k) (Some x) o) (without-other n k ne rs)
+]
+
+without-shorter : (n : ℕ) (rs : List Record) → (record_at rs n ≡ None → ⊥) → length (without_id n rs) < length rs
+without-shorter n [] taken = absurd (taken refl)
+without-shorter n (x ∷ rs) taken = elim (cases_eq x.id n) [
+  | inl e ↦
+      let gone : not (x.id == n) ≡ false = ap not (eq-eqb x.id n e) in
+      let l : length (without_id n (x ∷ rs)) ≡ length (without_id n rs) = ap (λ (ys : List Record). length ys) (cond-false (not (x.id == n)) (x ∷ without_id n rs) (without_id n rs) gone) in
+      omega (arith, l, length-filter (λ (r : Record). not (r.id == n)) rs, count_by-le-length (λ (r : Record). not (r.id == n)) rs)
+  | inr other ↦
+      let kept : not (x.id == n) ≡ true = ap not (ne_eqb x.id n other) in
+      let l : length (without_id n (x ∷ rs)) ≡ length (x ∷ without_id n rs) = ap (λ (ys : List Record). length ys) (cond-true (not (x.id == n)) (x ∷ without_id n rs) (without_id n rs) kept) in
+      let later : record_at rs n ≡ None → ⊥ = λ none. taken (cond-false (x.id == n) (Some x) (record_at rs n) (ne_eqb x.id n other) ∙ none) in
+      omega (arith, l, without-shorter n rs later)
+]
+
+-- as many ids as are borne, so many records there are
+pub taken_bound : (n : ℕ) (rs : List Record) → ((k : ℕ) → k < n → record_at rs k ≡ None → ⊥) → n ≤ length rs
+taken_bound zero rs taken = omega arith
+taken_bound (suc n) rs taken =
+    let fewer = taken_bound n (without_id n rs) (λ k below none. taken k (omega arith) (sym (without-other n k (λ e. let bad : k < k = subst (λ j. k < j) e below in omega arith) rs) ∙ none)) in
+    omega (arith, fewer, without-shorter n rs (taken n (omega arith)))
+
+pub taken_more : (rs : List Record) (n : ℕ) → ((k : ℕ) → k < n → record_at rs k ≡ None → ⊥) → (record_at rs n ≡ None → ⊥) → (k : ℕ) → k < n + 1 → record_at rs k ≡ None → ⊥
+taken_more rs n before here k below = elim (cases_eq k n) [
+  | inl e ↦ λ none. here (ap (record_at rs) (sym e) ∙ none)
+  | inr ne ↦ before k (omega arith)
+]
+
+pub taken_here : (rs : List Record) (i n : ℕ) → i < length rs → slice_get rs i ≡ record_at rs n → record_at rs n ≡ None → ⊥
+taken_here [] i n within found none = absurd (omega arith)
+taken_here (x ∷ rs) i n within found none = none-some (get_or (x ∷ rs) i x) (sym none ∙ (sym found ∙ slice_get-get_or (x ∷ rs) i x within))

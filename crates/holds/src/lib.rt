@@ -1,7 +1,7 @@
 //! What requests in flight hold, so that those that touch the same names wait for one another.
 #![tactic(auto)]
 
-ghost use Rattle.std.specs.Prelude.{true, false, ◌≡◌, ◌<◌, ◌↔◌, ℕ, None, Some, List, [], ◌∷◌, ◌++◌, IsTrue, IfNone, IfSome, IfErr, OnOk, OnErr, length, slice_get};
+ghost use Rattle.std.specs.Prelude.{true, false, ◌≡◌, ◌<◌, ◌+◌, ◌^◌, ◌↔◌, ℕ, None, Some, List, [], ◌∷◌, ◌++◌, IsTrue, IfNone, IfSome, IfErr, OnOk, OnErr, length, slice_get};
 ghost use Rattle.std.specs.Option.{option_copied};
 ghost use Rattle.holds.specs.Clashes.{AreApart, Flights, ClashesWithOne, IsHoldFault, record_at, change_at, without_id, answered, pinning, holders, is_pinned, is_working, HasRoomAt};
 ghost use Rattle.holds.specs.declared.records.Record.{Record};
@@ -42,6 +42,18 @@ fn index_of(records: &[Record], id: u64) -> Option<usize>
         }
     }
     None
+}
+
+/// The least id that no record bears.
+fn least_free(records: &[Record]) -> u64
+    requires { length records.now + 1 < 2 ^ 64 }
+    ensures { record_at records.now result ≡ None }
+{
+    let mut id = 0;
+    while let Some(_i) = index_of(records, id) {
+        id += 1;
+    }
+    id
 }
 
 /// Ends the work of the record that bears the id.
@@ -109,6 +121,13 @@ impl Holds {
         ensures apart { AreApart self.now.records }
     {
         self.records.as_slice()
+    }
+
+    /// An id that no record bears.
+    pub fn vacant(&self) -> u64
+        ensures { record_at self.now.records result ≡ None }
+    {
+        least_free(self.records.as_slice())
     }
 
     /// The record that bears the id.
