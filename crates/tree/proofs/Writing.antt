@@ -1,9 +1,10 @@
 -- A node is rewritten, and keeps its number, generation and place.
-use Rattle.std.proofs.Common.{ℕ, ◌≡◌, ◌<◌, List, [], ◌∷◌, Some, length, get_or, set, slice_get, sym, ap, ◌∙◌, subst, inl, inr}
+use Rattle.std.proofs.Common.{reverse, ℕ, ◌≡◌, ◌<◌, List, [], ◌∷◌, Some, length, get_or, set, slice_get, sym, ap, ◌∙◌, subst, inl, inr}
 use Rattle.std.proofs.lemmas.Bool.{cases_eq}
 use Rattle.std.proofs.lemmas.Option.{same_Some}
 use Rattle.paths.specs.Fronts.{Name, Names}
 use Rattle.tree.specs.declared.nodes.Node.{Node}
+use Rattle.tree.specs.Moves.{Where, at_path, cut, Stands}
 use Rattle.tree.specs.Places.{Lookup, with_node, IsNamed, Reaches, IsTree}
 use Rattle.tree.specs.Listed.{node_at, IsGrown}
 use Rattle.tree.proofs.LookupLemmas.{with_other, with_same, with_some, written, IsDistinct-written}
@@ -37,6 +38,23 @@ module _ (at : Lookup) (n : ℕ) (x y : Node) (stood : at n ≡ Some x) (keeps :
   pub reaches_was : (m : ℕ) (way : Names) (k : ℕ) → Reaches (with_node at n y) m k way → Reaches at m k way
   reaches_was m [] k h = h
   reaches_was m (name ∷ way) k h = (h.0, named_was k h.0 name h.1, reaches_was m way h.0 h.2)
+
+  -- all stand where they stood
+  pub stands_after_write : (m : ℕ) (w : Where) → Stands at m w → Stands (with_node at n y) m w
+  stands_after_write m (at_path p) st = reaches_now 1 (reverse p) m st
+  stands_after_write m cut st = elim (cases_eq n m) [
+    | inl e ↦
+        let same : x ≡ st.0 = same_Some x st.0 (sym stood ∙ (ap at e ∙ st.1)) in
+        (y, subst (λ k. with_node at n y k ≡ Some y) e (with_same at n y), keeps.place ∙ (ap (λ (w : Node). w.place) same ∙ st.2))
+    | inr ne ↦ (st.0, with_other at n y m ne ∙ st.1, st.2)
+  ]
+
+  pub stands_before_write : (m : ℕ) (w : Where) → Stands (with_node at n y) m w → Stands at m w
+  stands_before_write m (at_path p) st = reaches_was 1 (reverse p) m st
+  stands_before_write m cut st = elim (with_some at n y m st.0 st.1) [
+    | inl (e, same) ↦ (x, ap at (sym e) ∙ stood, sym keeps.place ∙ (ap (λ (w : Node). w.place) same ∙ st.2))
+    | inr (ne, was) ↦ (st.0, was, st.2)
+  ]
 
   pub IsTree-write : IsTree at → IsTree (with_node at n y)
   IsTree-write tree = record {

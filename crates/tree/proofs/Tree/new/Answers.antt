@@ -10,7 +10,7 @@ use Rattle.tree.proofs.Tree.new.Goals as goal
 pub returns : goal.returns
 returns c =
     let items : c.push.new.self.items ≡ root_node ∷ [] = rw c.new-nodes.ensures.items at c.in_ok-push.ensures.items in
-    let nodes : at_in (the_view record { nodes = c.push.new.self; limit = c.args.limit }) ≡ with_node no_nodes 1 root_node = look c.push.new.self.items ∙ ap node_at items in
+    let nodes : at_in (the_view record { nodes = c.push.new.self; most = c.args.limit }) ≡ with_node no_nodes 1 root_node = look c.push.new.self.items ∙ ap node_at items in
     record {
       nodes = nodes;
       tree = subst IsTree (sym nodes) IsTree-root;
