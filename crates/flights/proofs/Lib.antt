@@ -1,4 +1,4 @@
 pub mod ById
-mod Lookups
+pub mod Lookups
 mod Kept
 mod Stepping
