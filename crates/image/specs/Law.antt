@@ -8,7 +8,8 @@ use Rattle.ledger.specs.Sums.{number_of, births_of, entries_of, given_of, IsNeve
 use Rattle.tree.specs.declared.nodes.Key.{Key}
 use Rattle.tree.specs.declared.nodes.Node.{Node}
 use Rattle.tree.specs.declared.nodes.Place.TheVariants.{Named}
-use Rattle.tree.specs.Places.{Lookup, node_at, IsDistinct, IsTree, HasChild}
+use Rattle.tree.specs.Places.{Lookup, IsTree, HasChild}
+use Rattle.tree.specs.Listed.{node_at, IsDistinct}
 use Rattle.image.specs.declared.data.Image.{Image}
 use Rattle.image.specs.declared.data.Record.{Record}
 

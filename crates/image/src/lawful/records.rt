@@ -3,7 +3,8 @@
 ghost use Rattle.std.specs.Prelude.{◌≡◌, ◌≢◌, ◌↔◌, IsTrue, All, AllPairs};
 ghost use Rattle.tree.specs.declared.nodes.Node.{Node};
 ghost use Rattle.image.specs.declared.data.Record.{Record};
-ghost use Rattle.tree.specs.Places.{node_at, IsDistinct, HasChild};
+ghost use Rattle.tree.specs.Places.{HasChild};
+ghost use Rattle.tree.specs.Listed.{node_at, IsDistinct};
 ghost use Rattle.image.specs.Law.{ArePinsAlive, HaveReasons, is_pinned};
 ghost use Rattle.image.specs.Parts.{IsAlive, PinsLiving, HaveOtherIds, IsChildOf, IsReasoned};
 

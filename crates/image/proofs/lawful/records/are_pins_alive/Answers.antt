@@ -2,7 +2,8 @@ use Rattle.std.proofs.Common.{ℕ, ◌≡◌, ◌==◌, ◌↔◌, IsTrue, All, 
 use Rattle.std.specs.List.{list_any}
 use Rattle.std.proofs.lemmas.Bool.{eqb-true, eq-eqb}
 use Rattle.std.proofs.lemmas.List.Folds.{Any-from_list_any, list_any_at}
-use Rattle.tree.specs.Places.{Lookup, node_at}
+use Rattle.tree.specs.Places.{Lookup}
+use Rattle.tree.specs.Listed.{node_at}
 use Rattle.image.specs.declared.data.Record.{Record}
 use Rattle.image.specs.Law.{ArePinsAlive, is_pinned}
 use Rattle.image.specs.Parts.{IsAlive, PinsLiving}

@@ -1,8 +1,8 @@
 use Rattle.std.proofs.Common.{◌≡◌, ◌↔◌, IsTrue, Some, rules, subst}
 use Rattle.std.specs.Prelude.{Any}
 use Rattle.tree.specs.declared.nodes.Node.{Node}
-use Rattle.tree.specs.Places.{node_at}
-use Rattle.tree.proofs.Lookups.{node_at_found, found_node}
+use Rattle.tree.specs.Listed.{node_at}
+use Rattle.tree.proofs.LookupLemmas.{node_at_found, found_node}
 use Rattle.image.specs.Parts.{IsChildOf}
 use Rattle.image.proofs.lawful.records.has_child.Goals as goal
 

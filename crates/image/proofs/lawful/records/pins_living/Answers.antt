@@ -1,5 +1,5 @@
 use Rattle.std.proofs.Common.{ℕ, ◌↔◌, IsTrue, All, List, subst}
-use Rattle.tree.specs.Places.{node_at}
+use Rattle.tree.specs.Listed.{node_at}
 use Rattle.image.specs.Parts.{IsAlive, PinsLiving}
 use Rattle.image.proofs.lawful.records.pins_living.Goals as goal
 
