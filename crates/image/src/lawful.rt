@@ -44,3 +44,6 @@ impl Image {
             && keep_law(nodes, self.postings.as_slice(), records)
     }
 }
+
+#[cfg(test)]
+mod tests;
