@@ -2,3 +2,4 @@ pub mod Listed
 pub mod Pairs
 pub mod Trees
 pub mod Ledgers
+pub mod Exported

@@ -5,8 +5,9 @@ use Rattle.std.proofs.lemmas.Bool.{cases_order}
 use Rattle.paths.specs.Fronts.{Name}
 use Rattle.tree.specs.declared.nodes.Node.{Node}
 use Rattle.tree.specs.declared.nodes.Place.TheVariants.{Named}
-use Rattle.tree.specs.Places.{node_at, IsDistinct, IsNamed}
-use Rattle.tree.proofs.Lookups.{node_at_number, node_at_some, found_node, node_at_found}
+use Rattle.tree.specs.Places.{IsNamed}
+use Rattle.tree.specs.Listed.{node_at, IsDistinct}
+use Rattle.tree.proofs.LookupLemmas.{node_at_number, node_at_some, found_node, node_at_found}
 use Rattle.image.specs.Parts.{AreNamesApart, StandApart}
 
 -- what holds of each node of the list holds of each that a number leads to

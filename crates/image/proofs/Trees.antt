@@ -1,11 +1,16 @@
--- A tree and its parts.
-use Rattle.tree.specs.Places.{Lookup, IsTree, IsRooted}
+-- A tree that stands in a list, and its parts.
+use Rattle.std.proofs.Common.{List}
+use Rattle.tree.specs.declared.nodes.Node.{Node}
+use Rattle.tree.specs.Places.{IsTree, IsRooted}
+use Rattle.tree.specs.Listed.{node_at}
+use Rattle.tree.proofs.LookupLemmas.{node_at_number}
 use Rattle.image.specs.Parts.{HasOneRoot, AreNamesApart, AreAllReached}
 
-pub tree_of : (at : Lookup) → IsRooted at → HasOneRoot at → AreNamesApart at → AreAllReached at → IsTree at
-tree_of at rooted root names reached = record { rooted = rooted; only_root = root.only; apart = names.apart; reached = reached.reached }
+pub tree_of : (xs : List Node) → IsRooted (node_at xs) → HasOneRoot (node_at xs) → AreNamesApart (node_at xs) → AreAllReached (node_at xs) → IsTree (node_at xs)
+tree_of xs rooted root names reached =
+    record { rooted = rooted; only_root = root.only; numbered = node_at_number xs; apart = names.apart; reached = reached.reached }
 
-pub parts_of : (at : Lookup) → IsTree at → IsRooted at × HasOneRoot at × AreNamesApart at × AreAllReached at
-parts_of at tree = (tree.rooted, record { only = tree.only_root }, record { apart = tree.apart }, record { reached = tree.reached })
+pub parts_of : (xs : List Node) → IsTree (node_at xs) → IsRooted (node_at xs) × HasOneRoot (node_at xs) × AreNamesApart (node_at xs) × AreAllReached (node_at xs)
+parts_of xs tree = (tree.rooted, record { only = tree.only_root }, record { apart = tree.apart }, record { reached = tree.reached })
 
 pub ruleset tree_parts = (tree_of, parts_of)

@@ -7,7 +7,7 @@ use Rattle.ledger.specs.Sums.{births_of, entries_of, given_of}
 use Rattle.tree.specs.declared.nodes.Key.{Key}
 use Rattle.tree.specs.declared.nodes.Node.{Node}
 use Rattle.tree.specs.declared.nodes.Place.TheVariants.{Root, Named}
-use Rattle.tree.specs.Places.{Lookup, IsNamed, Leads}
+use Rattle.tree.specs.Places.{Lookup, IsAlive, IsNamed, Leads}
 use Rattle.image.specs.declared.data.Record.{Record}
 use Rattle.image.specs.Law.{IsUnborne, HasReason}
 
@@ -75,12 +75,12 @@ abbrev pub HaveOtherIds : Record → Record → Type 0
 HaveOtherIds r s = r.id ≢ s.id
 
 -- a node bears the number
-unfoldable pub IsAlive : Lookup → ℕ → Type 0
-IsAlive at n = (x : Node) × (at n ≡ Some x)
+unfoldable pub IsLiving : Lookup → ℕ → Type 0
+IsLiving at n = IsAlive at n
 
 -- each number that the record pins is that of a living node
 unfoldable pub PinsLiving : Lookup → Record → Type 0
-PinsLiving at r = All (IsAlive at) r.pins
+PinsLiving at r = All (IsLiving at) r.pins
 
 -- the node is named under the parent
 unfoldable pub IsChildOf : ℕ → Node → Type 0

@@ -39,14 +39,6 @@ impl Numbers {
         Numbers::from(Vec::new(alloc))
     }
 
-    /// No numbers, with room for so many.
-    pub fn with_capacity(alloc: Global, capacity: usize) -> Result<Numbers, AllocError>
-        ensures { IfOk result (λ n. n ≡ []) }
-    {
-        let numbers = Vec::with_capacity(alloc, capacity)?;
-        Ok(Numbers { numbers })
-    }
-
     /// Adds a number after the others.
     pub fn add(&mut self, number: u64) -> Result<(), AllocError>
         ensures ok { OnOk result (self.new ≡ self.old ++ number ∷ []) }
@@ -67,6 +59,14 @@ impl Numbers {
         ensures { result.now ≡ self.now }
     {
         self.numbers.as_slice()
+    }
+
+    /// The numbers, without taking memory.
+    pub fn into_vec(self) -> Vec<u64>
+        ensures { result.items ≡ self }
+    {
+        let Numbers { numbers } = self;
+        numbers
     }
 
     /// The same numbers once more.
@@ -124,7 +124,8 @@ impl Nodes {
     pub fn into_vec(self) -> Vec<Node>
         ensures { result.items ≡ self }
     {
-        self.nodes
+        let Nodes { nodes } = self;
+        nodes
     }
 }
 
@@ -162,7 +163,8 @@ impl Postings {
     pub fn into_vec(self) -> Vec<Posting>
         ensures { result.items ≡ self }
     {
-        self.postings
+        let Postings { postings } = self;
+        postings
     }
 }
 
@@ -200,7 +202,8 @@ impl Records {
     pub fn into_vec(self) -> Vec<Record>
         ensures { result.items ≡ self }
     {
-        self.records
+        let Records { records } = self;
+        records
     }
 }
 

@@ -1,7 +1,7 @@
 //! Whether an image is lawful.
 
 ghost use Rattle.std.specs.Prelude.{◌↔◌, IsTrue};
-ghost use Rattle.tree.specs.Places.{node_at, IsDistinct};
+ghost use Rattle.tree.specs.Listed.{node_at, IsDistinct};
 ghost use Rattle.image.specs.Law.{IsLawful, is_pinned};
 
 mod counts;
@@ -44,3 +44,6 @@ impl Image {
             && keep_law(nodes, self.postings.as_slice(), records)
     }
 }
+
+#[cfg(test)]
+mod tests;

@@ -5,7 +5,8 @@ ghost use Rattle.std.specs.Option.{option_copied};
 ghost use Rattle.tree.specs.declared.nodes.Node.{Node};
 ghost use Rattle.tree.specs.declared.nodes.Key.{Key};
 ghost use Rattle.tree.specs.declared.nodes.Place.TheVariants as Place;
-ghost use Rattle.tree.specs.Places.{node_at, IsDistinct, IsTree, IsRooted, IsNamed, Leads};
+ghost use Rattle.tree.specs.Places.{IsTree, IsRooted, IsNamed, Leads};
+ghost use Rattle.tree.specs.Listed.{node_at, IsDistinct};
 ghost use Rattle.image.specs.Law.{AreMarksNamed};
 ghost use Rattle.image.specs.Parts.{HasOneRoot, AreNamesApart, AreAllReached, StandApart, IsMarkNamed, IsRootAlone, IsReached};
 
@@ -35,12 +36,12 @@ pub fn are_distinct(nodes: &[Node]) -> bool
     true
 }
 
-/// Whether number 1 stands at the root.
+/// Whether number 1 stands at the root, in its first generation.
 fn is_rooted(nodes: &[Node]) -> bool
     ensures { IsTrue result ↔ IsRooted (node_at nodes.now) }
 {
     match find(nodes, 1) {
-        Some(node) => matches!(&node.place, Place::Root),
+        Some(node) => matches!(&node.place, Place::Root) && node.generation == 0,
         None => false,
     }
 }

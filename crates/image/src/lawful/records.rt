@@ -3,9 +3,10 @@
 ghost use Rattle.std.specs.Prelude.{◌≡◌, ◌≢◌, ◌↔◌, IsTrue, All, AllPairs};
 ghost use Rattle.tree.specs.declared.nodes.Node.{Node};
 ghost use Rattle.image.specs.declared.data.Record.{Record};
-ghost use Rattle.tree.specs.Places.{node_at, IsDistinct, HasChild};
+ghost use Rattle.tree.specs.Places.{HasChild};
+ghost use Rattle.tree.specs.Listed.{node_at, IsDistinct};
 ghost use Rattle.image.specs.Law.{ArePinsAlive, HaveReasons, is_pinned};
-ghost use Rattle.image.specs.Parts.{IsAlive, PinsLiving, HaveOtherIds, IsChildOf, IsReasoned};
+ghost use Rattle.image.specs.Parts.{IsLiving, PinsLiving, HaveOtherIds, IsChildOf, IsReasoned};
 
 use crate::data::Record;
 use crate::lawful::nodes::find;
@@ -44,17 +45,17 @@ fn is_pinned(records: &[Record], number: u64) -> bool
     records.iter().any(|record| record.pins.contains(number))
 }
 
-#[tactic(auto, unfolding(crate::specs::Parts::IsAlive))]
+#[tactic(auto, unfolding(crate::specs::Parts::IsLiving))]
 /// Whether a node bears the number.
 fn is_alive(nodes: &[Node], number: u64) -> bool
-    ensures { IsTrue result ↔ IsAlive (node_at nodes.now) number }
+    ensures { IsTrue result ↔ IsLiving (node_at nodes.now) number }
 {
     find(nodes, number).is_some()
 }
 
 /// Whether each of the numbers is that of a living node.
 fn are_alive(nodes: &[Node], numbers: &[u64]) -> bool
-    ensures { IsTrue result ↔ All (IsAlive (node_at nodes.now)) numbers.now }
+    ensures { IsTrue result ↔ All (IsLiving (node_at nodes.now)) numbers.now }
 {
     numbers.iter().all(|number| is_alive(nodes, *number))
 }

@@ -1,5 +1,6 @@
 use Rattle.std.proofs.Common.{◌≡◌, true, sym, ◌∙◌}
-use Rattle.tree.specs.Places.{node_at, IsTree}
+use Rattle.tree.specs.Places.{IsTree}
+use Rattle.tree.specs.Listed.{node_at}
 use Rattle.image.specs.Law.{HasPlainRoot, IsBornInOrder, IsCounted, AreMarksNamed, ArePinsAlive, is_pinned}
 use Rattle.image.proofs.lawful.keep_law.Goals as goal
 use Rattle.image.proofs.lawful.keep_law.Goals.{then-is_tree, else-is_tree, then-has_plain_root, else-has_plain_root, then-are_born_in_order, else-are_born_in_order, then-are_counted, else-are_counted, then-are_marks_named, else-are_marks_named}

@@ -1,9 +1,9 @@
 use Rattle.std.proofs.Common.{ℕ, ◌+◌, ◌≡◌, ◌↔◌, IsTrue, All, List, rules, subst}
 use Rattle.ledger.specs.declared.postings.Posting.{Posting}
 use Rattle.tree.specs.declared.nodes.Node.{Node}
-use Rattle.tree.specs.Places.{node_at, IsDistinct}
+use Rattle.tree.specs.Listed.{node_at, IsDistinct}
 use Rattle.ledger.specs.Sums.{entries_of, given_of}
-use Rattle.tree.proofs.Lookups.{node_at_number}
+use Rattle.tree.proofs.LookupLemmas.{node_at_number}
 use Rattle.image.specs.Parts.{AreCountsExact, IsCountExact}
 use Rattle.image.proofs.Listed.{each_led, each_listed}
 use Rattle.image.proofs.lawful.counts.are_counts_exact.Goals as goal

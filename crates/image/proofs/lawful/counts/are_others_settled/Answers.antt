@@ -3,7 +3,8 @@ use Rattle.std.proofs.lemmas.Bool.{cases_eq}
 use Rattle.ledger.specs.declared.postings.Posting.{Posting}
 use Rattle.ledger.specs.declared.postings.Posting.TheVariants.{Born}
 use Rattle.ledger.specs.Sums.{entries_of, given_of}
-use Rattle.tree.specs.Places.{Lookup, node_at}
+use Rattle.tree.specs.Places.{Lookup}
+use Rattle.tree.specs.Listed.{node_at}
 use Rattle.image.specs.Law.{IsOrdered, IsUnborne}
 use Rattle.image.specs.Parts.{IsSettled}
 use Rattle.image.proofs.Ledgers.{unborn}

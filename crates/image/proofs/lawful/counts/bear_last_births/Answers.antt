@@ -1,6 +1,6 @@
 use Rattle.std.proofs.Common.{ℕ, ◌↔◌, IsTrue, All, rules, ap, sym, ◌∙◌}
 use Rattle.ledger.specs.Sums.{births_of}
-use Rattle.tree.proofs.Lookups.{node_at_number}
+use Rattle.tree.proofs.LookupLemmas.{node_at_number}
 use Rattle.image.specs.Parts.{BearsLastBirth}
 use Rattle.image.proofs.Listed.{each_led, each_listed}
 use Rattle.image.proofs.lawful.counts.bear_last_births.Goals as goal

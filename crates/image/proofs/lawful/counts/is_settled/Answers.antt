@@ -2,7 +2,7 @@ use Rattle.std.proofs.Common.{ℕ, ◌≡◌, rules, sym, ◌∙◌, subst, arit
 use Rattle.std.proofs.lemmas.Bool.{eqb-true, eq-eqb}
 use Rattle.ledger.specs.declared.postings.Posting.TheVariants.{Born}
 use Rattle.ledger.specs.Sums.{entries_of, given_of}
-use Rattle.tree.specs.Places.{node_at}
+use Rattle.tree.specs.Listed.{node_at}
 use Rattle.image.specs.Law.{IsUnborne}
 use Rattle.image.proofs.lawful.counts.is_settled.Goals as goal
 

@@ -1,6 +1,7 @@
 use Rattle.std.proofs.Common.{rules, ◌↔◌, IsTrue, All, subst}
-use Rattle.tree.specs.Places.{node_at, Leads}
-use Rattle.tree.proofs.Lookups.{node_at_number}
+use Rattle.tree.specs.Places.{Leads}
+use Rattle.tree.specs.Listed.{node_at}
+use Rattle.tree.proofs.LookupLemmas.{node_at_number}
 use Rattle.image.specs.Parts.{IsReached}
 use Rattle.image.proofs.Listed.{each_led, each_listed}
 use Rattle.image.proofs.lawful.nodes.are_all_reached.Goals as goal

@@ -1,5 +1,5 @@
 use Rattle.std.proofs.Common.{◌↔◌, drop}
-use Rattle.tree.specs.Places.{IsDistinct}
+use Rattle.tree.specs.Listed.{IsDistinct}
 use Rattle.image.proofs.lawful.nodes.are_distinct.Given as goal
 
 abbrev pub invariant-loop-i : goal.invariant-loop-i

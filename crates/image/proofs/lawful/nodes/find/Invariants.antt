@@ -1,5 +1,5 @@
 use Rattle.std.proofs.Common.{◌≡◌, drop}
-use Rattle.tree.specs.Places.{node_at}
+use Rattle.tree.specs.Listed.{node_at}
 use Rattle.image.proofs.lawful.nodes.find.Given as goal
 
 abbrev pub invariant-loop-node : goal.invariant-loop-node

@@ -1,5 +1,5 @@
 use Rattle.std.proofs.Common.{rules, ◌↔◌, IsTrue, All, sym, ◌∙◌}
-use Rattle.tree.proofs.Lookups.{node_at_number}
+use Rattle.tree.proofs.LookupLemmas.{node_at_number}
 use Rattle.image.specs.Parts.{IsRootAlone}
 use Rattle.image.proofs.Listed.{each_led, each_listed}
 use Rattle.image.proofs.lawful.nodes.has_one_root.Goals as goal

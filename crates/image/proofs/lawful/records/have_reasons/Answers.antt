@@ -1,6 +1,6 @@
 use Rattle.std.proofs.Common.{ℕ, ◌↔◌, IsTrue, All, rules, sym, ◌∙◌, subst}
-use Rattle.tree.specs.Places.{node_at}
-use Rattle.tree.proofs.Lookups.{node_at_number}
+use Rattle.tree.specs.Listed.{node_at}
+use Rattle.tree.proofs.LookupLemmas.{node_at_number}
 use Rattle.image.specs.Law.{HasReason, is_pinned}
 use Rattle.image.specs.Parts.{IsReasoned}
 use Rattle.image.proofs.Listed.{each_led, each_listed}
