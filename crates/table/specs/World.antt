@@ -1,8 +1,8 @@
 -- All that a table keeps, and the law of it.
-use Rattle.std.specs.Prelude.{ℕ, ◌+◌, ◌^◌, ◌<◌, ◌≤◌, ◌≡◌, ◌⊎◌, true, List, [], Option, Some, length}
+use Rattle.std.specs.Prelude.{ℕ, ◌+◌, ◌^◌, ◌<◌, ◌≤◌, ◌≡◌, ◌⊎◌, true, false, List, [], Option, Some, length}
 use Rattle.ledger.specs.declared.postings.Posting.{Posting}
 use Rattle.tree.specs.declared.nodes.Key.{Key}
-use Rattle.tree.specs.Places.{Lookup, Nodes, at_in, IsNamed, Leads}
+use Rattle.tree.specs.Places.{Lookup, Nodes, at_in, with_node, no_nodes, root_node, IsNamed, Leads}
 use Rattle.ledger.specs.Postings.{Postings}
 use Rattle.flights.specs.Listed.{flying_of}
 use Rattle.flights.specs.declared.data.Flight.{Flight}
@@ -11,7 +11,7 @@ use Rattle.flights.specs.declared.data.Stage.TheVariants.{Working, Answered}
 use Rattle.flights.specs.declared.data.Want.{Want}
 use Rattle.flights.specs.declared.data.Want.TheVariants.{Name}
 use Rattle.flights.specs.declared.data.Work.{Work}
-use Rattle.flights.specs.Flying.{Flying, IsFlying, pins_number}
+use Rattle.flights.specs.Flying.{Flying, IsFlying, none_flying, pins_number}
 use Rattle.image.specs.Law.{IsLawful}
 use Rattle.table.specs.declared.data.Limits.{Limits}
 use Rattle.table.specs.declared.state.State.{State}
@@ -117,3 +117,12 @@ pub record IsNameEnding (s : State) (id parent : ℕ) (name : List ℕ) (promise
   pub node : (promise.nodes ≡ 1) ⊎ ((n : ℕ) × IsNamed (at_in s.tree) n parent name)
   pub three : promise.postings ≡ 3
   pub room : IsRoomFor s promise
+
+-- a table of the root alone
+pub record IsOpened (limits : Limits) (w : World) : Type 0 where
+  pub at : w.at ≡ with_node no_nodes 1 root_node
+  pub living : w.living ≡ 1
+  pub counts : w.counts ≡ 0
+  pub postings : w.postings ≡ []
+  pub flying : w.flying ≡ record { at = none_flying; pinned = λ n. false; many = 0; nodes = 0; postings = 0; room = 0 }
+  pub limits_are : w.limits ≡ limits

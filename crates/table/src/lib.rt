@@ -10,5 +10,8 @@ mod forget;
 mod settle;
 mod state;
 mod sweep;
+mod table;
 
 pub use data::{Answered, Begin, Limits, Outcome, Settled, Ticket};
+pub use flights::{Given, Want};
+pub use table::Table;
