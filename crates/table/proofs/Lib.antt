@@ -9,3 +9,5 @@ pub mod Settling
 pub mod Entering
 pub mod Giving
 pub mod Finishing
+pub mod Counting
+pub mod Longer

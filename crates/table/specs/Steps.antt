@@ -69,11 +69,14 @@ abbrev pub IsPromiseFor : World → Want → Promise → Type 0
 IsPromiseFor w (Name parent name) p =
     (IsFree w.at parent name → p.nodes ≡ 1) × ((n : ℕ) → IsNamed w.at n parent name → p.nodes ≡ 0) × (p.postings ≡ 3)
 
--- with what the want may add, the nodes or the postings would pass their limit
+-- with what is promised, the nodes or the postings would pass their limit
+abbrev pub IsTooMuch : World → Promise → Type 0
+IsTooMuch w p =
+    (w.limits.nodes < w.living + w.flying.nodes + p.nodes)
+    ⊎ (w.limits.postings < length w.postings + w.counts + w.flying.postings + p.postings)
+
 abbrev pub IsFull : World → Want → Type 0
-IsFull w want =
-    (p : Promise) × IsPromiseFor w want p
-    × ((w.limits.nodes < w.living + w.flying.nodes + p.nodes) ⊎ (w.limits.postings < length w.postings + w.counts + w.flying.postings + p.postings))
+IsFull w want = (p : Promise) × IsPromiseFor w want p × IsTooMuch w p
 
 -- one request more would pass the limit
 abbrev pub IsCrowded : World → Type 0

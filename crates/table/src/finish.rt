@@ -93,7 +93,7 @@ fn give_nothing(id: u64, work: Work) -> Answered
 }
 
 /// The name under a parent that was wanted.
-fn key_of(want: Want) -> Key
+pub fn key_of(want: Want) -> Key
     ensures { want ≡ Want.Name result.parent result.name }
 {
     match want {
