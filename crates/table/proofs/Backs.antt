@@ -1,13 +1,13 @@
 -- Entries that are taken back one after another.
-use Rattle.std.proofs.Common.{ℕ, ◌+◌, ◌-◌, ◌<◌, ◌≤◌, ◌≡◌, ◌≢◌, suc, zero, Bool, List, [], ◌∷◌, ◌++◌, Option, Some, None, length, get_or, drop, drop-cons, add-one, refl, sym, ap, ◌∙◌, subst, ◌⊎◌, inl, inr, arith}
+use Rattle.std.proofs.Common.{ℕ, ◌+◌, ◌-◌, ◌<◌, ◌≡◌, suc, zero, Bool, List, [], ◌∷◌, ◌++◌, Option, Some, None, length, get_or, drop, drop-cons, add-one, refl, sym, ap, ◌∙◌, subst, ◌⊎◌, inl, inr, arith}
 use Rattle.ledger.specs.declared.postings.Posting.{Posting}
 use Rattle.ledger.specs.declared.postings.Posting.TheVariants.{Back}
 use Rattle.ledger.specs.Postings.{Postings}
 use Rattle.tree.specs.declared.nodes.Node.{Node}
-use Rattle.tree.specs.Places.{Lookup, Nodes, at_in, with_node, IsTree}
+use Rattle.tree.specs.Places.{Lookup, Nodes, with_node, IsTree}
 use Rattle.flights.specs.declared.data.Given.{Given}
 use Rattle.table.specs.Steps.{TakesBack, TakesNone, TakesAllBack}
-use Rattle.table.specs.Sweeping.{IsAmong, HaveReasonsBut, IsPruned, IsNearly, IsTakenBack, numbers_in}
+use Rattle.table.specs.Sweeping.{IsAmong, HaveReasonsBut, IsNearly, IsTakenBack, numbers_in}
 use Rattle.table.proofs.Laws.{booked_back}
 use Rattle.table.proofs.Reasons.{HaveReasons-write, HaveReasons-more}
 

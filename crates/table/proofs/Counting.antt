@@ -1,11 +1,11 @@
 -- The postings that a step made, counted for the worker that made them.
-use Rattle.std.proofs.Common.{ℕ, ◌+◌, ◌<◌, ◌≤◌, ◌^◌, ◌≡◌, Bool, true, false, List, [], ◌∷◌, ◌++◌, length, get_or, take, drop, refl, sym, ap, ◌∙◌, subst, arith, length-append, length-take}
+use Rattle.std.proofs.Common.{ℕ, ◌+◌, ◌<◌, ◌≤◌, ◌^◌, ◌≡◌, Bool, true, false, List, length, get_or, take, refl, ap, ◌∙◌, subst, arith, length-take}
 use Rattle.std.specs.Prelude.{nat_le}
 use Rattle.std.proofs.lemmas.Bool.Decides.{nat_tests}
-use Rattle.std.proofs.lemmas.List.{take_all, take-take, take_more, take-append-drop, get_or-drop}
+use Rattle.std.proofs.lemmas.List.{take_all, take-take, take_more}
 use Rattle.ledger.specs.declared.postings.Posting.{Posting}
 use Rattle.ledger.specs.declared.shares.Totals.{Totals}
-use Rattle.ledger.specs.Shares.{Part, plus, Fits}
+use Rattle.ledger.specs.Shares.{plus, Fits}
 use Rattle.ledger.specs.Sums.{totals_by, totals_of, entries_of, given_of, IsNeverNegative}
 use Rattle.ledger.proofs.Balances.{totals_of-covered}
 use Rattle.ledger.proofs.SharesLemmas.{totals_of-push, added-le}

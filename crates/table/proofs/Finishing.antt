@@ -1,22 +1,21 @@
 -- What the end of the work on a request leaves.
-use Rattle.std.proofs.Common.{ℕ, ◌+◌, ◌<◌, ◌≤◌, ◌≡◌, ◌≢◌, Bool, true, false, List, [], ◌∷◌, Option, Some, None, length, refl, sym, ap, ◌∙◌, subst, ◌⊎◌, inl, inr, arith}
+use Rattle.std.proofs.Common.{ℕ, ◌<◌, ◌≡◌, Bool, true, false, [], ◌∷◌, Some, None, refl, sym, ap, ◌∙◌, subst, arith}
 use Rattle.std.proofs.lemmas.Bool.{true≢false}
 use Rattle.std.proofs.lemmas.Option.{same_Some}
 use Rattle.tree.specs.Places.{at_in}
 use Rattle.flights.specs.declared.data.Flight.{Flight}
-use Rattle.flights.specs.declared.data.Stage.{Stage}
-use Rattle.flights.specs.declared.data.Stage.TheVariants.{Working, Answered}
+use Rattle.flights.specs.declared.data.Stage.TheVariants.{Working}
 use Rattle.flights.specs.declared.data.Want.{Want}
 use Rattle.flights.specs.declared.data.Want.TheVariants.{Name}
 use Rattle.flights.specs.declared.data.Work.{Work}
-use Rattle.flights.specs.Flying.{Flights, Flying, IsFlying, Answers, HasNoneWorking, PinsMore, answered, is_working, with_flight}
+use Rattle.flights.specs.Flying.{Flights, Flying, IsFlying, Answers, HasNoneWorking, answered, is_working}
 use Rattle.flights.specs.Listed.{InFlight, flying_of}
 use Rattle.table.specs.declared.data.Outcome.{Outcome}
 use Rattle.table.specs.declared.data.Outcome.TheVariants as outcome
 use Rattle.table.specs.declared.state.State.{State}
 use Rattle.table.specs.Answers.{Answer}
-use Rattle.table.specs.Steps.{Ends, Fails, Finishes, Gives, GivesEntry, GivesName}
-use Rattle.table.specs.World.{AreReady, IsEnding, IsKept, IsNameReady, IsReadyFor, IsRoomFor, World, world_of}
+use Rattle.table.specs.Steps.{Ends, Finishes, Gives}
+use Rattle.table.specs.World.{AreReady, IsEnding, IsKept, IsReadyFor, World, world_of}
 use Rattle.table.proofs.Laws.{lawful_pins}
 use Rattle.table.proofs.Ready.{AreReady-idle, flight_same}
 

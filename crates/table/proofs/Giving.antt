@@ -1,12 +1,10 @@
 -- What is kept of a table when a request gives an entry, and pins its node.
-use Rattle.std.proofs.Common.{ℕ, ◌+◌, ◌<◌, ◌≤◌, ◌≡◌, ◌≢◌, ◌==◌, ◌||◌, ◌^◌, Bool, true, false, List, [], ◌∷◌, ◌++◌, Option, Some, None, length, refl, sym, ap, ◌∙◌, subst, ◌⊎◌, inl, inr, arith}
+use Rattle.std.proofs.Common.{ℕ, ◌+◌, ◌<◌, ◌≤◌, ◌≡◌, ◌==◌, ◌||◌, Bool, List, sym, ap, ◌∙◌, subst, inl, inr, arith}
 use Rattle.std.proofs.lemmas.Bool.{or_cases, or_left, eqb-true}
 use Rattle.ledger.specs.Postings.{Postings}
-use Rattle.tree.specs.declared.nodes.Node.{Node}
-use Rattle.tree.specs.Places.{Lookup, Nodes, at_in, IsAlive, IsFree, IsNamed}
-use Rattle.flights.specs.declared.data.Flight.{Flight}
+use Rattle.tree.specs.Places.{Nodes, at_in, IsAlive, IsFree}
 use Rattle.flights.specs.declared.data.Promise.{Promise}
-use Rattle.flights.specs.Flying.{Flights, Flying, IsFlying, PinsMore, pinning}
+use Rattle.flights.specs.Flying.{Flights, IsFlying, PinsMore, pinning}
 use Rattle.flights.specs.Listed.{InFlight, flying_of}
 use Rattle.image.specs.Law.{IsLawful}
 use Rattle.table.specs.declared.state.State.{State}

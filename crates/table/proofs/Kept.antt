@@ -1,19 +1,18 @@
 -- What is kept of a table when its nodes and its ledger change, and the requests in flight do not.
-use Rattle.std.proofs.Common.{ℕ, ◌+◌, ◌-◌, ◌<◌, ◌≤◌, ◌≡◌, ◌≢◌, Bool, List, [], ◌∷◌, ◌++◌, Option, Some, None, length, length-append, refl, sym, ap, ◌∙◌, subst, ◌⊎◌, inl, inr, arith}
+use Rattle.std.proofs.Common.{ℕ, ◌+◌, ◌-◌, ◌≤◌, ◌≡◌, ◌≢◌, List, [], ◌∷◌, ◌++◌, Some, length, length-append, refl, sym, ap, ◌∙◌, subst, arith}
 use Rattle.ledger.specs.declared.postings.Posting.{Posting}
 use Rattle.ledger.specs.declared.postings.Posting.TheVariants.{Forget}
 use Rattle.ledger.specs.Postings.{Postings}
 use Rattle.tree.specs.declared.nodes.Node.{Node}
-use Rattle.tree.specs.Places.{Lookup, Nodes, at_in, with_node, IsTree}
+use Rattle.tree.specs.Places.{Nodes, at_in, with_node, IsTree}
 use Rattle.tree.specs.Moves.{Writes}
-use Rattle.flights.specs.Flying.{Flying}
 use Rattle.flights.specs.Listed.{flying_of}
 use Rattle.image.specs.Law.{IsLawful}
 use Rattle.table.specs.declared.state.State.{State}
 use Rattle.table.specs.Steps.{IsSwept}
-use Rattle.table.specs.Sweeping.{HaveReasonsBut, IsPruned, IsSameRest, IsNearly, IsBooked}
+use Rattle.table.specs.Sweeping.{HaveReasonsBut, IsPruned, IsSameRest, IsBooked}
 use Rattle.table.specs.World.{AreReady, IsKept}
-use Rattle.table.proofs.Laws.{booked_of, booked_forget, counted_not_root, lawful_swept}
+use Rattle.table.proofs.Laws.{booked_of, booked_forget, lawful_swept}
 use Rattle.table.proofs.Ready.{AreReady-same, AreReady-swept, named_written}
 use Rattle.table.proofs.Reasons.{HaveReasons-some, HaveReasons-write}
 
@@ -72,9 +71,9 @@ module _ (s : State) (kept : IsKept s) (number : ℕ) (x : Node) (stood : at_in 
       let y : Node = record x { count = x.count - amount } in
       let w = written s.tree tree number x y writes in
       let booked : IsBooked (at_in tree) ledger.made pinned =
-          rw (writes.nodes, made) (booked_forget (at_in s.tree) s.ledger.made pinned (booked_of (at_in s.tree) s.ledger.made pinned kept.law) number x stood amount (omega arith) fits) in
+      rw (writes.nodes, made) (booked_forget (at_in s.tree) s.ledger.made pinned (booked_of (at_in s.tree) s.ledger.made pinned kept.law) number x stood amount (omega arith) fits) in
       let one : AreReady (at_in tree) (flying_of s.flights).at =
-          subst (λ a. AreReady a (flying_of s.flights).at) (sym writes.nodes) (AreReady-same (at_in s.tree) (with_node (at_in s.tree) number y) (flying_of s.flights).at (named_written (at_in s.tree) number x y stood refl) kept.ready) in
+      subst (λ a. AreReady a (flying_of s.flights).at) (sym writes.nodes) (AreReady-same (at_in s.tree) (with_node (at_in s.tree) number y) (flying_of s.flights).at (named_written (at_in s.tree) number x y stood refl) kept.ready) in
       kept_changed s new ledger (s.counts - amount) kept
       (lawful_swept (at_in tree) (at_in new) ledger.made pinned booked swept pruned)
       (AreReady-swept (at_in tree) (at_in new) (flying_of s.flights) kept.flying swept one)

@@ -1,19 +1,17 @@
 -- The law after each change of a node that a posting goes with.
-use Rattle.std.proofs.Common.{ℕ, ◌+◌, ◌-◌, ◌<◌, ◌≤◌, ◌≡◌, ◌≢◌, ◌==◌, ◌||◌, Bool, true, false, List, [], ◌∷◌, ◌++◌, Option, Some, None, Contains, refl, sym, ap, ◌∙◌, subst, ◌⊎◌, inl, inr, arith}
-use Rattle.std.proofs.lemmas.Bool.{cases_eq, or_cases, eqb-true}
+use Rattle.std.proofs.Common.{ℕ, ◌+◌, ◌-◌, ◌<◌, ◌≤◌, ◌≡◌, ◌≢◌, Bool, true, false, List, [], ◌∷◌, ◌++◌, Some, None, Contains, refl, sym, ap, ◌∙◌, subst, inl, arith}
 use Rattle.std.proofs.lemmas.Option.{none-some, same_Some}
 use Rattle.ledger.specs.declared.postings.Posting.{Posting}
 use Rattle.ledger.specs.declared.postings.Posting.TheVariants.{Born, Entry, Back, Forget}
 use Rattle.ledger.specs.Sums.{births_of, IsAllowed}
 use Rattle.ledger.proofs.Touches.{touches_entry, touches_back, touches_forget}
-use Rattle.tree.specs.declared.nodes.Key.{Key}
 use Rattle.tree.specs.declared.nodes.Node.{Node}
 use Rattle.tree.specs.declared.nodes.Place.TheVariants.{Root, Named}
 use Rattle.tree.specs.Places.{Lookup, with_node, IsNamed, IsTree}
-use Rattle.tree.proofs.LookupLemmas.{with_same, with_other, with_some, with_twice}
-use Rattle.image.specs.Law.{IsLawful, HasReason, HaveReasons, ArePinsAlive}
+use Rattle.tree.proofs.LookupLemmas.{with_same}
+use Rattle.image.specs.Law.{IsLawful, HaveReasons, ArePinsAlive}
 use Rattle.table.specs.Steps.{IsSwept}
-use Rattle.table.specs.Sweeping.{HaveReasonsBut, IsBooked, IsPruned, IsNearly}
+use Rattle.table.specs.Sweeping.{IsBooked, IsPruned}
 use Rattle.table.proofs.Ordered.{born_before}
 use Rattle.table.proofs.Booked.{IsBooked-post, IsBooked-born, IsBooked-swept, IsBooked-pins}
 use Rattle.table.proofs.Reasons.{HaveReasons-none, HaveReasons-some, HaveReasons-write, HaveReasons-born, HaveReasons-all, HaveReasons-pins}
@@ -111,10 +109,10 @@ lawful_birth at ps pinned n y law fresh gen zero_count unmarked tree tree' =
     lawful_from (with_node one n z) ((ps ++ Born n y.generation ∷ []) ++ Entry n y.generation ∷ []) pinned tree'
     (booked_entry one (ps ++ Born n y.generation ∷ []) pinned booked n y stood not_root)
     (HaveReasons-none (with_node one n z) pinned (HaveReasons-all (with_node one n z) pinned n []
-        (λ w h root. inl (let same : z ≡ w = same_Some z w (sym (with_same one n z) ∙ h) in let P : Node → Type 0 = λ v. 0 < v.count in subst P same (omega arith)))
-        (HaveReasons-all (with_node one n z) pinned n (n ∷ [])
-            (λ w h root. inl (let same : z ≡ w = same_Some z w (sym (with_same one n z) ∙ h) in let P : Node → Type 0 = λ v. 0 < v.count in subst P same (omega arith)))
-            (HaveReasons-write one pinned n y z (n ∷ []) stood refl (HaveReasons-born at pinned n y [] fresh (HaveReasons-some at pinned [] law.reasons))))))
+    (λ w h root. inl (let same : z ≡ w = same_Some z w (sym (with_same one n z) ∙ h) in let P : Node → Type 0 = λ v. 0 < v.count in subst P same (omega arith)))
+    (HaveReasons-all (with_node one n z) pinned n (n ∷ [])
+    (λ w h root. inl (let same : z ≡ w = same_Some z w (sym (with_same one n z) ∙ h) in let P : Node → Type 0 = λ v. 0 < v.count in subst P same (omega arith)))
+    (HaveReasons-write one pinned n y z (n ∷ []) stood refl (HaveReasons-born at pinned n y [] fresh (HaveReasons-some at pinned [] law.reasons))))))
 
 -- more numbers are pinned, all of them alive
 pub lawful_pins : (at : Lookup) (ps : List Posting) (old new : ℕ → Bool) → IsLawful at ps old → ((m : ℕ) → old m ≡ true → new m ≡ true) → ArePinsAlive at new → IsLawful at ps new

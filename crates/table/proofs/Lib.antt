@@ -11,3 +11,4 @@ pub mod Giving
 pub mod Finishing
 pub mod Counting
 pub mod Longer
+pub mod Starting

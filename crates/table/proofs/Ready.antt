@@ -1,9 +1,9 @@
 -- What requests that go on may rely on stays, whatever else is done.
-use Rattle.std.proofs.Common.{ℕ, ◌+◌, ◌<◌, ◌≤◌, ◌≡◌, ◌≢◌, ◌==◌, Bool, true, false, cond, List, [], ◌∷◌, ◌++◌, Option, Some, None, refl, sym, ap, ◌∙◌, subst, ◌⊎◌, inl, inr, arith}
+use Rattle.std.proofs.Common.{ℕ, ◌≡◌, ◌==◌, Bool, true, List, [], ◌∷◌, Some, None, refl, sym, ap, ◌∙◌, subst, ◌⊎◌, inl, inr}
 use Rattle.std.proofs.lemmas.Bool.{cases_eq, ne_eqb, eq-eqb, cond-true, cond-false}
 use Rattle.std.proofs.lemmas.Option.{none-some, same_Some}
 use Rattle.tree.specs.declared.nodes.Node.{Node}
-use Rattle.tree.specs.Places.{Lookup, with_node, IsNamed, HasChild, Reaches, IsBelow, Leads}
+use Rattle.tree.specs.Places.{Lookup, with_node, IsNamed, Reaches}
 use Rattle.tree.proofs.LookupLemmas.{with_same, with_other, cases_option}
 use Rattle.flights.specs.declared.data.Flight.{Flight}
 use Rattle.flights.specs.declared.data.Stage.TheVariants.{Working, Answered}
@@ -12,7 +12,7 @@ use Rattle.flights.specs.declared.data.Want.TheVariants.{Name}
 use Rattle.flights.specs.declared.data.Work.{Work}
 use Rattle.flights.specs.Flying.{Flights, with_flight, without_flight, pins_number, Flying, IsFlying}
 use Rattle.table.specs.Steps.{IsSwept}
-use Rattle.table.specs.World.{IsReadyFor, AreReady, IsNameReady}
+use Rattle.table.specs.World.{IsReadyFor, AreReady}
 use Rattle.table.proofs.Reasons.{stays_pinned}
 
 -- ---- look-ups of requests

@@ -1,13 +1,13 @@
 -- Who has a reason to stay after a node was dropped or changed, and what a sweep leaves.
-use Rattle.std.proofs.Common.{ℕ, ◌+◌, ◌<◌, ◌≤◌, ◌≡◌, ◌≢◌, ◌||◌, Bool, true, false, List, [], ◌∷◌, ◌++◌, reverse, Option, Some, None, MatchOption, refl, sym, ap, ◌∙◌, subst, ◌⊎◌, inl, inr, arith}
-use Rattle.std.proofs.lemmas.Bool.{cases_eq, true≢false, or_cases}
+use Rattle.std.proofs.Common.{ℕ, ◌≡◌, ◌≢◌, Bool, true, List, [], ◌∷◌, Option, Some, None, MatchOption, refl, sym, ap, ◌∙◌, subst, ◌⊎◌, inl, inr, arith}
+use Rattle.std.proofs.lemmas.Bool.{cases_eq, true≢false}
 use Rattle.std.proofs.lemmas.Option.{none-some, same_Some}
 use Rattle.tree.specs.declared.nodes.Key.{Key}
 use Rattle.tree.specs.declared.nodes.Node.{Node}
 use Rattle.tree.specs.declared.nodes.Place.{Place}
 use Rattle.tree.specs.declared.nodes.Place.TheVariants.{Root, Named, Cut}
 use Rattle.tree.specs.Places.{Lookup, Nodes, with_node, without, IsNamed, HasChild, IsTree}
-use Rattle.tree.proofs.LookupLemmas.{without_some, without_other, without_same, with_other, with_same, with_some, cases_option}
+use Rattle.tree.proofs.LookupLemmas.{without_some, without_other, with_other, with_same, with_some, cases_option}
 use Rattle.image.specs.Law.{HasReason, HaveReasons}
 use Rattle.table.specs.Steps.{IsNeedless, IsSwept}
 use Rattle.table.specs.Sweeping.{IsAmong, HaveReasonsBut, IsPruned, IsSameRest, parent_in}
@@ -32,9 +32,9 @@ pub HaveReasons-drop : (at : Lookup) (pinned : ℕ → Bool) (n : ℕ) (rest : L
 HaveReasons-drop at pinned n rest x key stood place reasons c y h not_root left =
     let was = without_some at n c y h in
     let other : (name : List ℕ) → IsNamed at n c name → ⊥ = λ name k.
-        let e : Named (record { parent = c; name = name }) ≡ Named key = sym k.2 ∙ (ap (λ (w : Node). w.place) (same_Some k.0 x (sym k.1 ∙ stood)) ∙ place) in
-        let same : record { parent = c; name = name } ≡ key = cc in
-        left (inl (ap (λ (k : Key). k.parent) same)) in
+    let e : Named (record { parent = c; name = name }) ≡ Named key = sym k.2 ∙ (ap (λ (w : Node). w.place) (same_Some k.0 x (sym k.1 ∙ stood)) ∙ place) in
+    let same : record { parent = c; name = name } ≡ key = cc in
+    left (inl (ap (λ (k : Key). k.parent) same)) in
     stays_kept at pinned n c y other (reasons c y was.1 not_root (λ among. elim among [ inl e ↦ was.0 (sym e) | inr later ↦ left (inr later) ]))
 
 -- nobody lost a child
@@ -42,7 +42,7 @@ pub HaveReasons-drop_cut : (at : Lookup) (pinned : ℕ → Bool) (n : ℕ) (rest
 HaveReasons-drop_cut at pinned n rest x stood place reasons c y h not_root left =
     let was = without_some at n c y h in
     let other : (name : List ℕ) → IsNamed at n c name → ⊥ = λ name k.
-        let e : Named (record { parent = c; name = name }) ≡ Cut = sym k.2 ∙ (ap (λ (w : Node). w.place) (same_Some k.0 x (sym k.1 ∙ stood)) ∙ place) in cc in
+    let e : Named (record { parent = c; name = name }) ≡ Cut = sym k.2 ∙ (ap (λ (w : Node). w.place) (same_Some k.0 x (sym k.1 ∙ stood)) ∙ place) in cc in
     stays_kept at pinned n c y other (reasons c y was.1 not_root (λ among. elim among [ inl e ↦ was.0 (sym e) | inr later ↦ left later ]))
 
 -- none but the number that was left out lacked a reason, and it has one, or is the root, or is gone

@@ -1,21 +1,18 @@
 -- What the end of a request leaves.
-use Rattle.std.proofs.Common.{ℕ, ◌+◌, ◌-◌, ◌<◌, ◌≤◌, ◌≡◌, ◌≢◌, ◌==◌, ◌||◌, Bool, true, false, List, [], ◌∷◌, ◌++◌, Option, Some, None, length, refl, sym, ap, ◌∙◌, subst, ◌⊎◌, inl, inr, arith}
+use Rattle.std.proofs.Common.{ℕ, ◌-◌, ◌≡◌, ◌==◌, Bool, true, false, List, [], ◌∷◌, ◌++◌, Option, Some, None, refl, sym, ap, ◌∙◌, subst, ◌⊎◌, inl, inr, arith}
 use Rattle.std.specs.List.{list_any}
-use Rattle.std.proofs.lemmas.Bool.{or_cases, or_left, or_right, true≢false, cases_eq, eqb-true}
+use Rattle.std.proofs.lemmas.Bool.{or_cases, or_left, true≢false, eqb-true}
 use Rattle.ledger.specs.declared.postings.Posting.{Posting}
 use Rattle.ledger.specs.Postings.{Postings}
-use Rattle.tree.specs.declared.nodes.Node.{Node}
-use Rattle.tree.specs.Places.{Lookup, Nodes, at_in, with_node, IsNamed}
-use Rattle.flights.specs.declared.data.Flight.{Flight}
+use Rattle.tree.specs.Places.{Lookup, Nodes, at_in, IsNamed}
 use Rattle.flights.specs.declared.data.Given.{Given}
-use Rattle.flights.specs.declared.data.Stage.TheVariants.{Answered}
-use Rattle.flights.specs.Flying.{Flights, Flying, IsFlying, Goes, HasNoneAnswered, is_working, without_flight}
+use Rattle.flights.specs.Flying.{Flights, Flying, IsFlying, Goes, HasNoneAnswered, is_working}
 use Rattle.flights.specs.Listed.{InFlight, flying_of}
 use Rattle.table.specs.declared.state.State.{State}
 use Rattle.table.specs.Answers.{Answer, Settlement, entries_in}
-use Rattle.table.specs.Steps.{TakesAllBack, TakesBack, TakesNone, IsSwept, Settles, EndsFor, untaken_of}
-use Rattle.table.specs.Sweeping.{IsAmong, HaveReasonsBut, IsPruned, IsSameRest, IsNearly, IsTakenBack, KeepsNames, numbers_in}
-use Rattle.table.specs.World.{World, AreReady, IsKept, world_of}
+use Rattle.table.specs.Steps.{TakesAllBack, IsSwept, Settles, untaken_of}
+use Rattle.table.specs.Sweeping.{IsAmong, IsPruned, IsSameRest, IsNearly, IsTakenBack, KeepsNames, numbers_in}
+use Rattle.table.specs.World.{AreReady, IsKept, world_of}
 use Rattle.table.proofs.Booked.{IsBooked-pins}
 use Rattle.table.proofs.Laws.{booked_of, lawful_swept}
 use Rattle.table.proofs.Ready.{AreReady-same, AreReady-swept, AreReady-less, named_written}

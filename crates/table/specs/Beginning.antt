@@ -1,5 +1,5 @@
 -- The parts of a beginning.
-use Rattle.std.specs.Prelude.{ℕ, ℤ, ◌+◌, ◌<◌, ◌≤◌, ◌≡◌, ◌↔◌, ◌⊎◌, true, List, [], Option, Some, None, length}
+use Rattle.std.specs.Prelude.{ℕ, ℤ, ◌+◌, ◌<◌, ◌≤◌, ◌≡◌, ◌↔◌, ◌⊎◌, true, [], Option, Some, None, length}
 use Rattle.errno.specs.declared.TheConstants.{EAGAIN, ENAMETOOLONG, ENFILE, ENOMEM, ESTALE}
 use Rattle.tree.specs.declared.nodes.Key.{Key}
 use Rattle.tree.specs.declared.nodes.TreeFault.{TreeFault}

@@ -1,7 +1,6 @@
 -- All that a table keeps, and the law of it.
 use Rattle.std.specs.Prelude.{ℕ, ◌+◌, ◌^◌, ◌<◌, ◌≤◌, ◌≡◌, ◌⊎◌, true, false, List, [], Option, Some, length}
 use Rattle.ledger.specs.declared.postings.Posting.{Posting}
-use Rattle.tree.specs.declared.nodes.Key.{Key}
 use Rattle.tree.specs.Places.{Lookup, Nodes, at_in, with_node, no_nodes, root_node, IsNamed, Leads}
 use Rattle.ledger.specs.Postings.{Postings}
 use Rattle.flights.specs.Listed.{flying_of}

@@ -16,7 +16,13 @@ use ledger::{Ledger, Posting};
 use tree::{Key, Tree};
 
 /// Counts one more entry of the node that is named so, and posts it.
-fn enter_again(tree: &mut Tree, ledger: &mut Ledger, _flights: &Flights, number: u64, _key: &Key) -> Given
+fn enter_again(
+    tree: &mut Tree,
+    ledger: &mut Ledger,
+    _flights: &Flights,
+    number: u64,
+    _key: &Key,
+) -> Given
     requires law { IsLawful (at_in tree.old) ledger.old.made (flying_of _flights.now).pinned }
     requires named { IsNamed (at_in tree.old) number _key.now.parent _key.now.name }
     requires room { 0 < ledger.old.room }

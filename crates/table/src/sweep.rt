@@ -66,13 +66,7 @@ fn drop_needless(
 }
 
 /// Drops the node if nothing keeps it, then its parent, and so on. The nodes given and pinned may lack a reason.
-pub fn sweep(
-    tree: &mut Tree,
-    flights: &Flights,
-    number: u64,
-    given: &[Option<Given>],
-    pins: &[u64],
-)
+pub fn sweep(tree: &mut Tree, flights: &Flights, number: u64, given: &[Option<Given>], pins: &[u64])
     requires { IsPruned (at_in tree.old) (flying_of flights.now).pinned (number ∷ (numbers_in given.now ++ pins.now)) }
     ensures pruned { IsPruned (at_in tree.new) (flying_of flights.now).pinned (numbers_in given.now ++ pins.now) }
     ensures swept { IsSwept (flying_of flights.now).pinned (at_in tree.old) (at_in tree.new) }

@@ -1,6 +1,5 @@
-use Rattle.std.proofs.Common.{ℕ, ◌+◌, ◌<◌, length, drop, length-drop, arith}
+use Rattle.std.proofs.Common.{◌+◌, ◌<◌, length, drop, length-drop, arith}
 use Rattle.std.proofs.lemmas.List.{get_or-drop}
-use Rattle.ledger.specs.declared.postings.Posting.{Posting}
 use Rattle.ledger.specs.declared.postings.Posting.TheVariants.{Born}
 use Rattle.table.proofs.Counting.{fits_at}
 use Rattle.table.proofs.table.post_since.Goals as goal

@@ -1,4 +1,4 @@
-use Rattle.std.proofs.Common.{◌≡◌, ◌≤◌, ◌+◌, length, take, drop}
+use Rattle.std.proofs.Common.{◌≡◌, ◌+◌, take, drop}
 use Rattle.ledger.specs.Shares.{plus}
 use Rattle.ledger.specs.Sums.{totals_of}
 use Rattle.table.proofs.table.post_since.Given as goal

@@ -1,7 +1,6 @@
-use Rattle.std.proofs.Common.{◌≡◌, true, [], ◌∷◌, None, Some, ap, sym, ◌∙◌, subst, refl, ◌⊎◌, inl, inr}
+use Rattle.std.proofs.Common.{◌≡◌, true, ap, sym, ◌∙◌, subst, ◌⊎◌, inl, inr}
 use Rattle.table.specs.declared.data.Outcome.{Outcome}
 use Rattle.table.specs.declared.data.Outcome.TheVariants as outcome
-use Rattle.flights.specs.Roomy.{Listed}
 use Rattle.table.specs.Answers.{Answer, Claim}
 use Rattle.table.specs.Steps.{Finishes}
 use Rattle.table.specs.World.{world_of}

@@ -1,4 +1,4 @@
-use Rattle.std.proofs.Common.{◌≤◌, arith, sym, refl}
+use Rattle.std.proofs.Common.{◌≤◌, arith, sym}
 use Rattle.table.proofs.Kept.{forget_pruned, forget_kept}
 use Rattle.table.proofs.state.State.forget.Goals as goal
 

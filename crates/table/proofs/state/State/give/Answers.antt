@@ -1,9 +1,7 @@
 use Rattle.std.proofs.Common.{sym, subst}
 use Rattle.flights.specs.declared.data.Want.{Want}
-use Rattle.flights.specs.declared.data.Want.TheVariants.{Name}
-use Rattle.tree.specs.Places.{at_in}
 use Rattle.table.specs.Steps.{Gives}
-use Rattle.table.specs.World.{IsEnding, IsNameEnding, world_of}
+use Rattle.table.specs.World.{IsNameEnding, world_of}
 use Rattle.table.proofs.Giving.{name_ending}
 use Rattle.table.proofs.state.State.give.Goals as goal
 

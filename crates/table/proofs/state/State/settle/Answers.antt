@@ -1,4 +1,4 @@
-use Rattle.std.proofs.Common.{ℕ, List, ◌++◌, ◌≡◌, sym, ap, subst, refl}
+use Rattle.std.proofs.Common.{ℕ, ◌++◌, ap, subst}
 use Rattle.flights.specs.Listed.{flying_of}
 use Rattle.tree.specs.Places.{at_in}
 use Rattle.table.specs.Answers.{Answer, Settlement}

@@ -1,4 +1,3 @@
-use Rattle.std.proofs.Common.{◌≤◌, length, sym, ap, ◌∙◌}
 use Rattle.table.specs.World.{world_of}
 use Rattle.table.proofs.Longer.{longer_settles, length_longer, totals_longer, gained_longer}
 use Rattle.table.proofs.table.Table.settle.Goals as goal
