@@ -12,3 +12,4 @@ pub mod Finishing
 pub mod Counting
 pub mod Longer
 pub mod Starting
+pub mod Exporting
