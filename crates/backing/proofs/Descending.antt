@@ -5,7 +5,7 @@ use Rattle.std.proofs.lemmas.Bool.{cases_eq}
 use Rattle.paths.specs.Fronts.{Names}
 use Rattle.backing.specs.declared.call.Kind.TheVariants as kinds
 use Rattle.backing.specs.declared.entries.Item.{Item}
-use Rattle.backing.specs.declared.errno.TheConstants.{ENOENT, ENOTDIR}
+use Rattle.errno.specs.declared.TheConstants.{ENOENT, ENOTDIR}
 use Rattle.backing.specs.Tree.{Tree, Blocks, IsFolder, Stops, kind_of}
 use Rattle.backing.proofs.KindLemmas.{kind_none, kind_folder, kind_file}
 

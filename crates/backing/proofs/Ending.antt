@@ -4,7 +4,7 @@ use Rattle.std.proofs.lemmas.Option.{same_Some}
 use Rattle.paths.specs.Fronts.{Names}
 use Rattle.backing.specs.declared.call.Answer.{Answer}
 use Rattle.backing.specs.declared.call.Answer.TheVariants.{Done, Wrote, Fault}
-use Rattle.backing.specs.declared.errno.TheConstants.{ENOMEM}
+use Rattle.errno.specs.declared.TheConstants.{ENOMEM}
 use Rattle.backing.specs.declared.refusal.Refusal.{Refusal}
 use Rattle.backing.specs.declared.refusal.Refusal.TheVariants.{Errno, Memory}
 use Rattle.backing.specs.Tree.{Tree}

@@ -6,7 +6,7 @@ use Rattle.paths.specs.Fronts.{Name, Names, is_front}
 use Rattle.paths.proofs.FrontLemmas.{is_front-append, is_front-same, is_front-trans, is_front-both, not_over_parent, is_name-same}
 use Rattle.backing.specs.declared.entries.Item.{Item}
 use Rattle.backing.specs.declared.entries.Item.TheVariants.{Folder, File}
-use Rattle.backing.specs.declared.errno.TheConstants.{ENOENT, EBUSY, EEXIST, ENOTDIR, EISDIR, EINVAL, ENOTEMPTY}
+use Rattle.errno.specs.declared.TheConstants.{ENOENT, EBUSY, EEXIST, ENOTDIR, EISDIR, EINVAL, ENOTEMPTY}
 use Rattle.backing.specs.Tree.{Tree, IsTree, Blocks, IsFolder, IsFile, Leads, Stops, IsBare, is_path, with_item}
 use Rattle.backing.specs.Calls.{Test, AskRename, AskRemoveDir, BelowRoot, Reached, Present, Free, NoFolder, NoFile, Bare, PassesAll, Refuses, unless}
 use Rattle.backing.specs.Explained.{Explained, Explains}

@@ -4,7 +4,7 @@ use Rattle.backing.specs.declared.call.Answer.{Answer}
 use Rattle.backing.specs.declared.call.Answer.TheVariants.{Done, Stat, Names as NamesAre, Bytes, Wrote, Fault}
 use Rattle.backing.specs.declared.call.Child.{Child}
 use Rattle.backing.specs.declared.call.Kind.{Kind}
-use Rattle.backing.specs.declared.errno.TheConstants.{EBUSY, ENOENT, EEXIST, ENOTDIR, EISDIR, EINVAL, ENOTEMPTY}
+use Rattle.errno.specs.declared.TheConstants.{EBUSY, ENOENT, EEXIST, ENOTDIR, EISDIR, EINVAL, ENOTEMPTY}
 use Rattle.backing.specs.declared.folder.trouble.Reason.{Reason}
 use Rattle.backing.specs.declared.folder.trouble.Reason.TheVariants.{Root, Nothing, Taken, NoFolder, Folder, Below, Names}
 use Rattle.backing.specs.Tree.{Tree, IsTree}

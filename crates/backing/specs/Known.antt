@@ -1,7 +1,7 @@
 -- A call of a memory tree is one of a known tree.
 use Rattle.std.proofs.Common.{ℕ, ◌≡◌, inl, inr, arith}
 use Rattle.backing.specs.declared.call.Answer.{Answer}
-use Rattle.backing.specs.declared.errno.TheConstants.{ENOMEM}
+use Rattle.errno.specs.declared.TheConstants.{ENOMEM}
 use Rattle.backing.specs.Tree.{Tree}
 use Rattle.backing.specs.Calls.{Asked}
 use Rattle.backing.specs.Device.{Device, Before, Rises, Counted, faulty}

@@ -4,7 +4,7 @@ use Rattle.paths.specs.Fronts.{Names}
 use Rattle.backing.specs.declared.call.Answer.{Answer}
 use Rattle.backing.specs.declared.call.Answer.TheVariants.{Done, Fault, Wrote}
 use Rattle.backing.specs.declared.entries.Entry.{Entry}
-use Rattle.backing.specs.declared.errno.TheConstants.{ENOMEM}
+use Rattle.errno.specs.declared.TheConstants.{ENOMEM}
 use Rattle.backing.specs.declared.plans.Plan.{Plan}
 use Rattle.backing.specs.declared.plans.Fault.{Fault as Planned}
 use Rattle.backing.specs.declared.plans.Fault.TheVariants as planned

@@ -4,7 +4,7 @@ use Rattle.backing.specs.declared.call.Answer.{Answer}
 use Rattle.backing.specs.declared.refusal.Refusal.{Refusal}
 use Rattle.backing.specs.declared.refusal.Refusal.TheVariants.{Errno, Memory}
 use Rattle.backing.specs.declared.call.Answer.TheVariants.{Fault}
-use Rattle.backing.specs.declared.errno.TheConstants.{ENOMEM}
+use Rattle.errno.specs.declared.TheConstants.{ENOMEM}
 use Rattle.backing.specs.Tree.{Tree}
 use Rattle.backing.specs.Calls.{Asked, Test, tests_of, PassesAll, Refuses, Does, Starves}
 

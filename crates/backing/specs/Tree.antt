@@ -5,7 +5,7 @@ use Rattle.backing.specs.declared.call.Kind.{Kind}
 use Rattle.backing.specs.declared.call.Kind.TheVariants as kinds
 use Rattle.backing.specs.declared.entries.Item.{Item}
 use Rattle.backing.specs.declared.entries.Item.TheVariants.{Folder, File}
-use Rattle.backing.specs.declared.errno.TheConstants.{ENOENT, ENOTDIR}
+use Rattle.errno.specs.declared.TheConstants.{ENOENT, ENOTDIR}
 
 abbrev pub Tree : Type 0
 Tree = Names → Option Item

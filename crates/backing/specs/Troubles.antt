@@ -2,7 +2,7 @@
 use Rattle.std.specs.Prelude.{ℤ}
 use Rattle.std.specs.declared.io.ErrorKind.{ErrorKind}
 use Rattle.std.specs.declared.io.ErrorKind.TheVariants.{NotFound, PermissionDenied, AlreadyExists, OutOfMemory}
-use Rattle.backing.specs.declared.errno.TheConstants.{ENOENT, EACCES, EEXIST, ENOMEM, EIO}
+use Rattle.errno.specs.declared.TheConstants.{ENOENT, EACCES, EEXIST, ENOMEM, EIO}
 
 abbrev pub number_of : ErrorKind → ℤ
 number_of NotFound = ENOENT

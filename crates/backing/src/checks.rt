@@ -8,8 +8,8 @@ ghost use Rattle.backing.specs.Entries.{look, tree_of, IsFoundAt, IsLawful};
 
 use crate::call::{Kind, MAX_FILE_LEN};
 use crate::entries::{Entry, Item};
-use crate::errno::{EBUSY, EEXIST, EFBIG, EISDIR, ENOENT, ENOTDIR, ENOTEMPTY};
 use crate::lookups::{has_names, index_of, kind_at};
+use errno::{EBUSY, EEXIST, EFBIG, EISDIR, ENOENT, ENOTDIR, ENOTEMPTY};
 use paths::Path;
 
 /// The path is not the root's.

@@ -6,7 +6,6 @@ mod call;
 mod calls;
 mod checks;
 mod entries;
-pub mod errno;
 mod folder;
 mod lookups;
 mod making;

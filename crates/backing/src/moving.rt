@@ -13,9 +13,9 @@ ghost use Rattle.backing.specs.Refusals.{Ends};
 use crate::call::{Answer, Kind};
 use crate::checks::{expect_bare, expect_below_root, expect_present, expect_reached};
 use crate::entries::Entry;
-use crate::errno::{EINVAL, EISDIR, ENOTDIR, ENOTEMPTY};
 use crate::lookups::{index_of, kind_at};
 use crate::refusal::Refusal;
+use errno::{EINVAL, EISDIR, ENOTDIR, ENOTEMPTY};
 use paths::Path;
 use std::alloc::{AllocError, Global};
 

@@ -10,7 +10,6 @@ ghost use Rattle.backing.specs.declared.call.Answer.TheVariants as Answer;
 
 use crate::call::{Answer, Call};
 use crate::entries::Entry;
-use crate::errno::ENOMEM;
 use crate::making::{make, make_dir};
 use crate::moving::rename;
 use crate::plans::Fault;
@@ -18,6 +17,7 @@ use crate::reading::{list, read, stat, sync};
 use crate::refusal::Refusal;
 use crate::removing::{remove, remove_dir};
 use crate::writing::{set_len, write};
+use errno::ENOMEM;
 use paths::Path;
 use std::alloc::Global;
 

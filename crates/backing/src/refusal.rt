@@ -2,7 +2,7 @@
 
 ghost use Rattle.std.specs.Prelude.{◌≡◌, ℤ};
 
-use crate::errno::ENOMEM;
+use errno::ENOMEM;
 use std::alloc::{AllocError, AllocFailed};
 
 /// Why a call did not do its work.

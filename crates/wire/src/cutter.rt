@@ -1,8 +1,7 @@
 //! A stream of bytes, cut into frames.
 
-ghost use Rattle.std.specs.Prelude.{◌≡◌, ℕ, List, ◌+◌, ◌≤◌, ◌↔◌, ◌++◌, [], length, drop, OnOk, OnErr, IfOk, IfSome, IfNone, Some, None, Err};
-ghost use Rattle.wire.specs.Grammar.{IsFramed};
-ghost use Rattle.wire.specs.Stream.{BeginsBadly, IsPartial, Splits};
+ghost use Rattle.std.specs.Prelude.{◌≡◌, ℕ, List, ◌+◌, ◌-◌, ◌≤◌, ◌↔◌, ◌++◌, [], length, drop, OnOk, OnErr, IfOk, IfSome, IfNone, Some, None, Err};
+ghost use Rattle.wire.specs.Stream.{HandsOut, BeginsBadly, IsPartial, Splits};
 ghost use Rattle.wire.specs.declared.cutter.CutFault.TheVariants.{Memory};
 
 use crate::standing::{Standing, standing_in};
@@ -49,9 +48,11 @@ impl Model for Cutter {
     ghost invariant = { λ c. (c.start ≤ length c.buffer.items) × StoppedBy (drop c.start c.buffer.items) c.stopped };
 }
 
-/// Moves what stands from a place on to the front.
-fn shift(buffer: &mut Vec<u8>, start: usize)
-    requires { start ≤ length buffer.old.items }
+/// Drops the bytes before `start`. No more bytes are moved than are dropped, so over the life of a cutter at most one byte
+/// is moved to the front for each byte that it takes.
+fn compact(buffer: &mut Vec<u8>, start: usize)
+    requires within { start ≤ length buffer.old.items }
+    requires cheap { length buffer.old.items - start ≤ start }
     ensures { buffer.new.items ≡ drop start buffer.old.items }
 {
     let left = buffer.len() - start;
@@ -88,7 +89,7 @@ impl Cutter {
             return Err(CutFault::BadLength { len });
         }
         if self.start > 0 && self.start >= self.buffer.len() - self.start {
-            shift(&mut self.buffer, self.start);
+            compact(&mut self.buffer, self.start);
             self.start = 0;
         }
         self.buffer.extend_from_slice(piece)?;
@@ -97,7 +98,7 @@ impl Cutter {
 
     /// The next whole frame, if it is there.
     pub fn next(&mut self) -> Result<Option<Vec<u8>>, CutFault>
-        ensures frame { IfOk result (λ o. IfSome o (λ f. (self.old.kept ≡ f.items ++ self.new.kept) × IsFramed f.items × (self.new.stopped ≡ self.old.stopped))) }
+        ensures frame { IfOk result (λ o. IfSome o (λ f. HandsOut self.old f.items self.new)) }
         ensures none { IfOk result (λ o. IfNone o (IsPartial self.old.kept × (self.new ≡ self.old))) }
         ensures bad { (len : ℕ) → (result ≡ Err (CutFault.BadLength len)) ↔ BeginsBadly self.old.kept len }
         ensures for_good { (len : ℕ) → result ≡ Err (CutFault.BadLength len) → self.new ≡ record self.old { stopped = Some len } }
@@ -124,5 +125,6 @@ impl Cutter {
 
 /// A stream is one list of frames and one rest, so how it was cut into pieces makes no difference.
 pub fn one_split()
-    ensures { (fs gs : List (List ℕ)) (r q stream : List ℕ) → Splits stream fs r → Splits stream gs q → (fs ≡ gs) × (r ≡ q) }
+    ensures { (frames others : List (List ℕ)) (rest end stream : List ℕ) →
+        Splits stream frames rest → Splits stream others end → (frames ≡ others) × (rest ≡ end) }
 {}

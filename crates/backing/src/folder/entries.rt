@@ -8,7 +8,7 @@ use super::files::find_file;
 use super::trouble::{Reason, Trouble};
 use super::walk::{Found, Walk, look};
 use crate::call::{Answer, Child, Children, Kind};
-use crate::errno::EEXIST;
+use errno::EEXIST;
 use paths::{Name, Path};
 use std::alloc::Global;
 use std::fs::{DirEntry, File};

@@ -8,7 +8,7 @@ use super::trouble::{Reason, Trouble};
 use super::walk::{Found, Identity, Walk};
 use crate::bytes::Bytes;
 use crate::call::{Answer, Kind};
-use crate::errno::EIO;
+use errno::EIO;
 use paths::Path;
 use std::alloc::Global;
 use std::fs::{File, OpenOptions};

@@ -3,9 +3,7 @@
 ghost use Rattle.std.specs.Prelude.{◌≡◌};
 ghost use Rattle.backing.specs.Troubles.{number_of};
 
-use crate::errno::{
-    EACCES, EBUSY, EEXIST, EINVAL, EIO, EISDIR, ENOENT, ENOMEM, ENOTDIR, ENOTEMPTY,
-};
+use errno::{EACCES, EBUSY, EEXIST, EINVAL, EIO, EISDIR, ENOENT, ENOMEM, ENOTDIR, ENOTEMPTY};
 use std::alloc::{AllocError, AllocFailed};
 use std::io;
 use std::io::ErrorKind;
@@ -71,7 +69,7 @@ impl From<io::Error> for Trouble {
 
 impl From<AllocError> for Trouble {
     ghost use Rattle.backing.specs.declared.folder.trouble.Trouble.TheVariants as Trouble;
-    ghost use Rattle.backing.specs.declared.errno.TheConstants.{ENOMEM};
+    ghost use Rattle.errno.specs.declared.TheConstants.{ENOMEM};
 
     ghost from_gives = { λ _ trouble. trouble ≡ Trouble.Failed ENOMEM };
 
@@ -82,7 +80,7 @@ impl From<AllocError> for Trouble {
 
 impl<T: Drop> From<AllocFailed<T>> for Trouble {
     ghost use Rattle.backing.specs.declared.folder.trouble.Trouble.TheVariants as Trouble;
-    ghost use Rattle.backing.specs.declared.errno.TheConstants.{ENOMEM};
+    ghost use Rattle.errno.specs.declared.TheConstants.{ENOMEM};
 
     ghost from_gives = { λ _ trouble. trouble ≡ Trouble.Failed ENOMEM };
 

@@ -1,7 +1,7 @@
 //! The way down a path of the file system.
 
 use super::trouble::{Reason, Trouble};
-use crate::errno::EINVAL;
+use errno::EINVAL;
 use paths::{Name, Path};
 use std::alloc::{AllocError, Global};
 use std::fs::{File, Metadata};

@@ -1,0 +1,116 @@
+-- The requests in flight, as contracts see them: by their ids.
+use Rattle.std.specs.Prelude.{ℕ, ◌+◌, ◌-◌, ◌≡◌, ◌==◌, ◌||◌, ◌↔◌, Bool, true, false, if◌then◌else◌, List, [], ◌∷◌, ◌++◌, Option, Some, None}
+use Rattle.std.specs.List.{list_any}
+use Rattle.flights.specs.declared.data.Flight.{Flight}
+use Rattle.flights.specs.declared.data.Stage.{Stage}
+use Rattle.flights.specs.declared.data.Stage.TheVariants.{Working, Answered}
+use Rattle.flights.specs.declared.data.Work.{Work}
+
+-- requests by their ids
+abbrev pub Flights : Type 0
+Flights = ℕ → Option Flight
+
+-- the same requests, but that the id leads to f
+abbrev pub with_flight : Flights → ℕ → Flight → Flights
+with_flight at id f = λ k. if id == k then Some f else at k
+
+-- the same requests, but that the id leads to none
+abbrev pub without_flight : Flights → ℕ → Flights
+without_flight at id = λ k. if id == k then None else at k
+
+-- whether the request pins the number
+abbrev pub pins_number : Flight → ℕ → Bool
+pins_number f n = list_any (λ m. m == n) f.pins.numbers
+
+abbrev pub is_working : Stage → Bool
+is_working (Working work) = true
+is_working Answered = false
+
+-- the nodes and postings that are promised
+abbrev pub nodes_promised : Stage → ℕ
+nodes_promised (Working work) = work.promise.nodes
+nodes_promised Answered = 0
+
+abbrev pub postings_promised : Stage → ℕ
+postings_promised (Working work) = work.promise.postings
+postings_promised Answered = 0
+
+-- all requests in flight
+pub record Flying : Type 0 where
+  -- each by its id
+  pub at : Flights
+  -- whether one of them pins the number
+  pub pinned : ℕ → Bool
+  -- how many they are
+  pub many : ℕ
+  -- what is promised to all of them together
+  pub nodes : ℕ
+  pub postings : ℕ
+  -- how many more there is room for
+  pub room : ℕ
+
+-- what always holds of them
+pub record IsFlying (all : Flying) : Type 0 where
+  -- each is found under its own id
+  pub numbered : (id : ℕ) (f : Flight) → all.at id ≡ Some f → f.id ≡ id
+  -- a number is pinned exactly if one of them pins it
+  pub pins : (n : ℕ) → (all.pinned n ≡ true) ↔ ((id : ℕ) × (f : Flight) × (all.at id ≡ Some f) × (pins_number f n ≡ true))
+
+-- none is worked on under the id
+abbrev pub HasNoneWorking : Flights → ℕ → Type 0
+HasNoneWorking at id = (f : Flight) → at id ≡ Some f → is_working f.stage ≡ false
+
+-- none under the id was answered
+abbrev pub HasNoneAnswered : Flights → ℕ → Type 0
+HasNoneAnswered at id = (f : Flight) → at id ≡ Some f → is_working f.stage ≡ true
+
+-- the same request, answered
+abbrev pub answered : Flight → Flight
+answered f = record f { stage = Answered }
+
+-- the same request, with one more pin
+abbrev pub pinning : Flight → ℕ → Flight
+pinning f n = record f { pins = record { numbers = f.pins.numbers ++ n ∷ []; room = f.pins.room - 1 } }
+
+-- none is in flight
+abbrev pub none_flying : Flights
+none_flying id = None
+
+-- one more is in flight
+pub record Adds (old : Flying) (f : Flight) (new : Flying) : Type 0 where
+  pub at : new.at ≡ with_flight old.at f.id f
+  pub pinned : new.pinned ≡ (λ n. old.pinned n || pins_number f n)
+  pub many : new.many ≡ old.many + 1
+  pub nodes : new.nodes ≡ old.nodes + nodes_promised f.stage
+  pub postings : new.postings ≡ old.postings + postings_promised f.stage
+
+-- the work on a request ends: it gives its work back, keeps its pins and is promised nothing more
+pub record Answers (old : Flying) (id : ℕ) (work : Work) (new : Flying) : Type 0 where
+  pub flight : Flight
+  pub here : old.at id ≡ Some flight
+  pub working : flight.stage ≡ Working work
+  pub at : new.at ≡ with_flight old.at id (answered flight)
+  pub pinned : new.pinned ≡ old.pinned
+  pub many : new.many ≡ old.many
+  pub nodes : new.nodes + work.promise.nodes ≡ old.nodes
+  pub postings : new.postings + work.promise.postings ≡ old.postings
+
+-- a request pins one more number
+pub record PinsMore (old : Flying) (id : ℕ) (f : Flight) (n : ℕ) (new : Flying) : Type 0 where
+  pub at : new.at ≡ with_flight old.at id (pinning f n)
+  pub pinned : new.pinned ≡ (λ m. old.pinned m || n == m)
+  pub many : new.many ≡ old.many
+  pub nodes : new.nodes ≡ old.nodes
+  pub postings : new.postings ≡ old.postings
+
+-- an answered request goes, with its pins
+pub record Goes (old : Flying) (id : ℕ) (numbers : List ℕ) (new : Flying) : Type 0 where
+  pub flight : Flight
+  pub here : old.at id ≡ Some flight
+  pub answered : flight.stage ≡ Answered
+  pub pins : numbers ≡ flight.pins.numbers
+  pub at : new.at ≡ without_flight old.at id
+  pub pinned : (n : ℕ) → old.pinned n ≡ (new.pinned n || list_any (λ m. m == n) numbers)
+  pub many : new.many + 1 ≡ old.many
+  pub nodes : new.nodes ≡ old.nodes
+  pub postings : new.postings ≡ old.postings

@@ -1,0 +1,3 @@
+pub mod Roomy
+pub mod Flying
+pub mod Listed

@@ -1,0 +1,9 @@
+//! The requests in flight: what each was begun with, the nodes that it pins, and what it may still add.
+#![tactic(auto)]
+
+mod data;
+mod flying;
+mod listed;
+
+pub use data::{Flight, Given, Givens, Pins, Promise, Stage, Want, Work};
+pub use flying::Flights;

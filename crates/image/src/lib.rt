@@ -1,0 +1,9 @@
+//! A table as plain data, and the law that every table keeps.
+//!
+//! The law speaks of look-ups and of lists, so that a table may keep its nodes and records in any way.
+#![tactic(auto)]
+
+mod data;
+mod lawful;
+
+pub use data::{Image, Nodes, Numbers, Postings, Record, Records, Stage};

@@ -1,0 +1,6 @@
+pub mod Answers
+pub mod World
+pub mod Steps
+pub mod Sweeping
+pub mod Beginning
+pub mod Exports

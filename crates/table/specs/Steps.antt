@@ -1,0 +1,226 @@
+-- The steps of a table.
+use Rattle.std.specs.Prelude.{ℕ, ℤ, ◌+◌, ◌-◌, ◌<◌, ◌≡◌, ◌↔◌, ◌⊎◌, Bool, true, false, List, [], ◌∷◌, ◌++◌, Option, Some, None, length, drop, min}
+use Rattle.errno.specs.declared.TheConstants.{EAGAIN, ENAMETOOLONG, ENFILE, ENOMEM, ESTALE}
+use Rattle.ledger.specs.declared.postings.Posting.{Posting}
+use Rattle.ledger.specs.declared.postings.Posting.TheVariants.{Born, Entry, Back, Forget}
+use Rattle.ledger.specs.Sums.{births_of}
+use Rattle.paths.specs.Fronts.{Names, path_bytes}
+use Rattle.tree.specs.declared.nodes.Node.{Node}
+use Rattle.tree.specs.declared.nodes.Place.TheVariants.{Named}
+use Rattle.tree.specs.Places.{Lookup, with_node, IsNamed, IsFree, HasChild, Leads, IsPathOf}
+use Rattle.flights.specs.declared.data.Flight.{Flight}
+use Rattle.flights.specs.declared.data.Given.{Given}
+use Rattle.flights.specs.declared.data.Promise.{Promise}
+use Rattle.flights.specs.declared.data.Stage.TheVariants.{Working, Answered}
+use Rattle.flights.specs.declared.data.Want.{Want}
+use Rattle.flights.specs.declared.data.Want.TheVariants.{Name}
+use Rattle.flights.specs.declared.data.Work.{Work}
+use Rattle.flights.specs.Flying.{Flying, Adds, Answers, PinsMore, Goes, HasNoneWorking, HasNoneAnswered, answered, pins_number}
+use Rattle.table.specs.Answers.{Claim, Answer, Settlement, entries_in}
+use Rattle.table.specs.World.{World}
+use Rattle.table.specs.declared.data.Begin.{Begin}
+use Rattle.table.specs.declared.data.Begin.TheVariants.{Go, Busy, Refused}
+use Rattle.table.specs.declared.data.Outcome.{Outcome}
+use Rattle.table.specs.declared.data.Outcome.TheVariants as outcome
+
+-- what the ledger gained by a step
+abbrev pub gained : World → World → List Posting
+gained old new = drop (length old.postings) new.postings
+
+-- ---- nodes that go
+
+-- nothing keeps the node
+pub record IsNeedless (at : Lookup) (pinned : ℕ → Bool) (n : ℕ) (x : Node) : Type 0 where
+  pub not_root : n ≡ 1 → ⊥
+  pub count : x.count ≡ 0
+  pub unmarked : x.hidden ≡ false
+  pub unpinned : pinned n ≡ false
+  pub childless : HasChild at n → ⊥
+
+-- the same nodes, less some that nothing keeps any more
+pub record IsSwept (pinned : ℕ → Bool) (old new : Lookup) : Type 0 where
+  pub kept : (n : ℕ) (x : Node) → new n ≡ Some x → old n ≡ Some x
+  pub gone : (n : ℕ) (x : Node) → old n ≡ Some x → new n ≡ None → IsNeedless new pinned n x
+
+-- ---- forget
+
+-- the smaller of n and the node's count is taken and posted, and what nothing keeps any more goes
+pub record Forgets (old : World) (number n amount : ℕ) (new : World) : Type 0 where
+  pub nothing : amount ≡ 0 → new ≡ old
+  pub unknown : old.at number ≡ None → amount ≡ 0
+  pub smaller : (x : Node) → old.at number ≡ Some x → amount ≡ min n x.count
+  pub posted : (x : Node) → old.at number ≡ Some x → 0 < amount → new.postings ≡ old.postings ++ Forget number x.generation amount ∷ []
+  pub nodes : (x : Node) → old.at number ≡ Some x → 0 < amount → IsSwept old.flying.pinned (with_node old.at number (record x { count = x.count - amount })) new.at
+  pub flying : new.flying ≡ old.flying
+  pub limits : new.limits ≡ old.limits
+
+-- ---- begin
+
+-- the parent is not alive, or is cut
+abbrev pub IsStale : World → Want → Type 0
+IsStale w (Name parent name) = Leads w.at parent → ⊥
+
+-- the path is longer than 4,096 bytes
+abbrev pub IsLong : World → Want → Type 0
+IsLong w (Name parent name) = (up : Names) × IsPathOf w.at parent up × (4096 < path_bytes (up ++ name ∷ []))
+
+-- what the want may add: a node where none stands at its name, and three postings for its entry
+abbrev pub IsPromiseFor : World → Want → Promise → Type 0
+IsPromiseFor w (Name parent name) p =
+    (IsFree w.at parent name → p.nodes ≡ 1) × ((n : ℕ) → IsNamed w.at n parent name → p.nodes ≡ 0) × (p.postings ≡ 3)
+
+-- with what is promised, the nodes or the postings would pass their limit
+abbrev pub IsTooMuch : World → Promise → Type 0
+IsTooMuch w p =
+    (w.limits.nodes < w.living + w.flying.nodes + p.nodes)
+    ⊎ (w.limits.postings < length w.postings + w.counts + w.flying.postings + p.postings)
+
+abbrev pub IsFull : World → Want → Type 0
+IsFull w want = (p : Promise) × IsPromiseFor w want p × IsTooMuch w p
+
+-- one request more would pass the limit
+abbrev pub IsCrowded : World → Type 0
+IsCrowded w = w.limits.flights < w.flying.many + 1
+
+-- the refusals in the order of their tests; want of memory may stand in place of any test but the first
+abbrev pub IsRefusal : World → Want → ℤ → Type 0
+IsRefusal w want e =
+    ((e ≡ ESTALE) × IsStale w want)
+    ⊎ ((e ≡ ENAMETOOLONG) × (IsStale w want → ⊥) × IsLong w want)
+    ⊎ ((e ≡ ENFILE) × (IsStale w want → ⊥) × (IsLong w want → ⊥) × IsFull w want)
+    ⊎ ((e ≡ EAGAIN) × (IsStale w want → ⊥) × (IsLong w want → ⊥) × (IsFull w want → ⊥) × IsCrowded w)
+    ⊎ ((e ≡ ENOMEM) × (IsStale w want → ⊥))
+
+-- the path that the want is about
+abbrev pub IsPathFor : World → Want → Names → Type 0
+IsPathFor w (Name parent name) path = (up : Names) × IsPathOf w.at parent up × (path ≡ up ++ name ∷ [])
+
+-- the nodes that the want names, and any that stands at its path
+abbrev pub IsPinFor : World → Want → ℕ → Type 0
+IsPinFor w (Name parent name) n = (n ≡ parent) ⊎ IsNamed w.at n parent name
+
+-- one request more is in flight, under an id that none bore
+pub record GoesOn (old : World) (unique : ℕ) (want : Want) (claim : Claim) (new : World) : Type 0 where
+  pub flight : Flight
+  pub work : Work
+  pub fresh : old.flying.at claim.id ≡ None
+  pub id : flight.id ≡ claim.id
+  pub unique_is : flight.unique ≡ unique
+  pub stage : flight.stage ≡ Working work
+  pub want_is : work.want ≡ want
+  pub promise : IsPromiseFor old want work.promise
+  pub pins : (n : ℕ) → (pins_number flight n ≡ true) ↔ IsPinFor old want n
+  pub path : IsPathFor old want claim.path
+  pub adds : Adds old.flying flight new.flying
+  pub rest : new ≡ record old { flying = new.flying }
+
+abbrev pub Begins : World → ℕ → Want → Begin → World → Type 0
+Begins old unique want (Go claim) new =
+    ((IsStale old want → ⊥) × (IsLong old want → ⊥) × (IsFull old want → ⊥) × (IsCrowded old → ⊥)) × GoesOn old unique want claim new
+-- no request holds a name yet, so none is in the way of another
+Begins old unique want Busy new = ⊥
+Begins old unique want (Refused e) new = IsRefusal old want e × (new ≡ old)
+
+-- ---- finish
+
+-- a node as it is born, with its first entry
+abbrev pub newborn : Given → ℕ → List ℕ → Node
+newborn g parent name = record { number = g.number; generation = g.generation; place = Named (record { parent = parent; name = name }); count = 1; hidden = false }
+
+-- one more entry of the node that is named so
+pub record EntersAgain (at : Lookup) (ps : List Posting) (parent : ℕ) (name : List ℕ) (g : Given) (at' : Lookup) (ps' : List Posting) : Type 0 where
+  pub node : Node
+  pub here : at g.number ≡ Some node
+  pub named : node.place ≡ Named (record { parent = parent; name = name })
+  pub generation : node.generation ≡ g.generation
+  pub nodes : at' ≡ with_node at g.number (record node { count = node.count + 1 })
+  pub postings : ps' ≡ ps ++ Entry g.number g.generation ∷ []
+
+-- where none is named so, a node is born under a number that none bears, and entered
+pub record Bears (at : Lookup) (ps : List Posting) (parent : ℕ) (name : List ℕ) (g : Given) (at' : Lookup) (ps' : List Posting) : Type 0 where
+  pub free : IsFree at parent name
+  pub fresh : at g.number ≡ None
+  pub generation : g.generation ≡ births_of g.number ps
+  pub nodes : at' ≡ with_node at g.number (newborn g parent name)
+  pub postings : ps' ≡ (ps ++ Born g.number g.generation ∷ []) ++ Entry g.number g.generation ∷ []
+
+-- an entry of the name is given
+abbrev pub Enters : Lookup → List Posting → ℕ → List ℕ → Given → Lookup → List Posting → Type 0
+Enters at ps parent name g at' ps' = EntersAgain at ps parent name g at' ps' ⊎ Bears at ps parent name g at' ps'
+
+-- the client is given an entry of the name, and the request pins the node until it is settled
+pub record GivesEntry (old : World) (id : ℕ) (f : Flight) (parent : ℕ) (name : List ℕ) (answer : Answer) (new : World) : Type 0 where
+  pub given : Given
+  pub answer_is : answer ≡ record { id = id; given = Some given ∷ []; lost = false }
+  pub entry : Enters old.at old.postings parent name given new.at new.postings
+  pub pins : PinsMore old.flying id f given.number new.flying
+  pub limits : new.limits ≡ old.limits
+
+abbrev pub Gives : World → ℕ → Flight → Want → Answer → World → Type 0
+Gives old id f (Name parent name) answer new = GivesEntry old id f parent name answer new
+
+-- the work on the request ends, and it gives an entry
+pub record GivesName (old : World) (id : ℕ) (work : Work) (parent : ℕ) (name : List ℕ) (answer : Answer) (new : World) : Type 0 where
+  pub mid : Flying
+  pub ends : Answers old.flying id work mid
+  pub gives : GivesEntry (record old { flying = mid }) id (answered ends.flight) parent name answer new
+
+-- the request gives nothing, and keeps its pins
+pub record Fails (old : World) (id : ℕ) (work : Work) (given : List (Option Given)) (answer : Answer) (new : World) : Type 0 where
+  pub answer_is : answer ≡ record { id = id; given = given; lost = false }
+  pub ends : Answers old.flying id work new.flying
+  pub rest : new ≡ record old { flying = new.flying }
+
+-- the end of a request: an outcome that does not fit its want acts as a failure
+abbrev pub Ends : World → ℕ → Work → Want → Outcome → Answer → World → Type 0
+Ends old id work (Name parent name) outcome.Entry answer new = GivesName old id work parent name answer new
+Ends old id work (Name parent name) outcome.Failed answer new = Fails old id work (None ∷ []) answer new
+Ends old id work (Name parent name) outcome.Done answer new = Fails old id work (None ∷ []) answer new
+
+pub record Finishes (old : World) (id : ℕ) (outcome : Outcome) (answer : Answer) (new : World) : Type 0 where
+  -- a ticket that no request is worked on under
+  pub lost : HasNoneWorking old.flying.at id → (answer ≡ record { id = id; given = []; lost = true }) × (new ≡ old)
+  pub found : (f : Flight) (work : Work) → old.flying.at id ≡ Some f → f.stage ≡ Working work → Ends old id work work.want outcome answer new
+
+-- ---- settle
+
+-- one entry goes back, if there is one to take
+pub record TakesBack (at : Lookup) (ps : List Posting) (g : Given) (at' : Lookup) (ps' : List Posting) : Type 0 where
+  pub node : Node
+  pub here : at g.number ≡ Some node
+  pub generation : node.generation ≡ g.generation
+  pub counted : 0 < node.count
+  pub nodes : at' ≡ with_node at g.number (record node { count = node.count - 1 })
+  pub postings : ps' ≡ ps ++ Back g.number g.generation ∷ []
+
+pub record TakesNone (at : Lookup) (ps : List Posting) (g : Given) (at' : Lookup) (ps' : List Posting) : Type 0 where
+  pub uncounted : (x : Node) → at g.number ≡ Some x → x.generation ≡ g.generation → x.count ≡ 0
+  pub nodes : at' ≡ at
+  pub postings : ps' ≡ ps
+
+-- each entry in turn
+abbrev pub TakesAllBack : Lookup → List Posting → List (Option Given) → Lookup → List Posting → Type 0
+TakesAllBack at ps [] at' ps' = (at' ≡ at) × (ps' ≡ ps)
+TakesAllBack at ps (None ∷ gs) at' ps' = TakesAllBack at ps gs at' ps'
+TakesAllBack at ps (Some g ∷ gs) at' ps' =
+    (mid : Lookup) × (qs : List Posting) × (TakesBack at ps g mid qs ⊎ TakesNone at ps g mid qs) × TakesAllBack mid qs gs at' ps'
+
+-- what goes back: nothing where the reply was taken
+abbrev pub untaken_of : Bool → List (Option Given) → List (Option Given)
+untaken_of true gs = []
+untaken_of false gs = gs
+
+-- the request goes with its pins, what was not taken goes back, and then what nothing keeps any more goes
+pub record EndsFor (old : World) (answer : Answer) (taken : Bool) (new : World) : Type 0 where
+  pub pins : List ℕ
+  pub goes : Goes old.flying answer.id pins new.flying
+  pub mid : Lookup
+  pub back : TakesAllBack old.at old.postings (untaken_of taken answer.given) mid new.postings
+  pub swept : IsSwept new.flying.pinned mid new.at
+  pub limits : new.limits ≡ old.limits
+
+pub record Settles (old : World) (answer : Answer) (taken : Bool) (settled : Settlement) (new : World) : Type 0 where
+  pub settled_is : settled ≡ record { id = answer.id; entries = entries_in answer.given; taken = taken }
+  pub lost : answer.lost ≡ true → new ≡ old
+  pub unknown : HasNoneAnswered old.flying.at answer.id → new ≡ old
+  pub found : answer.lost ≡ false → (f : Flight) → old.flying.at answer.id ≡ Some f → f.stage ≡ Answered → EndsFor old answer taken new

@@ -1,0 +1,170 @@
+//! What callers hand in and get back.
+
+ghost use Rattle.std.specs.Prelude.{◌≡◌};
+
+use flights::{Given, Givens};
+use paths::Path;
+use std::marker::Model;
+
+/// How far a table may grow.
+#[derive(Clone, Copy, Debug, PartialEq, Eq)]
+pub struct Limits {
+    /// Living nodes, with the root and with those that requests in flight were promised: at least 1.
+    pub nodes: u64,
+    /// Postings, with those by which all counts may be taken back.
+    pub postings: u64,
+    /// Requests in flight, those whose reply is not settled yet among them.
+    pub flights: u64,
+    /// Open files.
+    pub files: u64,
+}
+
+impl Default for Limits {
+    fn default() -> Limits {
+        Limits {
+            nodes: 65_536,
+            postings: 1_048_576,
+            flights: 64,
+            files: 4_096,
+        }
+    }
+}
+
+/// The right and the duty to finish a request that was begun. It must be spent by `Table::finish`.
+#[must_use]
+pub struct Ticket {
+    pub(crate) id: u64,
+    pub(crate) path: Path,
+}
+
+impl Model for Ticket {
+    ghost use Rattle.table.specs.Answers.{Claim};
+
+    ghost Value = { Claim };
+
+    ghost view = { λ t. record { id = t.id; path = t.path } };
+}
+
+impl Ticket {
+    /// Tells the request from the others in flight in its table.
+    pub fn id(&self) -> u64
+        ensures { result ≡ self.now.id }
+    {
+        self.id
+    }
+
+    /// The path that the request is about, as it was when the request began.
+    pub fn path(&self) -> &Path
+        ensures { result.now ≡ self.now.path }
+    {
+        &self.path
+    }
+}
+
+/// How a request was taken up.
+pub enum Begin {
+    /// It may go on. Its end takes no memory.
+    Go(Ticket),
+    /// Another request holds a name that this one needs: begin again later.
+    Busy,
+    /// It may not: an error number of Linux.
+    Refused(i32),
+}
+
+/// What a request came to.
+#[derive(Clone, Copy, Debug, PartialEq, Eq)]
+pub enum Outcome {
+    /// It failed. An outcome that does not fit the want counts as this one.
+    Failed,
+    /// It was done, and gives no entry.
+    Done,
+    /// Its name is there, and the client is given an entry of it.
+    Entry,
+}
+
+/// What a finished request gives to the client. It must be spent by `Table::settle`, or by `leave`.
+#[must_use]
+pub struct Answered {
+    pub(crate) id: u64,
+    pub(crate) given: Givens,
+    pub(crate) lost: bool,
+}
+
+impl Model for Answered {
+    ghost use Rattle.table.specs.Answers.{Answer};
+
+    ghost Value = { Answer };
+
+    ghost view = { λ a. record { id = a.id; given = a.given.items; lost = a.lost } };
+}
+
+impl Answered {
+    /// Tells the request from the others in flight in its table.
+    pub fn id(&self) -> u64
+        ensures { result ≡ self.now.id }
+    {
+        self.id
+    }
+
+    /// For each name of the request the node that is given to the client. It counts until it is settled as untaken.
+    pub fn given(&self) -> &[Option<Given>]
+        ensures { result.now ≡ self.now.given }
+    {
+        self.given.as_slice()
+    }
+
+    /// Whether its ticket was of no request that the table works on.
+    pub fn lost(&self) -> bool
+        ensures { result ≡ self.now.lost }
+    {
+        self.lost
+    }
+
+    /// Gives it up for good: its request stays in flight.
+    pub fn leave(self) {
+        let Answered {
+            id: _,
+            given: _,
+            lost: _,
+        } = self;
+    }
+}
+
+/// What a settle did. Only `Table::settle` makes one.
+#[derive(Debug, Drop)]
+pub struct Settled {
+    pub(crate) id: u64,
+    pub(crate) entries: u64,
+    pub(crate) taken: bool,
+}
+
+impl Model for Settled {
+    ghost use Rattle.table.specs.Answers.{Settlement};
+
+    ghost Value = { Settlement };
+
+    ghost view = { λ s. record { id = s.id; entries = s.entries; taken = s.taken } };
+}
+
+impl Settled {
+    /// The id of the request that was settled.
+    pub fn id(&self) -> u64
+        ensures { result ≡ self.now.id }
+    {
+        self.id
+    }
+
+    /// How many entries its answer listed.
+    pub fn entries(&self) -> u64
+        ensures { result ≡ self.now.entries }
+    {
+        self.entries
+    }
+
+    /// Whether its reply was taken.
+    pub fn taken(&self) -> bool
+        ensures { result ≡ self.now.taken }
+    {
+        self.taken
+    }
+}
