@@ -10,6 +10,7 @@ pub mod PathSetting
 pub mod Renaming
 pub mod Ending
 pub mod Witnesses
+pub mod RouteLemmas
 pub mod Keeping
 pub mod PathLemmas
 pub mod Looking

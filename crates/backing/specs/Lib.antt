@@ -11,3 +11,4 @@ pub mod Known
 pub mod Explained
 pub mod SharedTree
 pub mod Troubles
+pub mod Routes

@@ -1,8 +1,9 @@
 //! Calls on the names of a real folder.
 
-ghost use Rattle.std.specs.Prelude.{IfOk};
+ghost use Rattle.std.specs.Prelude.{IfOk, OnOk};
 ghost use Rattle.backing.specs.Calls.{AskList, AskMake, AskMakeDir, AskRemove, AskRemoveDir, AskRename};
 ghost use Rattle.backing.specs.Explained.{Suits};
+ghost use Rattle.backing.specs.Routes.{LeadsDown};
 
 use super::files::find_file;
 use super::trouble::{Reason, Trouble};
@@ -170,7 +171,9 @@ fn expect_fitting<R: Files + AllocGlobal + Clone + Drop>(
 }
 
 /// A folder stands there.
-fn find_folder<R: Files>(rt: &R, walk: &mut Walk, path: &Path) -> Result<(), Trouble> {
+fn find_folder<R: Files>(rt: &R, walk: &mut Walk, path: &Path) -> Result<(), Trouble>
+    ensures { OnOk result (LeadsDown walk.old.root walk.new.path path.now) }
+{
     match walk.find(rt, path.names())? {
         Found::Folder(_) => Ok(()),
         Found::File(_) => Err(Trouble::Refused(Reason::NoFolder)),
@@ -179,7 +182,9 @@ fn find_folder<R: Files>(rt: &R, walk: &mut Walk, path: &Path) -> Result<(), Tro
 }
 
 /// A folder stands at the path's parent, where something is to be made.
-fn find_place<R: Files>(rt: &R, walk: &mut Walk, path: &Path) -> Result<(), Trouble> {
+fn find_place<R: Files>(rt: &R, walk: &mut Walk, path: &Path) -> Result<(), Trouble>
+    ensures { OnOk result (LeadsDown walk.old.root walk.new.path path.now) }
+{
     let Some((name, parent)) = path.names().split_last() else {
         return Err(Trouble::Refused(Reason::Taken));
     };

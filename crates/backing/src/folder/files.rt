@@ -1,8 +1,9 @@
 //! Calls on what a real file holds.
 
-ghost use Rattle.std.specs.Prelude.{IfOk};
+ghost use Rattle.std.specs.Prelude.{IfOk, OnOk};
 ghost use Rattle.backing.specs.Calls.{AskStat, AskRead, AskWrite, AskSetLen, AskSync};
 ghost use Rattle.backing.specs.Explained.{Suits};
+ghost use Rattle.backing.specs.Routes.{LeadsDown};
 
 use super::trouble::{Reason, Trouble};
 use super::walk::{Found, Identity, Walk};
@@ -117,7 +118,9 @@ pub fn sync<R: Files<File = File>>(rt: &R, walk: &mut Walk, path: &Path) -> Resu
 }
 
 /// A file stands there: which one it is.
-pub fn find_file<R: Files>(rt: &R, walk: &mut Walk, path: &Path) -> Result<Identity, Trouble> {
+pub fn find_file<R: Files>(rt: &R, walk: &mut Walk, path: &Path) -> Result<Identity, Trouble>
+    ensures { OnOk result (LeadsDown walk.old.root walk.new.path path.now) }
+{
     match walk.find(rt, path.names())? {
         Found::File(identity) => Ok(identity),
         Found::Folder(_) => Err(Trouble::Refused(Reason::Folder)),

@@ -1,14 +1,18 @@
 //! The way down a path of the file system.
 
+ghost use Rattle.std.specs.Prelude.{true, ◌≡◌, ◌≢◌, ◌<◌, ℕ, [], ◌∷◌, ◌++◌, OnOk, length, slice_index, string_bytes};
+ghost use Rattle.backing.specs.Routes.{IsLawfulName, LeadsDown};
+
 use super::trouble::{Reason, Trouble};
 use errno::EINVAL;
-use paths::{Name, Path};
+use paths::Name;
 use std::alloc::{AllocError, Global};
-use std::fs::{File, Metadata};
+use std::fs;
+use std::fs::Metadata;
 use std::io::ErrorKind;
+use std::marker::Model;
 use std::os::unix::fs::MetadataExt;
 use std::rt::Files;
-use std::{fs, io};
 
 /// Which file it is, and how long it was.
 #[derive(Clone, Copy)]
@@ -51,8 +55,20 @@ pub struct Walk {
     path: String,
 }
 
+impl Model for Walk {
+    ghost use Rattle.std.specs.Prelude.{string_bytes};
+    ghost use Rattle.backing.specs.Routes.{Route};
+
+    ghost Value = { Route };
+
+    ghost view = { λ w. record { root = string_bytes w.root; path = string_bytes w.path } };
+}
+
 impl Walk {
-    pub fn new(alloc: Global, root: String, top: Identity) -> Walk {
+    /// A walk that has not started.
+    pub fn new(alloc: Global, root: String, top: Identity) -> Walk
+        ensures { result ≡ record { root = string_bytes root; path = [] } }
+    {
         Walk {
             root,
             top,
@@ -61,18 +77,27 @@ impl Walk {
     }
 
     /// Where it stands.
-    pub fn path(&self) -> &str {
+    pub fn path(&self) -> &str
+        ensures { result.now ≡ self.now.path }
+    {
         self.path.as_str()
     }
 
     /// Back to the root.
-    pub fn start(&mut self) -> Result<(), AllocError> {
+    pub fn start(&mut self) -> Result<(), AllocError>
+        ensures ok { OnOk result (self.new.path ≡ self.old.root) }
+        ensures root { self.new.root ≡ self.old.root }
+    {
         self.path.clear();
         self.path.push_str(self.root.as_str())
     }
 
     /// Goes down by a name, if a folder can hold it.
-    pub fn enter(&mut self, name: &Name) -> Result<(), Trouble> {
+    pub fn enter(&mut self, name: &Name) -> Result<(), Trouble>
+        ensures ok { OnOk result (self.new.path ≡ self.old.path ++ 47 ∷ name.now) }
+        ensures lawful { OnOk result (IsLawfulName name.now) }
+        ensures root { self.new.root ≡ self.old.root }
+    {
         let text = name.as_str();
         if !is_lawful(text) {
             return Err(Trouble::Failed(EINVAL));
@@ -83,7 +108,10 @@ impl Walk {
     }
 
     /// Goes down from the root, and answers what stands there: one `lstat` for each name.
-    pub fn find<R: Files>(&mut self, rt: &R, names: &[Name]) -> Result<Found, Trouble> {
+    pub fn find<R: Files>(&mut self, rt: &R, names: &[Name]) -> Result<Found, Trouble>
+        ensures below { OnOk result (LeadsDown self.old.root self.new.path names.now) }
+        ensures root { self.new.root ≡ self.old.root }
+    {
         self.start()?;
         let mut found = Found::Folder(self.top);
         for name in names {
@@ -96,14 +124,34 @@ impl Walk {
 }
 
 /// Whether a folder of the system can hold that name: it is not empty, not `.` or `..`, and has neither `/` nor NUL.
-fn is_lawful(text: &str) -> bool {
-    let mut plain = !text.is_empty() && text != "." && text != "..";
-    for byte in text.as_bytes() {
-        if *byte == b'/' || *byte == 0 {
-            plain = false;
+fn is_lawful(text: &str) -> bool
+    ensures { result ≡ true → IsLawfulName text.now }
+{
+    if text.is_empty() {
+        return false;
+    }
+    if text == "." {
+        return false;
+    }
+    if text == ".." {
+        return false;
+    }
+    is_plain(text.as_bytes())
+}
+
+/// Whether no byte is a slash or NUL.
+fn is_plain(bytes: &[u8]) -> bool
+    ensures { result ≡ true → (k : ℕ) → k < length bytes.now → (slice_index bytes.now k ≢ 47) × (slice_index bytes.now k ≢ 0) }
+{
+    for byte in bytes {
+        if *byte == b'/' {
+            return false;
+        }
+        if *byte == 0 {
+            return false;
         }
     }
-    plain
+    true
 }
 
 /// What stands at that very path, its links not followed: one `lstat`.
