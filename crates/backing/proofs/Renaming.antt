@@ -9,7 +9,8 @@ use Rattle.backing.specs.declared.refusal.Refusal.{Refusal}
 use Rattle.backing.specs.declared.refusal.Refusal.TheVariants.{Errno}
 use Rattle.backing.specs.declared.entries.Entry.{Entry}
 use Rattle.backing.specs.Tree.{Tree, IsTree, Leads, IsBare, moved, without}
-use Rattle.backing.specs.Calls.{Asked, AskRename, Test, BelowRoot, Reached, Present, NotInto, NotOver, NoFileOnFolder, NoFolderOnFile, Bare, PassesAll, Refuses, Does, tests_of, unless}
+use Rattle.backing.specs.Calls.{Asked, AskRename, PassesAll, Refuses, Does, tests_of, unless}
+use Rattle.backing.specs.Checks.{source_tests, room_tests}
 use Rattle.backing.specs.Entries.{tree_of, IsDistinct, IsLawful}
 use Rattle.backing.specs.Moves.{moved_path, with_paths, Clears}
 use Rattle.backing.specs.Refusals.{Ends}
@@ -19,12 +20,6 @@ use Rattle.backing.proofs.Lawful.{cases_Option, no_item, stands_above}
 use Rattle.backing.proofs.Putting.{removed_tree, removed_lawful}
 use Rattle.backing.proofs.Relocating.{all_moved, Outside, outside, relocated_all, distinct_moved, tree-moved, moved-without, longer_root, moved_tree}
 use Rattle.backing.proofs.Tests.{refuses_later, passes_both}
-
-abbrev pub source_tests : Names → Names → List Test
-source_tests s t = BelowRoot s ∷ BelowRoot t ∷ Reached s ∷ Present s ∷ []
-
-abbrev pub room_tests : Names → Names → List Test
-room_tests s t = NotInto s t ∷ NotOver s t ∷ Reached t ∷ NoFileOnFolder s t ∷ NoFolderOnFile s t ∷ Bare t ∷ []
 
 pub renames_same : (at : Tree) (s t : Names) → s ≡ t → PassesAll at (source_tests s t) → PassesAll at (tests_of (AskRename s t)) × Does at (AskRename s t) Done at
 renames_same at s t same source =

@@ -13,7 +13,8 @@ use Rattle.backing.specs.Explained.{Explained, Explains}
 use Rattle.backing.proofs.PathLemmas.{same_path}
 use Rattle.backing.proofs.Looking.{with_same, with_other}
 use Rattle.backing.proofs.Lawful.{some_item, no_item}
-use Rattle.backing.proofs.Renaming.{source_tests, room_tests, renames_refused}
+use Rattle.backing.specs.Checks.{source_tests, room_tests}
+use Rattle.backing.proofs.Renaming.{renames_refused}
 
 -- the folders on the way down to s, on the way down to t, and these two
 abbrev pub two : Names → Names → Tree

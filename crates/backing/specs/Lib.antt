@@ -12,3 +12,4 @@ pub mod Explained
 pub mod SharedTree
 pub mod Troubles
 pub mod Routes
+pub mod Checks

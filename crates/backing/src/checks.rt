@@ -3,7 +3,8 @@
 ghost use Rattle.std.specs.Prelude.{true, false, ◌≡◌, ◌≢◌, ◌≤◌, ◌<◌, ◌+◌, ◌^◌, ◌↔◌, ℕ, List, [], ◌∷◌, ◌++◌, None, Some, IsTrue, IfOk, IfErr, OnOk, length, slice_get};
 ghost use Rattle.std.specs.Option.{option_map};
 ghost use Rattle.backing.specs.Tree.{kind_of, Leads, Stops, IsFolder, IsFile};
-ghost use Rattle.backing.specs.Calls.{PassesAll, Refuses, Reached, Present, Free, NoFolder, NoFile, Bare, Fits};
+ghost use Rattle.backing.specs.Calls.{PassesAll, Refuses, Bare, Fits};
+ghost use Rattle.backing.specs.Checks.{present_tests, free_tests, file_tests, folder_tests};
 ghost use Rattle.backing.specs.Entries.{look, tree_of, IsFoundAt, IsLawful};
 
 use crate::call::{Kind, MAX_FILE_LEN};
@@ -38,9 +39,9 @@ pub fn expect_reached(entries: &[Entry], path: &Path) -> Result<(), i32>
 
 /// Something stands there: what kind of item.
 pub fn expect_present(entries: &[Entry], path: &Path) -> Result<Kind, i32>
-    ensures ok { OnOk result (PassesAll (tree_of entries.now) (Reached path.now ∷ Present path.now ∷ [])) }
+    ensures ok { OnOk result (PassesAll (tree_of entries.now) (present_tests path.now)) }
     ensures kind { IfOk result (λ kind. option_map kind_of (tree_of entries.now path.now) ≡ Some kind) }
-    ensures err { IfErr result (Refuses (tree_of entries.now) (Reached path.now ∷ Present path.now ∷ [])) }
+    ensures err { IfErr result (Refuses (tree_of entries.now) (present_tests path.now)) }
 {
     expect_reached(entries, path)?;
     match kind_at(entries, path.names()) {
@@ -51,8 +52,8 @@ pub fn expect_present(entries: &[Entry], path: &Path) -> Result<Kind, i32>
 
 /// Nothing stands there.
 pub fn expect_free(entries: &[Entry], path: &Path) -> Result<(), i32>
-    ensures ok { OnOk result (PassesAll (tree_of entries.now) (Reached path.now ∷ Free path.now ∷ [])) }
-    ensures err { IfErr result (Refuses (tree_of entries.now) (Reached path.now ∷ Free path.now ∷ [])) }
+    ensures ok { OnOk result (PassesAll (tree_of entries.now) (free_tests path.now)) }
+    ensures err { IfErr result (Refuses (tree_of entries.now) (free_tests path.now)) }
 {
     expect_reached(entries, path)?;
     match kind_at(entries, path.names()) {
@@ -63,9 +64,9 @@ pub fn expect_free(entries: &[Entry], path: &Path) -> Result<(), i32>
 
 /// A file stands there: the place of its entry.
 pub fn expect_file(entries: &[Entry], path: &Path) -> Result<usize, i32>
-    ensures ok { OnOk result (PassesAll (tree_of entries.now) (Reached path.now ∷ Present path.now ∷ NoFolder path.now ∷ [])) }
+    ensures ok { OnOk result (PassesAll (tree_of entries.now) (file_tests path.now)) }
     ensures found { IfOk result (IsFoundAt entries.now path.now) }
-    ensures err { IfErr result (Refuses (tree_of entries.now) (Reached path.now ∷ Present path.now ∷ NoFolder path.now ∷ [])) }
+    ensures err { IfErr result (Refuses (tree_of entries.now) (file_tests path.now)) }
 {
     match expect_present(entries, path)? {
         Kind::Folder => Err(EISDIR),
@@ -78,8 +79,8 @@ pub fn expect_file(entries: &[Entry], path: &Path) -> Result<usize, i32>
 
 /// A folder stands there.
 pub fn expect_folder(entries: &[Entry], path: &Path) -> Result<(), i32>
-    ensures ok { OnOk result (PassesAll (tree_of entries.now) (Reached path.now ∷ Present path.now ∷ NoFile path.now ∷ [])) }
-    ensures err { IfErr result (Refuses (tree_of entries.now) (Reached path.now ∷ Present path.now ∷ NoFile path.now ∷ [])) }
+    ensures ok { OnOk result (PassesAll (tree_of entries.now) (folder_tests path.now)) }
+    ensures err { IfErr result (Refuses (tree_of entries.now) (folder_tests path.now)) }
 {
     match expect_present(entries, path)? {
         Kind::Folder => Ok(()),

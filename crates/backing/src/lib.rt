@@ -20,7 +20,7 @@ mod shared;
 mod writing;
 
 pub use bytes::Bytes;
-pub use call::{Answer, Call, Child, Children, Kind};
+pub use call::{Answer, Call, Child, Children, Kind, MAX_FILE_LEN};
 pub use calls::{Calls, KnownTree};
 pub use folder::Folder;
 pub use memory::MemTree;

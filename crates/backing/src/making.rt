@@ -2,7 +2,8 @@
 
 ghost use Rattle.std.specs.Prelude.{◌≡◌, ℕ, List, [], ◌∷◌, ◌++◌, OnOk, OnErr, IfErr};
 ghost use Rattle.backing.specs.Tree.{with_item};
-ghost use Rattle.backing.specs.Calls.{AskMake, AskMakeDir, PassesAll, Reached, Free};
+ghost use Rattle.backing.specs.Calls.{AskMake, AskMakeDir, PassesAll};
+ghost use Rattle.backing.specs.Checks.{free_tests};
 ghost use Rattle.backing.specs.Entries.{tree_of, IsLawful};
 ghost use Rattle.backing.specs.Refusals.{Ends, Refusing};
 
@@ -37,9 +38,9 @@ pub fn make_dir(entries: &mut Vec<Entry>, path: &Path) -> Result<Answer, Refusal
 /// Puts the item where nothing stands.
 fn put(entries: &mut Vec<Entry>, path: &Path, item: Item) -> Result<(), Refusal>
     requires { IsLawful entries.old.items }
-    ensures passes { OnOk result (PassesAll (tree_of entries.old.items) (Reached path.now ∷ Free path.now ∷ [])) }
+    ensures passes { OnOk result (PassesAll (tree_of entries.old.items) (free_tests path.now)) }
     ensures ok { OnOk result (tree_of entries.new.items ≡ with_item (tree_of entries.old.items) path.now item) }
-    ensures refuses { IfErr result (Refusing (tree_of entries.old.items) (Reached path.now ∷ Free path.now ∷ [])) }
+    ensures refuses { IfErr result (Refusing (tree_of entries.old.items) (free_tests path.now)) }
     ensures err { OnErr result (entries.new.items ≡ entries.old.items) }
     ensures lawful { IsLawful entries.new.items }
 {

@@ -5,7 +5,8 @@ ghost use Rattle.std.specs.List.{remove};
 ghost use Rattle.paths.specs.Fronts.{is_front};
 ghost use Rattle.backing.specs.declared.entries.Entry.{Entry};
 ghost use Rattle.backing.specs.Tree.{IsBare, Leads, moved};
-ghost use Rattle.backing.specs.Calls.{AskRename, PassesAll, Refuses, BelowRoot, Reached, Present, NotInto, NotOver, NoFileOnFolder, NoFolderOnFile, Bare};
+ghost use Rattle.backing.specs.Calls.{AskRename, PassesAll, Refuses};
+ghost use Rattle.backing.specs.Checks.{source_tests, kind_tests, room_tests};
 ghost use Rattle.backing.specs.Entries.{tree_of, look, IsLawful, IsFoundAt};
 ghost use Rattle.backing.specs.Moves.{moved_path, with_path, with_paths, Clears};
 ghost use Rattle.backing.specs.Refusals.{Ends};
@@ -41,8 +42,8 @@ pub fn rename(
 
 /// Something stands there that may be renamed.
 fn expect_source(entries: &[Entry], from: &Path, to: &Path) -> Result<(), i32>
-    ensures ok { OnOk result (PassesAll (tree_of entries.now) (BelowRoot from.now ∷ BelowRoot to.now ∷ Reached from.now ∷ Present from.now ∷ [])) }
-    ensures err { IfErr result (Refuses (tree_of entries.now) (BelowRoot from.now ∷ BelowRoot to.now ∷ Reached from.now ∷ Present from.now ∷ [])) }
+    ensures ok { OnOk result (PassesAll (tree_of entries.now) (source_tests from.now to.now)) }
+    ensures err { IfErr result (Refuses (tree_of entries.now) (source_tests from.now to.now)) }
 {
     expect_below_root(from)?;
     expect_below_root(to)?;
@@ -53,8 +54,8 @@ fn expect_source(entries: &[Entry], from: &Path, to: &Path) -> Result<(), i32>
 /// It may go there.
 fn expect_room(entries: &[Entry], from: &Path, to: &Path) -> Result<(), i32>
     requires { IsLawful entries.now }
-    ensures ok { OnOk result (PassesAll (tree_of entries.now) (NotInto from.now to.now ∷ NotOver from.now to.now ∷ Reached to.now ∷ NoFileOnFolder from.now to.now ∷ NoFolderOnFile from.now to.now ∷ Bare to.now ∷ [])) }
-    ensures err { IfErr result (Refuses (tree_of entries.now) (NotInto from.now to.now ∷ NotOver from.now to.now ∷ Reached to.now ∷ NoFileOnFolder from.now to.now ∷ NoFolderOnFile from.now to.now ∷ Bare to.now ∷ [])) }
+    ensures ok { OnOk result (PassesAll (tree_of entries.now) (room_tests from.now to.now)) }
+    ensures err { IfErr result (Refuses (tree_of entries.now) (room_tests from.now to.now)) }
 {
     if from.is_front_of(to) {
         return Err(EINVAL);
@@ -69,8 +70,8 @@ fn expect_room(entries: &[Entry], from: &Path, to: &Path) -> Result<(), i32>
 
 /// Neither a file goes onto a folder nor a folder onto a file.
 fn expect_kinds(entries: &[Entry], from: &Path, to: &Path) -> Result<(), i32>
-    ensures ok { OnOk result (PassesAll (tree_of entries.now) (NoFileOnFolder from.now to.now ∷ NoFolderOnFile from.now to.now ∷ [])) }
-    ensures err { IfErr result (Refuses (tree_of entries.now) (NoFileOnFolder from.now to.now ∷ NoFolderOnFile from.now to.now ∷ [])) }
+    ensures ok { OnOk result (PassesAll (tree_of entries.now) (kind_tests from.now to.now)) }
+    ensures err { IfErr result (Refuses (tree_of entries.now) (kind_tests from.now to.now)) }
 {
     let target = kind_at(entries, to.names());
     match kind_at(entries, from.names()) {

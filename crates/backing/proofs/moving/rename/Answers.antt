@@ -3,7 +3,8 @@ use Rattle.std.proofs.lemmas.Bool.{true≢false}
 use Rattle.backing.specs.declared.entries.Entry.{Entry}
 use Rattle.backing.specs.Calls.{AskRename, PassesAll, Refuses}
 use Rattle.backing.specs.Entries.{tree_of}
-use Rattle.backing.proofs.Renaming.{source_tests, room_tests, renames_same, renames_moved, renames_refused, ends_refused}
+use Rattle.backing.specs.Checks.{source_tests, room_tests}
+use Rattle.backing.proofs.Renaming.{renames_same, renames_moved, renames_refused, ends_refused}
 use Rattle.backing.proofs.moving.rename.Goals as goal
 
 pub returns-then-is-clause-ends : goal.returns-then-is-clause-ends

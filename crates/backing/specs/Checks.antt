@@ -1,0 +1,32 @@
+-- The tests that calls share, in their order.
+use Rattle.std.specs.Prelude.{List, [], ◌∷◌}
+use Rattle.paths.specs.Fronts.{Names}
+use Rattle.backing.specs.Calls.{Test, BelowRoot, Reached, Present, Free, NoFolder, NoFile, NotInto, NotOver, NoFileOnFolder, NoFolderOnFile, Bare}
+
+-- something stands at p
+abbrev pub present_tests : Names → List Test
+present_tests p = Reached p ∷ Present p ∷ []
+
+-- something may be made at p
+abbrev pub free_tests : Names → List Test
+free_tests p = Reached p ∷ Free p ∷ []
+
+-- a file stands at p
+abbrev pub file_tests : Names → List Test
+file_tests p = Reached p ∷ Present p ∷ NoFolder p ∷ []
+
+-- a folder stands at p
+abbrev pub folder_tests : Names → List Test
+folder_tests p = Reached p ∷ Present p ∷ NoFile p ∷ []
+
+-- something stands at s that may be renamed
+abbrev pub source_tests : Names → Names → List Test
+source_tests s t = BelowRoot s ∷ BelowRoot t ∷ Reached s ∷ Present s ∷ []
+
+-- it is of a kind that may replace what stands at t
+abbrev pub kind_tests : Names → Names → List Test
+kind_tests s t = NoFileOnFolder s t ∷ NoFolderOnFile s t ∷ []
+
+-- it may go to t
+abbrev pub room_tests : Names → Names → List Test
+room_tests s t = NotInto s t ∷ NotOver s t ∷ Reached t ∷ NoFileOnFolder s t ∷ NoFolderOnFile s t ∷ Bare t ∷ []
