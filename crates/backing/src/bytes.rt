@@ -1,6 +1,6 @@
 //! The bytes of a file.
 
-ghost use Rattle.std.specs.Prelude.{◌≡◌, ◌≤◌, ◌<◌, ◌+◌, ◌-◌, ◌^◌, ℕ, List, [], ◌∷◌, ◌++◌, IsTrue, ◌↔◌, IfOk, OnErr, OnOk, length, take, drop};
+ghost use Rattle.std.specs.Prelude.{◌≡◌, ◌≤◌, ◌<◌, ◌+◌, ◌-◌, ◌^◌, ℕ, List, [], IsTrue, ◌↔◌, IfOk, OnErr, OnOk, length};
 ghost use Rattle.backing.specs.Files.{resized, overlaid, written, read};
 
 use std::alloc::{AllocError, Global};

@@ -1,6 +1,6 @@
 //! Calls of a directory, and their answers.
 
-ghost use Rattle.std.specs.Prelude.{◌≡◌, ℕ, ℤ, List};
+ghost use Rattle.std.specs.Prelude.{◌≡◌, List};
 
 use crate::bytes::Bytes;
 use paths::{Name, Path};

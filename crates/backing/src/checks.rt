@@ -1,14 +1,14 @@
 //! The tests of a call, each with its error.
 
-ghost use Rattle.std.specs.Prelude.{true, false, ◌≡◌, ◌≢◌, ◌≤◌, ◌<◌, ◌+◌, ◌^◌, ◌↔◌, ℕ, List, [], ◌∷◌, ◌++◌, None, Some, IsTrue, IfOk, IfErr, OnOk, length, slice_get};
+ghost use Rattle.std.specs.Prelude.{◌≡◌, ◌≢◌, ◌≤◌, ◌<◌, [], ◌∷◌, None, Some, IfOk, IfErr, OnOk};
 ghost use Rattle.std.specs.Option.{option_map};
-ghost use Rattle.backing.specs.Tree.{kind_of, Leads, Stops, IsFolder, IsFile};
+ghost use Rattle.backing.specs.Tree.{kind_of, Leads, Stops};
 ghost use Rattle.backing.specs.Calls.{PassesAll, Refuses, Bare, Fits};
 ghost use Rattle.backing.specs.Checks.{present_tests, free_tests, file_tests, folder_tests};
-ghost use Rattle.backing.specs.Entries.{look, tree_of, IsFoundAt, IsLawful};
+ghost use Rattle.backing.specs.Entries.{tree_of, IsFoundAt, IsLawful};
 
 use crate::call::{Kind, MAX_FILE_LEN};
-use crate::entries::{Entry, Item};
+use crate::entries::Entry;
 use crate::lookups::{has_names, index_of, kind_at};
 use errno::{EBUSY, EEXIST, EFBIG, EISDIR, ENOENT, ENOTDIR, ENOTEMPTY};
 use paths::Path;

@@ -1,13 +1,10 @@
 //! A tree below its root, kept as a flat list.
 
-ghost use Rattle.std.specs.Prelude.{◌≡◌, ◌≤◌, ◌<◌, ◌+◌, ◌^◌, ◌↔◌, ℕ, List, [], ◌∷◌, ◌++◌, None, Some, IsTrue, IfSome, IfNone, length, slice_get};
-ghost use Rattle.std.specs.Option.{option_map};
-ghost use Rattle.paths.specs.Fronts.{is_front};
-ghost use Rattle.backing.specs.Tree.{is_path};
+ghost use Rattle.std.specs.Prelude.{◌≡◌};
 
 use crate::bytes::Bytes;
 use crate::call::Kind;
-use paths::{Name, Path};
+use paths::Path;
 
 /// What stands at a path.
 #[derive(Drop)]

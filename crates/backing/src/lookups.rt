@@ -1,13 +1,12 @@
 //! What stands at a path, in a tree that is kept as a flat list.
 
-ghost use Rattle.std.specs.Prelude.{true, false, ◌≡◌, ◌≤◌, ◌<◌, ◌+◌, ◌^◌, ◌↔◌, ℕ, List, [], ◌∷◌, ◌++◌, None, Some, IsTrue, IfSome, IfNone, length, slice_get};
+ghost use Rattle.std.specs.Prelude.{true, false, ◌≡◌, ◌<◌, ◌+◌, ℕ, List, [], ◌∷◌, ◌++◌, None, Some, IfSome, IfNone};
 ghost use Rattle.std.specs.Option.{option_map};
-ghost use Rattle.paths.specs.Fronts.{is_front};
 ghost use Rattle.backing.specs.Tree.{is_path, kind_of, HasNames, IsBare};
 ghost use Rattle.backing.specs.Entries.{look, tree_of, IsFoundAt, IsLawful};
 
 use crate::call::Kind;
-use crate::entries::{Entry, Item};
+use crate::entries::Entry;
 use paths::{Name, Path};
 
 /// Whether both paths have the same names.

@@ -1,6 +1,6 @@
 //! Calls that make an item.
 
-ghost use Rattle.std.specs.Prelude.{◌≡◌, ℕ, List, [], ◌∷◌, ◌++◌, OnOk, OnErr, IfErr};
+ghost use Rattle.std.specs.Prelude.{◌≡◌, OnOk, OnErr, IfErr};
 ghost use Rattle.backing.specs.Tree.{with_item};
 ghost use Rattle.backing.specs.Calls.{AskMake, AskMakeDir, PassesAll};
 ghost use Rattle.backing.specs.Checks.{free_tests};

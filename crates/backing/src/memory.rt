@@ -1,6 +1,6 @@
 //! A directory in memory, which fails at planned calls.
 
-ghost use Rattle.std.specs.Prelude.{◌≡◌, ℕ, List, [], ◌∷◌, OnOk, OnErr};
+ghost use Rattle.std.specs.Prelude.{◌≡◌, [], ◌∷◌, OnOk, OnErr};
 ghost use Rattle.backing.specs.Memory.{Memory, Gives, PutsDir, PutsFile, SameBut, memory_tree};
 ghost use Rattle.backing.specs.Tree.{IsTree};
 

@@ -1,13 +1,13 @@
 //! The call that gives items other paths.
 
-ghost use Rattle.std.specs.Prelude.{◌≡◌, ◌≢◌, ◌<◌, ◌≤◌, ℕ, List, [], ◌∷◌, ◌++◌, true, false, OnOk, OnErr, IfErr, IfOk, IsSome, Some, None, length, map, vec_len, slice_set, slice_index_or};
+ghost use Rattle.std.specs.Prelude.{◌≡◌, ◌≢◌, ◌<◌, [], false, OnOk, OnErr, IfErr, IfOk, Some, None, length, map, slice_set, slice_index_or};
 ghost use Rattle.std.specs.List.{remove};
 ghost use Rattle.paths.specs.Fronts.{is_front};
 ghost use Rattle.backing.specs.declared.entries.Entry.{Entry};
 ghost use Rattle.backing.specs.Tree.{IsBare, Leads, moved};
 ghost use Rattle.backing.specs.Calls.{AskRename, PassesAll, Refuses};
 ghost use Rattle.backing.specs.Checks.{source_tests, kind_tests, room_tests};
-ghost use Rattle.backing.specs.Entries.{tree_of, look, IsLawful, IsFoundAt};
+ghost use Rattle.backing.specs.Entries.{tree_of, IsLawful};
 ghost use Rattle.backing.specs.Moves.{moved_path, with_path, with_paths, Clears};
 ghost use Rattle.backing.specs.Refusals.{Ends};
 

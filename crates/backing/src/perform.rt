@@ -1,6 +1,6 @@
 //! One call on a list of entries.
 
-ghost use Rattle.std.specs.Prelude.{◌≡◌, ℕ, List, OnErr, IfOk};
+ghost use Rattle.std.specs.Prelude.{◌≡◌, List};
 ghost use Rattle.backing.specs.Calls.{asked};
 ghost use Rattle.backing.specs.Entries.{tree_of, IsLawful};
 ghost use Rattle.backing.specs.Refusals.{Ends, answered, errno_after, settled};

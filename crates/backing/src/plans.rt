@@ -1,6 +1,6 @@
 //! Which calls of a memory tree are to fail.
 
-ghost use Rattle.std.specs.Prelude.{◌≡◌, ℕ, List, ◌∷◌, OnOk, OnErr};
+ghost use Rattle.std.specs.Prelude.{◌≡◌, ◌∷◌, OnOk, OnErr};
 ghost use Rattle.backing.specs.Memory.{planned_at, treated_as, next_device};
 
 use std::alloc::AllocError;

@@ -1,6 +1,6 @@
 //! Calls that change nothing.
 
-ghost use Rattle.std.specs.Prelude.{true, false, ◌≡◌, ◌≤◌, ◌<◌, ◌+◌, ◌^◌, ◌↔◌, ℕ, List, [], ◌∷◌, ◌++◌, None, Some, IsTrue, IfOk, IfErr, IfSome, OnOk, length, slice_get};
+ghost use Rattle.std.specs.Prelude.{◌≡◌, ◌<◌, ◌+◌, [], ◌∷◌, ◌++◌, None, Some, IfOk, IfSome, OnOk, length};
 ghost use Rattle.backing.specs.Tree.{IsFile, size_of};
 ghost use Rattle.backing.specs.Calls.{AskStat, AskList, AskRead, AskSync, Lists};
 ghost use Rattle.backing.specs.Entries.{tree_of, IsLawful};

@@ -1,6 +1,6 @@
 //! Why a call on a memory tree did not do its work.
 
-ghost use Rattle.std.specs.Prelude.{◌≡◌, ℤ};
+ghost use Rattle.std.specs.Prelude.{◌≡◌};
 
 use errno::ENOMEM;
 use std::alloc::{AllocError, AllocFailed};

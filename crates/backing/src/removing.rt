@@ -1,10 +1,10 @@
 //! Calls that remove an item.
 
-ghost use Rattle.std.specs.Prelude.{◌≡◌, ◌≢◌, ℕ, List, [], ◌∷◌, ◌++◌, OnOk, OnErr, IfErr, IfOk, IsSome};
+ghost use Rattle.std.specs.Prelude.{◌≡◌, ◌≢◌, [], IsSome};
 ghost use Rattle.std.specs.List.{remove};
 ghost use Rattle.backing.specs.Tree.{IsBare, without};
 ghost use Rattle.backing.specs.Calls.{AskRemove, AskRemoveDir};
-ghost use Rattle.backing.specs.Entries.{tree_of, look, IsLawful, IsFoundAt};
+ghost use Rattle.backing.specs.Entries.{tree_of, IsLawful};
 ghost use Rattle.backing.specs.Refusals.{Ends};
 
 use crate::call::Answer;

@@ -1,10 +1,8 @@
 //! Calls that change a file's bytes.
 
-ghost use Rattle.std.specs.Prelude.{◌≡◌, ◌<◌, ◌+◌, ◌^◌, ℕ, List, [], ◌∷◌, ◌++◌, OnOk, OnErr, length, Some, slice_set, slice_index_or};
-ghost use Rattle.backing.specs.Files.{written, resized};
-ghost use Rattle.backing.specs.Tree.{with_item};
+ghost use Rattle.std.specs.Prelude.{◌≡◌, ◌<◌, ◌+◌, ◌^◌, OnOk, OnErr, length, slice_set, slice_index_or};
 ghost use Rattle.backing.specs.Calls.{AskWrite, AskSetLen};
-ghost use Rattle.backing.specs.Entries.{tree_of, look, IsLawful, IsFoundAt};
+ghost use Rattle.backing.specs.Entries.{tree_of, IsLawful};
 ghost use Rattle.backing.specs.Refusals.{Ends};
 ghost use Rattle.backing.specs.declared.entries.Entry.{Entry};
 ghost use Rattle.backing.specs.Items.{item_written, item_resized, entry_written, entry_resized};

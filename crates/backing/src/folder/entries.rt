@@ -7,15 +7,15 @@ ghost use Rattle.backing.specs.Routes.{LeadsDown};
 
 use super::files::find_file;
 use super::trouble::{Reason, Trouble};
-use super::walk::{Found, Walk, look};
+use super::walk::{Found, Walk};
 use crate::call::{Answer, Child, Children, Kind};
 use errno::EEXIST;
 use paths::{Name, Path};
 use std::alloc::Global;
+use std::fs;
 use std::fs::{DirEntry, File};
 use std::io::ErrorKind;
 use std::rt::Files;
-use std::{fs, io};
 
 /// The names of files and folders in the folder: `open`, `getdents`, `close`, and one `lstat` for each name.
 pub fn list<R: Files + AllocGlobal + Clone + Drop>(

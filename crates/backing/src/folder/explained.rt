@@ -1,6 +1,6 @@
 //! Which refusals some tree explains.
 
-ghost use Rattle.std.specs.Prelude.{true, false, ◌≡◌, ◌≢◌, ℕ, List, ◌∷◌, []};
+ghost use Rattle.std.specs.Prelude.{true, false, ◌≡◌, ◌≢◌, List, ◌∷◌, []};
 ghost use Rattle.paths.specs.Fronts.{is_front};
 ghost use Rattle.backing.specs.Calls.{Test, asked, Reached, Present, Free, NoFolder, NoFile, AskRename, AskRemoveDir};
 ghost use Rattle.backing.specs.Explained.{Explained, Explains, errno_of};

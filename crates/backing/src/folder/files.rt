@@ -11,7 +11,6 @@ use crate::bytes::Bytes;
 use crate::call::{Answer, Kind};
 use errno::EIO;
 use paths::Path;
-use std::alloc::Global;
 use std::fs::{File, OpenOptions};
 use std::os::unix::fs::FileExt;
 use std::rt::Files;
