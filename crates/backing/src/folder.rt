@@ -26,8 +26,10 @@ use walk::{Identity, Walk};
 /// A folder of the file system, and all that is below it.
 ///
 /// It shows files and folders alone: a symbolic link, a pipe, a socket or a device is absent to it, wherever it stands in a
-/// path, and is never followed or opened. Each call first walks down the path, with one `lstat` for each name. What it then
-/// opens is compared with what it found there, by device and inode number, before a byte moves.
+/// path, and is neither followed nor opened. Each call first walks down the path, with one `lstat` for each name. What is then
+/// opened to be read, written, cut or synced is compared with what was found, by device and inode number, before a byte
+/// moves. What the other calls do is safe as long as nobody else puts a link in the place of a folder between two calls of
+/// the system: the standard library can neither open a folder without following a link nor work below an open one.
 #[derive(Drop)]
 pub struct Folder<R: Files<File = File> + AllocGlobal + Clone + Drop> {
     rt: R,
