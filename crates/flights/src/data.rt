@@ -3,6 +3,7 @@
 ghost use Rattle.std.specs.Prelude.{◌≡◌, ◌==◌, ◌+◌, ◌-◌, ◌<◌, [], ◌∷◌, ◌++◌, IfOk, Some, length, count_by, is_some};
 ghost use Rattle.std.specs.List.{list_any};
 
+use holds::Held;
 use paths::Name;
 use std::alloc::{AllocError, Global};
 use std::marker::Model;
@@ -10,6 +11,8 @@ use std::marker::Model;
 /// What a request is begun with.
 #[derive(Drop)]
 pub enum Want {
+    /// A node (GETATTR).
+    Node { number: u64 },
     /// A name under a parent (LOOKUP).
     Name { parent: u64, name: Name },
 }
@@ -146,8 +149,10 @@ impl Pins {
 #[derive(Drop)]
 pub struct Work {
     pub want: Want,
-    /// The want's name once more: a node that is born is put into the tree under two keys.
-    pub copy: Name,
+    /// The want's name once more, if it has one: a node that is born is put into the tree under two keys.
+    pub copy: Option<Name>,
+    /// The names that others have to wait for.
+    pub held: Held,
     pub promise: Promise,
     /// Where its answer is put, so that the end of the work takes no memory.
     pub answer: Givens,
@@ -163,7 +168,18 @@ pub enum Stage {
 }
 
 impl Stage {
-    ghost use Rattle.flights.specs.Flying.{is_working, nodes_promised, postings_promised};
+    ghost use Rattle.std.specs.Prelude.{◌↔◌, IsTrue};
+    ghost use Rattle.flights.specs.Flying.{is_working, nodes_promised, postings_promised, IsInTheWay};
+
+    /// Whether the request is worked on, and what it holds clashes with these names.
+    pub fn clashes_with(&self, wanted: &Held) -> bool
+        ensures { IsTrue result ↔ IsInTheWay self.now wanted.now }
+    {
+        match self {
+            Stage::Working(work) => work.held.clashes_with(wanted),
+            Stage::Answered => false,
+        }
+    }
 
     /// Whether the request is worked on.
     pub fn is_working(&self) -> bool

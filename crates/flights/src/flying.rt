@@ -2,11 +2,12 @@
 
 ghost use Rattle.std.specs.Prelude.{true, false, ◌≡◌, ◌≢◌, ◌<◌, ◌≤◌, ◌+◌, ◌^◌, ℕ, None, Some, IfNone, IfSome, IsOk, OnOk, IsTrue, AllPairs, ◌↔◌, option_copied, length};
 ghost use Rattle.flights.specs.declared.data.Flight.{Flight};
-ghost use Rattle.flights.specs.Flying.{none_flying, nodes_promised, postings_promised, IsFlying, HasNoneWorking, HasNoneAnswered, Adds, Answers, PinsMore, Goes};
+ghost use Rattle.flights.specs.Flying.{none_flying, nodes_promised, postings_promised, IsFlying, HasNoneWorking, HasNoneAnswered, Adds, Answers, PinsMore, Goes, HoldsUp};
 ghost use Rattle.flights.specs.Listed.{flying_of, flight_in, pinned_in};
 
 use crate::data::{Flight, Pins, Promise, Work};
-use crate::listed::{end_work, least_free, pin_for, take_answered};
+use crate::listed::{end_work, holds_up, least_free, pin_for, take_answered};
+use holds::Held;
 use std::alloc::{AllocError, Global};
 use std::marker::Model;
 
@@ -91,6 +92,14 @@ impl Flights {
         ensures law { IsFlying (flying_of self.now) }
     {
         self.flights.iter().any(|f| f.pins.contains(number))
+    }
+
+    /// Whether one that is worked on holds a name that is in the way of these.
+    pub fn holds_up(&self, wanted: &Held) -> bool
+        ensures held { IsTrue result ↔ HoldsUp (flying_of self.now).at wanted.now }
+        ensures law { IsFlying (flying_of self.now) }
+    {
+        holds_up(&self.flights, wanted)
     }
 
     /// Makes room for one more.

@@ -3,6 +3,7 @@ pub mod Booked
 pub mod Reasons
 pub mod Laws
 pub mod Ready
+pub mod Apart
 pub mod Kept
 pub mod Backs
 pub mod Settling

@@ -13,6 +13,7 @@ use crate::data::{Answered, Outcome, Ticket};
 use crate::state::State;
 use flights::{Flights, Given, Givens, Promise, Want, Work};
 use ledger::{Ledger, Posting};
+use paths::Name;
 use tree::{Key, Tree};
 
 /// Counts one more entry of the node that is named so, and posts it.
@@ -84,26 +85,17 @@ fn enter(tree: &mut Tree, ledger: &mut Ledger, flights: &Flights, key: Key, copy
 }
 
 /// The answer of a request that gives nothing for its name.
-fn give_nothing(id: u64, work: Work) -> Answered
-    requires room { 0 < work.answer.room }
-    requires unanswered { work.answer.items ≡ [] }
+fn give_none(id: u64, answer: Givens) -> Answered
+    requires room { 0 < answer.room }
+    requires unanswered { answer.items ≡ [] }
     ensures { result ≡ record { id = id; given = None ∷ []; lost = false } }
 {
-    let Work { mut answer, .. } = work;
+    let mut answer = answer;
     answer.add(None);
     Answered {
         id,
         given: answer,
         lost: false,
-    }
-}
-
-/// The name under a parent that was wanted.
-pub fn key_of(want: Want) -> Key
-    ensures { want ≡ Want.Name result.parent result.name }
-{
-    match want {
-        Want::Name { parent, name } => Key { parent, name },
     }
 }
 
@@ -136,25 +128,64 @@ impl State {
         }
     }
 
-    /// Gives an entry of what a request was begun with.
-    fn give(&mut self, id: u64, work: Work) -> Answered
+    /// What the outcome of a request for a name does.
+    fn give_for_name(
+        &mut self,
+        id: u64,
+        key: Key,
+        copy: Option<Name>,
+        promise: Promise,
+        answer: Givens,
+        outcome: Outcome,
+    ) -> Answered
+        requires kept { IsKept self.old }
+        requires ending { IsNameEnding self.old id key.parent key.name promise }
+        requires copy { copy ≡ Some key.name }
+        requires room { 0 < answer.room }
+        requires unanswered { answer.items ≡ [] }
+        ensures gives { (e : IsNameEnding self.old id key.parent key.name promise) → Gives (world_of self.old) id e.flight (Want.Name key.parent key.name) outcome result (world_of self.new) }
+        ensures kept { IsKept self.new }
+    {
+        match outcome {
+            Outcome::Entry => {
+                let Some(name) = copy else {
+                    unreachable!();
+                };
+                let copy = Key {
+                    parent: key.parent,
+                    name,
+                };
+                self.give_name(id, key, copy, promise, answer)
+            }
+            Outcome::Failed | Outcome::Done => give_none(id, answer),
+        }
+    }
+
+    /// What the outcome of a request does, whose work has ended.
+    fn give(&mut self, id: u64, work: Work, outcome: Outcome) -> Answered
         requires kept { IsKept self.old }
         requires ending { IsEnding self.old id work }
-        ensures gives { (e : IsEnding self.old id work) → Gives (world_of self.old) id e.flight work.want result (world_of self.new) }
+        ensures gives { (e : IsEnding self.old id work) → Gives (world_of self.old) id e.flight work.want outcome result (world_of self.new) }
         ensures kept { IsKept self.new }
     {
         let Work {
             want,
             copy,
+            held: _,
             promise,
             answer,
         } = work;
-        let key = key_of(want);
-        let copy = Key {
-            parent: key.parent,
-            name: copy,
-        };
-        self.give_name(id, key, copy, promise, answer)
+        match want {
+            Want::Node { number: _ } => Answered {
+                id,
+                given: answer,
+                lost: false,
+            },
+            Want::Name { parent, name } => {
+                let key = Key { parent, name };
+                self.give_for_name(id, key, copy, promise, answer, outcome)
+            }
+        }
     }
 
     /// Ends the work on a request: the client is given what its want asks for, or nothing.
@@ -171,9 +202,6 @@ impl State {
                 lost: true,
             };
         };
-        match outcome {
-            Outcome::Entry => self.give(id, work),
-            Outcome::Failed | Outcome::Done => give_nothing(id, work),
-        }
+        self.give(id, work, outcome)
     }
 }
