@@ -13,3 +13,5 @@ pub mod Finishing
 pub mod Counting
 pub mod Longer
 pub mod Starting
+pub mod Guarded
+pub mod Removing
