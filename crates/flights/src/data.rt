@@ -15,6 +15,8 @@ pub enum Want {
     Node { number: u64 },
     /// A name under a parent (LOOKUP).
     Name { parent: u64, name: Name },
+    /// A name to be removed, whatever stands there (UNLINK, RMDIR).
+    Remove { parent: u64, name: Name },
 }
 
 /// What a request may still add, kept free for it from its begin to its finish.

@@ -11,7 +11,7 @@ use Rattle.flights.specs.declared.data.Flight.{Flight}
 use Rattle.flights.specs.declared.data.Stage.{Stage}
 use Rattle.flights.specs.declared.data.Stage.TheVariants.{Working, Answered}
 use Rattle.flights.specs.declared.data.Want.{Want}
-use Rattle.flights.specs.declared.data.Want.TheVariants.{Node, Name}
+use Rattle.flights.specs.declared.data.Want.TheVariants.{Node, Name, Remove}
 use Rattle.flights.specs.declared.data.Work.{Work}
 use Rattle.flights.specs.Flying.{Flights, HoldsUp, IsInTheWay, with_flight, without_flight}
 use Rattle.table.specs.Holding.{AreHeld, HoldsFor, IsLead}
@@ -70,6 +70,12 @@ same_names at tree (Name parent name) h k a b =
     record {
       shared = fronts_same h.shared k.shared (a.above ++ name ∷ []) (b.above ++ name ∷ []) (ap (λ (p : Names). p ++ name ∷ []) e) a.shared b.shared;
       exclusive = λ q c. subst (λ (ps : List Names). Contains ps q) (a.exclusive ∙ sym b.exclusive) c;
+    }
+same_names at tree (Remove parent name) h k a b =
+    let e : a.above ≡ b.above = path_same at tree.rooted a.above b.above parent a.leads b.leads in
+    record {
+      shared = fronts_same h.shared k.shared a.above b.above e a.shared b.shared;
+      exclusive = λ q c. subst (λ (ps : List Names). Contains ps q) (a.exclusive ∙ (ap (λ (p : Names). (p ++ name ∷ []) ∷ []) e ∙ sym b.exclusive)) c;
     }
 
 pub held_up_same : (at : Lookup) → IsTree at → (want : Want) (h k : Held) → HoldsFor at want h → HoldsFor at want k → (flights : Flights) → HoldsUp flights h → HoldsUp flights k
@@ -144,6 +150,11 @@ known_of at f work (Name parent name) r =
       path = h.leads;
       fronts = λ front some. inl (h.shared.all front (record { some = some.some; begins = is_front-trans front h.above (h.above ++ name ∷ []) some.begins (is_front-append h.above (name ∷ [])) }));
     } in
+    subst (λ (g : List Lead). All (IsLead at work.held) g) (sym h.given) (one_lead at work.held lead it)
+known_of at f work (Remove parent name) r =
+    let h = r.holds in
+    let lead : Lead = record { number = parent; path = h.above } in
+    let it : IsLead at work.held lead = record { path = h.leads; fronts = λ front some. inl (h.shared.all front some) } in
     subst (λ (g : List Lead). All (IsLead at work.held) g) (sym h.given) (one_lead at work.held lead it)
 
 pub held_of : (at : Lookup) (flights : Flights) → AreApart flights → AreReady at flights → AreHeld at flights

@@ -10,9 +10,9 @@ use Rattle.image.specs.Law.{IsLawful}
 use Rattle.table.specs.declared.state.State.{State}
 use Rattle.table.specs.Sweeping.{IsEntered, KeepsNames}
 use Rattle.flights.specs.declared.data.Want.{Want}
-use Rattle.flights.specs.declared.data.Want.TheVariants.{Name}
+use Rattle.flights.specs.declared.data.Want.TheVariants.{Name, Remove}
 use Rattle.flights.specs.declared.data.Work.{Work}
-use Rattle.table.specs.World.{AreReady, IsKept, IsEnding, IsNameEnding, IsNameReady, IsReadyFor}
+use Rattle.table.specs.World.{AreReady, IsRemovable, IsRemovalReady, IsKept, IsEnding, IsNameEnding, IsNameReady, IsReadyFor}
 use Rattle.table.proofs.Laws.{lawful_pins}
 use Rattle.table.proofs.Ready.{AreReady-same, AreReady-idle}
 use Rattle.table.proofs.Apart.{AreApart, AreApart-idle, held_of}
@@ -80,4 +80,14 @@ name_ending s id work parent name want e =
       node = elim ready.node [ inl one ↦ inl one | inr (n, named, pinned) ↦ inr (n, named) ];
       three = ready.postings;
       room = e.room;
+    }
+
+-- a request that was begun to remove a name may remove it
+pub removal_ending : (s : State) (id : ℕ) (work : Work) (parent : ℕ) (name : List ℕ) → IsKept s → work.want ≡ Remove parent name → IsEnding s id work → IsRemovable s work.held parent name
+removal_ending s id work parent name kept want e =
+    let ready : IsRemovalReady (at_in s.tree) e.flight work parent name = subst (λ (w : Want). IsReadyFor (at_in s.tree) e.flight work w) want e.ready in
+    record {
+      holds = ready.holds;
+      pinned = (kept.flying.pins parent).1 (id, e.flight, e.here, ready.pinned);
+      clear = e.clear;
     }

@@ -14,3 +14,5 @@ pub mod Counting
 pub mod Longer
 pub mod Starting
 pub mod Exporting
+pub mod Guarded
+pub mod Removing

@@ -13,7 +13,7 @@ use Rattle.flights.specs.declared.data.Work.{Work}
 use Rattle.flights.specs.Flying.{Flights, with_flight, without_flight, pins_number, Flying, IsFlying}
 use Rattle.table.specs.Steps.{IsSwept}
 use Rattle.holds.specs.declared.held.Held.{Held}
-use Rattle.table.specs.Holding.{HoldsName, HoldsNode}
+use Rattle.table.specs.Holding.{HoldsName, HoldsNode, HoldsRemoved}
 use Rattle.table.specs.World.{IsReadyFor, AreReady}
 use Rattle.table.proofs.Reasons.{stays_pinned}
 
@@ -74,6 +74,9 @@ holds_name_on old new parent name held still h = record { above = h.above; leads
 holds_node_on : (old new : Lookup) (number : ℕ) (held : Held) → ((up : List (List ℕ)) → Reaches old 1 number up → Reaches new 1 number up) → HoldsNode old number held → HoldsNode new number held
 holds_node_on old new number held still h = record { path = h.path; leads = still (reverse h.path) h.leads; given = h.given; shared = h.shared; exclusive = h.exclusive }
 
+holds_removed_on : (old new : Lookup) (parent : ℕ) (name : List ℕ) (held : Held) → ((up : List (List ℕ)) → Reaches old 1 parent up → Reaches new 1 parent up) → HoldsRemoved old parent name held → HoldsRemoved new parent name held
+holds_removed_on old new parent name held still h = record { above = h.above; leads = still (reverse h.above) h.leads; given = h.given; shared = h.shared; exclusive = h.exclusive }
+
 ready_same : (old new : Lookup) (f : Flight) (work : Work) (want : Want) → ((n p : ℕ) (name : List ℕ) → IsNamed old n p name → IsNamed new n p name) → IsReadyFor old f work want → IsReadyFor new f work want
 ready_same old new f work (wants.Node number) named ready = record {
   holds = holds_node_on old new number work.held (reaches_same old new named 1 number) ready.holds;
@@ -89,6 +92,11 @@ ready_same old new f work (wants.Name parent name) named ready = record {
   copy = ready.copy;
   pin_room = ready.pin_room;
   answer_room = ready.answer_room;
+  unanswered = ready.unanswered;
+}
+ready_same old new f work (wants.Remove parent name) named ready = record {
+  holds = holds_removed_on old new parent name work.held (reaches_same old new named 1 parent) ready.holds;
+  pinned = ready.pinned;
   unanswered = ready.unanswered;
 }
 
@@ -117,6 +125,13 @@ ready_swept pinned old new f work (wants.Name parent name) swept pins ready =
       copy = ready.copy;
       pin_room = ready.pin_room;
       answer_room = ready.answer_room;
+      unanswered = ready.unanswered;
+    }
+ready_swept pinned old new f work (wants.Remove parent name) swept pins ready =
+    let still : (up : List (List ℕ)) → Reaches old 1 parent up → Reaches new 1 parent up = λ up h. reaches_swept pinned old new swept 1 parent up (λ x was none. none-some x (sym none ∙ stays_pinned pinned old new parent x swept was (pins parent ready.pinned))) h in
+    record {
+      holds = holds_removed_on old new parent name work.held still ready.holds;
+      pinned = ready.pinned;
       unanswered = ready.unanswered;
     }
 

@@ -20,11 +20,11 @@ use Rattle.flights.specs.declared.data.Work.{Work}
 use Rattle.flights.specs.Flying.{HoldsUp, Adds, Flights, Flying, IsFlying, with_flight, nodes_promised, pins_number, postings_promised}
 use Rattle.flights.specs.Listed.{InFlight, flying_of}
 use Rattle.table.specs.declared.state.State.{State}
-use Rattle.table.specs.Beginning.{Allows, Forbids, IsNameWork, IsNodeWork, IsPlan, IsPromised, IsRoomForOne, IsSameButRoom, Stands, errno_of, pins_in}
+use Rattle.table.specs.Beginning.{Allows, Forbids, IsNameWork, IsNodeWork, IsPlan, IsPromised, IsRemovalWork, IsRoomForOne, IsSameButRoom, Stands, errno_of, pins_in}
 use Rattle.table.specs.Steps.{GoesOn, IsCrowded, IsFull, IsHeldUp, IsLong, IsPinFor, IsPromiseFor, IsRefusal, IsStale, IsTooMuch}
 use Rattle.table.specs.World.{AreReady, IsKept, IsNameReady, IsReadyFor, World, world_of}
 use Rattle.table.proofs.Laws.{lawful_pins}
-use Rattle.table.specs.Holding.{HoldsFor, HoldsName, HoldsNode}
+use Rattle.table.specs.Holding.{HoldsFor, HoldsName, HoldsNode, HoldsRemoved}
 use Rattle.holds.specs.declared.held.Held.{Held}
 use Rattle.holds.specs.Clashes.{AreFronts}
 use Rattle.flights.specs.Roomy.{Pinned}
@@ -61,6 +61,15 @@ path_refusal w parent name fault.Cut tree bad = inl (refl, λ leads. (no_way w.a
 path_refusal w parent name fault.Full tree bad = absurd bad
 path_refusal w parent name fault.Memory tree bad = inr (inr (inr (inr (refl, λ stale. stale bad))))
 path_refusal w parent name fault.PathLong tree (path, it, long) =
+    inr (inl (refl, λ stale. stale (record { names = reverse it.above; climb = it.leads }), (it.above, it.leads, subst (λ (p : Names). 4096 < path_bytes p) it.whole long)))
+
+-- the same for a name that is to be removed
+pub removal_refusal : (w : World) (parent : ℕ) (name : List ℕ) (e : TreeFault) → IsTree w.at → IsNameFault w.at parent name e → IsRefusal w (wants.Remove parent name) (errno_of e)
+removal_refusal w parent name fault.Unknown tree bad = inl (refl, λ leads. let it = (no_way w.at parent tree leads).0 in none-some it.0 (sym bad ∙ it.1))
+removal_refusal w parent name fault.Cut tree bad = inl (refl, λ leads. (no_way w.at parent tree leads).1 bad.0 bad.1 bad.2)
+removal_refusal w parent name fault.Full tree bad = absurd bad
+removal_refusal w parent name fault.Memory tree bad = inr (inr (inr (inr (refl, λ stale. stale bad))))
+removal_refusal w parent name fault.PathLong tree (path, it, long) =
     inr (inl (refl, λ stale. stale (record { names = reverse it.above; climb = it.leads }), (it.above, it.leads, subst (λ (p : Names). 4096 < path_bytes p) it.whole long)))
 
 -- the same where the path of a node was asked for
@@ -190,6 +199,34 @@ module _ (s : State) (key : Key) (o : Option ℕ) (promise : Promise) (path : Na
     ready = name_ready;
   })
 
+module _ (s : State) (key : Key) (o : Option ℕ) (path : Names) (work : Work) (pins : Pinned) (law : IsTree (at_in s.tree)) (stands : Stands s key o)
+    (it : IsPathOfName (at_in s.tree) key.parent key.name path) (short : path_bytes path ≤ 4096) (made : IsRemovalWork key path work)
+    (pins_are : (n : ℕ) → (pins_in pins n ≡ true) ↔ ((n ≡ key.parent) ⊎ (o ≡ Some n))) where
+  removal_holds : HoldsRemoved (at_in s.tree) key.parent key.name work.held
+  removal_holds = record {
+    above = it.above;
+    leads = it.leads;
+    given = made.given it.above key.name it.whole;
+    shared = made.shared it.above key.name it.whole;
+    exclusive = made.exclusive ∙ ap (λ (p : Names). p ∷ []) it.whole;
+  }
+
+  pub removal_plan : IsPlan (world_of s) work.want work pins path
+  removal_plan = subst (λ (want : Want). IsPlan (world_of s) want work pins path) (sym made.want) (record {
+    not_stale = not_stale s key work.promise path it;
+    not_long = not_long s key work.promise path law it short;
+    promise = (made.nodes, made.postings);
+    only = λ q for_q. (for_q.0 ∙ sym made.nodes, for_q.1 ∙ sym made.postings);
+    holds = removal_holds;
+    pins_are = λ n. let a = pins_are n in let b = pin_for s key o n law stands in (λ h. b.0 (a.0 h), λ h. a.1 (b.1 h));
+    path_is = (it.above, it.leads, it.whole);
+    ready = λ f same. record {
+      holds = removal_holds;
+      pinned = ap (λ (p : Pinned). pins_in p key.parent) same ∙ (pins_are key.parent).1 (inl refl);
+      unanswered = made.unanswered;
+    };
+  })
+
 module _ (s : State) (number : ℕ) (path : Names) (work : Work) (pins : Pinned) (law : IsTree (at_in s.tree)) (it : IsPathOf (at_in s.tree) number path) (short : path_bytes path ≤ 4096) (made : IsNodeWork number path work)
     (pins_are : (n : ℕ) → (pins_in pins n ≡ true) ↔ (n ≡ number)) where
   node_holds : HoldsNode (at_in s.tree) number work.held
@@ -261,6 +298,8 @@ pins_alive : (w : World) → IsTree w.at → (want : Want) (held : Held) (n : �
 pins_alive w tree (wants.Node number) held n h e = subst (λ m. IsAlive w.at m) (sym e) (climbs_alive w.at tree.rooted (reverse h.path) number h.leads)
 pins_alive w tree (wants.Name parent name) held n h (inl e) = subst (λ m. IsAlive w.at m) (sym e) (climbs_alive w.at tree.rooted (reverse h.above) parent h.leads)
 pins_alive w tree (wants.Name parent name) held n h (inr named) = (named.0, named.1)
+pins_alive w tree (wants.Remove parent name) held n h (inl e) = subst (λ m. IsAlive w.at m) (sym e) (climbs_alive w.at tree.rooted (reverse h.above) parent h.leads)
+pins_alive w tree (wants.Remove parent name) held n h (inr named) = (named.0, named.1)
 
 module _ (s mid : State) (unique id : ℕ) (work : Work) (pins : Pinned) (path : Names) (flights : InFlight) (plan : IsPlan (world_of s) work.want work pins path) (same : IsSameButRoom s mid) (fresh : (flying_of mid.flights).at id ≡ None)
     (adds : Adds (flying_of mid.flights) (record { id = id; unique = unique; stage = Working work; pins = pins }) (flying_of flights)) where

@@ -12,7 +12,7 @@ use Rattle.flights.specs.declared.data.Flight.{Flight}
 use Rattle.flights.specs.Roomy.{Pinned}
 use Rattle.flights.specs.declared.data.Promise.{Promise}
 use Rattle.flights.specs.declared.data.Want.{Want}
-use Rattle.flights.specs.declared.data.Want.TheVariants.{Node, Name}
+use Rattle.flights.specs.declared.data.Want.TheVariants.{Node, Name, Remove}
 use Rattle.flights.specs.declared.data.Work.{Work}
 use Rattle.flights.specs.Listed.{flying_of}
 use Rattle.table.specs.declared.state.State.{State}
@@ -47,6 +47,16 @@ pub record IsNameWork (key : Key) (path : Names) (promise : Promise) (work : Wor
   pub shared : AreFronts work.held.shared path
   pub exclusive : work.held.exclusive ≡ []
   pub answer_room : 0 < work.answer.room
+  pub unanswered : work.answer.items ≡ []
+
+-- what is to be done for a name of that path that is to be removed
+pub record IsRemovalWork (key : Key) (path : Names) (work : Work) : Type 0 where
+  pub want : work.want ≡ Remove key.parent key.name
+  pub nodes : work.promise.nodes ≡ 0
+  pub postings : work.promise.postings ≡ 0
+  pub given : (above : Names) (name : List ℕ) → path ≡ above ++ name ∷ [] → work.held.given ≡ record { number = key.parent; path = above } ∷ []
+  pub shared : (above : Names) (name : List ℕ) → path ≡ above ++ name ∷ [] → AreFronts work.held.shared above
+  pub exclusive : work.held.exclusive ≡ path ∷ []
   pub unanswered : work.answer.items ≡ []
 
 -- what is to be done for a node of that path

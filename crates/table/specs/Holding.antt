@@ -30,9 +30,18 @@ pub record HoldsName (at : Lookup) (parent : ℕ) (name : Name) (held : Held) : 
   pub shared : AreFronts held.shared (above ++ name ∷ [])
   pub exclusive : held.exclusive ≡ []
 
+-- a name that is to be removed: it is held alone, and each front of its parent's path is shared
+pub record HoldsRemoved (at : Lookup) (parent : ℕ) (name : Name) (held : Held) : Type 0 where
+  pub above : Names
+  pub leads : IsPathOf at parent above
+  pub given : held.given ≡ record { number = parent; path = above } ∷ []
+  pub shared : AreFronts held.shared above
+  pub exclusive : held.exclusive ≡ (above ++ name ∷ []) ∷ []
+
 abbrev pub HoldsFor : Lookup → Want → Held → Type 0
 HoldsFor at (wants.Node number) held = HoldsNode at number held
 HoldsFor at (wants.Name parent name) held = HoldsName at parent name held
+HoldsFor at (wants.Remove parent name) held = HoldsRemoved at parent name held
 
 -- ---- the law
 

@@ -5,6 +5,7 @@ use Rattle.ledger.specs.declared.postings.Posting.{Posting}
 use Rattle.ledger.specs.declared.postings.Posting.TheVariants.{Born, Entry, Back, Forget}
 use Rattle.ledger.specs.Sums.{births_of}
 use Rattle.paths.specs.Fronts.{Names, path_bytes}
+use Rattle.tree.specs.Moves.{Changes, after_cut}
 use Rattle.tree.specs.declared.nodes.Node.{Node}
 use Rattle.tree.specs.declared.nodes.Place.TheVariants.{Named}
 use Rattle.tree.specs.Places.{Lookup, with_node, IsNamed, IsFree, HasChild, Leads, IsPathOf}
@@ -62,11 +63,13 @@ pub record Forgets (old : World) (number n amount : ℕ) (new : World) : Type 0 
 abbrev pub IsStale : World → Want → Type 0
 IsStale w (wants.Node number) = Leads w.at number → ⊥
 IsStale w (wants.Name parent name) = Leads w.at parent → ⊥
+IsStale w (wants.Remove parent name) = Leads w.at parent → ⊥
 
 -- the path is longer than 4,096 bytes
 abbrev pub IsLong : World → Want → Type 0
 IsLong w (wants.Node number) = (path : Names) × IsPathOf w.at number path × (4096 < path_bytes path)
 IsLong w (wants.Name parent name) = (up : Names) × IsPathOf w.at parent up × (4096 < path_bytes (up ++ name ∷ []))
+IsLong w (wants.Remove parent name) = (up : Names) × IsPathOf w.at parent up × (4096 < path_bytes (up ++ name ∷ []))
 
 -- a request that is worked on holds a name that is in the way
 abbrev pub IsHeldUp : World → Want → Type 0
@@ -77,6 +80,7 @@ abbrev pub IsPromiseFor : World → Want → Promise → Type 0
 IsPromiseFor w (wants.Node number) p = (p.nodes ≡ 0) × (p.postings ≡ 0)
 IsPromiseFor w (wants.Name parent name) p =
     (IsFree w.at parent name → p.nodes ≡ 1) × ((n : ℕ) → IsNamed w.at n parent name → p.nodes ≡ 0) × (p.postings ≡ 3)
+IsPromiseFor w (wants.Remove parent name) p = (p.nodes ≡ 0) × (p.postings ≡ 0)
 
 -- with what is promised, the nodes or the postings would pass their limit
 abbrev pub IsTooMuch : World → Promise → Type 0
@@ -104,11 +108,13 @@ IsRefusal w want e =
 abbrev pub IsPathFor : World → Want → Names → Type 0
 IsPathFor w (wants.Node number) path = IsPathOf w.at number path
 IsPathFor w (wants.Name parent name) path = (up : Names) × IsPathOf w.at parent up × (path ≡ up ++ name ∷ [])
+IsPathFor w (wants.Remove parent name) path = (up : Names) × IsPathOf w.at parent up × (path ≡ up ++ name ∷ [])
 
 -- the nodes that the want names, and any that stands at its path
 abbrev pub IsPinFor : World → Want → ℕ → Type 0
 IsPinFor w (wants.Node number) n = n ≡ number
 IsPinFor w (wants.Name parent name) n = (n ≡ parent) ⊎ IsNamed w.at n parent name
+IsPinFor w (wants.Remove parent name) n = (n ≡ parent) ⊎ IsNamed w.at n parent name
 
 -- one request more is in flight, under an id that none bore
 pub record GoesOn (old : World) (unique : ℕ) (want : Want) (claim : Claim) (new : World) : Type 0 where
@@ -167,6 +173,15 @@ pub record GivesEntry (old : World) (id : ℕ) (f : Flight) (parent : ℕ) (name
   pub pins : PinsMore old.flying id f given.number new.flying
   pub limits : new.limits ≡ old.limits
 
+-- each node at the path of the name or below is cut, and then what nothing keeps any more goes
+pub record CutsName (old : World) (parent : ℕ) (name : List ℕ) (new : World) : Type 0 where
+  pub mid : Lookup
+  pub cuts : (up : Names) → IsPathOf old.at parent up → Changes (after_cut (up ++ name ∷ [])) old.at mid
+  pub swept : IsSwept old.flying.pinned mid new.at
+  pub postings : new.postings ≡ old.postings
+  pub flying : new.flying ≡ old.flying
+  pub limits : new.limits ≡ old.limits
+
 -- the client is given nothing, and nothing else changes
 abbrev pub GivesNothing : World → ℕ → List (Option Given) → Answer → World → Type 0
 GivesNothing old id given answer new = (answer ≡ record { id = id; given = given; lost = false }) × (new ≡ old)
@@ -177,6 +192,9 @@ Gives old id f (wants.Node number) o answer new = GivesNothing old id [] answer 
 Gives old id f (wants.Name parent name) outcome.Entry answer new = GivesEntry old id f parent name answer new
 Gives old id f (wants.Name parent name) outcome.Failed answer new = GivesNothing old id (None ∷ []) answer new
 Gives old id f (wants.Name parent name) outcome.Done answer new = GivesNothing old id (None ∷ []) answer new
+Gives old id f (wants.Remove parent name) outcome.Entry answer new = GivesNothing old id [] answer new
+Gives old id f (wants.Remove parent name) outcome.Failed answer new = GivesNothing old id [] answer new
+Gives old id f (wants.Remove parent name) outcome.Done answer new = (answer ≡ record { id = id; given = []; lost = false }) × CutsName old parent name new
 
 -- the work on a request ends, so that it holds nothing, and then its outcome comes about
 pub record Ends (old : World) (id : ℕ) (work : Work) (o : Outcome) (answer : Answer) (new : World) : Type 0 where

@@ -4,14 +4,15 @@ use Rattle.ledger.specs.declared.postings.Posting.{Posting}
 use Rattle.tree.specs.Places.{Lookup, IsCensus, Nodes, at_in, with_node, no_nodes, root_node, IsNamed, Leads}
 use Rattle.ledger.specs.Postings.{Postings}
 use Rattle.flights.specs.Listed.{flying_of}
+use Rattle.holds.specs.declared.held.Held.{Held}
 use Rattle.flights.specs.declared.data.Flight.{Flight}
 use Rattle.flights.specs.declared.data.Promise.{Promise}
 use Rattle.flights.specs.declared.data.Stage.TheVariants.{Working, Answered}
 use Rattle.flights.specs.declared.data.Want.{Want}
-use Rattle.flights.specs.declared.data.Want.TheVariants.{Node, Name}
+use Rattle.flights.specs.declared.data.Want.TheVariants.{Node, Name, Remove}
 use Rattle.flights.specs.declared.data.Work.{Work}
 use Rattle.flights.specs.Flying.{Flying, IsFlying, none_flying, pins_number, HoldsUp}
-use Rattle.table.specs.Holding.{AreHeld, HoldsName, HoldsNode}
+use Rattle.table.specs.Holding.{AreHeld, HoldsName, HoldsNode, HoldsRemoved}
 use Rattle.image.specs.Law.{IsLawful}
 use Rattle.table.specs.declared.data.Limits.{Limits}
 use Rattle.table.specs.declared.state.State.{State}
@@ -49,9 +50,16 @@ pub record IsNodeReady (at : Lookup) (f : Flight) (work : Work) (number : ℕ) :
   pub pinned : pins_number f number ≡ true
   pub unanswered : work.answer.items ≡ []
 
+-- for a name that is to be removed: its parent leads to the root, and it pins it
+pub record IsRemovalReady (at : Lookup) (f : Flight) (work : Work) (parent : ℕ) (name : List ℕ) : Type 0 where
+  pub holds : HoldsRemoved at parent name work.held
+  pub pinned : pins_number f parent ≡ true
+  pub unanswered : work.answer.items ≡ []
+
 abbrev pub IsReadyFor : Lookup → Flight → Work → Want → Type 0
 IsReadyFor at f work (Node number) = IsNodeReady at f work number
 IsReadyFor at f work (Name parent name) = IsNameReady at f work parent name
+IsReadyFor at f work (Remove parent name) = IsRemovalReady at f work parent name
 
 abbrev pub AreReady : Lookup → (ℕ → Option Flight) → Type 0
 AreReady at flights = (id : ℕ) (f : Flight) (work : Work) → flights id ≡ Some f → f.stage ≡ Working work → IsReadyFor at f work work.want
@@ -134,6 +142,12 @@ pub record IsNameEnding (s : State) (id parent : ℕ) (name : List ℕ) (promise
   pub node : (promise.nodes ≡ 1) ⊎ ((n : ℕ) × IsNamed (at_in s.tree) n parent name)
   pub three : promise.postings ≡ 3
   pub room : IsRoomFor s promise
+
+-- a name that no other request that is worked on has a hold in the way of, under a pinned parent
+pub record IsRemovable (s : State) (held : Held) (parent : ℕ) (name : List ℕ) : Type 0 where
+  pub holds : HoldsRemoved (at_in s.tree) parent name held
+  pub pinned : (flying_of s.flights).pinned parent ≡ true
+  pub clear : HoldsUp (flying_of s.flights).at held → ⊥
 
 -- a table of the root alone
 pub record IsOpened (limits : Limits) (w : World) : Type 0 where

@@ -3,7 +3,7 @@
 ghost use Rattle.std.specs.Prelude.{◌≡◌, ◌≤◌, ◌<◌, ◌+◌, ◌↔◌, ◌⊎◌, ◌++◌, ◌∷◌, [], true, ℕ, Some, IfOk, IfErr, OnOk};
 ghost use Rattle.flights.specs.declared.data.Want.TheVariants as Want;
 ghost use Rattle.paths.specs.Fronts.{Name, Names};
-ghost use Rattle.table.specs.Beginning.{Allows, Forbids, IsNameWork, IsNodeWork, IsPlan, IsPromised, IsRoomForOne, IsSameButRoom, errno_of, pins_in};
+ghost use Rattle.table.specs.Beginning.{Allows, Forbids, IsNameWork, IsNodeWork, IsPlan, IsPromised, IsRemovalWork, IsRoomForOne, IsSameButRoom, errno_of, pins_in};
 ghost use Rattle.table.specs.Steps.{Begins};
 ghost use Rattle.table.specs.World.{IsCounted, IsKept, world_of};
 
@@ -102,6 +102,29 @@ fn node_work(alloc: Global, number: u64, path: &Path) -> Result<Work, AllocError
     })
 }
 
+/// What a request that removes a name is to do, and holds meanwhile.
+fn removal_work(alloc: Global, key: Key, path: &Path) -> Result<Work, AllocError>
+    ensures { IfOk result (IsRemovalWork key path.now) }
+{
+    let up = above(path)?;
+    let shared = fronts_of(alloc, &up)?;
+    let mut exclusive = Vec::new(alloc);
+    exclusive.push(path.copy()?)?;
+    let held = Held {
+        given: lead(alloc, key.parent, up)?,
+        shared,
+        exclusive: Paths::from_vec(exclusive),
+    };
+    let Key { parent, name } = key;
+    Ok(Work {
+        want: Want::Remove { parent, name },
+        copy: None,
+        held,
+        promise: Promise::NONE,
+        answer: Givens::new(alloc),
+    })
+}
+
 /// The pins of a request for a node.
 fn pin(alloc: Global, number: u64) -> Result<Pins, AllocError>
     ensures { IfOk result (λ p. (n : ℕ) → (pins_in p n ≡ true) ↔ (n ≡ number)) }
@@ -136,6 +159,7 @@ impl State {
         match want {
             Want::Node { number } => self.begin_node(unique, number),
             Want::Name { parent, name } => self.begin_name(unique, Key { parent, name }),
+            Want::Remove { parent, name } => self.begin_removal(unique, Key { parent, name }),
         }
     }
 
@@ -182,6 +206,29 @@ impl State {
             Err(_) => return Begin::Refused(ENOMEM),
         };
         let work = match name_work(self.alloc, key, &path, promise) {
+            Ok(work) => work,
+            Err(_) => return Begin::Refused(ENOMEM),
+        };
+        self.admit(unique, work, pins, path)
+    }
+
+    /// The same for a name that is to be removed.
+    fn begin_removal(&mut self, unique: u64, key: Key) -> Begin
+        requires { IsKept self.old }
+        ensures begins { Begins (world_of self.old) unique (Want.Remove key.parent key.name) result (world_of self.new) }
+        ensures census { IsCounted (world_of self.old) }
+        ensures kept { IsKept self.new }
+    {
+        let path = match self.tree.path_of_name(self.alloc, &key) {
+            Ok(path) => path,
+            Err(fault) => return Begin::Refused(path_errno(fault)),
+        };
+        let standing = self.tree.find(&key);
+        let pins = match pins_for(self.alloc, key.parent, standing) {
+            Ok(pins) => pins,
+            Err(_) => return Begin::Refused(ENOMEM),
+        };
+        let work = match removal_work(self.alloc, key, &path) {
             Ok(work) => work,
             Err(_) => return Begin::Refused(ENOMEM),
         };

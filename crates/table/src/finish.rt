@@ -1,17 +1,20 @@
 //! The end of the work on a request.
 
 ghost use Rattle.std.specs.Prelude.{◌≡◌, ◌≢◌, ◌≤◌, ◌<◌, ◌+◌, ◌^◌, ℕ, List, Some, None, false, [], ◌∷◌, length};
+ghost use Rattle.flights.specs.declared.data.Flight.{Flight};
 ghost use Rattle.flights.specs.Listed.{flying_of};
 ghost use Rattle.flights.specs.declared.data.Want.TheVariants as Want;
 ghost use Rattle.image.specs.Law.{IsLawful};
-ghost use Rattle.table.specs.Steps.{Bears, Enters, EntersAgain, Finishes, Gives, GivesEntry};
+ghost use Rattle.table.specs.Steps.{Bears, CutsName, Enters, EntersAgain, Finishes, Gives, GivesEntry};
 ghost use Rattle.table.specs.Sweeping.{IsEntered, IsOneMore, KeepsNames};
-ghost use Rattle.table.specs.World.{IsEnding, IsKept, IsNameEnding, world_of};
+ghost use Rattle.table.specs.World.{IsEnding, IsKept, IsNameEnding, IsRemovable, world_of};
 ghost use Rattle.tree.specs.Places.{at_in, IsAlive, IsFree, IsNamed, Leads};
 
 use crate::data::{Answered, Outcome, Ticket};
 use crate::state::State;
+use crate::sweep::sweep_cut;
 use flights::{Flights, Given, Givens, Promise, Want, Work};
+use holds::Held;
 use ledger::{Ledger, Posting};
 use paths::Name;
 use tree::{Key, Tree};
@@ -161,6 +164,48 @@ impl State {
         }
     }
 
+    /// Cuts what stands at the name, with all below it, and drops what nothing keeps any more.
+    fn cut_name(&mut self, key: &Key, _held: &Held)
+        requires kept { IsKept self.old }
+        requires removable { IsRemovable self.old _held.now key.now.parent key.now.name }
+        ensures cuts { CutsName (world_of self.old) key.now.parent key.now.name (world_of self.new) }
+        ensures kept { IsKept self.new }
+    {
+        let Some(number) = self.tree.find(key) else {
+            return;
+        };
+        let Ok(()) = self.tree.cut(number) else {
+            unreachable!();
+        };
+        sweep_cut(&mut self.tree, &self.flights);
+    }
+
+    /// What the outcome of a request that removes a name does.
+    fn give_for_removal(
+        &mut self,
+        id: u64,
+        key: &Key,
+        held: &Held,
+        answer: Givens,
+        outcome: Outcome,
+    ) -> Answered
+        requires kept { IsKept self.old }
+        requires removable { IsRemovable self.old held.now key.now.parent key.now.name }
+        requires unanswered { answer.items ≡ [] }
+        ensures gives { (f : Flight) → Gives (world_of self.old) id f (Want.Remove key.now.parent key.now.name) outcome result (world_of self.new) }
+        ensures kept { IsKept self.new }
+    {
+        match outcome {
+            Outcome::Done => self.cut_name(key, held),
+            Outcome::Failed | Outcome::Entry => {}
+        }
+        Answered {
+            id,
+            given: answer,
+            lost: false,
+        }
+    }
+
     /// What the outcome of a request does, whose work has ended.
     fn give(&mut self, id: u64, work: Work, outcome: Outcome) -> Answered
         requires kept { IsKept self.old }
@@ -171,7 +216,7 @@ impl State {
         let Work {
             want,
             copy,
-            held: _,
+            held,
             promise,
             answer,
         } = work;
@@ -184,6 +229,10 @@ impl State {
             Want::Name { parent, name } => {
                 let key = Key { parent, name };
                 self.give_for_name(id, key, copy, promise, answer, outcome)
+            }
+            Want::Remove { parent, name } => {
+                let key = Key { parent, name };
+                self.give_for_removal(id, &key, &held, answer, outcome)
             }
         }
     }
