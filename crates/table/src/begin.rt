@@ -6,7 +6,7 @@ ghost use Rattle.flights.specs.declared.data.Want.TheVariants as Want;
 ghost use Rattle.table.specs.declared.data.Begin.TheVariants as Begin;
 ghost use Rattle.table.specs.Beginning.{Allows, Forbids, IsFlightFor, IsPromised, IsRoomForOne, IsSameButRoom, Stands, errno_of};
 ghost use Rattle.table.specs.Steps.{Begins, IsRefusal};
-ghost use Rattle.table.specs.World.{IsKept, world_of};
+ghost use Rattle.table.specs.World.{IsCounted, IsKept, world_of};
 
 use crate::data::{Begin, Ticket};
 use crate::finish::key_of;
@@ -64,6 +64,7 @@ impl State {
     pub fn begin(&mut self, unique: u64, want: Want) -> Begin
         requires { IsKept self.old }
         ensures begins { Begins (world_of self.old) unique want result (world_of self.new) }
+        ensures census { IsCounted (world_of self.old) }
         ensures kept { IsKept self.new }
     {
         let key = key_of(want);
@@ -78,6 +79,7 @@ impl State {
         requires { IsKept self.old }
         ensures ok { IfOk result (λ t. Begins (world_of self.old) unique (Want.Name key.parent key.name) (Begin.Go t) (world_of self.new)) }
         ensures err { IfErr result (λ e. IsRefusal (world_of self.old) (Want.Name key.parent key.name) e × (world_of self.new ≡ world_of self.old)) }
+        ensures census { IsCounted (world_of self.old) }
         ensures kept { IsKept self.new }
     {
         let path = match self.tree.path_of_name(self.alloc, &key) {

@@ -7,7 +7,7 @@ ghost use Rattle.ledger.specs.Sums.{totals_of};
 ghost use Rattle.image.specs.Law.{IsLawfulImage};
 ghost use Rattle.table.specs.Exports.{Exports};
 ghost use Rattle.table.specs.Steps.{Begins, Finishes, Forgets, Settles, gained};
-ghost use Rattle.table.specs.World.{IsLawfulWorld, IsOpened, world_of};
+ghost use Rattle.table.specs.World.{IsCounted, IsLawfulWorld, IsOpened, world_of};
 
 use crate::data::{Answered, Begin, Limits, Outcome, Settled, Ticket};
 use crate::state::State;
@@ -88,6 +88,7 @@ impl<B: Shared, E: tokens::Ledger, K: tokens::Ledger, F: tokens::Ledger> Table<B
     /// Takes up a request. Busy and a refusal change nothing.
     pub fn begin(&mut self, unique: u64, want: Want) -> Begin
         ensures begins { Begins (world_of self.old) unique want result (world_of self.new) }
+        ensures census { IsCounted (world_of self.old) }
         ensures lawful { IsLawfulWorld (world_of self.new) }
     {
         self.state.begin(unique, want)

@@ -1,6 +1,6 @@
 -- What callers take from a tree to the tree after a call: where nodes stand, and what they keep.
 use Rattle.std.proofs.Common.{ℕ, ◌&&◌, ◌≡◌, true, false, [], ◌∷◌, ◌++◌, Some, reverse, refl, sym, ap, ◌∙◌, subst, ◌⊎◌, inl, inr}
-use Rattle.std.proofs.lemmas.Bool.{cases_Bool, cond-true, cond-false}
+use Rattle.std.proofs.lemmas.Bool.{cases_eq, cases_Bool, cond-true, cond-false}
 use Rattle.std.proofs.lemmas.List.{reverse-append, reverse-reverse}
 use Rattle.std.proofs.lemmas.Option.{none-some, same_Some}
 use Rattle.paths.specs.Fronts.{Name, Names, is_front}
@@ -9,9 +9,9 @@ use Rattle.tree.specs.declared.nodes.Node.{Node}
 use Rattle.tree.specs.declared.nodes.Place.{Place}
 use Rattle.tree.specs.declared.nodes.Place.TheVariants.{Root, Named, Cut}
 use Rattle.tree.specs.Places.{Lookup, without, IsAlive, IsNamed, IsCut, IsFree, IsPathOf, Reaches, Climbs, IsBelow, HasChild, IsTree}
-use Rattle.tree.specs.Moves.{Where, at_path, cut, Stands, IsChanged, stays, is_moved, is_cut, cut_node, Changes, after_cut, after_move, IsBorn, CutsBelow, CanRelink}
-use Rattle.tree.proofs.LookupLemmas.{cases_option, without_some, without_other}
-use Rattle.tree.proofs.Climbing.{place_same, named_same, cut_unnamed, climbs_same, climbs_alive, path_same, named_at, reaches_join, reaches_split, climbs_once}
+use Rattle.tree.specs.Moves.{Where, at_path, cut, Stands, IsChanged, stays, is_moved, is_cut, moved_node, cut_node, Changes, after_cut, after_move, IsBorn, CutsBelow, CanRelink, Moves}
+use Rattle.tree.proofs.LookupLemmas.{cases_option, with_same, with_other, without_some, without_other}
+use Rattle.tree.proofs.Climbing.{place_same, named_same, cut_unnamed, climbs_same, climbs_alive, path_same, path_once, path_under, named_at, reaches_join, reaches_split, climbs_once}
 
 -- a change keeps the number, the generation and the count
 pub changed_number : (x y : Node) → IsChanged x y → y.number ≡ x.number
@@ -194,3 +194,76 @@ child_before_cut old new n c m child = elim (c.each child.0) [
   | inl same ↦ (child.0, child.1, (child.2.0, sym same ∙ child.2.1, child.2.2))
   | inr lost ↦ absurd (cut_unnamed new child.0 (cut_node lost.1.0) lost.1.2 refl m child.1 child.2)
 ]
+
+-- a relink, node by node
+module _ (old new : Lookup) (tree : IsTree old) (n parent : ℕ) (name : Name) (can : CanRelink old n parent name) (moves : Moves old new n parent name) where
+  target_apart : (t : ℕ) → IsNamed old t parent name → (t ≡ n → ⊥) → IsBelow old t n → ⊥
+  target_apart t named other b =
+      let path = path_under old t parent can.above name named can.parent_leads in
+      let front = below_front old tree t n (can.above ++ name ∷ []) can.path path can.leads b in
+      other (path_once old tree (can.above ++ name ∷ []) t n path (subst (λ (p : Names). IsPathOf old n p) (can.not_above front) can.leads))
+
+  freed_stays : (x : Node) → old n ≡ Some x → moves.freed n ≡ Some x
+  freed_stays x alive = elim moves.frees [
+    | inl same ↦ ap (λ (at : Lookup). at n) same ∙ alive
+    | inr (t, named, other, cuts) ↦ elim (cuts.each n) [
+      | inl same ↦ same ∙ alive
+      | inr lost ↦ absurd (target_apart t named other lost.0)
+    ]
+  ]
+
+  -- the node stands at the name
+  pub relinked_node : (x : Node) → old n ≡ Some x → new n ≡ Some (moved_node x parent name)
+  relinked_node x alive =
+      ap (λ (at : Lookup). at n) (moves.named x (freed_stays x alive)) ∙ with_same moves.freed n (moved_node x parent name)
+
+  relinked_else : (x : Node) → old n ≡ Some x → (m : ℕ) → (n ≡ m → ⊥) → new m ≡ moves.freed m
+  relinked_else x alive m ne =
+      ap (λ (at : Lookup). at m) (moves.named x (freed_stays x alive)) ∙ with_other moves.freed n (moved_node x parent name) m ne
+
+  -- each other node is as it was, or is cut
+  pub relinked_others : (m : ℕ) → (n ≡ m → ⊥) → (new m ≡ old m) ⊎ ((x : Node) × (old m ≡ Some x) × (new m ≡ Some (cut_node x)))
+  relinked_others m ne =
+      let it = climbs_alive old tree.rooted (reverse can.path) n can.leads in
+      let else_same = relinked_else it.0 it.1 m ne in
+      elim moves.frees [
+        | inl same ↦ inl (else_same ∙ ap (λ (at : Lookup). at m) same)
+        | inr (t, named, other, cuts) ↦ elim (cuts.each m) [
+          | inl same ↦ inl (else_same ∙ same)
+          | inr lost ↦ inr (lost.1.0, lost.1.1, else_same ∙ lost.1.2)
+        ]
+      ]
+
+  -- the new parent has a child
+  pub relinked_parent : HasChild new parent
+  relinked_parent =
+      let it = climbs_alive old tree.rooted (reverse can.path) n can.leads in
+      (n, name, (moved_node it.0 parent name, relinked_node it.0 it.1, refl))
+
+  child_by : (m c : ℕ) (called : Name) → IsNamed old c m called → (n ≡ c → ⊥) → HasChild new m ⊎ ((t : ℕ) × IsNamed old t parent name × (t ≡ n → ⊥) × (IsBelow old t m × CutsBelow old moves.freed t))
+  child_by m c called h ne =
+      let it = climbs_alive old tree.rooted (reverse can.path) n can.leads in
+      let else_same = relinked_else it.0 it.1 c ne in
+      elim moves.frees [
+        | inl same ↦ inl (c, called, (h.0, else_same ∙ (ap (λ (at : Lookup). at c) same ∙ h.1), h.2))
+        | inr (t, named, other, cuts) ↦ elim (cuts.each c) [
+          | inl same ↦ inl (c, called, (h.0, else_same ∙ (same ∙ h.1), h.2))
+          | inr lost ↦ elim (below_or_parent old t c m called h lost.0.names lost.0.climb) [
+            | inl below ↦ inr (t, named, other, (below, cuts))
+            | inr (word, above) ↦ inl (subst (λ k. HasChild new k) (sym (named_same old t m parent word name above named).0) relinked_parent)
+          ]
+        ]
+      ]
+
+  -- who had a child has one still, or is cut, or was the parent of the node
+  pub child_after_relink : (m : ℕ) → IsAlive old m → HasChild old m → HasChild new m ⊎ (IsCut new m ⊎ ((called : Name) × IsNamed old n m called))
+  child_after_relink m alive child = elim (cases_eq n child.0) [
+    | inl e ↦ inr (inr (child.1, subst (λ k. IsNamed old k m child.1) (sym e) child.2))
+    | inr ne ↦ elim (child_by m child.0 child.1 child.2 ne) [
+      | inl still ↦ inl still
+      | inr (t, named, other, both) ↦
+          let it = climbs_alive old tree.rooted (reverse can.path) n can.leads in
+          let apart : n ≡ m → ⊥ = λ e. target_apart t named other (subst (λ k. IsBelow old t k) (sym e) both.0) in
+          inr (inl (cut_node alive.0, relinked_else it.0 it.1 m apart ∙ both.1.all m both.0 alive.0 alive.1, refl))
+    ]
+  ]
