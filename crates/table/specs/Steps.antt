@@ -156,6 +156,8 @@ pub record EntersAgain (at : Lookup) (ps : List Posting) (parent : ℕ) (name : 
 -- where none is named so, a node is born under a number that none bears, and entered
 pub record Bears (at : Lookup) (ps : List Posting) (parent : ℕ) (name : List ℕ) (g : Given) (at' : Lookup) (ps' : List Posting) : Type 0 where
   pub free : IsFree at parent name
+  -- the number 0 would tell the client that there is no entry
+  pub positive : 0 < g.number
   pub fresh : at g.number ≡ None
   pub generation : g.generation ≡ births_of g.number ps
   pub nodes : at' ≡ with_node at g.number (newborn g parent name)

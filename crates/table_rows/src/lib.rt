@@ -12,6 +12,8 @@ mod long_run;
 #[cfg(test)]
 mod lookup_rows;
 #[cfg(test)]
+mod memory_rows;
+#[cfg(test)]
 mod share_rows;
 #[cfg(test)]
 mod stranger_rows;
