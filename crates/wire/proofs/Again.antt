@@ -1,21 +1,22 @@
 -- What is written of a request is that request.
-use Rattle.std.proofs.Common.{◌≡◌, ◌≢◌, ℕ, zero, suc, ◌+◌, ◌-◌, ◌*◌, ◌/◌, ◌^◌, ◌<◌, ◌≤◌, List, [], ◌∷◌, ◌++◌, length, get_or, take, drop, All, Option, Some, None, refl, sym, ap, subst, ◌∙◌, append_assoc, arith}
-use Rattle.std.proofs.lemmas.List.{drop_at, length-append, length-drop, length-replicate, get_or-drop, get_or-append-add, drop-drop}
+use Rattle.std.proofs.Common.{◌≡◌, ℕ, zero, suc, ◌+◌, ◌*◌, ◌/◌, ◌^◌, ◌<◌, ◌≤◌, List, [], ◌∷◌, ◌++◌, length, get_or, drop, Option, Some, None, refl, sym, ap, subst, ◌∙◌, arith}
+use Rattle.std.proofs.lemmas.List.{drop_at, length-append, length-drop, length-replicate, get_or-drop, get_or-append-add}
 use Rattle.std.proofs.Math.Nat.{div-zero, mul-div_cancel_left}
 use Rattle.byteorder.specs.Endian.{little_number, little_bytes}
 use Rattle.byteorder.specs.Numbers.{little_number-reads_back, little_from-lt, length-bytes_low_first}
 use Rattle.wire.specs.declared.request.Request.{Request}
-use Rattle.wire.specs.Grammar.{Field, number, unread, text, counted, limited, anything, Value, num, name, bytes, layout, opcode_of, values_of, opcode_in, unique_in, node_in, body_in, Spells, IsBytes, IsFramed, IsLaidOut, IsRequest}
+use Rattle.wire.specs.Fields.{Field, number, unread, text, counted, limited, anything, Value, num, name, bytes, Spells, CanTell, IsBytes}
+use Rattle.wire.specs.Requests.{layout, opcode_of, values_of, opcode_in, body_in, IsLaidOut, IsRequest}
 use Rattle.wire.specs.Written.{le, zeros, written, written_by, operation_bytes, request_bytes}
 
 zeros_len : (n : ℕ) → length (zeros n) ≡ n
 unfolding zeros
 zeros_len n = length-replicate {A = ℕ} n 0
 
-IsBytes-drop : (n : ℕ) (body : List ℕ) → IsBytes body → IsBytes (drop n body)
+pub IsBytes-drop : (n : ℕ) (body : List ℕ) → IsBytes body → IsBytes (drop n body)
 IsBytes-drop n body h i = rw (get_or-drop n body i 0) (h (n + i))
 
-IsBytes-rest : (t rest body : List ℕ) → body ≡ t ++ 0 ∷ rest → IsBytes body → IsBytes rest
+pub IsBytes-rest : (t rest body : List ℕ) → body ≡ t ++ 0 ∷ rest → IsBytes body → IsBytes rest
 IsBytes-rest t rest body e h i =
     let at : get_or body (length t + suc i) 0 ≡ get_or rest i 0 = rw e (get_or-append-add t (0 ∷ rest) (suc i) 0) in
     rw (← at) (h (length t + suc i))
@@ -36,43 +37,54 @@ written_len (limited limit ∷ fields) (num n ∷ values) body s =
 written_len (anything ∷ []) [] body s = omega arith
 written_len _ _ body s = absurd s
 
-count_again : (unit k len : ℕ) → len ≡ unit * k → k < 256 ^ 4 → (len / unit < 256 ^ 4) × (len / unit ≤ k) × (len ≡ unit * (len / unit))
-count_again zero k len e lt = let z : len / 0 ≡ 0 = div-zero len in (omega arith, omega arith, omega arith)
-count_again (suc u) k len e lt =
+count_again : (unit k len limit : ℕ) → len ≡ unit * k → k < 256 ^ 4 → k ≤ limit → (len / unit < 256 ^ 4) × (len / unit ≤ limit) × (len ≡ unit * (len / unit))
+count_again zero k len limit e lt le = let z : len / 0 ≡ 0 = div-zero len in (omega arith, omega arith, omega arith)
+count_again (suc u) k len limit e lt le =
     let above : zero < suc u = omega arith in
     let q : len / suc u ≡ k = rw e (mul-div_cancel_left k above) in
     (omega arith, omega arith, rw q e)
 
-written_spelled : (fields : List Field) (values : List Value) (body : List ℕ) → IsBytes body → Spells fields values body → Spells fields values (written fields values)
+-- what fields tell can stand in them
+pub told_again : (fields : List Field) (values : List Value) (body : List ℕ) → IsBytes body → Spells fields values body → CanTell fields values
+told_again [] [] body fits s = tt
+told_again (number len ∷ fields) (num n ∷ values) body fits s =
+    (rw s.1 (little_from-lt 0 len body fits), told_again fields values (drop len body) (IsBytes-drop len body fits) s.2)
+told_again (unread len ∷ fields) values body fits s = told_again fields values (drop len body) (IsBytes-drop len body fits) s.1
+told_again (text ∷ fields) (name t ∷ values) body fits s = (s.0, told_again fields values s.1 (IsBytes-rest t s.1 body s.2 fits) s.3)
+told_again (counted unit gap limit ∷ []) (bytes d ∷ []) body fits s = (little_number 4 body, little_from-lt 0 4 body fits, s.1, s.3)
+told_again (limited limit ∷ fields) (num n ∷ values) body fits s =
+    (rw s.1 (little_from-lt 0 4 body fits), s.2, told_again fields values (drop 4 body) (IsBytes-drop 4 body fits) s.3)
+told_again (anything ∷ []) [] body fits s = tt
+told_again _ _ body fits s = absurd s
+
+-- what can stand in fields is read of what is written of it
+pub written_spelled : (fields : List Field) (values : List Value) → CanTell fields values → Spells fields values (written fields values)
 unfolding le
-written_spelled [] [] body fits s = refl
-written_spelled (number len ∷ fields) (num n ∷ values) body fits s =
+written_spelled [] [] h = refl
+written_spelled (number len ∷ fields) (num n ∷ values) h =
     let w = written fields values in
-    let lt : n < 256 ^ len = rw s.1 (little_from-lt 0 len body fits) in
     let rest : drop len (little_bytes len n ++ w) ≡ w = drop_at (little_bytes len n) w len (length-bytes_low_first 0 len n) in
-    (omega (arith, length-append (little_bytes len n) w, length-bytes_low_first 0 len n), sym (little_number-reads_back len n w lt), subst (Spells fields values) (sym rest) (written_spelled fields values (drop len body) (IsBytes-drop len body fits) s.2))
-written_spelled (unread len ∷ fields) values body fits s =
+    (omega (arith, length-append (little_bytes len n) w, length-bytes_low_first 0 len n), sym (little_number-reads_back len n w h.0), subst (Spells fields values) (sym rest) (written_spelled fields values h.1))
+written_spelled (unread len ∷ fields) values h =
     let w = written fields values in
     let rest : drop len (zeros len ++ w) ≡ w = drop_at (zeros len) w len (zeros_len len) in
-    (omega (arith, length-append (zeros len) w, zeros_len len), subst (Spells fields values) (sym rest) (written_spelled fields values (drop len body) (IsBytes-drop len body fits) s.1))
-written_spelled (text ∷ fields) (name t ∷ values) body fits s =
-    (s.0, written fields values, refl, written_spelled fields values s.1 (IsBytes-rest t s.1 body s.2 fits) s.3)
-written_spelled (counted unit gap limit ∷ []) (bytes d ∷ []) body fits s =
+    (omega (arith, length-append (zeros len) w, zeros_len len), subst (Spells fields values) (sym rest) (written_spelled fields values h))
+written_spelled (text ∷ fields) (name t ∷ values) h = (h.0, written fields values, refl, written_spelled fields values h.1)
+written_spelled (counted unit gap limit ∷ []) (bytes d ∷ []) h =
     let n = length d / unit in
-    let k = count_again unit (little_number 4 body) (length d) s.3 (little_from-lt 0 4 body fits) in
+    let k = count_again unit h.0 (length d) limit h.3 h.1 h.2 in
     let back : little_number 4 (little_bytes 4 n ++ zeros gap ++ d) ≡ n = little_number-reads_back 4 n (zeros gap ++ d) k.0 in
     let rest : drop (4 + gap) (little_bytes 4 n ++ zeros gap ++ d) ≡ d = drop_at (little_bytes 4 n ++ zeros gap) d (4 + gap) (omega (arith, length-append (little_bytes 4 n) (zeros gap), zeros_len gap)) in
-    (omega (arith, length-append (little_bytes 4 n ++ zeros gap) d, length-append (little_bytes 4 n) (zeros gap), zeros_len gap), rw back (omega (arith, k.1, s.1)), sym rest, rw back k.2)
-written_spelled (limited limit ∷ fields) (num n ∷ values) body fits s =
+    (omega (arith, length-append (little_bytes 4 n ++ zeros gap) d, length-append (little_bytes 4 n) (zeros gap), zeros_len gap), rw back k.1, sym rest, rw back k.2)
+written_spelled (limited limit ∷ fields) (num n ∷ values) h =
     let w = written fields values in
-    let lt : n < 256 ^ 4 = rw s.1 (little_from-lt 0 4 body fits) in
-    (omega (arith, length-append (little_bytes 4 n) w), sym (little_number-reads_back 4 n w lt), s.2, written_spelled fields values (drop 4 body) (IsBytes-drop 4 body fits) s.3)
-written_spelled (anything ∷ []) [] body fits s = tt
-written_spelled _ _ body fits s = absurd s
+    (omega (arith, length-append (little_bytes 4 n) w), sym (little_number-reads_back 4 n w h.0), h.1, written_spelled fields values h.2)
+written_spelled (anything ∷ []) [] h = tt
+written_spelled _ _ h = absurd h
 
 laid_again : (o : Option (List Field)) (values : List Value) (body : List ℕ) → IsBytes body → IsLaidOut o values body → IsLaidOut o values (written_by o values) × (length (written_by o values) ≤ length body)
 laid_again None values body fits s = absurd s
-laid_again (Some fields) values body fits s = (written_spelled fields values body fits s, written_len fields values body s)
+laid_again (Some fields) values body fits s = (written_spelled fields values (told_again fields values body fits s), written_len fields values body s)
 
 pub request_written : (frame : List ℕ) (r : Request) → IsBytes frame → IsRequest frame r → IsRequest (request_bytes r) r
 unfolding request_bytes le zeros

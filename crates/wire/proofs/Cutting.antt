@@ -1,9 +1,9 @@
 -- A frame that is handed out is the front of what was kept.
-use Rattle.std.proofs.Common.{◌≡◌, ℕ, ◌+◌, ◌<◌, ◌≤◌, List, [], ◌∷◌, ◌++◌, length, take, drop, sym, ap, ◌∙◌, refl, arith, append_assoc, inl, inr}
+use Rattle.std.proofs.Common.{◌≡◌, ℕ, ◌+◌, List, [], ◌∷◌, ◌++◌, length, take, drop, sym, ap, ◌∙◌, refl, arith, append_assoc, inl, inr}
 use Rattle.std.proofs.lemmas.List.{take-append-drop, length-take-le, take_at, append_cancel_left, length-append}
 use Rattle.byteorder.specs.Endian.{little_number}
 use Rattle.byteorder.specs.Numbers.{little_from-take, little_from-append}
-use Rattle.wire.specs.Grammar.{IsFramed}
+use Rattle.wire.specs.Requests.{IsFramed}
 use Rattle.wire.specs.Standing.{IsWhole}
 use Rattle.wire.specs.Stream.{BeginsBadly, IsPartial, joined, Splits}
 

@@ -1,14 +1,14 @@
 -- What reading a body gives is what the body spells, and it fails only where the body spells nothing.
-use Rattle.std.proofs.Common.{◌≡◌, ◌≢◌, ℕ, zero, suc, ◌+◌, ◌*◌, ◌<◌, ◌≤◌, Bool, true, false, cond, eqb, ltb, leb, not, ◌&&◌, List, [], ◌∷◌, ◌++◌, length, get_or, take, drop, All, Option, Some, None, Result, Ok, Err, refl, sym, ap, subst, ◌∙◌, arith, rules, inl, inr}
+use Rattle.std.proofs.Common.{◌≡◌, ◌≢◌, ℕ, ◌+◌, ◌*◌, ◌<◌, ◌≤◌, Bool, true, false, cond, eqb, ltb, leb, not, ◌&&◌, List, [], ◌∷◌, ◌++◌, length, get_or, take, drop, All, Option, Some, None, Result, Ok, Err, refl, sym, ap, subst, ◌∙◌, arith}
 use Rattle.std.specs.Prelude.{MatchResult, IfErr}
 use Rattle.std.specs.List.{position, position_or_len}
-use Rattle.std.proofs.lemmas.Bool.{and_parts, leb-true, le-leb, eq-eqb, eqb-true, ltb-true, ltb-false, le-ltb, lt-ltb, cases_lt}
+use Rattle.std.proofs.lemmas.Bool.{and_parts, leb-true, le-leb, eq-eqb, eqb-true, ltb-true, ltb-false, le-ltb, lt-ltb}
 use Rattle.std.proofs.lemmas.List.{nil_from_length, take-append-drop, take_at, drop_at, drop_more, drop-drop, get_or_append_left, get_or_at, length-append, length-take, get_or-take}
 use Rattle.std.proofs.lemmas.List.Sums.{position_or_len_is, prefix_len_passes, prefix_len_stops}
 use Rattle.byteorder.specs.Endian.{little_number}
 use Rattle.wire.specs.declared.fault.WireFault.{WireFault}
 use Rattle.wire.specs.declared.fault.WireFault.TheVariants.{Body}
-use Rattle.wire.specs.Grammar.{Field, number, unread, text, counted, limited, anything, Value, num, name, bytes, Spells}
+use Rattle.wire.specs.Fields.{Field, number, unread, text, counted, limited, anything, Value, num, name, bytes, Spells}
 use Rattle.wire.specs.Reading.{◌>>=◌, number_at, unread_at, text_at, text_before, counted_at, limited_at, ended, values_at}
 
 -- the value of a step that did not fail

@@ -1,5 +1,5 @@
 -- How long what is written is.
-use Rattle.std.proofs.Common.{◌≡◌, ℕ, ◌+◌, List, ◌++◌, length, replicate, append_assoc}
+use Rattle.std.proofs.Common.{◌≡◌, ℕ, ◌+◌, List, ◌++◌, length, append_assoc}
 use Rattle.std.proofs.lemmas.List.{length-replicate, length-append}
 use Rattle.byteorder.specs.Numbers.{length-bytes_low_first}
 use Rattle.wire.specs.Written.{le, zeros}

@@ -1,5 +1,5 @@
 -- The tests of a name, and what they mean.
-use Rattle.std.proofs.Common.{◌≡◌, ◌≢◌, ℕ, ◌<◌, ◌≤◌, Bool, true, false, cond, eqb, ltb, ◌||◌, List, [], ◌∷◌, length, get_or, All, Result, Ok, Err, refl, sym, arith, ◌⊎◌, inl, inr, rules}
+use Rattle.std.proofs.Common.{◌≡◌, ◌≢◌, ℕ, Bool, true, false, cond, eqb, ltb, ◌||◌, List, [], ◌∷◌, length, get_or, All, Result, Ok, Err, refl, arith, ◌⊎◌, inl, inr}
 use Rattle.std.specs.Prelude.{MatchResult, codes}
 use Rattle.std.specs.Str.{IsUtf8, is_utf8, bytes_eq}
 use Rattle.std.specs.List.{AllByRecursion, list_any}
@@ -11,7 +11,8 @@ use Rattle.std.proofs.lemmas.Slice.Eq.{bytes_eq-Decides}
 use Rattle.std.proofs.lemmas.Str.{IsUtf8-from_is_utf8, is_utf8-from_IsUtf8}
 use Rattle.wire.specs.declared.fault.WireFault.{WireFault}
 use Rattle.wire.specs.declared.fault.WireFault.TheVariants.{Opcode, Body, NameLong, NameBad, Frame}
-use Rattle.wire.specs.Grammar.{Value, num, name, bytes, IsName, names_in}
+use Rattle.wire.specs.Fields.{Value, num, name, bytes}
+use Rattle.wire.specs.Requests.{IsName, names_in}
 use Rattle.wire.specs.Faults.{IsNameFault, IsFirstNameFault}
 use Rattle.wire.specs.Reading.{◌>>=◌, utf8_at, name_at, named}
 

@@ -1,15 +1,17 @@
 -- What reading a frame gives is the request that the frame is, or the first fault.
-use Rattle.std.proofs.Common.{◌≡◌, ◌≢◌, ℕ, ◌<◌, ◌≤◌, Bool, true, false, cond, eqb, leb, ◌&&◌, List, [], ◌∷◌, length, Option, Some, None, Result, Ok, Err, refl, sym, ap, subst, ◌∙◌, arith, inl, inr}
+use Rattle.std.proofs.Common.{◌≡◌, ℕ, true, eqb, leb, ◌&&◌, List, length, Option, Some, None, Result, Ok, Err, refl, sym, ap, subst, ◌∙◌, inl, inr}
 use Rattle.std.specs.Prelude.{MatchResult, IfOk, IfErr, IsSome, IsOkAnd}
 use Rattle.std.specs.List.{AllByRecursion}
 use Rattle.std.proofs.lemmas.Bool.{and_parts, and_from, leb-true, le-leb, eqb-true, eq-eqb}
 use Rattle.byteorder.specs.Endian.{little_number}
 use Rattle.wire.specs.declared.fault.WireFault.{WireFault}
 use Rattle.wire.specs.declared.fault.WireFault.TheVariants.{Opcode, Body, NameLong, NameBad, Frame}
+use Rattle.wire.specs.declared.header.Header.{Header}
 use Rattle.wire.specs.declared.request.Request.{Request}
-use Rattle.wire.specs.Grammar.{Field, Value, layout, opcode_of, values_of, IsName, names_in, opcode_in, unique_in, node_in, body_in, IsFramed, IsLaidOut, IsRequest, IsSame}
-use Rattle.wire.specs.Faults.{IsFirstNameFault, HasNameFault, IsFirstFault}
-use Rattle.wire.specs.Reading.{◌>>=◌, Gives, values_at, named, fields_at, operation_by, operation_at, told, is_framed, header_at, request_at, told_request}
+use Rattle.wire.specs.Fields.{Field, Value}
+use Rattle.wire.specs.Requests.{layout, values_of, IsName, names_in, header_in, opcode_in, unique_in, node_in, body_in, IsFramed, IsLaidOut, IsRequest, IsSame}
+use Rattle.wire.specs.Faults.{IsFirstNameFault, IsFirstFault}
+use Rattle.wire.specs.Reading.{◌>>=◌, Gives, values_at, named, operation_by, operation_at, is_framed, request_at, told_request}
 use Rattle.wire.proofs.Fields.{values_law, spelled_values}
 use Rattle.wire.proofs.Names.{bind_both, named_law, name_faults, no_first_fault}
 
@@ -78,7 +80,7 @@ record Tells (frame : List ℕ) (x : ℕ × ℕ × (ℕ × List Value)) : Type 0
 
 frame_fault : (frame : List ℕ) (d : WireFault) → IsFramed frame → OperationFault (layout (opcode_in frame)) (body_in frame) d → IsFirstFault frame d
 frame_fault frame Opcode h f = (h, f)
-frame_fault frame Body h f = (h, f.0, f.1)
+frame_fault frame Body h f = record { framed = h; known = f.0; no_body = f.1 }
 frame_fault frame NameLong h f = record { framed = h; values = f.0; body = f.1; first = f.2 }
 frame_fault frame NameBad h f = record { framed = h; values = f.0; body = f.1; first = f.2 }
 frame_fault frame Frame h f = absurd f
@@ -86,8 +88,8 @@ frame_fault frame Frame h f = absurd f
 request_law : (frame : List ℕ) → MatchResult (request_at frame) (Tells frame) (IsFirstFault frame)
 unfolding request_at operation_at
 request_law frame =
-    let then = λ (h : ℕ × ℕ × ℕ × List ℕ). operation_by (layout h.0) h.0 h.3 >>= λ (x : ℕ × List Value). answer (h.1, h.2, x) in
-    bind_both (is_framed frame) (opcode_in frame, unique_in frame, node_in frame, body_in frame) Frame then (λ r. MatchResult r (Tells frame) (IsFirstFault frame))
+    let then = λ (p : Header × List ℕ). operation_by (layout p.0.opcode) p.0.opcode p.1 >>= λ (x : ℕ × List Value). answer (p.0.unique, p.0.node, x) in
+    bind_both (is_framed frame) (header_in frame, body_in frame) Frame then (λ r. MatchResult r (Tells frame) (IsFirstFault frame))
     (λ e. let framed = framed_from frame e in
     elim (operation_by (layout (opcode_in frame)) (opcode_in frame) (body_in frame)) as (λ r. OperationLaw (layout (opcode_in frame)) (opcode_in frame) (body_in frame) r
     → MatchResult (r >>= λ (x : ℕ × List Value). answer (unique_in frame, node_in frame, x)) (Tells frame) (IsFirstFault frame)) [

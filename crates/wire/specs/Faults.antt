@@ -1,10 +1,9 @@
 -- Why a frame is no request: the first test that fails.
-use Rattle.std.specs.Prelude.{◌≡◌, ◌≢◌, ℕ, ◌<◌, ◌≤◌, ◌⊎◌, List, [], ◌∷◌, length, Option, Some, None, IsSome, All, codes}
-use Rattle.std.specs.Str.{IsUtf8}
+use Rattle.std.specs.Prelude.{◌≡◌, ℕ, ◌<◌, ◌≤◌, ◌⊎◌, List, [], ◌∷◌, length, None, IsSome, ℤ, pos}
 use Rattle.wire.specs.declared.fault.WireFault.{WireFault}
 use Rattle.wire.specs.declared.fault.WireFault.TheVariants.{Opcode, Body, NameLong, NameBad, Frame}
-use Rattle.wire.specs.declared.request.Request.{Request}
-use Rattle.wire.specs.Grammar.{Field, Value, layout, IsName, IsFramed, IsLaidOut, names_in, opcode_in, body_in}
+use Rattle.wire.specs.Fields.{Value}
+use Rattle.wire.specs.Requests.{layout, IsName, IsFramed, IsLaidOut, names_in, opcode_in, body_in}
 
 -- why a text is no name
 abbrev pub IsNameFault : List ℕ → WireFault → Type 0
@@ -19,16 +18,30 @@ abbrev pub IsFirstNameFault : List (List ℕ) → WireFault → Type 0
 IsFirstNameFault [] fault = ⊥
 IsFirstNameFault (t ∷ ts) fault = IsNameFault t fault ⊎ (IsName t × IsFirstNameFault ts fault)
 
--- a frame of a known opcode whose body has these values, but for the names
+-- a frame of a known opcode whose body is laid out for it, with a name that is none
 pub record HasNameFault (frame : List ℕ) (fault : WireFault) : Type 0 where
   pub framed : IsFramed frame
   pub values : List Value
   pub body : IsLaidOut (layout (opcode_in frame)) values (body_in frame)
   pub first : IsFirstNameFault (names_in values) fault
 
+-- a frame of a known opcode whose body is not laid out for it
+pub record HasBodyFault (frame : List ℕ) : Type 0 where
+  pub framed : IsFramed frame
+  pub known : IsSome (layout (opcode_in frame))
+  pub no_body : (values : List Value) → ¬ (IsLaidOut (layout (opcode_in frame)) values (body_in frame))
+
 abbrev pub IsFirstFault : List ℕ → WireFault → Type 0
 IsFirstFault frame Frame = ¬ (IsFramed frame)
 IsFirstFault frame Opcode = IsFramed frame × (layout (opcode_in frame) ≡ None)
-IsFirstFault frame Body = IsFramed frame × IsSome (layout (opcode_in frame)) × ((values : List Value) → IsLaidOut (layout (opcode_in frame)) values (body_in frame) → ⊥)
+IsFirstFault frame Body = HasBodyFault frame
 IsFirstFault frame NameLong = HasNameFault frame NameLong
 IsFirstFault frame NameBad = HasNameFault frame NameBad
+
+-- the error number of its answer: ENOSYS, ENAMETOOLONG, and EINVAL for the rest
+abbrev pub errno_of : WireFault → ℤ
+errno_of Opcode = pos 38
+errno_of NameLong = pos 36
+errno_of NameBad = pos 22
+errno_of Body = pos 22
+errno_of Frame = pos 22

@@ -1,13 +1,15 @@
 -- Reading from left to right, with the first fault that is met.
-use Rattle.std.specs.Prelude.{◌≡◌, ℕ, ◌+◌, ◌*◌, List, [], ◌∷◌, length, take, drop, Option, Some, None, Result, Ok, Err, Bool, true, false, ◌&&◌, ◌||◌, nat_lt, nat_le, ◌==◌, if◌then◌else◌, codes}
+use Rattle.std.specs.Prelude.{◌≡◌, ℕ, ◌+◌, ◌*◌, List, [], ◌∷◌, length, take, drop, Option, Some, None, Result, Ok, Err, Bool, true, ◌&&◌, ◌||◌, nat_lt, nat_le, ◌==◌, if◌then◌else◌, codes}
 use Rattle.std.specs.Str.{is_utf8, bytes_eq}
 use Rattle.std.specs.List.{position, list_any}
 use Rattle.byteorder.specs.Endian.{little_number}
 use Rattle.wire.specs.declared.fault.WireFault.{WireFault}
 use Rattle.wire.specs.declared.fault.WireFault.TheVariants.{Opcode, Body, NameLong, NameBad, Frame}
+use Rattle.wire.specs.declared.header.Header.{Header}
 use Rattle.wire.specs.declared.request.Request.{Request}
 use Rattle.wire.specs.declared.request.Operation.{Operation}
-use Rattle.wire.specs.Grammar.{Field, number, unread, text, counted, limited, anything, Value, num, name, bytes, layout, opcode_of, values_of, opcode_in, unique_in, node_in, body_in}
+use Rattle.wire.specs.Fields.{Field, number, unread, text, counted, limited, anything, Value, num, name, bytes}
+use Rattle.wire.specs.Requests.{layout, opcode_of, values_of, header_in, body_in}
 
 infixl 10 ◌>>=◌
 abbrev pub ◌>>=◌ : {A B : Type 0} → Result A WireFault → (A → Result B WireFault) → Result B WireFault
@@ -98,11 +100,12 @@ told operation = (opcode_of operation, values_of operation)
 abbrev pub is_framed : List ℕ → Bool
 is_framed frame = nat_le 40 (length frame) && nat_le (length frame) 69632 && little_number 4 frame == length frame
 
-abbrev pub header_at : List ℕ → Result (ℕ × ℕ × ℕ × List ℕ) WireFault
-header_at frame = if is_framed frame then Ok (opcode_in frame, unique_in frame, node_in frame, body_in frame) else Err Frame
+-- the header and the body
+abbrev pub parts_at : List ℕ → Result (Header × List ℕ) WireFault
+parts_at frame = if is_framed frame then Ok (header_in frame, body_in frame) else Err Frame
 
 unfoldable pub request_at : List ℕ → Result (ℕ × ℕ × (ℕ × List Value)) WireFault
-request_at frame = header_at frame >>= λ h. operation_at h.0 h.3 >>= λ x. Ok (h.1, h.2, x)
+request_at frame = parts_at frame >>= λ parts. operation_at parts.0.opcode parts.1 >>= λ x. Ok (parts.0.unique, parts.0.node, x)
 
 abbrev pub told_request : Request → ℕ × ℕ × (ℕ × List Value)
 told_request r = (r.unique, r.node, told r.operation)

@@ -1,5 +1,5 @@
 -- What stands next on a stream.
-use Rattle.std.specs.Prelude.{◌≡◌, ℕ, ◌<◌, ◌≤◌, List, length, Option, Some, None}
+use Rattle.std.specs.Prelude.{◌≡◌, ℕ, ◌≤◌, List, length}
 use Rattle.wire.specs.declared.standing.Standing.{Standing}
 use Rattle.wire.specs.declared.standing.Standing.TheVariants.{Partial, Bad, Whole}
 use Rattle.wire.specs.Stream.{len_in, IsLawful, BeginsBadly, IsPartial}

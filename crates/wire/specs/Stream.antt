@@ -1,8 +1,8 @@
 -- A stream cut into frames, each as long as its first four bytes say.
-use Rattle.std.specs.Prelude.{◌≡◌, ℕ, ◌+◌, ◌<◌, ◌≤◌, ◌⊎◌, List, [], ◌∷◌, ◌++◌, length, Option, Some, None}
+use Rattle.std.specs.Prelude.{◌≡◌, ℕ, ◌<◌, ◌≤◌, ◌⊎◌, List, [], ◌∷◌, ◌++◌, length, Option, Some, None}
 use Rattle.std.specs.List.{AllByRecursion}
 use Rattle.byteorder.specs.Endian.{little_number}
-use Rattle.wire.specs.Grammar.{IsFramed}
+use Rattle.wire.specs.Requests.{IsFramed}
 
 -- what a cutter holds: the bytes that are in no frame handed out, and the length that stopped it
 pub record Cutting : Type 0 where

@@ -1,7 +1,7 @@
 //! A stream of bytes, cut into frames.
 
 ghost use Rattle.std.specs.Prelude.{◌≡◌, ℕ, List, ◌+◌, ◌≤◌, ◌↔◌, ◌++◌, [], length, drop, OnOk, OnErr, IfOk, IfSome, IfNone, Some, None, Err};
-ghost use Rattle.wire.specs.Grammar.{IsFramed};
+ghost use Rattle.wire.specs.Requests.{IsFramed};
 ghost use Rattle.wire.specs.Stream.{BeginsBadly, IsPartial, Splits};
 ghost use Rattle.wire.specs.declared.cutter.CutFault.TheVariants.{Memory};
 

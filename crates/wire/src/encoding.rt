@@ -1,15 +1,16 @@
-//! Requests and replies written as frames.
+//! Requests and replies written as frames. The length of a frame is known first, so a vector grows once at most, and the
+//! writing that follows cannot fail.
 
-ghost use Rattle.std.specs.Prelude.{◌≡◌, ℕ, List, ◌≤◌, ◌+◌, ◌*◌, ◌++◌, ◌∷◌, [], length, vec_len, vec_capacity, OnOk, OnErr, IfSome};
-ghost use Rattle.std.specs.Global.{Vec};
-ghost use Rattle.wire.specs.declared.request.Request.{Request};
-ghost use Rattle.wire.specs.Grammar.{IsBytes, IsRequest, opcode_of};
-ghost use Rattle.wire.specs.Written.{operation_bytes, request_bytes, reply_bytes, reply_body, entry_bytes, attributes_bytes, blocks_of, mode_of, links_of, error_of, failure, negated as negated_of};
+ghost use Rattle.std.specs.Prelude.{◌≡◌, ℕ, List, ◌≤◌, ◌+◌, ◌^◌, ◌++◌, ◌<◌, length, vec_len, vec_capacity, OnOk, OnErr, pos};
+ghost use Rattle.wire.specs.declared.reply.ReplyBody.TheVariants.{Failed, Done};
+ghost use Rattle.wire.specs.Fields.{CanTell, IsBytes};
+ghost use Rattle.wire.specs.Requests.{IsRequest, opcode_of};
+ghost use Rattle.wire.specs.Replies.{IsReply, IsAnswer, IsErrno, blocks_of, mode_of, links_of, entry_layout, entry_values, reply_layout, reply_values};
+ghost use Rattle.wire.specs.Written.{written, operation_bytes, request_bytes, reply_bytes, body_bytes, error_word, negated as negated_of};
 
-use crate::put::{
-    put_counted, put_low_32, put_text, put_u32, put_u32s, put_u64, put_u64s, put_zeros,
-};
-use crate::reply::{Attributes, GivenEntry, Kind, Reply, ReplyBody};
+use crate::opcode::{FORGET, LOOKUP};
+use crate::put::{put_low_u32, put_text, put_u32, put_u32s, put_u64, put_u64s, put_zeros};
+use crate::reply::{Attributes, Entry, Kind, Reply, ReplyBody};
 use crate::request::{HEADER_LEN, Operation, Request};
 use std::alloc::AllocError;
 
@@ -17,73 +18,20 @@ fn opcode(operation: &Operation<'_>) -> u32
     ensures { result ≡ opcode_of operation.now }
 {
     match operation {
-        Operation::Lookup { .. } => 1,
-        Operation::Forget { .. } => 2,
-        Operation::GetAttributes => 3,
-        Operation::SetAttributes { .. } => 4,
-        Operation::MakeFolder { .. } => 9,
-        Operation::Unlink { .. } => 10,
-        Operation::RemoveFolder { .. } => 11,
-        Operation::Rename { .. } => 12,
-        Operation::Open { .. } => 14,
-        Operation::Read { .. } => 15,
-        Operation::Write { .. } => 16,
-        Operation::Statistics => 17,
-        Operation::Release { .. } => 18,
-        Operation::Sync { .. } => 20,
-        Operation::Flush { .. } => 25,
-        Operation::Init { .. } => 26,
-        Operation::OpenFolder => 27,
-        Operation::ReadFolder { .. } => 28,
-        Operation::ReleaseFolder { .. } => 29,
-        Operation::SyncFolder { .. } => 30,
-        Operation::Create { .. } => 35,
-        Operation::Interrupt => 36,
-        Operation::Destroy => 38,
-        Operation::BatchForget { .. } => 42,
-        Operation::ReadFolderPlus { .. } => 44,
-        Operation::RenameWith { .. } => 45,
+        Operation::Lookup { .. } => LOOKUP,
+        Operation::Forget { .. } => FORGET,
     }
 }
 
-/// How long an operation is behind the header, unless that passes all numbers.
+/// How many bytes of the operation follow the header.
 #[tactic(auto, using(crate::proofs::Lengths::lengths))]
-fn operation_len(operation: &Operation<'_>) -> Option<usize>
-    ensures { IfSome result (λ n. n ≡ length (operation_bytes operation.now)) }
+fn operation_len(operation: &Operation<'_>) -> usize
+    ensures len { result ≡ length (operation_bytes operation.now) }
+    ensures short { result ≤ 2 ^ 63 }
 {
     match operation {
-        Operation::Lookup { name } => name.len().checked_add(1),
-        Operation::Forget { .. } => Some(8),
-        Operation::GetAttributes => Some(16),
-        Operation::SetAttributes { .. } => Some(88),
-        Operation::MakeFolder { name } => name.len().checked_add(9),
-        Operation::Unlink { name } => name.len().checked_add(1),
-        Operation::RemoveFolder { name } => name.len().checked_add(1),
-        Operation::Rename { name, new_name, .. } => name
-            .len()
-            .checked_add(new_name.len())?
-            .checked_add(10),
-        Operation::Open { .. } => Some(8),
-        Operation::Read { .. } => Some(40),
-        Operation::Write { content, .. } => content.len().checked_add(40),
-        Operation::Statistics => Some(0),
-        Operation::Release { .. } => Some(24),
-        Operation::Sync { .. } => Some(16),
-        Operation::Flush { .. } => Some(24),
-        Operation::Init { .. } => Some(16),
-        Operation::OpenFolder => Some(8),
-        Operation::ReadFolder { .. } => Some(40),
-        Operation::ReleaseFolder { .. } => Some(24),
-        Operation::SyncFolder { .. } => Some(16),
-        Operation::Create { name, .. } => name.len().checked_add(17),
-        Operation::Interrupt => Some(0),
-        Operation::Destroy => Some(0),
-        Operation::BatchForget { pairs } => pairs.len().checked_add(8),
-        Operation::ReadFolderPlus { .. } => Some(40),
-        Operation::RenameWith { name, new_name, .. } => name
-            .len()
-            .checked_add(new_name.len())?
-            .checked_add(18),
+        Operation::Lookup { name } => name.len() + 1,
+        Operation::Forget { .. } => 8,
     }
 }
 
@@ -93,145 +41,8 @@ fn put_operation(out: &mut Vec<u8>, operation: &Operation<'_>)
     ensures { out.new.items ≡ out.old.items ++ operation_bytes operation.now }
 {
     match operation {
-        Operation::Lookup { name } => {
-            put_text(out, name);
-        }
-        Operation::Forget { count } => {
-            put_u64(out, *count);
-        }
-        Operation::GetAttributes => {
-            put_zeros(out, 16);
-        }
-        Operation::SetAttributes {
-            valid,
-            handle,
-            size,
-        } => {
-            put_u32(out, *valid);
-            put_zeros(out, 4);
-            put_u64(out, *handle);
-            put_u64(out, *size);
-            put_zeros(out, 64);
-        }
-        Operation::MakeFolder { name } => {
-            put_zeros(out, 8);
-            put_text(out, name);
-        }
-        Operation::Unlink { name } => {
-            put_text(out, name);
-        }
-        Operation::RemoveFolder { name } => {
-            put_text(out, name);
-        }
-        Operation::Rename {
-            folder,
-            name,
-            new_name,
-        } => {
-            put_u64(out, *folder);
-            put_text(out, name);
-            put_text(out, new_name);
-        }
-        Operation::Open { flags } => {
-            put_u32(out, *flags);
-            put_zeros(out, 4);
-        }
-        Operation::Read {
-            handle,
-            offset,
-            size,
-        } => {
-            put_u64(out, *handle);
-            put_u64(out, *offset);
-            put_u32(out, *size);
-            put_zeros(out, 20);
-        }
-        Operation::Write {
-            handle,
-            offset,
-            content,
-        } => {
-            put_u64(out, *handle);
-            put_u64(out, *offset);
-            put_counted(out, 1, 20, content);
-        }
-        Operation::Statistics => {}
-        Operation::Release { handle } => {
-            put_u64(out, *handle);
-            put_zeros(out, 16);
-        }
-        Operation::Sync { handle } => {
-            put_u64(out, *handle);
-            put_zeros(out, 8);
-        }
-        Operation::Flush { handle } => {
-            put_u64(out, *handle);
-            put_zeros(out, 16);
-        }
-        Operation::Init {
-            major,
-            minor,
-            max_readahead,
-            flags,
-        } => {
-            put_u32(out, *major);
-            put_u32(out, *minor);
-            put_u32(out, *max_readahead);
-            put_u32(out, *flags);
-        }
-        Operation::OpenFolder => {
-            put_zeros(out, 8);
-        }
-        Operation::ReadFolder {
-            handle,
-            offset,
-            size,
-        } => {
-            put_u64(out, *handle);
-            put_u64(out, *offset);
-            put_u32(out, *size);
-            put_zeros(out, 20);
-        }
-        Operation::ReleaseFolder { handle } => {
-            put_u64(out, *handle);
-            put_zeros(out, 16);
-        }
-        Operation::SyncFolder { handle } => {
-            put_u64(out, *handle);
-            put_zeros(out, 8);
-        }
-        Operation::Create { flags, name } => {
-            put_u32(out, *flags);
-            put_zeros(out, 12);
-            put_text(out, name);
-        }
-        Operation::Interrupt => {}
-        Operation::Destroy => {}
-        Operation::BatchForget { pairs } => {
-            put_counted(out, 16, 4, pairs);
-        }
-        Operation::ReadFolderPlus {
-            handle,
-            offset,
-            size,
-        } => {
-            put_u64(out, *handle);
-            put_u64(out, *offset);
-            put_u32(out, *size);
-            put_zeros(out, 20);
-        }
-        Operation::RenameWith {
-            folder,
-            flags,
-            name,
-            new_name,
-        } => {
-            put_u64(out, *folder);
-            put_u32(out, *flags);
-            put_zeros(out, 4);
-            put_text(out, name);
-            put_text(out, new_name);
-        }
+        Operation::Lookup { name } => put_text(out, name),
+        Operation::Forget { nlookup } => put_u64(out, *nlookup),
     }
 }
 
@@ -241,7 +52,7 @@ fn put_request(out: &mut Vec<u8>, request: &Request<'_>, len: usize)
     requires len { len ≡ 40 + length (operation_bytes request.now.operation) }
     ensures { out.new.items ≡ out.old.items ++ request_bytes request.now }
 {
-    put_low_32(out, len);
+    put_low_u32(out, len);
     put_u32(out, opcode(&request.operation));
     put_u64(out, request.unique);
     put_u64(out, request.node);
@@ -249,29 +60,17 @@ fn put_request(out: &mut Vec<u8>, request: &Request<'_>, len: usize)
     put_operation(out, &request.operation);
 }
 
-fn append_request(request: &Request<'_>, out: &mut Vec<u8>) -> Result<(), AllocError>
-    ensures ok { OnOk result (out.new.items ≡ out.old.items ++ request_bytes request.now) }
-    ensures err { OnErr result (out.new.items ≡ out.old.items) }
-{
-    let Some(len) = operation_len(&request.operation) else {
-        return Err(AllocError);
-    };
-    let Some(len) = len.checked_add(HEADER_LEN) else {
-        return Err(AllocError);
-    };
-    out.reserve(len)?;
-    put_request(out, request, len);
-    Ok(())
-}
-
-/// Puts a request at the end of a vector. What is not read of it is zero.
+/// Puts a request at the end of a vector, for clients. What is not read of it is zero.
 pub fn encode_request(request: &Request<'_>, out: &mut Vec<u8>) -> Result<(), AllocError>
     ensures ok { OnOk result (out.new.items ≡ out.old.items ++ request_bytes request.now) }
     // If any frame is the request, what is put is one.
     ensures again { (frame : List ℕ) → IsBytes frame → IsRequest frame request.now → IsRequest (request_bytes request.now) request.now }
     ensures err { OnErr result (out.new.items ≡ out.old.items) }
 {
-    append_request(request, out)
+    let len = HEADER_LEN + operation_len(&request.operation);
+    out.reserve(len)?;
+    put_request(out, request, len);
+    Ok(())
 }
 
 fn blocks(size: u64) -> u64
@@ -302,80 +101,82 @@ fn links(kind: Kind) -> u32
     }
 }
 
-#[tactic(auto, unfolding(crate::specs::Written::attributes_bytes))]
-fn put_attributes(out: &mut Vec<u8>, a: &Attributes)
-    requires { vec_len out.old + 88 ≤ vec_capacity out.old }
-    ensures { out.new.items ≡ out.old.items ++ attributes_bytes a.now }
-{
-    let blocks = blocks(a.size);
-    let (mode, links) = (mode(a.kind), links(a.kind));
-    put_u64s(out, &[a.node, a.size, blocks, 0, 0, 0]);
-    put_u32s(out, &[0, 0, 0, mode, links, a.uid, a.gid, 0, 4096, 0]);
-}
-
-#[tactic(auto, unfolding(crate::specs::Written::entry_bytes))]
-fn put_entry(out: &mut Vec<u8>, e: &GivenEntry)
+#[tactic(auto, using(crate::proofs::Entries::entries))]
+fn put_entry(out: &mut Vec<u8>, e: &Entry)
     requires { vec_len out.old + 128 ≤ vec_capacity out.old }
-    ensures { out.new.items ≡ out.old.items ++ entry_bytes e.now }
+    ensures items { out.new.items ≡ out.old.items ++ written entry_layout (entry_values e.now) }
+    ensures tells { CanTell entry_layout (entry_values e.now) }
 {
-    put_u64s(out, &[e.attributes.node, e.generation, 1, 1]);
+    let (node, generation) = (e.node, e.generation);
+    let a = &e.attributes;
+    let (size, uid, gid) = (a.size, a.uid, a.gid);
+    let (blocks, mode, links) = (blocks(size), mode(a.kind), links(a.kind));
+    put_u64s(out, &[node, generation, 1, 1]);
     put_u32s(out, &[0, 0]);
-    put_attributes(out, &e.attributes);
+    put_u64s(out, &[node, size, blocks, 0, 0, 0]);
+    put_u32s(out, &[0, 0, 0, mode, links, uid, gid, 0, 4096, 0]);
 }
 
-/// An error as it stands in a header.
-fn negated(errno: u32) -> u32
+/// An error number as it stands in a header: two's complement of its negation.
+fn negated(errno: i32) -> u32
     ensures { result ≡ negated_of errno }
 {
-    if errno == 0 { 0 } else { u32::MAX - errno + 1 }
+    errno.wrapping_neg().cast_unsigned()
 }
 
 fn error(body: &ReplyBody) -> u32
-    ensures { result ≡ error_of body.now }
+    ensures { result ≡ error_word body.now }
 {
     match body {
         ReplyBody::Failed { errno } => negated(*errno),
-        ReplyBody::Done | ReplyBody::Entry { .. } => 0,
+        ReplyBody::Done | ReplyBody::Entry(_) => 0,
     }
 }
 
-#[tactic(auto, unfolding(crate::specs::Written::u32s, crate::specs::Written::u64s, crate::specs::Written::entry_bytes, crate::specs::Written::attributes_bytes))]
+#[tactic(auto, unfolding(crate::specs::Written::le, crate::specs::Written::body_bytes))]
 fn body_len(body: &ReplyBody) -> u32
-    ensures len { result ≡ length (reply_body body.now) }
+    ensures len { result ≡ length (body_bytes body.now) }
     ensures short { result ≤ 128 }
 {
     match body {
         ReplyBody::Failed { .. } | ReplyBody::Done => 0,
-        ReplyBody::Entry { .. } => 128,
+        ReplyBody::Entry(_) => 128,
     }
 }
 
-#[tactic(auto, unfolding(crate::specs::Written::u32s, crate::specs::Written::u64s, crate::specs::Written::entry_bytes, crate::specs::Written::attributes_bytes))]
+#[tactic(auto, unfolding(crate::specs::Written::le, crate::specs::Written::body_bytes))]
 fn put_body(out: &mut Vec<u8>, body: &ReplyBody)
-    requires { vec_len out.old + length (reply_body body.now) ≤ vec_capacity out.old }
-    ensures { out.new.items ≡ out.old.items ++ reply_body body.now }
+    requires { vec_len out.old + length (body_bytes body.now) ≤ vec_capacity out.old }
+    ensures items { out.new.items ≡ out.old.items ++ body_bytes body.now }
+    ensures tells { CanTell (reply_layout body.now) (reply_values body.now) }
 {
     match body {
         ReplyBody::Failed { .. } | ReplyBody::Done => {}
-        ReplyBody::Entry { entry } => put_entry(out, entry),
+        ReplyBody::Entry(entry) => put_entry(out, entry),
     }
 }
 
-#[tactic(auto, unfolding(crate::specs::Written::reply_bytes))]
+#[tactic(auto, using(crate::proofs::Lengths::lengths), unfolding(crate::specs::Written::reply_bytes))]
 fn put_reply(out: &mut Vec<u8>, reply: &Reply, len: u32)
     requires room { vec_len out.old + len ≤ vec_capacity out.old }
-    requires len { len ≡ 16 + length (reply_body reply.now.body) }
-    ensures { out.new.items ≡ out.old.items ++ reply_bytes reply.now }
+    requires len { len ≡ 16 + length (body_bytes reply.now.body) }
+    ensures items { out.new.items ≡ out.old.items ++ reply_bytes reply.now }
+    ensures unique { reply.now.unique < 256 ^ 8 }
+    ensures tells { CanTell (reply_layout reply.now.body) (reply_values reply.now.body) }
 {
-    let error = error(&reply.body);
-    put_u32s(out, &[len, error]);
-    put_u64s(out, &[reply.unique]);
+    let unique = reply.unique;
+    put_u32(out, len);
+    put_u32(out, error(&reply.body));
+    put_u64(out, unique);
     put_body(out, &reply.body);
 }
 
 /// Puts a reply at the end of a vector.
 pub fn encode_reply(reply: &Reply, out: &mut Vec<u8>) -> Result<(), AllocError>
     ensures ok { OnOk result (out.new.items ≡ out.old.items ++ reply_bytes reply.now) }
+    // What is put is that reply, if it says what a reply may say, and no other bytes are.
+    ensures reply { OnOk result (IsAnswer reply.now.body → IsReply (reply_bytes reply.now) reply.now) }
+    ensures only { (frame : List ℕ) → IsBytes frame → IsReply frame reply.now → frame ≡ reply_bytes reply.now }
     ensures err { OnErr result (out.new.items ≡ out.old.items) }
 {
     let len = 16 + body_len(&reply.body);
@@ -384,10 +185,13 @@ pub fn encode_reply(reply: &Reply, out: &mut Vec<u8>) -> Result<(), AllocError>
     Ok(())
 }
 
-/// The reply that only names an error. It takes no memory.
-#[tactic(auto, unfolding(crate::specs::Written::u32s, crate::specs::Written::u64s, crate::specs::Written::reply_bytes))]
-pub fn error_frame(unique: u64, errno: u32) -> [u8; 16]
-    ensures { result ≡ reply_bytes (failure unique errno) }
+/// The reply that only names an error, or for 0 that the request is done. It takes no memory. Of an `errno` that is no
+/// error number it has two's complement of the negation.
+#[tactic(auto, unfolding(crate::specs::Written::le, crate::specs::Written::body_bytes, crate::specs::Written::reply_bytes))]
+pub fn error_frame(unique: u64, errno: i32) -> [u8; 16]
+    ensures bytes { result ≡ reply_bytes (record { unique = unique; body = Failed errno }) }
+    ensures failed { IsErrno errno → IsReply result (record { unique = unique; body = Failed errno }) }
+    ensures done { errno ≡ pos 0 → IsReply result (record { unique = unique; body = Done }) }
 {
     let [a, b, c, d] = negated(errno).to_le_bytes();
     let [e, f, g, h, i, j, k, l] = unique.to_le_bytes();

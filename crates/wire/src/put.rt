@@ -1,7 +1,6 @@
 //! Bytes put at the end of a vector that has room for them.
 
-ghost use Rattle.std.specs.Prelude.{◌≡◌, ◌<◌, ◌≤◌, ◌+◌, ◌*◌, ◌/◌, ◌++◌, ◌∷◌, [], length, vec_len, vec_capacity};
-ghost use Rattle.byteorder.specs.Endian.{little_bytes};
+ghost use Rattle.std.specs.Prelude.{◌≡◌, ◌≤◌, ◌+◌, ◌*◌, ◌++◌, ◌∷◌, [], length, vec_len, vec_capacity};
 ghost use Rattle.wire.specs.Written.{le, zeros, u32s, u64s};
 
 pub fn put(out: &mut Vec<u8>, bytes: &[u8])
@@ -13,9 +12,19 @@ pub fn put(out: &mut Vec<u8>, bytes: &[u8])
     out.extend_from_slice(bytes).unwrap();
 }
 
+#[tactic(auto, unfolding(crate::specs::Written::le))]
+pub fn put_u32(out: &mut Vec<u8>, n: u32)
+    requires { vec_len out.old + 4 ≤ vec_capacity out.old }
+    ensures items { out.new.items ≡ out.old.items ++ le 4 n }
+    ensures len { vec_len out.new ≡ vec_len out.old + 4 }
+    ensures capacity { vec_capacity out.old ≤ vec_capacity out.new }
+{
+    put(out, &n.to_le_bytes());
+}
+
 /// The lowest four bytes of a number.
 #[tactic(auto, unfolding(crate::specs::Written::le))]
-pub fn put_low_32(out: &mut Vec<u8>, n: usize)
+pub fn put_low_u32(out: &mut Vec<u8>, n: usize)
     requires { vec_len out.old + 4 ≤ vec_capacity out.old }
     ensures items { out.new.items ≡ out.old.items ++ le 4 n }
     ensures len { vec_len out.new ≡ vec_len out.old + 4 }
@@ -35,25 +44,16 @@ pub fn put_u64(out: &mut Vec<u8>, n: u64)
     put(out, &n.to_le_bytes());
 }
 
-#[tactic(auto, unfolding(crate::specs::Written::le))]
-pub fn put_u32(out: &mut Vec<u8>, n: u32)
-    requires { vec_len out.old + 4 ≤ vec_capacity out.old }
-    ensures items { out.new.items ≡ out.old.items ++ le 4 n }
-    ensures len { vec_len out.new ≡ vec_len out.old + 4 }
+#[tactic(auto, unfolding(crate::specs::Written::u32s, crate::specs::Written::le))]
+pub fn put_u32s(out: &mut Vec<u8>, numbers: &[u32])
+    requires { vec_len out.old + 4 * length numbers.now ≤ vec_capacity out.old }
+    ensures items { out.new.items ≡ out.old.items ++ u32s numbers.now }
+    ensures len { vec_len out.new ≡ vec_len out.old + 4 * length numbers.now }
     ensures capacity { vec_capacity out.old ≤ vec_capacity out.new }
 {
-    put(out, &n.to_le_bytes());
-}
-
-/// A text and a zero byte.
-pub fn put_text(out: &mut Vec<u8>, text: &str)
-    requires { vec_len out.old + length text.now + 1 ≤ vec_capacity out.old }
-    ensures items { out.new.items ≡ out.old.items ++ (text.now ++ 0 ∷ []) }
-    ensures len { vec_len out.new ≡ vec_len out.old + length text.now + 1 }
-    ensures capacity { vec_capacity out.old ≤ vec_capacity out.new }
-{
-    put(out, text.as_bytes());
-    put(out, &[0]);
+    for n in numbers {
+        put_u32(out, *n);
+    }
 }
 
 #[tactic(auto, unfolding(crate::specs::Written::u64s, crate::specs::Written::le))]
@@ -68,16 +68,15 @@ pub fn put_u64s(out: &mut Vec<u8>, numbers: &[u64])
     }
 }
 
-#[tactic(auto, unfolding(crate::specs::Written::u32s, crate::specs::Written::le))]
-pub fn put_u32s(out: &mut Vec<u8>, numbers: &[u32])
-    requires { vec_len out.old + 4 * length numbers.now ≤ vec_capacity out.old }
-    ensures items { out.new.items ≡ out.old.items ++ u32s numbers.now }
-    ensures len { vec_len out.new ≡ vec_len out.old + 4 * length numbers.now }
+/// A text and a zero byte.
+pub fn put_text(out: &mut Vec<u8>, text: &str)
+    requires { vec_len out.old + length text.now + 1 ≤ vec_capacity out.old }
+    ensures items { out.new.items ≡ out.old.items ++ (text.now ++ 0 ∷ []) }
+    ensures len { vec_len out.new ≡ vec_len out.old + length text.now + 1 }
     ensures capacity { vec_capacity out.old ≤ vec_capacity out.new }
 {
-    for n in numbers {
-        put_u32(out, *n);
-    }
+    put(out, text.as_bytes());
+    put(out, &[0]);
 }
 
 #[tactic(auto, unfolding(crate::specs::Written::zeros))]
@@ -90,18 +89,4 @@ pub fn put_zeros(out: &mut Vec<u8>, count: usize)
 {
     let zeros = [0; 64];
     put(out, &zeros[..count]);
-}
-
-/// A number of four bytes, a gap, and unit times as many bytes as the number says.
-pub fn put_counted(out: &mut Vec<u8>, unit: usize, gap: usize, content: &[u8])
-    requires room { vec_len out.old + 4 + gap + length content.now ≤ vec_capacity out.old }
-    requires unit { 0 < unit }
-    requires few { gap ≤ 24 }
-    ensures items { out.new.items ≡ out.old.items ++ (le 4 (length content.now / unit) ++ zeros gap ++ content.now) }
-    ensures len { vec_len out.new ≡ vec_len out.old + 4 + gap + length content.now }
-    ensures capacity { vec_capacity out.old ≤ vec_capacity out.new }
-{
-    put_low_32(out, content.len() / unit);
-    put_zeros(out, gap);
-    put(out, content);
 }

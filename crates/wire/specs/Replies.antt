@@ -1,0 +1,95 @@
+-- What bytes are a reply.
+use Rattle.std.specs.Prelude.{◌≡◌, ℕ, ◌+◌, ◌/◌, ◌%◌, ◌≤◌, List, [], ◌∷◌, length, drop, ℤ, pos, neg_ℤ, ◌≤ℤ◌, ◌==◌, if◌then◌else◌}
+use Rattle.std.specs.Int.{cast_signed, w32}
+use Rattle.byteorder.specs.Endian.{little_number}
+use Rattle.wire.specs.declared.reply.Reply.{Reply}
+use Rattle.wire.specs.declared.reply.ReplyBody.{ReplyBody}
+use Rattle.wire.specs.declared.reply.ReplyBody.TheVariants.{Failed, Done, Entry}
+use Rattle.wire.specs.declared.reply.Entry.{Entry as GivenEntry}
+use Rattle.wire.specs.declared.reply.Attributes.{Attributes}
+use Rattle.wire.specs.declared.reply.Kind.{Kind}
+use Rattle.wire.specs.declared.reply.Kind.TheVariants.{File, Folder}
+use Rattle.wire.specs.Fields.{Field, u32, u64, Value, num, Spells}
+
+-- ---- attributes and entries
+
+abbrev pub mode_of : Kind → ℕ
+mode_of Folder = 0o40755
+mode_of File = 0o100644
+
+abbrev pub links_of : Kind → ℕ
+links_of Folder = 2
+links_of File = 1
+
+-- how many blocks of 512 bytes hold so many bytes
+abbrev pub blocks_of : ℕ → ℕ
+blocks_of size = size / 512 + (if size % 512 == 0 then 0 else 1)
+
+-- ino, size, blocks, atime, mtime, ctime; atimensec, mtimensec, ctimensec, mode, nlink, uid, gid, rdev, blksize, padding
+abbrev pub attributes_layout : List Field
+attributes_layout =
+    u64 ∷ u64 ∷ u64 ∷ u64 ∷ u64 ∷ u64 ∷ u32 ∷ u32 ∷ u32 ∷ u32 ∷ u32 ∷ u32 ∷ u32 ∷ u32 ∷ u32 ∷ u32 ∷ []
+
+abbrev pub attributes_values : ℕ → Attributes → List Value
+attributes_values node a =
+    num node ∷ num a.size ∷ num (blocks_of a.size) ∷ num 0 ∷ num 0 ∷ num 0
+    ∷ num 0 ∷ num 0 ∷ num 0 ∷ num (mode_of a.kind) ∷ num (links_of a.kind) ∷ num a.uid ∷ num a.gid ∷ num 0 ∷ num 4096 ∷ num 0 ∷ []
+
+-- nodeid, generation, entry_valid, attr_valid; entry_valid_nsec, attr_valid_nsec; the attributes
+abbrev pub entry_layout : List Field
+entry_layout = u64 ∷ u64 ∷ u64 ∷ u64 ∷ u32 ∷ u32 ∷ attributes_layout
+
+abbrev pub entry_values : GivenEntry → List Value
+entry_values e = num e.node ∷ num e.generation ∷ num 1 ∷ num 1 ∷ num 0 ∷ num 0 ∷ attributes_values e.node e.attributes
+
+-- ---- the header: the length, the error, and the number of the request
+
+abbrev pub error_in : List ℕ → ℤ
+error_in frame = cast_signed w32 (little_number 4 (drop 4 frame))
+
+abbrev pub answered_in : List ℕ → ℕ
+answered_in frame = little_number 8 (drop 8 frame)
+
+abbrev pub error_of : ReplyBody → ℤ
+error_of (Failed errno) = neg_ℤ errno
+error_of Done = pos 0
+error_of (Entry _) = pos 0
+
+-- ---- what follows the header
+
+abbrev pub reply_layout : ReplyBody → List Field
+reply_layout (Failed _) = []
+reply_layout Done = []
+reply_layout (Entry _) = entry_layout
+
+abbrev pub reply_values : ReplyBody → List Value
+reply_values (Failed _) = []
+reply_values Done = []
+reply_values (Entry e) = entry_values e
+
+-- ---- replies
+
+-- an error number is 1 to 4,095
+pub record IsErrno (errno : ℤ) : Type 0 where
+  pub low : pos 1 ≤ℤ errno
+  pub high : errno ≤ℤ pos 4095
+
+-- a folder has no size
+abbrev pub IsSized : Kind → ℕ → Type 0
+IsSized File size = Unit {0}
+IsSized Folder size = size ≡ 0
+
+-- what a reply may say
+abbrev pub IsAnswer : ReplyBody → Type 0
+IsAnswer (Failed errno) = IsErrno errno
+IsAnswer Done = Unit {0}
+IsAnswer (Entry e) = IsSized e.attributes.kind e.attributes.size
+
+-- The frame is this reply.
+pub record IsReply (frame : List ℕ) (r : Reply) : Type 0 where
+  pub answer : IsAnswer r.body
+  pub long : 16 ≤ length frame
+  pub len : little_number 4 frame ≡ length frame
+  pub error : error_in frame ≡ error_of r.body
+  pub unique : r.unique ≡ answered_in frame
+  pub body : Spells (reply_layout r.body) (reply_values r.body) (drop 16 frame)

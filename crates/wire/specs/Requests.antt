@@ -1,0 +1,88 @@
+-- What bytes are a request. What is not named here is not read.
+use Rattle.std.specs.Prelude.{◌≡◌, ◌≢◌, ℕ, ◌<◌, ◌≤◌, List, [], ◌∷◌, length, drop, Option, Some, None, ◌==◌, if◌then◌else◌, All, codes}
+use Rattle.std.specs.Str.{IsUtf8}
+use Rattle.std.specs.List.{AllByRecursion}
+use Rattle.byteorder.specs.Endian.{little_number}
+use Rattle.wire.specs.declared.header.Header.{Header}
+use Rattle.wire.specs.declared.request.Request.{Request}
+use Rattle.wire.specs.declared.request.Operation.{Operation}
+use Rattle.wire.specs.declared.request.Operation.TheVariants.{Lookup, Forget}
+use Rattle.wire.specs.Fields.{Field, text, u64, Value, num, name, bytes, Spells}
+
+-- ---- the header: the length, the opcode, unique, the node's number, and sixteen bytes that are not read
+
+abbrev pub opcode_in : List ℕ → ℕ
+opcode_in frame = little_number 4 (drop 4 frame)
+
+abbrev pub unique_in : List ℕ → ℕ
+unique_in frame = little_number 8 (drop 8 frame)
+
+abbrev pub node_in : List ℕ → ℕ
+node_in frame = little_number 8 (drop 16 frame)
+
+abbrev pub body_in : List ℕ → List ℕ
+body_in frame = drop 40 frame
+
+abbrev pub header_in : List ℕ → Header
+header_in frame = record { opcode = opcode_in frame; unique = unique_in frame; node = node_in frame }
+
+-- a whole frame, as long as it says
+pub record IsFramed (frame : List ℕ) : Type 0 where
+  pub long : 40 ≤ length frame
+  pub short : length frame ≤ 69632
+  pub len : little_number 4 frame ≡ length frame
+
+-- ---- what follows the header, by the opcode: a further opcode is one more line here, and two below
+
+abbrev pub layout : ℕ → Option (List Field)
+layout opcode =
+    if opcode == 1 then Some (text ∷ [])
+    else (if opcode == 2 then Some (u64 ∷ [])
+    else None)
+
+abbrev pub opcode_of : Operation → ℕ
+opcode_of (Lookup _) = 1
+opcode_of (Forget _) = 2
+
+-- what an operation has in the fields of its layout
+abbrev pub values_of : Operation → List Value
+values_of (Lookup n) = name n.now ∷ []
+values_of (Forget nlookup) = num nlookup ∷ []
+
+abbrev pub IsLaidOut : Option (List Field) → List Value → List ℕ → Type 0
+IsLaidOut None values body = ⊥
+IsLaidOut (Some fields) values body = Spells fields values body
+
+-- ---- names
+
+pub record IsName (t : List ℕ) : Type 0 where
+  pub some : 0 < length t
+  pub short : length t ≤ 255
+  pub utf8 : IsUtf8 t
+  pub not_here : t ≢ codes "."
+  pub not_above : t ≢ codes ".."
+  pub no_slash : All (λ b. b ≢ 47) t
+
+abbrev pub names_in : List Value → List (List ℕ)
+names_in [] = []
+names_in (name t ∷ values) = t ∷ names_in values
+names_in (num _ ∷ values) = names_in values
+names_in (bytes _ ∷ values) = names_in values
+
+-- ---- requests
+
+-- The frame is this request.
+pub record IsRequest (frame : List ℕ) (r : Request) : Type 0 where
+  pub framed : IsFramed frame
+  pub opcode : opcode_of r.operation ≡ opcode_in frame
+  pub unique : r.unique ≡ unique_in frame
+  pub node : r.node ≡ node_in frame
+  pub body : IsLaidOut (layout (opcode_in frame)) (values_of r.operation) (body_in frame)
+  pub names : AllByRecursion IsName (names_in (values_of r.operation))
+
+-- the same request, wherever its names lie
+pub record IsSame (a b : Request) : Type 0 where
+  pub unique : a.unique ≡ b.unique
+  pub node : a.node ≡ b.node
+  pub opcode : opcode_of a.operation ≡ opcode_of b.operation
+  pub values : values_of a.operation ≡ values_of b.operation
