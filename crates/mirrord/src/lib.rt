@@ -1,0 +1,14 @@
+//! The programs of the server: their command lines, and the one that reads and writes hexadecimal lines.
+#![tactic(auto)]
+
+mod command;
+mod faults;
+mod hexadecimal;
+mod links;
+mod samples;
+
+pub use command::{Options, read_options};
+pub use faults::Fault;
+pub use hexadecimal::HexLink;
+pub use links::{Link, Received, Sent};
+pub use samples::{MemTree, Stat};
