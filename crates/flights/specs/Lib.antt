@@ -1,2 +1,3 @@
 pub mod Roomy
 pub mod Flying
+pub mod Listed

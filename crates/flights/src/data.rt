@@ -1,6 +1,10 @@
 //! The data of a request in flight.
 
+ghost use Rattle.std.specs.Prelude.{◌≡◌, ◌==◌, ◌+◌, ◌-◌, ◌<◌, [], ◌∷◌, ◌++◌, IfOk, Some, length, count_by, is_some};
+ghost use Rattle.std.specs.List.{list_any};
+
 use paths::Name;
+use std::alloc::{AllocError, Global};
 use std::marker::Model;
 
 /// What a request is begun with.
@@ -17,6 +21,14 @@ pub struct Promise {
     pub nodes: u64,
     /// Postings that it may make, with those by which they are taken back.
     pub postings: u64,
+}
+
+impl Promise {
+    /// Nothing is promised.
+    pub const NONE: Promise = Promise {
+        nodes: 0,
+        postings: 0,
+    };
 }
 
 /// A node that was given to the client.
@@ -42,6 +54,47 @@ impl Model for Givens {
     ghost view = { λ g. record { items = g.given.items; room = vec_capacity g.given - vec_len g.given } };
 }
 
+impl Givens {
+    /// None, without memory.
+    pub fn new(alloc: Global) -> Givens
+        ensures { result.items ≡ [] }
+    {
+        Givens {
+            given: Vec::new(alloc),
+        }
+    }
+
+    /// None yet, with room for so many.
+    pub fn with_capacity(alloc: Global, capacity: usize) -> Result<Givens, AllocError>
+        ensures { IfOk result (λ g. g ≡ record { items = []; room = capacity }) }
+    {
+        let given = Vec::with_capacity(alloc, capacity)?;
+        Ok(Givens { given })
+    }
+
+    /// Adds what is given for the next name, for which there is room.
+    pub fn add(&mut self, given: Option<Given>)
+        requires { 0 < self.old.room }
+        ensures { self.new ≡ record { items = self.old.items ++ given ∷ []; room = self.old.room - 1 } }
+    {
+        self.given.push_reserved(given);
+    }
+
+    /// What is given for each name.
+    pub fn as_slice(&self) -> &[Option<Given>]
+        ensures { result.now ≡ self.now.items }
+    {
+        self.given.as_slice()
+    }
+
+    /// How many nodes are given.
+    pub fn entries(&self) -> u64
+        ensures { result ≡ count_by (λ g. is_some g) self.now.items }
+    {
+        self.given.iter().filter(|g| g.is_some()).count() as u64
+    }
+}
+
 /// Numbers of nodes that a request pins, with room for more.
 #[derive(Drop)]
 pub struct Pins {
@@ -57,10 +110,44 @@ impl Model for Pins {
     ghost view = { λ p. record { numbers = p.numbers.items; room = vec_capacity p.numbers - vec_len p.numbers } };
 }
 
+impl Pins {
+    /// None yet, with room for so many.
+    pub fn with_capacity(alloc: Global, capacity: usize) -> Result<Pins, AllocError>
+        ensures { IfOk result (λ p. p ≡ record { numbers = []; room = capacity }) }
+    {
+        let numbers = Vec::with_capacity(alloc, capacity)?;
+        Ok(Pins { numbers })
+    }
+
+    /// Adds a number, for which there is room.
+    pub fn add(&mut self, number: u64)
+        requires { 0 < self.old.room }
+        ensures { self.new ≡ record { numbers = self.old.numbers ++ number ∷ []; room = self.old.room - 1 } }
+    {
+        self.numbers.push_reserved(number);
+    }
+
+    /// The numbers, in the order in which they were added.
+    pub fn as_slice(&self) -> &[u64]
+        ensures { result.now ≡ self.now.numbers }
+    {
+        self.numbers.as_slice()
+    }
+
+    /// Whether the number is one of them.
+    pub fn contains(&self, number: u64) -> bool
+        ensures { result ≡ list_any (λ m. m == number) self.now.numbers }
+    {
+        self.numbers.iter().any(|m| *m == number)
+    }
+}
+
 /// What is still to do for a request.
 #[derive(Drop)]
 pub struct Work {
     pub want: Want,
+    /// The want's name once more: a node that is born is put into the tree under two keys.
+    pub copy: Name,
     pub promise: Promise,
     /// Where its answer is put, so that the end of the work takes no memory.
     pub answer: Givens,
@@ -73,6 +160,28 @@ pub enum Stage {
     Working(Work),
     /// Its work has ended, and its reply is not settled yet.
     Answered,
+}
+
+impl Stage {
+    ghost use Rattle.flights.specs.Flying.{is_working, nodes_promised, postings_promised};
+
+    /// Whether the request is worked on.
+    pub fn is_working(&self) -> bool
+        ensures { result ≡ is_working self.now }
+    {
+        matches!(self, Stage::Working(_))
+    }
+
+    /// What the request may still add.
+    pub fn promise(&self) -> Promise
+        ensures nodes { result.nodes ≡ nodes_promised self.now }
+        ensures postings { result.postings ≡ postings_promised self.now }
+    {
+        match self {
+            Stage::Working(work) => work.promise,
+            Stage::Answered => Promise::NONE,
+        }
+    }
 }
 
 /// A request in flight.

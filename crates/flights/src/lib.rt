@@ -2,5 +2,8 @@
 #![tactic(auto)]
 
 mod data;
+mod flying;
+mod listed;
 
 pub use data::{Flight, Given, Givens, Pins, Promise, Stage, Want, Work};
+pub use flying::Flights;

@@ -1,6 +1,6 @@
 -- The law of a table. It is said of three things: where each number leads (`at`), the ledger, and which numbers
 -- the records pin.
-use Rattle.std.specs.Prelude.{ℕ, ◌+◌, ◌<◌, ◌≡◌, ◌≢◌, ◌==◌, ◌⊎◌, Bool, true, false, List, Option, Some, All, AllPairs, Contains, take, length, slice_index_or}
+use Rattle.std.specs.Prelude.{ℕ, ◌+◌, ◌<◌, ◌≡◌, ◌≢◌, ◌==◌, ◌⊎◌, Bool, true, false, List, Some, All, AllPairs, Contains, take, length, slice_index_or}
 use Rattle.std.specs.List.{list_any}
 use Rattle.ledger.specs.declared.postings.Posting.{Posting}
 use Rattle.ledger.specs.declared.postings.Posting.TheVariants.{Born, Entry, Back, Forget}
@@ -8,7 +8,8 @@ use Rattle.ledger.specs.Sums.{number_of, births_of, entries_of, given_of, IsNeve
 use Rattle.tree.specs.declared.nodes.Key.{Key}
 use Rattle.tree.specs.declared.nodes.Node.{Node}
 use Rattle.tree.specs.declared.nodes.Place.TheVariants.{Named}
-use Rattle.tree.specs.Places.{Lookup, node_at, IsDistinct, IsTree, HasChild}
+use Rattle.tree.specs.Places.{Lookup, IsAlive, IsTree, HasChild}
+use Rattle.tree.specs.Listed.{node_at, IsDistinct}
 use Rattle.image.specs.declared.data.Image.{Image}
 use Rattle.image.specs.declared.data.Record.{Record}
 
@@ -57,7 +58,7 @@ AreMarksNamed at = (n : ℕ) (x : Node) → at n ≡ Some x → x.hidden ≡ tru
 
 -- a pin names a living node
 abbrev pub ArePinsAlive : Lookup → (ℕ → Bool) → Type 0
-ArePinsAlive at pinned = (n : ℕ) → pinned n ≡ true → (x : Node) × (at n ≡ Some x)
+ArePinsAlive at pinned = (n : ℕ) → pinned n ≡ true → IsAlive at n
 
 -- why a node lives: a lookup count, a hidden mark, a pin or a named child
 abbrev pub HasReason : Lookup → (ℕ → Bool) → ℕ → Node → Type 0

@@ -1,6 +1,10 @@
 //! The data of a table.
 
+ghost use Rattle.std.specs.Prelude.{◌≡◌, ◌==◌, ◌++◌, [], ◌∷◌, IfOk, OnOk, OnErr};
+ghost use Rattle.std.specs.List.{list_any};
+
 use ledger::Posting;
+use std::alloc::{AllocError, Global};
 use std::marker::Model;
 use tree::Node;
 
@@ -13,7 +17,7 @@ pub enum Stage {
     Answered,
 }
 
-/// Numbers of nodes.
+/// Numbers of nodes, in the order in which they were added.
 #[derive(Drop)]
 pub struct Numbers {
     numbers: Vec<u64>,
@@ -25,6 +29,61 @@ impl Model for Numbers {
     ghost Value = { List ℕ };
 
     ghost view = { λ n. n.numbers.items };
+}
+
+impl Numbers {
+    /// No numbers.
+    pub fn new(alloc: Global) -> Numbers
+        ensures { result ≡ [] }
+    {
+        Numbers::from(Vec::new(alloc))
+    }
+
+    /// Adds a number after the others.
+    pub fn add(&mut self, number: u64) -> Result<(), AllocError>
+        ensures ok { OnOk result (self.new ≡ self.old ++ number ∷ []) }
+        ensures err { OnErr result (self.new ≡ self.old) }
+    {
+        self.numbers.push(number)?;
+        Ok(())
+    }
+
+    /// Whether the number is one of them.
+    pub fn contains(&self, number: u64) -> bool
+        ensures { result ≡ list_any (λ m. m == number) self.now }
+    {
+        self.numbers.iter().any(|m| *m == number)
+    }
+
+    pub fn as_slice(&self) -> &[u64]
+        ensures { result.now ≡ self.now }
+    {
+        self.numbers.as_slice()
+    }
+
+    /// The numbers, without taking memory.
+    pub fn into_vec(self) -> Vec<u64>
+        ensures { result.items ≡ self }
+    {
+        let Numbers { numbers } = self;
+        numbers
+    }
+
+    /// The same numbers once more.
+    pub fn copy(&self) -> Result<Numbers, AllocError>
+        ensures { IfOk result (λ n. n ≡ self.now) }
+    {
+        let numbers = self.numbers.clone()?;
+        Ok(Numbers { numbers })
+    }
+}
+
+impl From<Vec<u64>> for Numbers {
+    ghost from_gives = { λ numbers n. n ≡ numbers.items };
+
+    fn from(numbers: Vec<u64>) -> Numbers {
+        Numbers { numbers }
+    }
 }
 
 /// A request in flight.
@@ -54,6 +113,30 @@ impl Model for Nodes {
     ghost view = { λ n. n.nodes.items };
 }
 
+impl Nodes {
+    pub fn as_slice(&self) -> &[Node]
+        ensures { result.now ≡ self.now }
+    {
+        self.nodes.as_slice()
+    }
+
+    /// The nodes, without taking memory.
+    pub fn into_vec(self) -> Vec<Node>
+        ensures { result.items ≡ self }
+    {
+        let Nodes { nodes } = self;
+        nodes
+    }
+}
+
+impl From<Vec<Node>> for Nodes {
+    ghost from_gives = { λ nodes n. n ≡ nodes.items };
+
+    fn from(nodes: Vec<Node>) -> Nodes {
+        Nodes { nodes }
+    }
+}
+
 /// The ledger of a table, the oldest posting first.
 #[derive(Drop)]
 pub struct Postings {
@@ -69,6 +152,30 @@ impl Model for Postings {
     ghost view = { λ p. p.postings.items };
 }
 
+impl Postings {
+    pub fn as_slice(&self) -> &[Posting]
+        ensures { result.now ≡ self.now }
+    {
+        self.postings.as_slice()
+    }
+
+    /// The postings, without taking memory.
+    pub fn into_vec(self) -> Vec<Posting>
+        ensures { result.items ≡ self }
+    {
+        let Postings { postings } = self;
+        postings
+    }
+}
+
+impl From<Vec<Posting>> for Postings {
+    ghost from_gives = { λ postings p. p ≡ postings.items };
+
+    fn from(postings: Vec<Posting>) -> Postings {
+        Postings { postings }
+    }
+}
+
 /// The records of a table, in any order.
 #[derive(Drop)]
 pub struct Records {
@@ -82,6 +189,30 @@ impl Model for Records {
     ghost Value = { List Record };
 
     ghost view = { λ r. r.records.items };
+}
+
+impl Records {
+    pub fn as_slice(&self) -> &[Record]
+        ensures { result.now ≡ self.now }
+    {
+        self.records.as_slice()
+    }
+
+    /// The records, without taking memory.
+    pub fn into_vec(self) -> Vec<Record>
+        ensures { result.items ≡ self }
+    {
+        let Records { records } = self;
+        records
+    }
+}
+
+impl From<Vec<Record>> for Records {
+    ghost from_gives = { λ records r. r ≡ records.items };
+
+    fn from(records: Vec<Record>) -> Records {
+        Records { records }
+    }
 }
 
 /// A table as plain data: any nodes, postings and records, lawful or not.

@@ -4,5 +4,6 @@
 #![tactic(auto)]
 
 mod data;
+mod lawful;
 
 pub use data::{Image, Nodes, Numbers, Postings, Record, Records, Stage};

@@ -1,26 +1,20 @@
 -- What the law says of nodes, ledger and pins, but for the tree and the reasons; and how it is kept.
-use Rattle.std.proofs.Common.{ℕ, ◌+◌, ◌<◌, ◌≤◌, ◌≡◌, ◌≢◌, Bool, true, false, List, [], ◌∷◌, ◌++◌, Option, Some, None, All, refl, sym, ap, ◌∙◌, subst, ◌⊎◌, inl, inr, arith}
-use Rattle.std.proofs.lemmas.Bool.{cases_eq, true≢false, false≢true}
+use Rattle.std.proofs.Common.{ℕ, ◌+◌, ◌≡◌, ◌≢◌, Bool, false, List, [], ◌∷◌, ◌++◌, Some, None, refl, sym, ap, ◌∙◌, subst, ◌⊎◌, inl, inr, arith}
+use Rattle.std.proofs.lemmas.Bool.{cases_eq, true≢false}
 use Rattle.std.proofs.lemmas.List.Elements.{All-push}
 use Rattle.std.proofs.lemmas.Option.{none-some, same_Some}
 use Rattle.ledger.specs.declared.postings.Posting.{Posting}
-use Rattle.ledger.specs.declared.postings.Posting.TheVariants.{Born, Entry, Back, Forget}
-use Rattle.ledger.specs.Sums.{number_of, births_of, entries_of, given_of, IsAllowed, IsNeverNegative}
+use Rattle.ledger.specs.declared.postings.Posting.TheVariants.{Born}
+use Rattle.ledger.specs.Sums.{number_of, births_of, entries_of, given_of, IsAllowed}
 use Rattle.ledger.proofs.SumsLemmas.{never_negative-push}
 use Rattle.ledger.proofs.Touches.{Touches, cases_pair, entries_of-touched, given_of-touched, entries_of-untouched, given_of-untouched, births_of-untouched, births_of-born, births_of-born_else, entries_of-born, given_of-born}
 use Rattle.tree.specs.declared.nodes.Node.{Node}
-use Rattle.tree.specs.Places.{Lookup, with_node, without, HasChild}
-use Rattle.tree.proofs.Lookups.{with_same, with_other, with_some, cases_option}
-use Rattle.image.specs.Law.{MayStand, IsUnborne, IsCounted, IsBornInOrder, HasPlainRoot, AreMarksNamed, ArePinsAlive}
+use Rattle.tree.specs.Places.{Lookup, with_node}
+use Rattle.tree.proofs.LookupLemmas.{with_same, with_other, with_some, cases_option}
+use Rattle.image.specs.Law.{MayStand, IsCounted, IsBornInOrder, HasPlainRoot, AreMarksNamed, ArePinsAlive}
 use Rattle.table.specs.Steps.{IsSwept}
+use Rattle.table.specs.Sweeping.{IsBooked}
 use Rattle.table.proofs.Ordered.{IsOrdered-push}
-
-pub record IsBooked (at : Lookup) (ps : List Posting) (pinned : ℕ → Bool) : Type 0 where
-  pub root : HasPlainRoot at ps
-  pub counted : IsCounted at ps
-  pub born : IsBornInOrder at ps
-  pub marks : AreMarksNamed at
-  pub pins : ArePinsAlive at pinned
 
 -- a pinned number leads somewhere after a write
 pins_write : (at : Lookup) (pinned : ℕ → Bool) (n : ℕ) (y : Node) → ArePinsAlive at pinned → ArePinsAlive (with_node at n y) pinned

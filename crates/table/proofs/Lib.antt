@@ -1,2 +1,14 @@
 pub mod Ordered
 pub mod Booked
+pub mod Reasons
+pub mod Laws
+pub mod Ready
+pub mod Kept
+pub mod Backs
+pub mod Settling
+pub mod Entering
+pub mod Giving
+pub mod Finishing
+pub mod Counting
+pub mod Longer
+pub mod Starting

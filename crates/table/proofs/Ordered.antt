@@ -1,5 +1,5 @@
 -- That all but a birth stands after the birth of its number and generation, when one more posting is made.
-use Rattle.std.proofs.Common.{ℕ, ◌+◌, ◌<◌, ◌≤◌, ◌≡◌, suc, Bool, true, false, List, [], ◌∷◌, ◌++◌, Contains, length, get_or, take, cond, refl, sym, ap, ◌∙◌, subst, length-append, length-take, arith}
+use Rattle.std.proofs.Common.{ℕ, ◌+◌, ◌<◌, ◌≤◌, ◌≡◌, Bool, true, false, List, [], ◌∷◌, ◌++◌, Contains, length, get_or, take, cond, refl, sym, ◌∙◌, length-append, length-take, arith}
 use Rattle.std.specs.Prelude.{nat_lt}
 use Rattle.std.proofs.lemmas.Bool.{eq-eqb}
 use Rattle.std.proofs.lemmas.Bool.Decides.{nat_tests}

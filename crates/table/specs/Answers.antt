@@ -1,5 +1,5 @@
 -- What contracts see of tickets and answers.
-use Rattle.std.specs.Prelude.{ℕ, ◌+◌, Bool, List, [], ◌∷◌, Option, Some, None}
+use Rattle.std.specs.Prelude.{ℕ, Bool, List, Option, count_by, is_some}
 use Rattle.flights.specs.declared.data.Given.{Given}
 use Rattle.paths.specs.Fronts.{Names}
 
@@ -22,6 +22,4 @@ pub record Settlement : Type 0 where
 
 -- how many nodes were given
 abbrev pub entries_in : List (Option Given) → ℕ
-entries_in [] = 0
-entries_in (None ∷ gs) = entries_in gs
-entries_in (Some g ∷ gs) = 1 + entries_in gs
+entries_in gs = count_by (λ g. is_some g) gs

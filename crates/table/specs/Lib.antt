@@ -1,3 +1,5 @@
 pub mod Answers
 pub mod World
 pub mod Steps
+pub mod Sweeping
+pub mod Beginning

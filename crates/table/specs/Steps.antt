@@ -1,5 +1,5 @@
 -- The steps of a table.
-use Rattle.std.specs.Prelude.{ℕ, ℤ, ◌+◌, ◌-◌, ◌<◌, ◌≤◌, ◌≡◌, ◌↔◌, ◌⊎◌, Bool, true, false, List, [], ◌∷◌, ◌++◌, Option, Some, None, length, drop, min}
+use Rattle.std.specs.Prelude.{ℕ, ℤ, ◌+◌, ◌-◌, ◌<◌, ◌≡◌, ◌↔◌, ◌⊎◌, Bool, true, false, List, [], ◌∷◌, ◌++◌, Option, Some, None, length, drop, min}
 use Rattle.errno.specs.declared.TheConstants.{EAGAIN, ENAMETOOLONG, ENFILE, ENOMEM, ESTALE}
 use Rattle.ledger.specs.declared.postings.Posting.{Posting}
 use Rattle.ledger.specs.declared.postings.Posting.TheVariants.{Born, Entry, Back, Forget}
@@ -7,8 +7,7 @@ use Rattle.ledger.specs.Sums.{births_of}
 use Rattle.paths.specs.Fronts.{Names, path_bytes}
 use Rattle.tree.specs.declared.nodes.Node.{Node}
 use Rattle.tree.specs.declared.nodes.Place.TheVariants.{Named}
-use Rattle.tree.specs.Places.{Lookup, with_node, IsNamed, IsFree, HasChild, Leads}
-use Rattle.tree.specs.Moves.{IsPathOf}
+use Rattle.tree.specs.Places.{Lookup, with_node, IsNamed, IsFree, HasChild, Leads, IsPathOf}
 use Rattle.flights.specs.declared.data.Flight.{Flight}
 use Rattle.flights.specs.declared.data.Given.{Given}
 use Rattle.flights.specs.declared.data.Promise.{Promise}
@@ -70,11 +69,14 @@ abbrev pub IsPromiseFor : World → Want → Promise → Type 0
 IsPromiseFor w (Name parent name) p =
     (IsFree w.at parent name → p.nodes ≡ 1) × ((n : ℕ) → IsNamed w.at n parent name → p.nodes ≡ 0) × (p.postings ≡ 3)
 
--- with what the want may add, the nodes or the postings would pass their limit
+-- with what is promised, the nodes or the postings would pass their limit
+abbrev pub IsTooMuch : World → Promise → Type 0
+IsTooMuch w p =
+    (w.limits.nodes < w.living + w.flying.nodes + p.nodes)
+    ⊎ (w.limits.postings < length w.postings + w.counts + w.flying.postings + p.postings)
+
 abbrev pub IsFull : World → Want → Type 0
-IsFull w want =
-    (p : Promise) × IsPromiseFor w want p
-    × ((w.limits.nodes < w.living + w.flying.nodes + p.nodes) ⊎ (w.limits.postings < length w.postings + w.counts + w.flying.postings + p.postings))
+IsFull w want = (p : Promise) × IsPromiseFor w want p × IsTooMuch w p
 
 -- one request more would pass the limit
 abbrev pub IsCrowded : World → Type 0
@@ -126,31 +128,42 @@ abbrev pub newborn : Given → ℕ → List ℕ → Node
 newborn g parent name = record { number = g.number; generation = g.generation; place = Named (record { parent = parent; name = name }); count = 1; hidden = false }
 
 -- one more entry of the node that is named so
-pub record EntersAgain (old : World) (parent : ℕ) (name : List ℕ) (g : Given) (new : World) : Type 0 where
+pub record EntersAgain (at : Lookup) (ps : List Posting) (parent : ℕ) (name : List ℕ) (g : Given) (at' : Lookup) (ps' : List Posting) : Type 0 where
   pub node : Node
-  pub here : old.at g.number ≡ Some node
+  pub here : at g.number ≡ Some node
   pub named : node.place ≡ Named (record { parent = parent; name = name })
   pub generation : node.generation ≡ g.generation
-  pub nodes : new.at ≡ with_node old.at g.number (record node { count = node.count + 1 })
-  pub postings : new.postings ≡ old.postings ++ Entry g.number g.generation ∷ []
+  pub nodes : at' ≡ with_node at g.number (record node { count = node.count + 1 })
+  pub postings : ps' ≡ ps ++ Entry g.number g.generation ∷ []
 
 -- where none is named so, a node is born under a number that none bears, and entered
-pub record Bears (old : World) (parent : ℕ) (name : List ℕ) (g : Given) (new : World) : Type 0 where
-  pub free : IsFree old.at parent name
-  pub fresh : old.at g.number ≡ None
-  pub generation : g.generation ≡ births_of g.number old.postings
-  pub nodes : new.at ≡ with_node old.at g.number (newborn g parent name)
-  pub postings : new.postings ≡ old.postings ++ Born g.number g.generation ∷ Entry g.number g.generation ∷ []
+pub record Bears (at : Lookup) (ps : List Posting) (parent : ℕ) (name : List ℕ) (g : Given) (at' : Lookup) (ps' : List Posting) : Type 0 where
+  pub free : IsFree at parent name
+  pub fresh : at g.number ≡ None
+  pub generation : g.generation ≡ births_of g.number ps
+  pub nodes : at' ≡ with_node at g.number (newborn g parent name)
+  pub postings : ps' ≡ (ps ++ Born g.number g.generation ∷ []) ++ Entry g.number g.generation ∷ []
 
--- the client is given an entry of its name, and the request pins the node until it is settled
-pub record GivesName (old : World) (id : ℕ) (work : Work) (parent : ℕ) (name : List ℕ) (answer : Answer) (new : World) : Type 0 where
+-- an entry of the name is given
+abbrev pub Enters : Lookup → List Posting → ℕ → List ℕ → Given → Lookup → List Posting → Type 0
+Enters at ps parent name g at' ps' = EntersAgain at ps parent name g at' ps' ⊎ Bears at ps parent name g at' ps'
+
+-- the client is given an entry of the name, and the request pins the node until it is settled
+pub record GivesEntry (old : World) (id : ℕ) (f : Flight) (parent : ℕ) (name : List ℕ) (answer : Answer) (new : World) : Type 0 where
   pub given : Given
-  pub mid : Flying
   pub answer_is : answer ≡ record { id = id; given = Some given ∷ []; lost = false }
-  pub ends : Answers old.flying id work mid
-  pub pins : PinsMore mid id (answered ends.flight) given.number new.flying
-  pub entry : EntersAgain old parent name given new ⊎ Bears old parent name given new
+  pub entry : Enters old.at old.postings parent name given new.at new.postings
+  pub pins : PinsMore old.flying id f given.number new.flying
   pub limits : new.limits ≡ old.limits
+
+abbrev pub Gives : World → ℕ → Flight → Want → Answer → World → Type 0
+Gives old id f (Name parent name) answer new = GivesEntry old id f parent name answer new
+
+-- the work on the request ends, and it gives an entry
+pub record GivesName (old : World) (id : ℕ) (work : Work) (parent : ℕ) (name : List ℕ) (answer : Answer) (new : World) : Type 0 where
+  pub mid : Flying
+  pub ends : Answers old.flying id work mid
+  pub gives : GivesEntry (record old { flying = mid }) id (answered ends.flight) parent name answer new
 
 -- the request gives nothing, and keeps its pins
 pub record Fails (old : World) (id : ℕ) (work : Work) (given : List (Option Given)) (answer : Answer) (new : World) : Type 0 where
@@ -193,16 +206,16 @@ TakesAllBack at ps (Some g ∷ gs) at' ps' =
     (mid : Lookup) × (qs : List Posting) × (TakesBack at ps g mid qs ⊎ TakesNone at ps g mid qs) × TakesAllBack mid qs gs at' ps'
 
 -- what goes back: nothing where the reply was taken
-abbrev pub untaken : Bool → List (Option Given) → List (Option Given)
-untaken true gs = []
-untaken false gs = gs
+abbrev pub untaken_of : Bool → List (Option Given) → List (Option Given)
+untaken_of true gs = []
+untaken_of false gs = gs
 
 -- the request goes with its pins, what was not taken goes back, and then what nothing keeps any more goes
 pub record EndsFor (old : World) (answer : Answer) (taken : Bool) (new : World) : Type 0 where
   pub pins : List ℕ
   pub goes : Goes old.flying answer.id pins new.flying
   pub mid : Lookup
-  pub back : TakesAllBack old.at old.postings (untaken taken answer.given) mid new.postings
+  pub back : TakesAllBack old.at old.postings (untaken_of taken answer.given) mid new.postings
   pub swept : IsSwept new.flying.pinned mid new.at
   pub limits : new.limits ≡ old.limits
 

@@ -1,16 +1,19 @@
 -- All that a table keeps, and the law of it.
-use Rattle.std.specs.Prelude.{ℕ, ◌+◌, ◌<◌, ◌≤◌, ◌≡◌, ◌⊎◌, true, List, [], Option, Some, length}
+use Rattle.std.specs.Prelude.{ℕ, ◌+◌, ◌^◌, ◌<◌, ◌≤◌, ◌≡◌, ◌⊎◌, true, false, List, [], Option, Some, length}
 use Rattle.ledger.specs.declared.postings.Posting.{Posting}
-use Rattle.tree.specs.declared.nodes.Key.{Key}
-use Rattle.tree.specs.Places.{Lookup, IsNamed, Leads}
+use Rattle.tree.specs.Places.{Lookup, Nodes, at_in, with_node, no_nodes, root_node, IsNamed, Leads}
+use Rattle.ledger.specs.Postings.{Postings}
+use Rattle.flights.specs.Listed.{flying_of}
 use Rattle.flights.specs.declared.data.Flight.{Flight}
-use Rattle.flights.specs.declared.data.Stage.TheVariants.{Working}
+use Rattle.flights.specs.declared.data.Promise.{Promise}
+use Rattle.flights.specs.declared.data.Stage.TheVariants.{Working, Answered}
 use Rattle.flights.specs.declared.data.Want.{Want}
 use Rattle.flights.specs.declared.data.Want.TheVariants.{Name}
 use Rattle.flights.specs.declared.data.Work.{Work}
-use Rattle.flights.specs.Flying.{Flying, IsFlying, pins_number}
+use Rattle.flights.specs.Flying.{Flying, IsFlying, none_flying, pins_number}
 use Rattle.image.specs.Law.{IsLawful}
 use Rattle.table.specs.declared.data.Limits.{Limits}
+use Rattle.table.specs.declared.state.State.{State}
 
 pub record World : Type 0 where
   -- where each number leads
@@ -57,3 +60,68 @@ pub record IsLawfulWorld (w : World) : Type 0 where
   pub law : IsLawful w.at w.postings w.flying.pinned
   pub flying : IsFlying w.flying
   pub within : IsWithin w
+
+-- ---- the parts of a table
+
+-- there is room for all that may still come, so that only a begin takes memory
+pub record IsReserved (tree : Nodes) (ledger : Postings) (flying : Flying) : Type 0 where
+  pub nodes : flying.nodes ≤ tree.room
+  pub postings : tree.counts + flying.postings ≤ ledger.room
+
+abbrev pub world_of : State → World
+world_of s = record {
+  at = at_in s.tree;
+  living = s.tree.living;
+  counts = s.tree.counts;
+  postings = s.ledger.made;
+  flying = record (flying_of s.flights) { room = 0 };
+  limits = s.limits;
+}
+
+-- the parts fit each other
+pub record IsKept (s : State) : Type 0 where
+  pub law : IsLawful (at_in s.tree) s.ledger.made (flying_of s.flights).pinned
+  pub flying : IsFlying (flying_of s.flights)
+  pub ready : AreReady (at_in s.tree) (flying_of s.flights).at
+  pub reserved : IsReserved s.tree s.ledger (flying_of s.flights)
+  pub within : IsWithin (world_of s)
+  pub counts : s.counts ≡ s.tree.counts
+  pub node_limit : s.tree.limit ≡ s.limits.nodes
+  pub posting_limit : s.ledger.limit ≡ s.limits.postings
+  -- the limits fit their type
+  pub short : (s.limits.nodes < 2 ^ 64) × (s.limits.postings < 2 ^ 64)
+
+-- beside what is promised to others there is room for this promise
+pub record IsRoomFor (s : State) (promise : Promise) : Type 0 where
+  pub nodes : (flying_of s.flights).nodes + promise.nodes ≤ s.tree.room
+  pub postings : s.tree.counts + (flying_of s.flights).postings + promise.postings ≤ s.ledger.room
+  pub nodes_within : s.tree.living + (flying_of s.flights).nodes + promise.nodes ≤ s.limits.nodes
+  pub postings_within : length s.ledger.made + s.tree.counts + (flying_of s.flights).postings + promise.postings ≤ s.limits.postings
+
+-- a request whose work has ended still has what it relied on
+pub record IsEnding (s : State) (id : ℕ) (work : Work) : Type 0 where
+  pub flight : Flight
+  pub here : (flying_of s.flights).at id ≡ Some flight
+  pub answered : flight.stage ≡ Answered
+  pub ready : IsReadyFor (at_in s.tree) flight work work.want
+  pub room : IsRoomFor s work.promise
+
+-- the same of a request for a name
+pub record IsNameEnding (s : State) (id parent : ℕ) (name : List ℕ) (promise : Promise) : Type 0 where
+  pub flight : Flight
+  pub here : (flying_of s.flights).at id ≡ Some flight
+  pub answered : flight.stage ≡ Answered
+  pub pin_room : 0 < flight.pins.room
+  pub leads : Leads (at_in s.tree) parent
+  pub node : (promise.nodes ≡ 1) ⊎ ((n : ℕ) × IsNamed (at_in s.tree) n parent name)
+  pub three : promise.postings ≡ 3
+  pub room : IsRoomFor s promise
+
+-- a table of the root alone
+pub record IsOpened (limits : Limits) (w : World) : Type 0 where
+  pub at : w.at ≡ with_node no_nodes 1 root_node
+  pub living : w.living ≡ 1
+  pub counts : w.counts ≡ 0
+  pub postings : w.postings ≡ []
+  pub flying : w.flying ≡ record { at = none_flying; pinned = λ n. false; many = 0; nodes = 0; postings = 0; room = 0 }
+  pub limits_are : w.limits ≡ limits

@@ -2,7 +2,7 @@
 
 ghost use Rattle.std.specs.Prelude.{◌≡◌};
 
-use flights::Givens;
+use flights::{Given, Givens};
 use paths::Path;
 use std::marker::Model;
 
@@ -96,6 +96,38 @@ impl Model for Answered {
     ghost Value = { Answer };
 
     ghost view = { λ a. record { id = a.id; given = a.given.items; lost = a.lost } };
+}
+
+impl Answered {
+    /// Tells the request from the others in flight in its table.
+    pub fn id(&self) -> u64
+        ensures { result ≡ self.now.id }
+    {
+        self.id
+    }
+
+    /// For each name of the request the node that is given to the client. It counts until it is settled as untaken.
+    pub fn given(&self) -> &[Option<Given>]
+        ensures { result.now ≡ self.now.given }
+    {
+        self.given.as_slice()
+    }
+
+    /// Whether its ticket was of no request that the table works on.
+    pub fn lost(&self) -> bool
+        ensures { result ≡ self.now.lost }
+    {
+        self.lost
+    }
+
+    /// Gives it up for good: its request stays in flight.
+    pub fn leave(self) {
+        let Answered {
+            id: _,
+            given: _,
+            lost: _,
+        } = self;
+    }
 }
 
 /// What a settle did. Only `Table::settle` makes one.

@@ -3,6 +3,15 @@
 //! Each call is one atomic step. The type keeps the law of the crate `image` over every run of steps.
 #![tactic(auto)]
 
+mod begin;
 mod data;
+mod finish;
+mod forget;
+mod settle;
+mod state;
+mod sweep;
+mod table;
 
 pub use data::{Answered, Begin, Limits, Outcome, Settled, Ticket};
+pub use flights::{Given, Want};
+pub use table::Table;

@@ -1,6 +1,6 @@
 //! A stream of bytes, cut into frames.
 
-ghost use Rattle.std.specs.Prelude.{◌≡◌, ℕ, List, ◌+◌, ◌≤◌, ◌↔◌, ◌++◌, [], length, drop, OnOk, OnErr, IfOk, IfSome, IfNone, Some, None, Err};
+ghost use Rattle.std.specs.Prelude.{◌≡◌, ℕ, List, ◌+◌, ◌-◌, ◌≤◌, ◌↔◌, ◌++◌, [], length, drop, OnOk, OnErr, IfOk, IfSome, IfNone, Some, None, Err};
 ghost use Rattle.wire.specs.Requests.{IsFramed};
 ghost use Rattle.wire.specs.Stream.{BeginsBadly, IsPartial, Splits};
 ghost use Rattle.wire.specs.declared.cutter.CutFault.TheVariants.{Memory};
@@ -49,9 +49,11 @@ impl Model for Cutter {
     ghost invariant = { λ c. (c.start ≤ length c.buffer.items) × StoppedBy (drop c.start c.buffer.items) c.stopped };
 }
 
-/// Moves what stands from a place on to the front.
-fn shift(buffer: &mut Vec<u8>, start: usize)
-    requires { start ≤ length buffer.old.items }
+/// Drops the bytes before `start`. No more bytes are moved than are dropped, so over the life of a cutter at most one byte
+/// is moved for each byte that it takes.
+fn compact(buffer: &mut Vec<u8>, start: usize)
+    requires within { start ≤ length buffer.old.items }
+    requires cheap { length buffer.old.items - start ≤ start }
     ensures { buffer.new.items ≡ drop start buffer.old.items }
 {
     let left = buffer.len() - start;
@@ -88,7 +90,7 @@ impl Cutter {
             return Err(CutFault::BadLength { len });
         }
         if self.start > 0 && self.start >= self.buffer.len() - self.start {
-            shift(&mut self.buffer, self.start);
+            compact(&mut self.buffer, self.start);
             self.start = 0;
         }
         self.buffer.extend_from_slice(piece)?;

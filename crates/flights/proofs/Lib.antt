@@ -1,0 +1,4 @@
+pub mod ById
+pub mod Lookups
+mod Kept
+mod Stepping

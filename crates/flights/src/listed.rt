@@ -1,0 +1,126 @@
+//! The requests in flight as a list of them, each step on its own.
+
+ghost use Rattle.std.specs.Prelude.{true, false, ◌≡◌, ◌<◌, ◌≤◌, ◌+◌, ◌^◌, ℕ, None, Some, IfNone, IfSome, length, slice_get, slice_set, slice_index_or, vec_len, vec_capacity};
+ghost use Rattle.std.specs.List.{remove};
+ghost use Rattle.flights.specs.declared.data.Flight.{Flight};
+ghost use Rattle.flights.specs.declared.data.Stage.TheVariants as Stage;
+ghost use Rattle.flights.specs.Flying.{is_working, answered, pinning, HasNoneWorking, HasNoneAnswered, Answers, PinsMore, Goes};
+ghost use Rattle.flights.specs.Listed.{flight_in, in_flight, flying_of, HaveOwnIds};
+
+use crate::data::{Flight, Pins, Stage, Work};
+use std::mem;
+
+/// The place of the request in the list.
+fn index_of(flights: &[Flight], id: u64) -> Option<usize>
+    ensures none { IfNone result (flight_in flights.now id ≡ None) }
+    ensures within { IfSome result (λ i. i < length flights.now) }
+    ensures found { IfSome result (λ i. slice_get flights.now i ≡ flight_in flights.now id) }
+{
+    for (i, flight) in flights.iter().enumerate() {
+        if flight.id == id {
+            return Some(i);
+        }
+    }
+    None
+}
+
+/// Ends the work on the request at that place, and gives it back.
+fn end_work_at(flights: &mut Vec<Flight>, i: usize) -> Option<Work>
+    requires { i < vec_len flights.old }
+    ensures none { IfNone result ((d : Flight) → (slice_index_or flights.old.items i d).stage ≡ Stage.Answered) }
+    ensures some { IfSome result (λ work. (d : Flight) → (slice_index_or flights.old.items i d).stage ≡ Stage.Working work) }
+    ensures items { (d : Flight) → flights.new.items ≡ slice_set flights.old.items i (answered (slice_index_or flights.old.items i d)) }
+    ensures len { vec_len flights.new ≡ vec_len flights.old }
+    ensures capacity { vec_capacity flights.new ≡ vec_capacity flights.old }
+{
+    let flight = &mut flights[i];
+    match mem::replace(&mut flight.stage, Stage::Answered) {
+        Stage::Working(work) => Some(work),
+        Stage::Answered => None,
+    }
+}
+
+/// Ends the work on the request, and gives it back.
+pub fn end_work(flights: &mut Vec<Flight>, id: u64) -> Option<Work>
+    requires { HaveOwnIds flights.old.items }
+    ensures none { IfNone result (HasNoneWorking (flight_in flights.old.items) id) }
+    ensures same { IfNone result (flights.new.items ≡ flights.old.items) }
+    ensures some { IfSome result (λ work. Answers (flying_of (in_flight flights.old)) id work (flying_of (in_flight flights.new))) }
+    ensures apart { HaveOwnIds flights.new.items }
+    ensures len { vec_len flights.new ≡ vec_len flights.old }
+    ensures capacity { vec_capacity flights.new ≡ vec_capacity flights.old }
+{
+    let i = index_of(flights.as_slice(), id)?;
+    end_work_at(flights, i)
+}
+
+/// Pins one more number for the request at that place.
+fn pin_at(flights: &mut Vec<Flight>, i: usize, number: u64)
+    requires within { i < vec_len flights.old }
+    requires room { (d : Flight) → 0 < (slice_index_or flights.old.items i d).pins.room }
+    ensures items { (d : Flight) → flights.new.items ≡ slice_set flights.old.items i (pinning (slice_index_or flights.old.items i d) number) }
+    ensures len { vec_len flights.new ≡ vec_len flights.old }
+    ensures capacity { vec_capacity flights.new ≡ vec_capacity flights.old }
+{
+    let flight = &mut flights[i];
+    flight.pins.add(number);
+}
+
+/// Pins one more number for the request.
+pub fn pin_for(flights: &mut Vec<Flight>, id: u64, number: u64)
+    requires apart { HaveOwnIds flights.old.items }
+    requires room { (f : Flight) × (flight_in flights.old.items id ≡ Some f) × (0 < f.pins.room) }
+    ensures pins { (f : Flight) → flight_in flights.old.items id ≡ Some f → PinsMore (flying_of (in_flight flights.old)) id f number (flying_of (in_flight flights.new)) }
+    ensures apart { HaveOwnIds flights.new.items }
+    ensures len { vec_len flights.new ≡ vec_len flights.old }
+    ensures capacity { vec_capacity flights.new ≡ vec_capacity flights.old }
+{
+    match index_of(flights.as_slice(), id) {
+        Some(i) => pin_at(flights, i, number),
+        None => unreachable!(),
+    }
+}
+
+/// Takes the request at that place out if it was answered, and gives its pins.
+fn take_at(flights: &mut Vec<Flight>, i: usize) -> Option<Pins>
+    requires { i < vec_len flights.old }
+    ensures none { IfNone result ((d : Flight) → is_working (slice_index_or flights.old.items i d).stage ≡ true) }
+    ensures same { IfNone result (flights.new.items ≡ flights.old.items) }
+    ensures answered { IfSome result (λ _. (d : Flight) → (slice_index_or flights.old.items i d).stage ≡ Stage.Answered) }
+    ensures pins { IfSome result (λ pins. (d : Flight) → (slice_index_or flights.old.items i d).pins ≡ pins) }
+    ensures items { IfSome result (λ _. flights.new.items ≡ remove flights.old.items i) }
+    ensures capacity { vec_capacity flights.new ≡ vec_capacity flights.old }
+{
+    let flight = &flights[i];
+    if flight.stage.is_working() {
+        return None;
+    }
+    let flight = flights.remove(i);
+    Some(flight.pins)
+}
+
+/// Takes an answered request out, and gives its pins.
+pub fn take_answered(flights: &mut Vec<Flight>, id: u64) -> Option<Pins>
+    requires { HaveOwnIds flights.old.items }
+    ensures none { IfNone result (HasNoneAnswered (flight_in flights.old.items) id) }
+    ensures same { IfNone result (flights.new.items ≡ flights.old.items) }
+    ensures some { IfSome result (λ pins. Goes (flying_of (in_flight flights.old)) id pins.numbers (flying_of (in_flight flights.new))) }
+    ensures apart { HaveOwnIds flights.new.items }
+    ensures capacity { vec_capacity flights.new ≡ vec_capacity flights.old }
+{
+    let i = index_of(flights.as_slice(), id)?;
+    take_at(flights, i)
+}
+
+/// The least number that is the id of none.
+pub fn least_free(flights: &[Flight]) -> u64
+    requires apart { HaveOwnIds flights.now }
+    requires short { length flights.now + 1 < 2 ^ 64 }
+    ensures free { flight_in flights.now result ≡ None }
+{
+    let mut id = 0;
+    while let Some(_place) = index_of(flights, id) {
+        id += 1;
+    }
+    id
+}

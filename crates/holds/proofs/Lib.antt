@@ -1,0 +1,3 @@
+pub mod Among
+pub mod Listing
+pub mod Recorded

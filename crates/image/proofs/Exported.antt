@@ -1,0 +1,104 @@
+-- That what is exported of a lawful table is a lawful image.
+use Rattle.std.proofs.Common.{ℕ, ◌+◌, ◌<◌, ◌≤◌, ◌≡◌, ◌≢◌, ◌==◌, ◌||◌, Bool, true, false, List, [], ◌∷◌, ◌++◌, Some, None, length, get_or, refl, sym, ap, ◌∙◌, subst, inl, inr, arith}
+use Rattle.std.specs.Prelude.{AllPairs}
+use Rattle.std.specs.List.{list_any}
+use Rattle.std.proofs.lemmas.Bool.{cases_eq, cases_lt}
+use Rattle.std.proofs.lemmas.List.Folds.{list_any-append}
+use Rattle.std.proofs.lemmas.List.Quantifiers.{all_pairs_push}
+use mathlib.Core.Path.{fun_ext}
+use Rattle.ledger.specs.declared.postings.Posting.{Posting}
+use Rattle.tree.specs.declared.nodes.Node.{Node}
+use Rattle.tree.specs.Places.{Lookup, IsAlive}
+use Rattle.tree.specs.Listed.{node_at, IsDistinct}
+use Rattle.tree.proofs.LookupLemmas.{with_same, with_other, node_at-push, IsDistinct-push, cases_option}
+use Rattle.image.specs.declared.data.Image.{Image}
+use Rattle.image.specs.declared.data.Record.{Record}
+use Rattle.image.specs.Law.{IsLawful, IsLawfulImage, is_pinned}
+
+-- ---- the law, from what is said of each number
+
+-- the law is about where each number leads and which numbers are pinned, and nothing else of them
+pub IsLawful-same : (old new : Lookup) (ps : List Posting) (p q : ℕ → Bool) → ((n : ℕ) → new n ≡ old n) → ((n : ℕ) → q n ≡ p n) → IsLawful old ps p → IsLawful new ps q
+IsLawful-same old new ps p q nodes pins law =
+    let at : old ≡ new = fun_ext (λ n. sym (nodes n)) in
+    let pinned : p ≡ q = fun_ext (λ n. sym (pins n)) in
+    subst (λ (r : ℕ → Bool). IsLawful new ps r) pinned (subst (λ (l : Lookup). IsLawful l ps p) at law)
+
+-- an image shows nodes, a ledger and pins that keep the law
+pub record Shows (image : Image) (at : Lookup) (ps : List Posting) (pinned : ℕ → Bool) : Type 0 where
+  pub distinct : IsDistinct image.nodes
+  pub nodes : (n : ℕ) → node_at image.nodes n ≡ at n
+  pub postings : image.postings ≡ ps
+  pub ids : AllPairs (λ r s. r.id ≢ s.id) image.records
+  pub pins : (n : ℕ) → is_pinned image.records n ≡ pinned n
+
+-- so it is lawful
+pub IsLawfulImage-shows : (image : Image) (at : Lookup) (ps : List Posting) (pinned : ℕ → Bool) → Shows image at ps pinned → IsLawful at ps pinned → IsLawfulImage image
+IsLawfulImage-shows image at ps pinned shows law = record {
+  numbers = shows.distinct;
+  ids = shows.ids;
+  law =
+      let here = IsLawful-same at (node_at image.nodes) ps pinned (is_pinned image.records) shows.nodes shows.pins law in
+      subst (λ (qs : List Posting). IsLawful (node_at image.nodes) qs (is_pinned image.records)) (sym shows.postings) here;
+}
+
+-- ---- nodes listed by rising numbers
+
+-- the list has the nodes of the numbers below the bound
+pub record ListsBelow (at : Lookup) (bound : ℕ) (xs : List Node) : Type 0 where
+  pub distinct : IsDistinct xs
+  pub below : (n : ℕ) → n < bound → node_at xs n ≡ at n
+  pub above : (n : ℕ) → bound ≤ n → node_at xs n ≡ None
+
+pub ListsBelow-none : (at : Lookup) → ListsBelow at 0 []
+ListsBelow-none at = record { distinct = tt; below = λ n less. absurd (omega arith); above = λ n le. refl }
+
+-- a number that no node bears is passed over
+pub ListsBelow-skip : (at : Lookup) (bound : ℕ) (xs : List Node) → at bound ≡ None → ListsBelow at bound xs → ListsBelow at (bound + 1) xs
+ListsBelow-skip at bound xs none lists = record {
+  distinct = lists.distinct;
+  below = λ n less. elim (cases_eq n bound) [
+    | inl e ↦ lists.above n (omega arith) ∙ (sym none ∙ ap at (sym e))
+    | inr ne ↦ lists.below n (omega arith)
+  ];
+  above = λ n le. lists.above n (omega arith);
+}
+
+-- the node of a number is added
+pub ListsBelow-push : (at : Lookup) (bound : ℕ) (xs : List Node) (x : Node) → at bound ≡ Some x → x.number ≡ bound → ListsBelow at bound xs → ListsBelow at (bound + 1) (xs ++ x ∷ [])
+ListsBelow-push at bound xs x here number lists =
+    let fresh : node_at xs x.number ≡ None = lists.above x.number (omega arith) in
+    let pushed = node_at-push xs x fresh in
+    let read = λ (n : ℕ). ap (λ (l : Lookup). l n) pushed in
+    record {
+      distinct = IsDistinct-push xs x lists.distinct fresh;
+      below = λ n less. elim (cases_eq x.number n) [
+        | inl e ↦ ap (node_at (xs ++ x ∷ [])) (sym e) ∙ (read x.number ∙ (with_same (node_at xs) x.number x ∙ (sym here ∙ ap at (sym number ∙ e))))
+        | inr ne ↦ read n ∙ (with_other (node_at xs) x.number x n ne ∙ lists.below n (omega arith))
+      ];
+      above = λ n le. read n ∙ (with_other (node_at xs) x.number x n (λ e. omega arith) ∙ lists.above n (omega arith));
+    }
+
+-- where each living number is below the bound, the list has all nodes
+pub ListsBelow-all : (at : Lookup) (bound : ℕ) (xs : List Node) → ((n : ℕ) → IsAlive at n → n < bound) → ListsBelow at bound xs → (n : ℕ) → node_at xs n ≡ at n
+ListsBelow-all at bound xs all lists n = elim (cases_lt n bound) [
+  | inl less ↦ lists.below n less
+  | inr le ↦ elim (cases_option (at n)) [
+    | inl none ↦ lists.above n le ∙ sym none
+    | inr (x, some) ↦ let less = all n (x, some) in absurd (omega arith)
+  ]
+]
+
+-- ---- records
+
+or_false : (b : Bool) → (b || false) ≡ b
+or_false true = refl
+or_false false = refl
+
+-- one record more
+pub is_pinned-push : (rs : List Record) (r : Record) (n : ℕ) → is_pinned (rs ++ r ∷ []) n ≡ (is_pinned rs n || list_any (λ m. m == n) r.pins)
+is_pinned-push rs r n =
+    list_any-append (λ (q : Record). list_any (λ m. m == n) q.pins) rs (r ∷ []) ∙ ap (λ (b : Bool). is_pinned rs n || b) (or_false (list_any (λ m. m == n) r.pins))
+
+pub ids-push : (rs : List Record) (r : Record) → AllPairs (λ (s t : Record). s.id ≢ t.id) rs → ((k : ℕ) (d : Record) → k < length rs → (get_or rs k d).id ≢ r.id) → AllPairs (λ (s t : Record). s.id ≢ t.id) (rs ++ r ∷ [])
+ids-push rs r ids fresh = all_pairs_push (λ (s t : Record). s.id ≢ t.id) rs r ids fresh

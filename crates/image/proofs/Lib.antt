@@ -1,0 +1,5 @@
+pub mod Listed
+pub mod Pairs
+pub mod Trees
+pub mod Ledgers
+pub mod Exported

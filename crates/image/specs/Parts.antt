@@ -1,0 +1,91 @@
+-- The parts of the law that one test decides, each said of a single node, posting or record.
+use Rattle.std.specs.Prelude.{ℕ, ◌+◌, ◌≡◌, ◌≢◌, Bool, true, false, List, Some, All}
+use Rattle.paths.specs.Fronts.{Name}
+use Rattle.ledger.specs.declared.postings.Posting.{Posting}
+use Rattle.ledger.specs.declared.postings.Posting.TheVariants.{Born}
+use Rattle.ledger.specs.Sums.{births_of, entries_of, given_of}
+use Rattle.tree.specs.declared.nodes.Key.{Key}
+use Rattle.tree.specs.declared.nodes.Node.{Node}
+use Rattle.tree.specs.declared.nodes.Place.TheVariants.{Root, Named}
+use Rattle.tree.specs.Places.{Lookup, IsAlive, IsNamed, Leads}
+use Rattle.image.specs.declared.data.Record.{Record}
+use Rattle.image.specs.Law.{IsUnborne, HasReason}
+
+-- ---- the tree
+
+-- no node but number 1 stands at the root
+pub record HasOneRoot (at : Lookup) : Type 0 where
+  pub only : (n : ℕ) (x : Node) → at n ≡ Some x → x.place ≡ Root → n ≡ 1
+
+abbrev pub IsRootAlone : Node → Type 0
+IsRootAlone x = x.place ≡ Root → x.number ≡ 1
+
+-- no two nodes have one parent and one name
+pub record AreNamesApart (at : Lookup) : Type 0 where
+  pub apart : (m n p : ℕ) (name : Name) → IsNamed at m p name → IsNamed at n p name → m ≡ n
+
+-- the two nodes have not both the same parent and the same name
+pub record StandApart (x y : Node) : Type 0 where
+  pub apart : (key : Key) → x.place ≡ Named key → y.place ≡ Named key → ⊥
+
+-- following parents from a named node ends at the root
+pub record AreAllReached (at : Lookup) : Type 0 where
+  pub reached : (n p : ℕ) (name : Name) → IsNamed at n p name → Leads at n
+
+pub record IsReached (at : Lookup) (x : Node) : Type 0 where
+  pub leads : (key : Key) → x.place ≡ Named key → Leads at x.number
+
+-- ---- marks
+
+abbrev pub IsMarkNamed : Node → Type 0
+IsMarkNamed x = x.hidden ≡ true → (key : Key) × (x.place ≡ Named key)
+
+-- ---- nodes and the ledger
+
+-- the root, where there is one, has generation 0, count 0 and no mark
+pub record IsRootPlain (at : Lookup) : Type 0 where
+  pub plain : (x : Node) → at 1 ≡ Some x → (x.generation ≡ 0) × (x.count ≡ 0) × (x.hidden ≡ false)
+
+-- each node but the root bears the generation of the last birth of its number
+pub record BearLastBirths (at : Lookup) (ps : List Posting) : Type 0 where
+  pub generations : (n : ℕ) (x : Node) → at n ≡ Some x → n ≢ 1 → x.generation + 1 ≡ births_of n ps
+
+pub record BearsLastBirth (ps : List Posting) (x : Node) : Type 0 where
+  pub generation : x.number ≢ 1 → x.generation + 1 ≡ births_of x.number ps
+
+-- each lookup count is its entries less what came back and what was forgotten
+pub record AreCountsExact (at : Lookup) (ps : List Posting) : Type 0 where
+  pub counts : (n : ℕ) (x : Node) → at n ≡ Some x → x.count + given_of n x.generation ps ≡ entries_of n x.generation ps
+
+unfoldable pub IsCountExact : List Posting → Node → Type 0
+IsCountExact ps x = x.count + given_of x.number x.generation ps ≡ entries_of x.number x.generation ps
+
+-- of a number and generation that no node bears, nothing is left
+pub record AreOthersSettled (at : Lookup) (ps : List Posting) : Type 0 where
+  pub others : (n g : ℕ) → IsUnborne at n g → given_of n g ps ≡ entries_of n g ps
+
+-- the same of the number and generation of a birth
+pub record IsSettled (at : Lookup) (ps : List Posting) (p : Posting) : Type 0 where
+  pub settled : (n g : ℕ) → p ≡ Born n g → IsUnborne at n g → given_of n g ps ≡ entries_of n g ps
+
+-- ---- records
+
+-- the two records have two ids
+abbrev pub HaveOtherIds : Record → Record → Type 0
+HaveOtherIds r s = r.id ≢ s.id
+
+-- a node bears the number
+unfoldable pub IsLiving : Lookup → ℕ → Type 0
+IsLiving at n = IsAlive at n
+
+-- each number that the record pins is that of a living node
+unfoldable pub PinsLiving : Lookup → Record → Type 0
+PinsLiving at r = All (IsLiving at) r.pins
+
+-- the node is named under the parent
+unfoldable pub IsChildOf : ℕ → Node → Type 0
+IsChildOf parent x = (name : Name) × (x.place ≡ Named (record { parent = parent; name = name }))
+
+-- the node is the root, or has a reason to live
+pub record IsReasoned (at : Lookup) (pinned : ℕ → Bool) (x : Node) : Type 0 where
+  pub reason : x.number ≢ 1 → HasReason at pinned x.number x

@@ -1,0 +1,49 @@
+//! Whether an image is lawful.
+
+ghost use Rattle.std.specs.Prelude.{◌↔◌, IsTrue};
+ghost use Rattle.tree.specs.Listed.{node_at, IsDistinct};
+ghost use Rattle.image.specs.Law.{IsLawful, is_pinned};
+
+mod counts;
+mod nodes;
+mod postings;
+mod records;
+
+use crate::data::{Image, Record};
+use counts::{are_born_in_order, are_counted, has_plain_root};
+use ledger::Posting;
+use nodes::{are_distinct, are_marks_named, is_tree};
+use records::{are_ids_distinct, are_pins_alive, have_reasons};
+use tree::Node;
+
+/// Whether nodes with distinct numbers, the ledger and the records keep the law together.
+fn keep_law(nodes: &[Node], postings: &[Posting], records: &[Record]) -> bool
+    requires { IsDistinct nodes.now }
+    ensures { IsTrue result ↔ IsLawful (node_at nodes.now) postings.now (is_pinned records.now) }
+{
+    is_tree(nodes)
+        && has_plain_root(nodes, postings)
+        && are_born_in_order(nodes, postings)
+        && are_counted(nodes, postings)
+        && are_marks_named(nodes)
+        && are_pins_alive(nodes, records)
+        && have_reasons(nodes, records)
+}
+
+impl Image {
+    ghost use Rattle.image.specs.Law.{IsLawfulImage};
+
+    /// Whether the image keeps the law of a table. It may hold any data.
+    pub fn lawful(&self) -> bool
+        ensures { IsTrue result ↔ IsLawfulImage self.now }
+    {
+        let nodes = self.nodes.as_slice();
+        let records = self.records.as_slice();
+        are_distinct(nodes)
+            && are_ids_distinct(records)
+            && keep_law(nodes, self.postings.as_slice(), records)
+    }
+}
+
+#[cfg(test)]
+mod tests;

@@ -1,0 +1,126 @@
+-- What the end of the work on a request leaves.
+use Rattle.std.proofs.Common.{ℕ, ◌<◌, ◌≡◌, Bool, true, false, [], ◌∷◌, Some, None, refl, sym, ap, ◌∙◌, subst, arith}
+use Rattle.std.proofs.lemmas.Bool.{true≢false}
+use Rattle.std.proofs.lemmas.Option.{same_Some}
+use Rattle.tree.specs.Places.{at_in}
+use Rattle.flights.specs.declared.data.Flight.{Flight}
+use Rattle.flights.specs.declared.data.Stage.TheVariants.{Working}
+use Rattle.flights.specs.declared.data.Want.{Want}
+use Rattle.flights.specs.declared.data.Want.TheVariants.{Name}
+use Rattle.flights.specs.declared.data.Work.{Work}
+use Rattle.flights.specs.Flying.{Flights, Flying, IsFlying, Answers, HasNoneWorking, answered, is_working}
+use Rattle.flights.specs.Listed.{InFlight, flying_of}
+use Rattle.table.specs.declared.data.Outcome.{Outcome}
+use Rattle.table.specs.declared.data.Outcome.TheVariants as outcome
+use Rattle.table.specs.declared.state.State.{State}
+use Rattle.table.specs.Answers.{Answer}
+use Rattle.table.specs.Steps.{Ends, Finishes, Gives}
+use Rattle.table.specs.World.{AreReady, IsEnding, IsKept, IsReadyFor, World, world_of}
+use Rattle.table.proofs.Laws.{lawful_pins}
+use Rattle.table.proofs.Ready.{AreReady-idle, flight_same}
+
+-- the same without what room there is
+abbrev pub answers_unroomed : (old new : Flying) (id : ℕ) (work : Work) → Answers old id work new → Answers (record old { room = 0 }) id work (record new { room = 0 })
+answers_unroomed old new id work a = record {
+  flight = a.flight;
+  here = a.here;
+  working = a.working;
+  at = a.at;
+  pinned = a.pinned;
+  many = a.many;
+  nodes = a.nodes;
+  postings = a.postings;
+}
+
+-- nothing is worked on under the id
+pub Finishes-none : (s : State) (flights : InFlight) (id : ℕ) (o : Outcome) (answer : Answer) → answer ≡ record { id = id; given = []; lost = true } → HasNoneWorking (flying_of s.flights).at id → flights ≡ s.flights
+    → Finishes (world_of s) id o answer (world_of (record s { flights = flights }))
+Finishes-none s flights id o answer is none same = record {
+  lost = λ _. (is, ap (λ (f : InFlight). world_of (record s { flights = f })) same);
+  found = λ f work here working. absurd (true≢false (sym (ap (λ st. is_working st) working) ∙ none f here));
+}
+
+module _ (s : State) (kept : IsKept s) (flights : InFlight) (id : ℕ) (work : Work) (a : Answers (flying_of s.flights) id work (flying_of flights)) (flying : IsFlying (flying_of flights)) where
+  pub ready_was : IsReadyFor (at_in s.tree) a.flight work work.want
+  ready_was = kept.ready id a.flight work a.here a.working
+
+  -- the request keeps its pins and is promised nothing more
+  pub answer_kept : IsKept (record s { flights = flights })
+  answer_kept = record {
+    law = lawful_pins (at_in s.tree) s.ledger.made (flying_of s.flights).pinned (flying_of flights).pinned kept.law
+        (λ m h. ap (λ (f : ℕ → Bool). f m) a.pinned ∙ h) (λ m h. kept.law.pins m (sym (ap (λ (f : ℕ → Bool). f m) a.pinned) ∙ h));
+    flying = flying;
+    ready = subst (λ (f : Flights). AreReady (at_in s.tree) f) (sym a.at) (AreReady-idle (at_in s.tree) (flying_of s.flights).at id (answered a.flight) refl kept.ready);
+    reserved = record { nodes = omega (arith, a.nodes, kept.reserved.nodes); postings = omega (arith, a.postings, kept.reserved.postings) };
+    within = record { nodes = omega (arith, a.nodes, kept.within.nodes); postings = omega (arith, a.postings, kept.within.postings); flights = omega (arith, a.many, kept.within.flights) };
+    counts = kept.counts;
+    node_limit = kept.node_limit;
+    posting_limit = kept.posting_limit;
+    short = kept.short;
+  }
+
+  pub idle_ready : (want : Want) → IsReadyFor (at_in s.tree) a.flight work want → IsReadyFor (at_in s.tree) (answered a.flight) work want
+  idle_ready (Name parent name) r = record {
+    leads = r.leads;
+    parent_pinned = r.parent_pinned;
+    node = r.node;
+    postings = r.postings;
+    pin_room = r.pin_room;
+    answer_room = r.answer_room;
+    unanswered = r.unanswered;
+  }
+
+  -- and what it was promised is free for its end
+  abbrev pub ending : IsEnding (record s { flights = flights }) id work
+  ending = record {
+    flight = answered a.flight;
+    here = ap (λ (f : Flights). f id) a.at ∙ flight_same (flying_of s.flights).at id (answered a.flight);
+    answered = refl;
+    ready = idle_ready work.want ready_was;
+    room = record {
+      nodes = omega (arith, a.nodes, kept.reserved.nodes);
+      postings = omega (arith, a.postings, kept.reserved.postings);
+      nodes_within = omega (arith, a.nodes, kept.within.nodes);
+      postings_within = omega (arith, a.postings, kept.within.postings);
+    };
+  }
+
+  answer_roomy : (want : Want) → IsReadyFor (at_in s.tree) a.flight work want → (0 < work.answer.room) × (work.answer.items ≡ [])
+  answer_roomy (Name parent name) r = (r.answer_room, r.unanswered)
+
+  pub room_to_answer : 0 < work.answer.room
+  room_to_answer = (answer_roomy work.want ready_was).0
+
+  pub is_unanswered : work.answer.items ≡ []
+  is_unanswered = (answer_roomy work.want ready_was).1
+
+  -- the request that is found is the one whose work was taken
+  same_work : (f : Flight) (w : Work) → (flying_of s.flights).at id ≡ Some f → f.stage ≡ Working w → w ≡ work
+  same_work f w here working =
+      let same : f ≡ a.flight = same_Some f a.flight (sym here ∙ a.here) in
+      let stages : Working w ≡ Working work = sym working ∙ (ap (λ (k : Flight). k.stage) same ∙ a.working) in
+      cc
+
+  is_lost : HasNoneWorking (flying_of s.flights).at id → ⊥
+  is_lost none = true≢false (sym (ap (λ st. is_working st) a.working) ∙ none a.flight a.here)
+
+  ends_failed : (want : Want) (o : Outcome) (answer : Answer) → (o ≡ outcome.Entry → ⊥) → answer ≡ record { id = id; given = None ∷ []; lost = false } → Ends (world_of s) id work want o answer (world_of (record s { flights = flights }))
+  ends_failed (Name parent name) outcome.Entry answer other is = absurd (other refl)
+  ends_failed (Name parent name) outcome.Failed answer other is = record { answer_is = is; ends = answers_unroomed (flying_of s.flights) (flying_of flights) id work a; rest = refl }
+  ends_failed (Name parent name) outcome.Done answer other is = record { answer_is = is; ends = answers_unroomed (flying_of s.flights) (flying_of flights) id work a; rest = refl }
+
+  pub Finishes-failed : (o : Outcome) (answer : Answer) → (o ≡ outcome.Entry → ⊥) → answer ≡ record { id = id; given = None ∷ []; lost = false } → Finishes (world_of s) id o answer (world_of (record s { flights = flights }))
+  Finishes-failed o answer other is = record {
+    lost = λ none. absurd (is_lost none);
+    found = λ f w here working. subst (λ (k : Work). Ends (world_of s) id k k.want o answer (world_of (record s { flights = flights }))) (sym (same_work f w here working)) (ends_failed work.want o answer other is);
+  }
+
+  ends_given : (want : Want) (answer : Answer) (new : World) → Gives (world_of (record s { flights = flights })) id (answered a.flight) want answer new → Ends (world_of s) id work want outcome.Entry answer new
+  ends_given (Name parent name) answer new gives = record { mid = record (flying_of flights) { room = 0 }; ends = answers_unroomed (flying_of s.flights) (flying_of flights) id work a; gives = gives }
+
+  pub Finishes-given : (o : Outcome) (answer : Answer) (new : World) → o ≡ outcome.Entry → Gives (world_of (record s { flights = flights })) id (answered a.flight) work.want answer new → Finishes (world_of s) id o answer new
+  Finishes-given o answer new entry gives = record {
+    lost = λ none. absurd (is_lost none);
+    found = λ f w here working. subst (λ (k : Work). Ends (world_of s) id k k.want o answer new) (sym (same_work f w here working))
+        (subst (λ (p : Outcome). Ends (world_of s) id work work.want p answer new) (sym entry) (ends_given work.want answer new gives));
+  }

@@ -1,0 +1,86 @@
+-- What holds while nodes that nothing keeps are dropped one by one.
+use Rattle.std.specs.Prelude.{ℕ, ◌+◌, ◌≡◌, ◌≢◌, ◌≤◌, ◌⊎◌, Bool, List, [], ◌∷◌, Option, Some, None, length}
+use Rattle.flights.specs.declared.data.Given.{Given}
+use Rattle.paths.specs.Fronts.{Name}
+use Rattle.tree.specs.declared.nodes.Node.{Node}
+use Rattle.tree.specs.declared.nodes.Place.{Place}
+use Rattle.tree.specs.declared.nodes.Place.TheVariants.{Root, Named, Cut}
+use Rattle.tree.specs.Places.{Lookup, Nodes, at_in, IsNamed, IsTree}
+use Rattle.ledger.specs.Postings.{Postings}
+use Rattle.ledger.specs.declared.postings.Posting.{Posting}
+use Rattle.image.specs.Law.{HasPlainRoot, IsCounted, IsBornInOrder, AreMarksNamed, ArePinsAlive, HasReason}
+
+abbrev pub IsAmong : ℕ → List ℕ → Type 0
+IsAmong n [] = ⊥
+IsAmong n (b ∷ bs) = (n ≡ b) ⊎ IsAmong n bs
+
+-- what the law says of nodes, ledger and pins, but for the tree and the reasons
+pub record IsBooked (at : Lookup) (ps : List Posting) (pinned : ℕ → Bool) : Type 0 where
+  pub root : HasPlainRoot at ps
+  pub counted : IsCounted at ps
+  pub born : IsBornInOrder at ps
+  pub marks : AreMarksNamed at
+  pub pins : ArePinsAlive at pinned
+
+-- each node but the root has a reason, those that are left out aside
+abbrev pub HaveReasonsBut : Lookup → (ℕ → Bool) → List ℕ → Type 0
+HaveReasonsBut at pinned but = (n : ℕ) (x : Node) → at n ≡ Some x → n ≢ 1 → (IsAmong n but → ⊥) → HasReason at pinned n x
+
+-- the nodes are a tree in which all have a reason, those that are left out aside
+pub record IsPruned (at : Lookup) (pinned : ℕ → Bool) (but : List ℕ) : Type 0 where
+  pub tree : IsTree at
+  pub reasons : HaveReasonsBut at pinned but
+
+-- the law, but that some nodes may lack a reason
+pub record IsNearly (at : Lookup) (ps : List Posting) (pinned : ℕ → Bool) (but : List ℕ) : Type 0 where
+  pub booked : IsBooked at ps pinned
+  pub pruned : IsPruned at pinned but
+
+-- the number that a place is under
+abbrev pub parent_in : Place → Option ℕ
+parent_in Root = None
+parent_in (Named key) = Some key.parent
+parent_in Cut = None
+
+-- the numbers of the nodes given
+abbrev pub numbers_in : List (Option Given) → List ℕ
+numbers_in [] = []
+numbers_in (None ∷ gs) = numbers_in gs
+numbers_in (Some g ∷ gs) = g.number ∷ numbers_in gs
+
+-- nodes with a count of 0 went: the sum of the counts and the limit are the same, and there is no less room
+pub record IsSameRest (old new : Nodes) : Type 0 where
+  pub fewer : new.living ≤ old.living
+  pub counts : new.counts ≡ old.counts
+  pub limit : new.limit ≡ old.limit
+  pub room : old.room ≤ new.room
+
+-- what an entry adds, with a birth or without one: one to the sum of the counts, and so many nodes and postings
+pub record IsOneMore (born : ℕ) (old : Nodes) (made : Postings) (new : Nodes) (more : Postings) : Type 0 where
+  pub living : new.living ≡ old.living + born
+  pub room : old.room ≤ new.room + born
+  pub counts : new.counts ≡ old.counts + 1
+  pub limit : new.limit ≡ old.limit
+  pub postings : length more.made ≡ length made.made + 1 + born
+  pub posting_room : made.room ≤ more.room + 1 + born
+  pub posting_limit : more.limit ≡ made.limit
+
+-- a node is born at most, and none where one is named so
+pub record IsEntered (old : Nodes) (made : Postings) (parent : ℕ) (name : Name) (new : Nodes) (more : Postings) : Type 0 where
+  pub born : ℕ
+  pub one : born ≤ 1
+  pub none : (n : ℕ) → IsNamed (at_in old) n parent name → born ≡ 0
+  pub more_is : IsOneMore born old made new more
+
+-- who is named so stays named so
+abbrev pub KeepsNames : Lookup → Lookup → Type 0
+KeepsNames old new = (n p : ℕ) (name : Name) → IsNamed old n p name → IsNamed new n p name
+
+-- what is taken back: postings take the place of counts
+pub record IsTakenBack (old : Nodes) (made : Postings) (new : Nodes) (more : Postings) : Type 0 where
+  pub living : new.living ≡ old.living
+  pub room : new.room ≡ old.room
+  pub limit : new.limit ≡ old.limit
+  pub postings : length more.made + new.counts ≤ length made.made + old.counts
+  pub posting_room : made.room + new.counts ≤ more.room + old.counts
+  pub posting_limit : more.limit ≡ made.limit

@@ -1,0 +1,179 @@
+//! The end of the work on a request.
+
+ghost use Rattle.std.specs.Prelude.{◌≡◌, ◌≢◌, ◌≤◌, ◌<◌, ◌+◌, ◌^◌, ℕ, List, Some, None, false, [], ◌∷◌, length};
+ghost use Rattle.flights.specs.Listed.{flying_of};
+ghost use Rattle.flights.specs.declared.data.Want.TheVariants as Want;
+ghost use Rattle.image.specs.Law.{IsLawful};
+ghost use Rattle.table.specs.Steps.{Bears, Enters, EntersAgain, Finishes, Gives, GivesEntry};
+ghost use Rattle.table.specs.Sweeping.{IsEntered, IsOneMore, KeepsNames};
+ghost use Rattle.table.specs.World.{IsEnding, IsKept, IsNameEnding, world_of};
+ghost use Rattle.tree.specs.Places.{at_in, IsAlive, IsFree, IsNamed, Leads};
+
+use crate::data::{Answered, Outcome, Ticket};
+use crate::state::State;
+use flights::{Flights, Given, Givens, Promise, Want, Work};
+use ledger::{Ledger, Posting};
+use tree::{Key, Tree};
+
+/// Counts one more entry of the node that is named so, and posts it.
+fn enter_again(
+    tree: &mut Tree,
+    ledger: &mut Ledger,
+    _flights: &Flights,
+    number: u64,
+    _key: &Key,
+) -> Given
+    requires law { IsLawful (at_in tree.old) ledger.old.made (flying_of _flights.now).pinned }
+    requires named { IsNamed (at_in tree.old) number _key.now.parent _key.now.name }
+    requires room { 0 < ledger.old.room }
+    requires short { length ledger.old.made + 1 < 2 ^ 64 }
+    ensures enters { EntersAgain (at_in tree.old) ledger.old.made _key.now.parent _key.now.name result (at_in tree.new) ledger.new.made }
+    ensures law { IsLawful (at_in tree.new) ledger.new.made (flying_of _flights.now).pinned }
+    ensures names { KeepsNames (at_in tree.old) (at_in tree.new) }
+    ensures alive { IsAlive (at_in tree.new) result.number }
+    ensures more { IsOneMore 0 tree.old ledger.old tree.new ledger.new }
+{
+    let Some(node) = tree.at(number) else {
+        unreachable!();
+    };
+    let (generation, count) = (node.generation, node.count + 1);
+    tree.set_count(number, count);
+    ledger.post(Posting::Entry { number, generation });
+    Given { number, generation }
+}
+
+/// Bears a node at the name, and counts its first entry.
+fn bear(tree: &mut Tree, ledger: &mut Ledger, _flights: &Flights, key: Key, copy: Key) -> Given
+    requires law { IsLawful (at_in tree.old) ledger.old.made (flying_of _flights.now).pinned }
+    requires free { IsFree (at_in tree.old) key.parent key.name }
+    requires above { Leads (at_in tree.old) key.parent }
+    requires node_room { 0 < tree.old.room }
+    requires room { 2 ≤ ledger.old.room }
+    ensures bears { Bears (at_in tree.old) ledger.old.made key.parent key.name result (at_in tree.new) ledger.new.made }
+    ensures law { IsLawful (at_in tree.new) ledger.new.made (flying_of _flights.now).pinned }
+    ensures names { KeepsNames (at_in tree.old) (at_in tree.new) }
+    ensures alive { IsAlive (at_in tree.new) result.number }
+    ensures more { IsOneMore 1 tree.old ledger.old tree.new ledger.new }
+{
+    let number = tree.vacant();
+    let generation = ledger.births(number);
+    tree.birth(number, generation, key, copy);
+    ledger.post(Posting::Born { number, generation });
+    tree.set_count(number, 1);
+    ledger.post(Posting::Entry { number, generation });
+    Given { number, generation }
+}
+
+/// Gives an entry of the name: of the node that stands there, or of one that is born.
+fn enter(tree: &mut Tree, ledger: &mut Ledger, flights: &Flights, key: Key, copy: Key) -> Given
+    requires law { IsLawful (at_in tree.old) ledger.old.made (flying_of flights.now).pinned }
+    requires above { Leads (at_in tree.old) key.parent }
+    requires node_room { IsFree (at_in tree.old) key.parent key.name → 0 < tree.old.room }
+    requires room { 2 ≤ ledger.old.room }
+    requires short { length ledger.old.made + 1 < 2 ^ 64 }
+    ensures enters { Enters (at_in tree.old) ledger.old.made key.parent key.name result (at_in tree.new) ledger.new.made }
+    ensures law { IsLawful (at_in tree.new) ledger.new.made (flying_of flights.now).pinned }
+    ensures names { KeepsNames (at_in tree.old) (at_in tree.new) }
+    ensures alive { IsAlive (at_in tree.new) result.number }
+    ensures more { IsEntered tree.old ledger.old key.parent key.name tree.new ledger.new }
+{
+    match tree.find(&key) {
+        Some(number) => enter_again(tree, ledger, flights, number, &key),
+        None => bear(tree, ledger, flights, key, copy),
+    }
+}
+
+/// The answer of a request that gives nothing for its name.
+fn give_nothing(id: u64, work: Work) -> Answered
+    requires room { 0 < work.answer.room }
+    requires unanswered { work.answer.items ≡ [] }
+    ensures { result ≡ record { id = id; given = None ∷ []; lost = false } }
+{
+    let Work { mut answer, .. } = work;
+    answer.add(None);
+    Answered {
+        id,
+        given: answer,
+        lost: false,
+    }
+}
+
+/// The name under a parent that was wanted.
+pub fn key_of(want: Want) -> Key
+    ensures { want ≡ Want.Name result.parent result.name }
+{
+    match want {
+        Want::Name { parent, name } => Key { parent, name },
+    }
+}
+
+impl State {
+    /// Gives an entry of the name, and lets the request pin its node.
+    fn give_name(
+        &mut self,
+        id: u64,
+        key: Key,
+        copy: Key,
+        _promise: Promise,
+        answer: Givens,
+    ) -> Answered
+        requires kept { IsKept self.old }
+        requires ending { IsNameEnding self.old id key.parent key.name _promise }
+        requires room { 0 < answer.room }
+        requires unanswered { answer.items ≡ [] }
+        ensures gives { (e : IsNameEnding self.old id key.parent key.name _promise) → GivesEntry (world_of self.old) id e.flight key.parent key.name result (world_of self.new) }
+        ensures kept { IsKept self.new }
+    {
+        let mut answer = answer;
+        let given = enter(&mut self.tree, &mut self.ledger, &self.flights, key, copy);
+        self.counts += 1;
+        self.flights.pin(id, given.number);
+        answer.add(Some(given));
+        Answered {
+            id,
+            given: answer,
+            lost: false,
+        }
+    }
+
+    /// Gives an entry of what a request was begun with.
+    fn give(&mut self, id: u64, work: Work) -> Answered
+        requires kept { IsKept self.old }
+        requires ending { IsEnding self.old id work }
+        ensures gives { (e : IsEnding self.old id work) → Gives (world_of self.old) id e.flight work.want result (world_of self.new) }
+        ensures kept { IsKept self.new }
+    {
+        let Work {
+            want,
+            copy,
+            promise,
+            answer,
+        } = work;
+        let key = key_of(want);
+        let copy = Key {
+            parent: key.parent,
+            name: copy,
+        };
+        self.give_name(id, key, copy, promise, answer)
+    }
+
+    /// Ends the work on a request: the client is given what its want asks for, or nothing.
+    pub fn finish(&mut self, ticket: Ticket, outcome: Outcome) -> Answered
+        requires { IsKept self.old }
+        ensures finishes { Finishes (world_of self.old) ticket.id outcome result (world_of self.new) }
+        ensures kept { IsKept self.new }
+    {
+        let Ticket { id, path: _ } = ticket;
+        let Some(work) = self.flights.answer(id) else {
+            return Answered {
+                id,
+                given: Givens::new(self.alloc),
+                lost: true,
+            };
+        };
+        match outcome {
+            Outcome::Entry => self.give(id, work),
+            Outcome::Failed | Outcome::Done => give_nothing(id, work),
+        }
+    }
+}

@@ -1,0 +1,41 @@
+//! The parts of a table.
+
+ghost use Rattle.std.specs.Prelude.{◌≤◌, IfOk};
+ghost use Rattle.table.specs.World.{IsKept, IsOpened, world_of};
+
+use crate::data::Limits;
+use flights::Flights;
+use ledger::Ledger;
+use std::alloc::{AllocError, Global};
+use tree::Tree;
+
+/// The parts of a table, without the shares of its workers.
+#[derive(Drop)]
+pub struct State {
+    pub alloc: Global,
+    pub tree: Tree,
+    pub ledger: Ledger,
+    pub flights: Flights,
+    pub limits: Limits,
+    /// The sum of all lookup counts.
+    pub counts: u64,
+}
+
+impl State {
+    /// The root alone.
+    pub fn open(alloc: Global, limits: Limits) -> Result<State, AllocError>
+        requires { 1 ≤ limits.nodes }
+        ensures opened { IfOk result (λ s. IsOpened limits (world_of s)) }
+        ensures kept { IfOk result IsKept }
+    {
+        let tree = Tree::new(alloc, limits.nodes)?;
+        Ok(State {
+            alloc,
+            tree,
+            ledger: Ledger::new(alloc, limits.postings as usize),
+            flights: Flights::new(alloc),
+            limits,
+            counts: 0,
+        })
+    }
+}

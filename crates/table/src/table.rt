@@ -1,0 +1,152 @@
+//! The table, with the book that shows what each worker posted.
+
+ghost use Rattle.std.specs.Prelude.{◌≡◌, ◌≤◌, ◌<◌, ◌↔◌, ◌++◌, ◌^◌, ℕ, IfOk, IsErr, map, vec_len, length, take, drop};
+ghost use Rattle.std.specs.List.{range_with_len};
+ghost use Rattle.ledger.specs.Shares.{AreAll, nothing, plus, sum_of};
+ghost use Rattle.ledger.specs.Sums.{totals_of};
+ghost use Rattle.table.specs.Steps.{Begins, Finishes, Forgets, Settles, gained};
+ghost use Rattle.table.specs.World.{IsLawfulWorld, IsOpened, world_of};
+
+use crate::data::{Answered, Begin, Limits, Outcome, Settled, Ticket};
+use crate::state::State;
+use flights::Want;
+use ledger::{Blanks, Book, Gather, Ledger, Share, Shared, Totals};
+use std::alloc::{AllocError, Global};
+use std::marker::Model;
+use std::sync::ledger as tokens;
+
+/// The state that all workers share, under one lock. Its type parameters name the four ledgers of its book.
+#[derive(Drop)]
+pub struct Table<B: Shared, E: tokens::Ledger, K: tokens::Ledger, F: tokens::Ledger> {
+    state: State,
+    book: Book<B, E, K, F>,
+}
+
+impl<B: Shared, E: tokens::Ledger, K: tokens::Ledger, F: tokens::Ledger> Model
+    for Table<B, E, K, F> {
+    ghost use Rattle.std.specs.Prelude.{◌≡◌};
+    ghost use Rattle.ledger.specs.Sums.{totals_of};
+    ghost use Rattle.table.specs.declared.state.State.{State};
+    ghost use Rattle.std.specs.Coded.{codes, coded_ℕ};
+    ghost use Rattle.std.specs.FinMap as map;
+    ghost use Rattle.std.specs.Ordering.{nat_cmp};
+    ghost use Rattle.tree.specs.contracts.nodes.Node as node;
+    ghost use Rattle.table.specs.World.{IsKept};
+
+    ghost Value = { State };
+
+    ghost coded = { Prim.hlevel (codes, map.code {R = nat_cmp} coded_ℕ node.the_row.coded) };
+
+    ghost view = { λ t. t.state };
+
+    ghost invariant = { λ t. IsKept t.state × (t.book ≡ totals_of t.state.ledger.made) };
+}
+
+/// Counts the postings from a place on for the worker that has the share.
+fn post_since<B: Shared, E: tokens::Ledger, K: tokens::Ledger, F: tokens::Ledger>(
+    ledger: &Ledger,
+    book: &mut Book<B, E, K, F>,
+    share: &mut Share<B, E, K, F>,
+    made: usize,
+)
+    requires within { made ≤ length ledger.now.made }
+    requires short { length ledger.now.made < 2 ^ 64 }
+    requires so_far { book.old ≡ totals_of (take made ledger.now.made) }
+    ensures book { book.new ≡ totals_of ledger.now.made }
+    ensures share { share.new ≡ record share.old { totals = plus share.old.totals (totals_of (drop made ledger.now.made)) } }
+{
+    let postings = ledger.postings();
+    for posting in &postings[made..] {
+        book.post(share, posting);
+    }
+}
+
+impl<B: Shared, E: tokens::Ledger, K: tokens::Ledger, F: tokens::Ledger> Table<B, E, K, F> {
+    /// A table of the root alone, and a share for each of its workers. A refused growth gives nothing.
+    pub fn open(
+        alloc: Global,
+        limits: Limits,
+        blanks: Blanks,
+        workers: usize,
+    ) -> Result<(Table<B, E, K, F>, Vec<Share<B, E, K, F>>), AllocError>
+        requires names { blanks ≡ record { born = B.name; entries = E.name; backs = K.name; forgotten = F.name; parts = workers } }
+        requires cut { AreAll workers B.parts E.parts K.parts F.parts }
+        requires shares { workers ≡ B.shares }
+        requires root { 1 ≤ limits.nodes }
+        ensures opened { IfOk result (λ (table, _). IsOpened limits (world_of table)) }
+        ensures lawful { IfOk result (λ (table, _). IsLawfulWorld (world_of table)) }
+        ensures shares { IfOk result (λ (_, shares). shares.items ≡ map (λ index. record { index = index; totals = nothing }) (range_with_len 0 workers)) }
+    {
+        let state = State::open(alloc, limits)?;
+        let (book, shares) = Book::open(alloc, blanks, workers)?;
+        Ok((Table { state, book }, shares))
+    }
+
+    /// Takes up a request. Busy and a refusal change nothing.
+    pub fn begin(&mut self, unique: u64, want: Want) -> Begin
+        ensures begins { Begins (world_of self.old) unique want result (world_of self.new) }
+        ensures lawful { IsLawfulWorld (world_of self.new) }
+    {
+        self.state.begin(unique, want)
+    }
+
+    /// Ends the work on a request. It takes no memory.
+    pub fn finish(
+        &mut self,
+        share: &mut Share<B, E, K, F>,
+        ticket: Ticket,
+        outcome: Outcome,
+    ) -> Answered
+        ensures finishes { Finishes (world_of self.old) ticket.id outcome result (world_of self.new) }
+        ensures lawful { IsLawfulWorld (world_of self.new) }
+        ensures grows { (world_of self.new).postings ≡ (world_of self.old).postings ++ gained (world_of self.old) (world_of self.new) }
+        ensures share { share.new ≡ record share.old { totals = plus share.old.totals (totals_of (gained (world_of self.old) (world_of self.new))) } }
+    {
+        let made = self.state.ledger.postings().len();
+        let answered = self.state.finish(ticket, outcome);
+        post_since(&self.state.ledger, &mut self.book, share, made);
+        answered
+    }
+
+    /// Ends a request whose reply was taken, or was not. It takes no memory.
+    pub fn settle(
+        &mut self,
+        share: &mut Share<B, E, K, F>,
+        answered: Answered,
+        taken: bool,
+    ) -> Settled
+        ensures settles { Settles (world_of self.old) answered taken result (world_of self.new) }
+        ensures lawful { IsLawfulWorld (world_of self.new) }
+        ensures grows { (world_of self.new).postings ≡ (world_of self.old).postings ++ gained (world_of self.old) (world_of self.new) }
+        ensures share { share.new ≡ record share.old { totals = plus share.old.totals (totals_of (gained (world_of self.old) (world_of self.new))) } }
+    {
+        let made = self.state.ledger.postings().len();
+        let settled = self.state.settle(answered, taken);
+        post_since(&self.state.ledger, &mut self.book, share, made);
+        settled
+    }
+
+    /// The client gives `n` lookups of a node back: the smaller of `n` and its count is taken, and told. It takes no memory.
+    pub fn forget(&mut self, share: &mut Share<B, E, K, F>, number: u64, n: u64) -> u64
+        ensures forgets { Forgets (world_of self.old) number n result (world_of self.new) }
+        ensures lawful { IsLawfulWorld (world_of self.new) }
+        ensures grows { (world_of self.new).postings ≡ (world_of self.old).postings ++ gained (world_of self.old) (world_of self.new) }
+        ensures share { share.new ≡ record share.old { totals = plus share.old.totals (totals_of (gained (world_of self.old) (world_of self.new))) } }
+    {
+        let made = self.state.ledger.postings().len();
+        let amount = self.state.forget(number, n);
+        post_since(&self.state.ledger, &mut self.book, share, made);
+        amount
+    }
+
+    /// Adds up the shares. Where none is missing, their sum is what the ledger holds. The table and the shares are used up.
+    pub fn gather(self, shares: Vec<Share<B, E, K, F>>) -> Result<Totals, Gather>
+        requires { AreAll B.shares B.parts E.parts K.parts F.parts }
+        ensures missing { IsErr result ↔ (vec_len shares < B.shares) }
+        ensures sums { IfOk result (λ totals. totals ≡ sum_of shares.items) }
+        ensures ledger { IfOk result (λ totals. totals ≡ totals_of (world_of self).postings) }
+    {
+        let Table { state: _, book } = self;
+        book.gather(shares)
+    }
+}
