@@ -8,7 +8,8 @@ use Rattle.flights.specs.declared.data.Given.{Given}
 use Rattle.flights.specs.declared.data.Want.TheVariants as want
 use Rattle.table.specs.Answers.{Claim, Answer, Settlement}
 use Rattle.table.specs.Steps.{Begins, Finishes, Forgets, Settles}
-use Rattle.table.specs.World.{World}
+use Rattle.table.specs.World.{World, world_of}
+use Rattle.table.specs.declared.state.State.{State}
 use Rattle.table.specs.declared.data.Begin.{Begin}
 use Rattle.table.specs.declared.data.Begin.TheVariants.{Go, Busy, Refused}
 use Rattle.table.specs.declared.data.Outcome.{Outcome}
@@ -53,6 +54,9 @@ given_in answer = option_and_then (λ g. g) (slice_get answer.given 0)
 pub record Side (L : Type 0) : Type 0 where
   pub world : World
   pub link : L
+
+abbrev pub side : {L : Type 0} → State → L → Side L
+side table link = record { world = world_of table; link = link }
 
 -- the world stays, and this is offered
 pub record Only {L : Type 0} (sends : L → List ℕ → Sent → L → Type 0) (old : Side L) (reply : List ℕ) (sent : Sent) (new : Side L) : Type 0 where
