@@ -1,6 +1,7 @@
 -- That what is exported of a lawful table is a lawful image.
-use Rattle.std.proofs.Common.{ℕ, ◌+◌, ◌<◌, ◌≤◌, ◌≡◌, ◌≢◌, ◌==◌, ◌||◌, Bool, true, false, List, [], ◌∷◌, ◌++◌, Some, None, length, get_or, refl, sym, ap, ◌∙◌, subst, inl, inr, arith}
+use Rattle.std.proofs.Common.{ℕ, zero, suc, ◌+◌, ◌<◌, ◌≤◌, ◌≡◌, ◌≢◌, ◌==◌, ◌||◌, Bool, true, false, List, [], ◌∷◌, ◌++◌, Some, None, length, get_or, refl, sym, ap, ◌∙◌, subst, inl, inr, arith}
 use Rattle.std.specs.Prelude.{AllPairs}
+use Rattle.std.specs.List.{AllZip}
 use Rattle.std.specs.List.{list_any}
 use Rattle.std.proofs.lemmas.Bool.{cases_eq, cases_lt}
 use Rattle.std.proofs.lemmas.List.Folds.{list_any-append}
@@ -102,3 +103,42 @@ is_pinned-push rs r n =
 
 pub ids-push : (rs : List Record) (r : Record) → AllPairs (λ (s t : Record). s.id ≢ t.id) rs → ((k : ℕ) (d : Record) → k < length rs → (get_or rs k d).id ≢ r.id) → AllPairs (λ (s t : Record). s.id ≢ t.id) (rs ++ r ∷ [])
 ids-push rs r ids fresh = all_pairs_push (λ (s t : Record). s.id ≢ t.id) rs r ids fresh
+
+-- records that are written one for each element of a list, with its id and its pins
+abbrev pub Mirrors : {A : Type 0} → (A → ℕ) → (A → List ℕ) → List A → List Record → Type 0
+Mirrors id pins fs rs = AllZip (λ f (r : Record). (r.id ≡ id f) × (r.pins ≡ pins f)) fs rs
+
+-- they pin what those pin
+pub is_pinned-mirrors : {A : Type 0} (id : A → ℕ) (pins : A → List ℕ) (fs : List A) (rs : List Record) → Mirrors id pins fs rs
+    → (n : ℕ) → is_pinned rs n ≡ list_any (λ f. list_any (λ m. m == n) (pins f)) fs
+is_pinned-mirrors id pins [] [] mirrors n = refl
+is_pinned-mirrors id pins [] (r ∷ rs) mirrors n = absurd mirrors
+is_pinned-mirrors id pins (f ∷ fs) [] mirrors n = absurd mirrors
+is_pinned-mirrors id pins (f ∷ fs) (r ∷ rs) mirrors n =
+    let one : list_any (λ m. m == n) r.pins ≡ list_any (λ m. m == n) (pins f) = ap (λ (ns : List ℕ). list_any (λ m. m == n) ns) mirrors.0.1 in
+    let others = is_pinned-mirrors id pins fs rs mirrors.1 n in
+    cc
+
+mirrors_length : {A : Type 0} (id : A → ℕ) (pins : A → List ℕ) (fs : List A) (rs : List Record) → Mirrors id pins fs rs → length rs ≡ length fs
+mirrors_length id pins [] [] mirrors = refl
+mirrors_length id pins [] (r ∷ rs) mirrors = absurd mirrors
+mirrors_length id pins (f ∷ fs) [] mirrors = absurd mirrors
+mirrors_length id pins (f ∷ fs) (r ∷ rs) mirrors = let rest = mirrors_length id pins fs rs mirrors.1 in omega arith
+
+mirrors_id : {A : Type 0} (id : A → ℕ) (pins : A → List ℕ) (fs : List A) (rs : List Record) (i : ℕ) (e : A) (d : Record) → Mirrors id pins fs rs → i < length rs
+    → (get_or rs i d).id ≡ id (get_or fs i e)
+mirrors_id id pins [] [] i e d mirrors within = absurd (omega arith)
+mirrors_id id pins [] (r ∷ rs) i e d mirrors within = absurd mirrors
+mirrors_id id pins (f ∷ fs) [] i e d mirrors within = absurd mirrors
+mirrors_id id pins (f ∷ fs) (r ∷ rs) zero e d mirrors within = mirrors.0.0
+mirrors_id id pins (f ∷ fs) (r ∷ rs) (suc i) e d mirrors within = mirrors_id id pins fs rs i e d mirrors.1 (omega arith)
+
+-- and their ids are distinct if those are
+pub ids-mirrors : {A : Type 0} (id : A → ℕ) (pins : A → List ℕ) (fs : List A) (rs : List Record) → Mirrors id pins fs rs
+    → AllPairs (λ f g. id f ≢ id g) fs → AllPairs (λ (r s : Record). r.id ≢ s.id) rs
+ids-mirrors id pins [] rs mirrors apart i j d before within same = let none = mirrors_length id pins [] rs mirrors in absurd (omega arith)
+ids-mirrors id pins (f ∷ fs) rs mirrors apart i j d before within same =
+    let long = mirrors_length id pins (f ∷ fs) rs mirrors in
+    let one = mirrors_id id pins (f ∷ fs) rs i f d mirrors (omega arith) in
+    let two = mirrors_id id pins (f ∷ fs) rs j f d mirrors within in
+    apart i j f before (omega arith) (sym one ∙ (same ∙ two))

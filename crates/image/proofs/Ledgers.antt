@@ -1,12 +1,12 @@
 -- What a ledger in order tells, read from its end.
-use Rattle.std.proofs.Common.{ℕ, ◌+◌, ◌-◌, ◌<◌, ◌≤◌, ◌≡◌, ◌==◌, ◌&&◌, true, false, cond, List, Contains, length, get_or, take, drop, refl, sym, ap, ◌∙◌, subst, length-take, arith}
+use Rattle.std.proofs.Common.{ℕ, ◌+◌, ◌-◌, ◌<◌, ◌≤◌, ◌≡◌, ◌==◌, ◌&&◌, ◌⊎◌, inl, inr, true, false, cond, List, Contains, length, get_or, take, drop, refl, sym, ap, ◌∙◌, subst, length-take, arith}
 use Rattle.std.specs.Prelude.{All, sum_by}
-use Rattle.std.proofs.lemmas.Bool.{eq-eqb, eqb-true, cond-true, and_parts, and_from, false_from_ne_true}
-use Rattle.std.proofs.lemmas.List.{take_more, take-take, get_or-take}
+use Rattle.std.proofs.lemmas.Bool.{cases_eq, eq-eqb, eqb-true, cond-true, and_parts, and_from, false_from_ne_true}
+use Rattle.std.proofs.lemmas.List.{take_more, take-take, get_or-take, get_or_default}
 use Rattle.std.proofs.lemmas.List.Sums.{sum_by-le, sum_by-take-drop, sum_by-drop_more, sum_by_more}
 use Rattle.ledger.specs.declared.postings.Posting.{Posting}
 use Rattle.ledger.specs.declared.postings.Posting.TheVariants.{Born, Entry, Back, Forget}
-use Rattle.ledger.specs.Sums.{is_birth, is_entry, given_by, births_of, entries_of, given_of, IsAllowed, IsNeverNegative}
+use Rattle.ledger.specs.Sums.{number_of, generation_of, is_birth, is_entry, given_by, births_of, entries_of, given_of, IsAllowed, IsNeverNegative}
 use Rattle.ledger.proofs.SumsLemmas.{given_of-le, entries_of-le, never_negative-push}
 use Rattle.image.specs.Law.{MayStand, IsOrdered}
 
@@ -157,3 +157,50 @@ allowed_from before (Forget m h k) each = let h = rw (self m h) at (each m h) in
 pub allowed_at : (ps : List Posting) (k : ℕ) (d : Posting) → k < length ps → IsNeverNegative ps → IsAllowed (take k ps) (get_or ps k d)
 allowed_at ps k d within never = allowed_from (take k ps) (get_or ps k d) (λ n g.
     omega (arith, never.within (k + 1) n g, sum_by_more (given_by n g) ps k d within, sum_by_more (entered_by n g) ps k d within))
+
+-- ---- births, by the last posting about them
+
+-- from the place on no posting is about n in generation g
+pub record IsUnmentioned (n g from : ℕ) (ps : List Posting) : Type 0 where
+  pub none : (k : ℕ) (d : Posting) → from ≤ k → k < length ps → number_of (get_or ps k d) ≡ n → generation_of (get_or ps k d) ≡ g → ⊥
+
+pub unmentioned-none : (n g : ℕ) (ps : List Posting) → IsUnmentioned n g (length ps) ps
+unmentioned-none n g ps = record { none = λ k d past within. absurd (omega arith) }
+
+pub unmentioned-more : (n g j : ℕ) (ps : List Posting) (e : Posting) → 0 < j → j ≤ length ps → ((number_of (get_or ps (j - 1) e) ≡ n) × (generation_of (get_or ps (j - 1) e) ≡ g) → ⊥)
+    → IsUnmentioned n g j ps → IsUnmentioned n g (j - 1) ps
+unmentioned-more n g j ps e some short other later = record {
+  none = λ k d past within number life. elim (cases_eq k (j - 1)) [
+    | inl here ↦
+        let read : get_or ps k d ≡ get_or ps (j - 1) e = get_or_default ps k d e within ∙ ap (λ (i : ℕ). get_or ps i e) here in
+        other (ap number_of (sym read) ∙ number, ap generation_of (sym read) ∙ life)
+    | inr ne ↦ later.none k d (omega arith) within number life
+  ];
+}
+
+pub unmentioned-unborn : (n g j : ℕ) (ps : List Posting) → j ≤ 0 → IsUnmentioned n g j ps → Contains ps (Born n g) → ⊥
+unmentioned-unborn n g j ps start unmentioned born =
+    unmentioned.none born.0 (Born n g) (omega arith) born.1 (ap number_of born.2) (ap generation_of born.2)
+
+born_of : (before : List Posting) (p : Posting) → MayStand before p → (Contains before (Born (number_of p) (generation_of p))) ⊎ (p ≡ Born (number_of p) (generation_of p))
+born_of before (Born n g) may = inr refl
+born_of before (Entry n g) may = inl may
+born_of before (Back n g) may = inl may
+born_of before (Forget n g k) may = inl may
+
+mentioned_here : (ps : List Posting) (k : ℕ) (d : Posting) → IsOrdered ps → k < length ps → Contains ps (Born (number_of (get_or ps k d)) (generation_of (get_or ps k d)))
+mentioned_here ps k d ordered within =
+    let p = get_or ps k d in
+    let q = Born (number_of p) (generation_of p) in
+    elim (born_of (take k ps) p (ordered.each k d within)) [
+      | inl before ↦
+          let short : before.0 < k = omega (arith, before.1, length-take k ps) in
+          (before.0, omega (arith, short), sym (get_or-take k ps before.0 q short) ∙ before.2)
+      | inr here ↦ (k, within, get_or_default ps k q d within ∙ here)
+    ]
+
+-- only of what was born is there a posting
+pub mentioned : (ps : List Posting) (n g k : ℕ) (d : Posting) → IsOrdered ps → k < length ps → (number_of (get_or ps k d) ≡ n) × (generation_of (get_or ps k d) ≡ g) → Contains ps (Born n g)
+mentioned ps n g k d ordered within same =
+    let P : ℕ → ℕ → Type 0 = λ a b. Contains ps (Born a b) in
+    subst (λ (b : ℕ). P n b) same.1 (subst (λ (a : ℕ). P a (generation_of (get_or ps k d))) same.0 (mentioned_here ps k d ordered within))

@@ -3,3 +3,4 @@ pub mod Pairs
 pub mod Trees
 pub mod Ledgers
 pub mod Exported
+pub mod Balance

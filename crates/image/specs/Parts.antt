@@ -1,9 +1,8 @@
 -- The parts of the law that one test decides, each said of a single node, posting or record.
-use Rattle.std.specs.Prelude.{ℕ, ◌+◌, ◌≡◌, ◌≢◌, Bool, true, false, List, Some, All}
+use Rattle.std.specs.Prelude.{ℕ, ◌+◌, ◌≡◌, ◌≢◌, Bool, true, false, List, Some, All, sum_by}
 use Rattle.paths.specs.Fronts.{Name}
 use Rattle.ledger.specs.declared.postings.Posting.{Posting}
-use Rattle.ledger.specs.declared.postings.Posting.TheVariants.{Born}
-use Rattle.ledger.specs.Sums.{births_of, entries_of, given_of}
+use Rattle.ledger.specs.Sums.{births_of, entries_of, given_of, totals_of}
 use Rattle.tree.specs.declared.nodes.Key.{Key}
 use Rattle.tree.specs.declared.nodes.Node.{Node}
 use Rattle.tree.specs.declared.nodes.Place.TheVariants.{Root, Named}
@@ -64,9 +63,19 @@ IsCountExact ps x = x.count + given_of x.number x.generation ps ≡ entries_of x
 pub record AreOthersSettled (at : Lookup) (ps : List Posting) : Type 0 where
   pub others : (n g : ℕ) → IsUnborne at n g → given_of n g ps ≡ entries_of n g ps
 
--- the same of the number and generation of a birth
-pub record IsSettled (at : Lookup) (ps : List Posting) (p : Posting) : Type 0 where
-  pub settled : (n g : ℕ) → p ≡ Born n g → IsUnborne at n g → given_of n g ps ≡ entries_of n g ps
+-- ---- sums over the whole ledger and all nodes
+
+-- all entries
+abbrev pub entered_in_all : List Posting → ℕ
+entered_in_all ps = (totals_of ps).entries
+
+-- those of them that came back or were forgotten
+abbrev pub given_in_all : List Posting → ℕ
+given_in_all ps = (totals_of ps).backs + (totals_of ps).forgotten
+
+-- all lookup counts
+abbrev pub counts_in_all : List Node → ℕ
+counts_in_all xs = sum_by (λ (x : Node). x.count) xs
 
 -- ---- records
 

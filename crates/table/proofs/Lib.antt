@@ -15,3 +15,4 @@ pub mod Longer
 pub mod Starting
 pub mod Guarded
 pub mod Removing
+pub mod Exporting

@@ -4,3 +4,4 @@ pub mod World
 pub mod Steps
 pub mod Sweeping
 pub mod Beginning
+pub mod Exports

@@ -1,7 +1,7 @@
 -- All that a table keeps, and the law of it.
 use Rattle.std.specs.Prelude.{ℕ, ◌+◌, ◌^◌, ◌<◌, ◌≤◌, ◌≡◌, ◌⊎◌, true, false, List, [], Option, Some, length}
 use Rattle.ledger.specs.declared.postings.Posting.{Posting}
-use Rattle.tree.specs.Places.{Lookup, Nodes, at_in, with_node, no_nodes, root_node, IsNamed, Leads}
+use Rattle.tree.specs.Places.{Lookup, IsCensus, Nodes, at_in, with_node, no_nodes, root_node, IsNamed, Leads}
 use Rattle.ledger.specs.Postings.{Postings}
 use Rattle.flights.specs.Listed.{flying_of}
 use Rattle.holds.specs.declared.held.Held.{Held}
@@ -71,6 +71,10 @@ pub record IsWithin (w : World) : Type 0 where
   pub nodes : w.living + w.flying.nodes ≤ w.limits.nodes
   pub postings : length w.postings + w.counts + w.flying.postings ≤ w.limits.postings
   pub flights : w.flying.many ≤ w.limits.flights
+
+-- what the limits are judged by: how many nodes live, and what their lookup counts add up to
+abbrev pub IsCounted : World → Type 0
+IsCounted w = IsCensus w.at w.living w.counts
 
 -- ---- the law of a table
 

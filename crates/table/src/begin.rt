@@ -5,7 +5,7 @@ ghost use Rattle.flights.specs.declared.data.Want.TheVariants as Want;
 ghost use Rattle.paths.specs.Fronts.{Name, Names};
 ghost use Rattle.table.specs.Beginning.{Allows, Forbids, IsNameWork, IsNodeWork, IsPlan, IsPromised, IsRemovalWork, IsRoomForOne, IsSameButRoom, errno_of, pins_in};
 ghost use Rattle.table.specs.Steps.{Begins};
-ghost use Rattle.table.specs.World.{IsKept, world_of};
+ghost use Rattle.table.specs.World.{IsCounted, IsKept, world_of};
 
 use crate::data::{Begin, Ticket};
 use crate::state::State;
@@ -153,6 +153,7 @@ impl State {
     pub fn begin(&mut self, unique: u64, want: Want) -> Begin
         requires { IsKept self.old }
         ensures begins { Begins (world_of self.old) unique want result (world_of self.new) }
+        ensures census { IsCounted (world_of self.old) }
         ensures kept { IsKept self.new }
     {
         match want {
@@ -166,6 +167,7 @@ impl State {
     fn begin_node(&mut self, unique: u64, number: u64) -> Begin
         requires { IsKept self.old }
         ensures begins { Begins (world_of self.old) unique (Want.Node number) result (world_of self.new) }
+        ensures census { IsCounted (world_of self.old) }
         ensures kept { IsKept self.new }
     {
         if !self.tree.is_below(number, 1) {
@@ -190,6 +192,7 @@ impl State {
     fn begin_name(&mut self, unique: u64, key: Key) -> Begin
         requires { IsKept self.old }
         ensures begins { Begins (world_of self.old) unique (Want.Name key.parent key.name) result (world_of self.new) }
+        ensures census { IsCounted (world_of self.old) }
         ensures kept { IsKept self.new }
     {
         let path = match self.tree.path_of_name(self.alloc, &key) {
@@ -213,6 +216,7 @@ impl State {
     fn begin_removal(&mut self, unique: u64, key: Key) -> Begin
         requires { IsKept self.old }
         ensures begins { Begins (world_of self.old) unique (Want.Remove key.parent key.name) result (world_of self.new) }
+        ensures census { IsCounted (world_of self.old) }
         ensures kept { IsKept self.new }
     {
         let path = match self.tree.path_of_name(self.alloc, &key) {

@@ -5,6 +5,7 @@
 
 mod begin;
 mod data;
+mod export;
 mod finish;
 mod forget;
 mod settle;

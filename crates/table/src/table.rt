@@ -4,12 +4,15 @@ ghost use Rattle.std.specs.Prelude.{◌≡◌, ◌≤◌, ◌<◌, ◌↔◌, �
 ghost use Rattle.std.specs.List.{range_with_len};
 ghost use Rattle.ledger.specs.Shares.{AreAll, nothing, plus, sum_of};
 ghost use Rattle.ledger.specs.Sums.{totals_of};
+ghost use Rattle.image.specs.Law.{IsLawfulImage};
+ghost use Rattle.table.specs.Exports.{Exports};
 ghost use Rattle.table.specs.Steps.{Begins, Finishes, Forgets, Settles, gained};
-ghost use Rattle.table.specs.World.{IsLawfulWorld, IsOpened, world_of};
+ghost use Rattle.table.specs.World.{IsCounted, IsLawfulWorld, IsOpened, world_of};
 
 use crate::data::{Answered, Begin, Limits, Outcome, Settled, Ticket};
 use crate::state::State;
 use flights::Want;
+use image::Image;
 use ledger::{Blanks, Book, Gather, Ledger, Share, Shared, Totals};
 use std::alloc::{AllocError, Global};
 use std::marker::Model;
@@ -85,6 +88,7 @@ impl<B: Shared, E: tokens::Ledger, K: tokens::Ledger, F: tokens::Ledger> Table<B
     /// Takes up a request. Busy and a refusal change nothing.
     pub fn begin(&mut self, unique: u64, want: Want) -> Begin
         ensures begins { Begins (world_of self.old) unique want result (world_of self.new) }
+        ensures census { IsCounted (world_of self.old) }
         ensures lawful { IsLawfulWorld (world_of self.new) }
     {
         self.state.begin(unique, want)
@@ -137,6 +141,14 @@ impl<B: Shared, E: tokens::Ledger, K: tokens::Ledger, F: tokens::Ledger> Table<B
         let amount = self.state.forget(number, n);
         post_since(&self.state.ledger, &mut self.book, share, made);
         amount
+    }
+
+    /// All that the table keeps, as plain data. It is lawful.
+    pub fn export(&self) -> Result<Image, AllocError>
+        ensures exports { IfOk result (Exports (world_of self.now)) }
+        ensures lawful { IfOk result IsLawfulImage }
+    {
+        self.state.export()
     }
 
     /// Adds up the shares. Where none is missing, their sum is what the ledger holds. The table and the shares are used up.

@@ -1,17 +1,14 @@
 -- What is written of a request is that request.
 use Rattle.std.proofs.Common.{◌≡◌, ℕ, zero, suc, ◌+◌, ◌*◌, ◌/◌, ◌^◌, ◌<◌, ◌≤◌, List, [], ◌∷◌, ◌++◌, length, get_or, drop, Option, Some, None, refl, sym, ap, subst, ◌∙◌, arith}
-use Rattle.std.proofs.lemmas.List.{drop_at, length-append, length-drop, length-replicate, get_or-drop, get_or-append-add}
+use Rattle.std.proofs.lemmas.List.{drop_at, length-append, length-drop, get_or-drop, get_or-append-add}
 use Rattle.std.proofs.Math.Nat.{div-zero, mul-div_cancel_left}
 use Rattle.byteorder.specs.Endian.{little_number, little_bytes}
 use Rattle.byteorder.specs.Numbers.{little_number-reads_back, little_from-lt, length-bytes_low_first}
 use Rattle.wire.specs.declared.request.Request.{Request}
 use Rattle.wire.specs.Fields.{Field, number, unread, text, counted, limited, anything, Value, num, name, bytes, Spells, CanTell, IsBytes}
 use Rattle.wire.specs.Requests.{layout, opcode_of, values_of, opcode_in, body_in, IsLaidOut, IsRequest}
+use Rattle.wire.proofs.Lengths.{length-zeros}
 use Rattle.wire.specs.Written.{le, zeros, written, written_by, operation_bytes, request_bytes}
-
-zeros_len : (n : ℕ) → length (zeros n) ≡ n
-unfolding zeros
-zeros_len n = length-replicate {A = ℕ} n 0
 
 pub IsBytes-drop : (n : ℕ) (body : List ℕ) → IsBytes body → IsBytes (drop n body)
 IsBytes-drop n body h i = rw (get_or-drop n body i 0) (h (n + i))
@@ -27,11 +24,11 @@ written_len [] [] body s = omega (arith, ap length (sym s))
 written_len (number len ∷ fields) (num n ∷ values) body s =
     omega (arith, length-append (little_bytes len n) (written fields values), length-bytes_low_first 0 len n, length-drop len body, written_len fields values (drop len body) s.2, s.0)
 written_len (unread len ∷ fields) values body s =
-    omega (arith, length-append (zeros len) (written fields values), zeros_len len, length-drop len body, written_len fields values (drop len body) s.1, s.0)
+    omega (arith, length-append (zeros len) (written fields values), length-zeros len, length-drop len body, written_len fields values (drop len body) s.1, s.0)
 written_len (text ∷ fields) (name t ∷ values) body s =
     omega (arith, length-append t (0 ∷ written fields values), ap length s.2, length-append t (0 ∷ s.1), written_len fields values s.1 s.3)
 written_len (counted unit gap limit ∷ []) (bytes d ∷ []) body s =
-    omega (arith, length-append (little_bytes 4 (length d / unit) ++ zeros gap) d, length-append (little_bytes 4 (length d / unit)) (zeros gap), zeros_len gap, ap length s.2, length-drop (4 + gap) body, s.0)
+    omega (arith, length-append (little_bytes 4 (length d / unit) ++ zeros gap) d, length-append (little_bytes 4 (length d / unit)) (zeros gap), length-zeros gap, ap length s.2, length-drop (4 + gap) body, s.0)
 written_len (limited limit ∷ fields) (num n ∷ values) body s =
     omega (arith, length-append (little_bytes 4 n) (written fields values), length-drop 4 body, written_len fields values (drop 4 body) s.3, s.0)
 written_len (anything ∷ []) [] body s = omega arith
@@ -67,15 +64,15 @@ written_spelled (number len ∷ fields) (num n ∷ values) h =
     (omega (arith, length-append (little_bytes len n) w, length-bytes_low_first 0 len n), sym (little_number-reads_back len n w h.0), subst (Spells fields values) (sym rest) (written_spelled fields values h.1))
 written_spelled (unread len ∷ fields) values h =
     let w = written fields values in
-    let rest : drop len (zeros len ++ w) ≡ w = drop_at (zeros len) w len (zeros_len len) in
-    (omega (arith, length-append (zeros len) w, zeros_len len), subst (Spells fields values) (sym rest) (written_spelled fields values h))
+    let rest : drop len (zeros len ++ w) ≡ w = drop_at (zeros len) w len (length-zeros len) in
+    (omega (arith, length-append (zeros len) w, length-zeros len), subst (Spells fields values) (sym rest) (written_spelled fields values h))
 written_spelled (text ∷ fields) (name t ∷ values) h = (h.0, written fields values, refl, written_spelled fields values h.1)
 written_spelled (counted unit gap limit ∷ []) (bytes d ∷ []) h =
     let n = length d / unit in
     let k = count_again unit h.0 (length d) limit h.3 h.1 h.2 in
     let back : little_number 4 (little_bytes 4 n ++ zeros gap ++ d) ≡ n = little_number-reads_back 4 n (zeros gap ++ d) k.0 in
-    let rest : drop (4 + gap) (little_bytes 4 n ++ zeros gap ++ d) ≡ d = drop_at (little_bytes 4 n ++ zeros gap) d (4 + gap) (omega (arith, length-append (little_bytes 4 n) (zeros gap), zeros_len gap)) in
-    (omega (arith, length-append (little_bytes 4 n ++ zeros gap) d, length-append (little_bytes 4 n) (zeros gap), zeros_len gap), rw back k.1, sym rest, rw back k.2)
+    let rest : drop (4 + gap) (little_bytes 4 n ++ zeros gap ++ d) ≡ d = drop_at (little_bytes 4 n ++ zeros gap) d (4 + gap) (omega (arith, length-append (little_bytes 4 n) (zeros gap), length-zeros gap)) in
+    (omega (arith, length-append (little_bytes 4 n ++ zeros gap) d, length-append (little_bytes 4 n) (zeros gap), length-zeros gap), rw back k.1, sym rest, rw back k.2)
 written_spelled (limited limit ∷ fields) (num n ∷ values) h =
     let w = written fields values in
     (omega (arith, length-append (little_bytes 4 n) w), sym (little_number-reads_back 4 n w h.0), h.1, written_spelled fields values h.2)

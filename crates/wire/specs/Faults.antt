@@ -1,5 +1,6 @@
 -- Why a frame is no request: the first test that fails.
-use Rattle.std.specs.Prelude.{◌≡◌, ℕ, ◌<◌, ◌≤◌, ◌⊎◌, List, [], ◌∷◌, length, None, IsSome, ℤ, pos}
+use Rattle.std.specs.Prelude.{◌≡◌, ℕ, ◌<◌, ◌≤◌, ◌⊎◌, List, [], ◌∷◌, length, None, IsSome, ℤ}
+use Rattle.errno.specs.declared.TheConstants.{EINVAL, ENAMETOOLONG, ENOSYS}
 use Rattle.wire.specs.declared.fault.WireFault.{WireFault}
 use Rattle.wire.specs.declared.fault.WireFault.TheVariants.{Opcode, Body, NameLong, NameBad, Frame}
 use Rattle.wire.specs.Fields.{Value}
@@ -40,8 +41,8 @@ IsFirstFault frame NameBad = HasNameFault frame NameBad
 
 -- the error number of its answer: ENOSYS, ENAMETOOLONG, and EINVAL for the rest
 abbrev pub errno_of : WireFault → ℤ
-errno_of Opcode = pos 38
-errno_of NameLong = pos 36
-errno_of NameBad = pos 22
-errno_of Body = pos 22
-errno_of Frame = pos 22
+errno_of Opcode = ENOSYS
+errno_of NameLong = ENAMETOOLONG
+errno_of NameBad = EINVAL
+errno_of Body = EINVAL
+errno_of Frame = EINVAL

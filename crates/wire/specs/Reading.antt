@@ -6,6 +6,7 @@ use Rattle.byteorder.specs.Endian.{little_number}
 use Rattle.wire.specs.declared.fault.WireFault.{WireFault}
 use Rattle.wire.specs.declared.fault.WireFault.TheVariants.{Opcode, Body, NameLong, NameBad, Frame}
 use Rattle.wire.specs.declared.header.Header.{Header}
+use Rattle.wire.specs.declared.request.TheConstants.{HEADER_LEN, MAX_FRAME_LEN}
 use Rattle.wire.specs.declared.request.Request.{Request}
 use Rattle.wire.specs.declared.request.Operation.{Operation}
 use Rattle.wire.specs.Fields.{Field, number, unread, text, counted, limited, anything, Value, num, name, bytes}
@@ -98,7 +99,7 @@ told operation = (opcode_of operation, values_of operation)
 
 -- the frame is as long as its header says, and neither too short nor too long
 abbrev pub is_framed : List ℕ → Bool
-is_framed frame = nat_le 40 (length frame) && nat_le (length frame) 69632 && little_number 4 frame == length frame
+is_framed frame = nat_le HEADER_LEN (length frame) && nat_le (length frame) MAX_FRAME_LEN && little_number 4 frame == length frame
 
 -- the header and the body
 abbrev pub parts_at : List ℕ → Result (Header × List ℕ) WireFault

@@ -2,6 +2,7 @@
 use Rattle.std.specs.Prelude.{◌≡◌, ℕ, ◌+◌, ◌/◌, ◌%◌, ◌≤◌, List, [], ◌∷◌, length, drop, ℤ, pos, neg_ℤ, ◌≤ℤ◌, ◌==◌, if◌then◌else◌}
 use Rattle.std.specs.Int.{cast_signed, w32}
 use Rattle.byteorder.specs.Endian.{little_number}
+use Rattle.wire.specs.declared.reply.TheConstants.{REPLY_HEADER_LEN}
 use Rattle.wire.specs.declared.reply.Reply.{Reply}
 use Rattle.wire.specs.declared.reply.ReplyBody.{ReplyBody}
 use Rattle.wire.specs.declared.reply.ReplyBody.TheVariants.{Failed, Done, Entry}
@@ -88,8 +89,8 @@ IsAnswer (Entry e) = IsSized e.attributes.kind e.attributes.size
 -- The frame is this reply.
 pub record IsReply (frame : List ℕ) (r : Reply) : Type 0 where
   pub answer : IsAnswer r.body
-  pub long : 16 ≤ length frame
+  pub long : REPLY_HEADER_LEN ≤ length frame
   pub len : little_number 4 frame ≡ length frame
   pub error : error_in frame ≡ error_of r.body
   pub unique : r.unique ≡ answered_in frame
-  pub body : Spells (reply_layout r.body) (reply_values r.body) (drop 16 frame)
+  pub body : Spells (reply_layout r.body) (reply_values r.body) (drop REPLY_HEADER_LEN frame)

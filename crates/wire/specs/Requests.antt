@@ -4,6 +4,8 @@ use Rattle.std.specs.Str.{IsUtf8}
 use Rattle.std.specs.List.{AllByRecursion}
 use Rattle.byteorder.specs.Endian.{little_number}
 use Rattle.wire.specs.declared.header.Header.{Header}
+use Rattle.wire.specs.declared.opcode.TheConstants.{LOOKUP, FORGET}
+use Rattle.wire.specs.declared.request.TheConstants.{HEADER_LEN, MAX_FRAME_LEN}
 use Rattle.wire.specs.declared.request.Request.{Request}
 use Rattle.wire.specs.declared.request.Operation.{Operation}
 use Rattle.wire.specs.declared.request.Operation.TheVariants.{Lookup, Forget}
@@ -21,40 +23,43 @@ abbrev pub node_in : List ℕ → ℕ
 node_in frame = little_number 8 (drop 16 frame)
 
 abbrev pub body_in : List ℕ → List ℕ
-body_in frame = drop 40 frame
+body_in frame = drop HEADER_LEN frame
 
 abbrev pub header_in : List ℕ → Header
 header_in frame = record { opcode = opcode_in frame; unique = unique_in frame; node = node_in frame }
 
 -- a whole frame, as long as it says
 pub record IsFramed (frame : List ℕ) : Type 0 where
-  pub long : 40 ≤ length frame
-  pub short : length frame ≤ 69632
+  pub long : HEADER_LEN ≤ length frame
+  pub short : length frame ≤ MAX_FRAME_LEN
   pub len : little_number 4 frame ≡ length frame
 
--- ---- what follows the header, by the opcode: a further opcode is one more line here, and two below
+-- ---- what follows the header, by the opcode: a further opcode is one more line in each table
 
+-- the fields of its body, if the opcode is served
 abbrev pub layout : ℕ → Option (List Field)
 layout opcode =
-    if opcode == 1 then Some (text ∷ [])
-    else (if opcode == 2 then Some (u64 ∷ [])
+    if opcode == LOOKUP then Some (text ∷ [])
+    else (if opcode == FORGET then Some (u64 ∷ [])
     else None)
 
 abbrev pub opcode_of : Operation → ℕ
-opcode_of (Lookup _) = 1
-opcode_of (Forget _) = 2
+opcode_of (Lookup _) = LOOKUP
+opcode_of (Forget _) = FORGET
 
 -- what an operation has in the fields of its layout
 abbrev pub values_of : Operation → List Value
 values_of (Lookup n) = name n.now ∷ []
 values_of (Forget nlookup) = num nlookup ∷ []
 
+-- the body has that layout, with these values
 abbrev pub IsLaidOut : Option (List Field) → List Value → List ℕ → Type 0
 IsLaidOut None values body = ⊥
 IsLaidOut (Some fields) values body = Spells fields values body
 
 -- ---- names
 
+-- 1 to 255 bytes of UTF-8, neither `.` nor `..`, and no slash
 pub record IsName (t : List ℕ) : Type 0 where
   pub some : 0 < length t
   pub short : length t ≤ 255
@@ -63,6 +68,7 @@ pub record IsName (t : List ℕ) : Type 0 where
   pub not_above : t ≢ codes ".."
   pub no_slash : All (λ b. b ≢ 47) t
 
+-- the names among values, in turn
 abbrev pub names_in : List Value → List (List ℕ)
 names_in [] = []
 names_in (name t ∷ values) = t ∷ names_in values

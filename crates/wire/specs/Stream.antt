@@ -2,6 +2,7 @@
 use Rattle.std.specs.Prelude.{◌≡◌, ℕ, ◌<◌, ◌≤◌, ◌⊎◌, List, [], ◌∷◌, ◌++◌, length, Option, Some, None}
 use Rattle.std.specs.List.{AllByRecursion}
 use Rattle.byteorder.specs.Endian.{little_number}
+use Rattle.wire.specs.declared.request.TheConstants.{HEADER_LEN, MAX_FRAME_LEN}
 use Rattle.wire.specs.Requests.{IsFramed}
 
 -- what a cutter holds: the bytes that are in no frame handed out, and the length that stopped it
@@ -15,14 +16,20 @@ len_in kept = little_number 4 kept
 
 -- a length that a frame may have
 pub record IsLawful (len : ℕ) : Type 0 where
-  pub long : 40 ≤ len
-  pub short : len ≤ 69632
+  pub long : HEADER_LEN ≤ len
+  pub short : len ≤ MAX_FRAME_LEN
 
 -- a length stands next that no frame has
 pub record BeginsBadly (kept : List ℕ) (len : ℕ) : Type 0 where
   pub there : 4 ≤ length kept
   pub is : len ≡ len_in kept
-  pub lawless : (len < 40) ⊎ (69632 < len)
+  pub lawless : (len < HEADER_LEN) ⊎ (MAX_FRAME_LEN < len)
+
+-- a whole frame is taken from the front
+pub record HandsOut (old : Cutting) (frame : List ℕ) (new : Cutting) : Type 0 where
+  pub front : old.kept ≡ frame ++ new.kept
+  pub framed : IsFramed frame
+  pub stopped : new.stopped ≡ old.stopped
 
 -- neither a whole frame stands next, nor a length that no frame has
 abbrev pub IsPartial : List ℕ → Type 0

@@ -3,6 +3,8 @@ use Rattle.std.specs.Prelude.{ℕ, ◌+◌, ◌-◌, ◌/◌, ◌%◌, ◌^◌, 
 use Rattle.std.specs.List.{flat_map}
 use Rattle.std.specs.Int.{cast_unsigned, w32}
 use Rattle.byteorder.specs.Endian.{little_bytes}
+use Rattle.wire.specs.declared.request.TheConstants.{HEADER_LEN}
+use Rattle.wire.specs.declared.reply.TheConstants.{REPLY_HEADER_LEN}
 use Rattle.wire.specs.declared.request.Request.{Request}
 use Rattle.wire.specs.declared.request.Operation.{Operation}
 use Rattle.wire.specs.declared.reply.Reply.{Reply}
@@ -49,7 +51,7 @@ operation_bytes o = written_by (layout (opcode_of o)) (values_of o)
 -- the length, the opcode, unique, the node, sixteen zero bytes (uid, gid, pid and padding), and the body
 unfoldable pub request_bytes : Request → List ℕ
 request_bytes r =
-    le 4 (40 + length (operation_bytes r.operation)) ++ le 4 (opcode_of r.operation) ++ le 8 r.unique ++ le 8 r.node ++ zeros 16
+    le 4 (HEADER_LEN + length (operation_bytes r.operation)) ++ le 4 (opcode_of r.operation) ++ le 8 r.unique ++ le 8 r.node ++ zeros 16
     ++ operation_bytes r.operation
 
 -- ---- replies
@@ -68,4 +70,4 @@ body_bytes body = written (reply_layout body) (reply_values body)
 
 -- the length, the error, the number of the request, and the body
 unfoldable pub reply_bytes : Reply → List ℕ
-reply_bytes r = le 4 (16 + length (body_bytes r.body)) ++ le 4 (error_word r.body) ++ le 8 r.unique ++ body_bytes r.body
+reply_bytes r = le 4 (REPLY_HEADER_LEN + length (body_bytes r.body)) ++ le 4 (error_word r.body) ++ le 8 r.unique ++ body_bytes r.body

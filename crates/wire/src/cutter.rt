@@ -1,8 +1,7 @@
 //! A stream of bytes, cut into frames.
 
 ghost use Rattle.std.specs.Prelude.{◌≡◌, ℕ, List, ◌+◌, ◌-◌, ◌≤◌, ◌↔◌, ◌++◌, [], length, drop, OnOk, OnErr, IfOk, IfSome, IfNone, Some, None, Err};
-ghost use Rattle.wire.specs.Requests.{IsFramed};
-ghost use Rattle.wire.specs.Stream.{BeginsBadly, IsPartial, Splits};
+ghost use Rattle.wire.specs.Stream.{HandsOut, BeginsBadly, IsPartial, Splits};
 ghost use Rattle.wire.specs.declared.cutter.CutFault.TheVariants.{Memory};
 
 use crate::standing::{Standing, standing_in};
@@ -50,7 +49,7 @@ impl Model for Cutter {
 }
 
 /// Drops the bytes before `start`. No more bytes are moved than are dropped, so over the life of a cutter at most one byte
-/// is moved for each byte that it takes.
+/// is moved to the front for each byte that it takes.
 fn compact(buffer: &mut Vec<u8>, start: usize)
     requires within { start ≤ length buffer.old.items }
     requires cheap { length buffer.old.items - start ≤ start }
@@ -99,7 +98,7 @@ impl Cutter {
 
     /// The next whole frame, if it is there.
     pub fn next(&mut self) -> Result<Option<Vec<u8>>, CutFault>
-        ensures frame { IfOk result (λ o. IfSome o (λ f. (self.old.kept ≡ f.items ++ self.new.kept) × IsFramed f.items × (self.new.stopped ≡ self.old.stopped))) }
+        ensures frame { IfOk result (λ o. IfSome o (λ f. HandsOut self.old f.items self.new)) }
         ensures none { IfOk result (λ o. IfNone o (IsPartial self.old.kept × (self.new ≡ self.old))) }
         ensures bad { (len : ℕ) → (result ≡ Err (CutFault.BadLength len)) ↔ BeginsBadly self.old.kept len }
         ensures for_good { (len : ℕ) → result ≡ Err (CutFault.BadLength len) → self.new ≡ record self.old { stopped = Some len } }
@@ -126,5 +125,6 @@ impl Cutter {
 
 /// A stream is one list of frames and one rest, so how it was cut into pieces makes no difference.
 pub fn one_split()
-    ensures { (fs gs : List (List ℕ)) (r q stream : List ℕ) → Splits stream fs r → Splits stream gs q → (fs ≡ gs) × (r ≡ q) }
+    ensures { (frames others : List (List ℕ)) (rest end stream : List ℕ) →
+        Splits stream frames rest → Splits stream others end → (frames ≡ others) × (rest ≡ end) }
 {}

@@ -10,7 +10,7 @@ ghost use Rattle.wire.specs.Written.{written, operation_bytes, request_bytes, re
 
 use crate::opcode::{FORGET, LOOKUP};
 use crate::put::{put_low_u32, put_text, put_u32, put_u32s, put_u64, put_u64s, put_zeros};
-use crate::reply::{Attributes, Entry, Kind, Reply, ReplyBody};
+use crate::reply::{ENTRY_LEN, Entry, Kind, REPLY_HEADER_LEN, Reply, ReplyBody};
 use crate::request::{HEADER_LEN, Operation, Request};
 use std::alloc::AllocError;
 
@@ -48,8 +48,8 @@ fn put_operation(out: &mut Vec<u8>, operation: &Operation<'_>)
 
 #[tactic(auto, using(crate::proofs::Lengths::lengths), unfolding(crate::specs::Written::request_bytes))]
 fn put_request(out: &mut Vec<u8>, request: &Request<'_>, len: usize)
-    requires room { vec_len out.old + 40 + length (operation_bytes request.now.operation) ≤ vec_capacity out.old }
-    requires len { len ≡ 40 + length (operation_bytes request.now.operation) }
+    requires room { vec_len out.old + HEADER_LEN + length (operation_bytes request.now.operation) ≤ vec_capacity out.old }
+    requires len { len ≡ HEADER_LEN + length (operation_bytes request.now.operation) }
     ensures { out.new.items ≡ out.old.items ++ request_bytes request.now }
 {
     put_low_u32(out, len);
@@ -60,7 +60,8 @@ fn put_request(out: &mut Vec<u8>, request: &Request<'_>, len: usize)
     put_operation(out, &request.operation);
 }
 
-/// Puts a request at the end of a vector, for clients. What is not read of it is zero.
+/// Puts a request at the end of a vector, for clients. What the server does not read of it is zero, as uid, gid and pid.
+/// Where memory is refused, the items stay as they were.
 pub fn encode_request(request: &Request<'_>, out: &mut Vec<u8>) -> Result<(), AllocError>
     ensures ok { OnOk result (out.new.items ≡ out.old.items ++ request_bytes request.now) }
     // If any frame is the request, what is put is one.
@@ -103,7 +104,7 @@ fn links(kind: Kind) -> u32
 
 #[tactic(auto, using(crate::proofs::Entries::entries))]
 fn put_entry(out: &mut Vec<u8>, e: &Entry)
-    requires { vec_len out.old + 128 ≤ vec_capacity out.old }
+    requires { vec_len out.old + ENTRY_LEN ≤ vec_capacity out.old }
     ensures items { out.new.items ≡ out.old.items ++ written entry_layout (entry_values e.now) }
     ensures tells { CanTell entry_layout (entry_values e.now) }
 {
@@ -136,11 +137,11 @@ fn error(body: &ReplyBody) -> u32
 #[tactic(auto, unfolding(crate::specs::Written::le, crate::specs::Written::body_bytes))]
 fn body_len(body: &ReplyBody) -> u32
     ensures len { result ≡ length (body_bytes body.now) }
-    ensures short { result ≤ 128 }
+    ensures short { result ≤ ENTRY_LEN }
 {
     match body {
         ReplyBody::Failed { .. } | ReplyBody::Done => 0,
-        ReplyBody::Entry(_) => 128,
+        ReplyBody::Entry(_) => ENTRY_LEN,
     }
 }
 
@@ -159,7 +160,7 @@ fn put_body(out: &mut Vec<u8>, body: &ReplyBody)
 #[tactic(auto, using(crate::proofs::Lengths::lengths), unfolding(crate::specs::Written::reply_bytes))]
 fn put_reply(out: &mut Vec<u8>, reply: &Reply, len: u32)
     requires room { vec_len out.old + len ≤ vec_capacity out.old }
-    requires len { len ≡ 16 + length (body_bytes reply.now.body) }
+    requires len { len ≡ REPLY_HEADER_LEN + length (body_bytes reply.now.body) }
     ensures items { out.new.items ≡ out.old.items ++ reply_bytes reply.now }
     ensures unique { reply.now.unique < 256 ^ 8 }
     ensures tells { CanTell (reply_layout reply.now.body) (reply_values reply.now.body) }
@@ -171,15 +172,16 @@ fn put_reply(out: &mut Vec<u8>, reply: &Reply, len: u32)
     put_body(out, &reply.body);
 }
 
-/// Puts a reply at the end of a vector.
+/// Puts a reply at the end of a vector. Where memory is refused, the items stay as they were.
 pub fn encode_reply(reply: &Reply, out: &mut Vec<u8>) -> Result<(), AllocError>
     ensures ok { OnOk result (out.new.items ≡ out.old.items ++ reply_bytes reply.now) }
-    // What is put is that reply, if it says what a reply may say, and no other bytes are.
+    // What is put is that reply, if it says what a reply may say.
     ensures reply { OnOk result (IsAnswer reply.now.body → IsReply (reply_bytes reply.now) reply.now) }
+    // No other bytes are that reply.
     ensures only { (frame : List ℕ) → IsBytes frame → IsReply frame reply.now → frame ≡ reply_bytes reply.now }
     ensures err { OnErr result (out.new.items ≡ out.old.items) }
 {
-    let len = 16 + body_len(&reply.body);
+    let len = REPLY_HEADER_LEN + body_len(&reply.body);
     out.reserve(len as usize)?;
     put_reply(out, reply, len);
     Ok(())

@@ -4,10 +4,10 @@ ghost use Rattle.std.specs.Prelude.{◌≡◌, ◌≢◌, ◌↔◌, ◌+◌, Is
 ghost use Rattle.ledger.specs.Sums.{number_of, entries_of, given_of, IsNeverNegative};
 ghost use Rattle.tree.specs.Listed.{node_at, IsDistinct};
 ghost use Rattle.image.specs.Law.{HasPlainRoot, IsBornInOrder, IsCounted, IsOrdered, IsUnborne};
-ghost use Rattle.image.specs.Parts.{BearLastBirths, BearsLastBirth, AreCountsExact, IsCountExact, AreOthersSettled, IsSettled, IsRootPlain};
+ghost use Rattle.image.specs.Parts.{BearLastBirths, BearsLastBirth, AreCountsExact, IsCountExact, AreOthersSettled, counts_in_all, IsRootPlain};
 
 use crate::lawful::nodes::find;
-use crate::lawful::postings::{are_never_negative, are_ordered, births, count};
+use crate::lawful::postings::{are_never_negative, are_ordered, births, count, count_in_all};
 use ledger::Posting;
 use tree::Node;
 
@@ -95,39 +95,30 @@ fn are_counts_exact(nodes: &[Node], postings: &[Posting]) -> bool
     nodes.iter().all(|node| is_count_exact(node, postings))
 }
 
-/// Whether no node bears the number with the generation.
-fn is_unborne(nodes: &[Node], number: u64, generation: u64) -> bool
-    ensures { IsTrue result ↔ IsUnborne (node_at nodes.now) number generation }
+/// Whether the lookup counts of all nodes add up to so much.
+fn add_up_to(nodes: &[Node], total: u64) -> bool
+    ensures { IsTrue result ↔ (counts_in_all nodes.now ≡ total) }
 {
-    match find(nodes, number) {
-        Some(node) => node.generation != generation,
-        None => true,
-    }
-}
-
-/// Whether nothing is left of the posting's number and generation, if it is a birth and no node bears them.
-fn is_settled(nodes: &[Node], postings: &[Posting], posting: &Posting) -> bool
-    requires ordered { IsOrdered postings.now }
-    requires never_negative { IsNeverNegative postings.now }
-    ensures { IsTrue result ↔ IsSettled (node_at nodes.now) postings.now posting.now }
-{
-    match *posting {
-        Posting::Born { number, generation } => {
-            !is_unborne(nodes, number, generation) || count(postings, number, generation) == 0
+    let mut left = total;
+    for node in nodes {
+        if node.count > left {
+            return false;
         }
-        _ => true,
+        left -= node.count;
     }
+    left == 0
 }
 
 /// Whether nothing is left of any number and generation that no node bears.
+///
+/// Where each node's count is that of the ledger, this is so exactly if the counts add up to all that is left.
 fn are_others_settled(nodes: &[Node], postings: &[Posting]) -> bool
-    requires ordered { IsOrdered postings.now }
+    requires distinct { IsDistinct nodes.now }
     requires never_negative { IsNeverNegative postings.now }
+    requires exact { AreCountsExact (node_at nodes.now) postings.now }
     ensures { IsTrue result ↔ AreOthersSettled (node_at nodes.now) postings.now }
 {
-    postings
-        .iter()
-        .all(|posting| is_settled(nodes, postings, posting))
+    add_up_to(nodes, count_in_all(postings))
 }
 
 /// Whether each lookup count is that of the ledger, nothing is left of the dead, and no count was ever negative.

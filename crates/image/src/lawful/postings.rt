@@ -2,8 +2,9 @@
 
 ghost use Rattle.std.specs.Prelude.{◌≡◌, ◌↔◌, ◌+◌, false, if◌then◌else◌, IsTrue, IfSome, IfNone, Contains};
 ghost use Rattle.ledger.specs.declared.postings.Posting.TheVariants as Posting;
-ghost use Rattle.ledger.specs.Sums.{is_birth, is_entry, given_by, births_of, entries_of, given_of, IsAllowed, IsNeverNegative};
+ghost use Rattle.ledger.specs.Sums.{number_of, generation_of, is_birth, is_entry, given_by, births_of, entries_of, given_of, totals_by, IsAllowed, IsNeverNegative};
 ghost use Rattle.image.specs.Law.{MayStand, IsOrdered};
+ghost use Rattle.image.specs.Parts.{entered_in_all, given_in_all};
 
 use ledger::Posting;
 
@@ -28,12 +29,29 @@ fn is_birth_of(posting: &Posting, number: u64, generation: u64) -> bool
     birth_of(posting, number) == Some(generation)
 }
 
-/// Whether the number was born with the generation. The last postings are read first.
+/// Whether the posting is about that number and generation.
+fn is_about(posting: &Posting, node: u64, life: u64) -> bool
+    ensures { IsTrue result ↔ (number_of posting.now ≡ node) × (generation_of posting.now ≡ life) }
+{
+    match *posting {
+        Posting::Born { number, generation }
+        | Posting::Entry { number, generation }
+        | Posting::Back { number, generation }
+        | Posting::Forget {
+            number,
+            generation,
+            ..
+        } => number == node && generation == life,
+    }
+}
+
+/// Whether the number was born with the generation: only then is any posting about them.
 fn has_birth(postings: &[Posting], number: u64, generation: u64) -> bool
+    requires { IsOrdered postings.now }
     ensures { IsTrue result ↔ Contains postings.now (Posting.Born number generation) }
 {
     for k in (0..postings.len()).rev() {
-        if is_birth_of(&postings[k], number, generation) {
+        if is_about(&postings[k], number, generation) {
             return true;
         }
     }
@@ -156,4 +174,38 @@ pub fn are_never_negative(postings: &[Posting]) -> bool
         }
     }
     true
+}
+
+/// How many entries the posting makes.
+fn made(posting: &Posting) -> u64
+    ensures { result ≡ (totals_by posting.now).entries }
+{
+    match *posting {
+        Posting::Entry { .. } => 1,
+        _ => 0,
+    }
+}
+
+/// How many entries the posting takes back or forgets.
+fn taken(posting: &Posting) -> u64
+    ensures { result ≡ (totals_by posting.now).backs + (totals_by posting.now).forgotten }
+{
+    match *posting {
+        Posting::Back { .. } => 1,
+        Posting::Forget { amount, .. } => amount,
+        _ => 0,
+    }
+}
+
+/// The entries of all nodes together, less what came back and was forgotten.
+pub fn count_in_all(postings: &[Posting]) -> u64
+    requires { IsNeverNegative postings.now }
+    ensures { result + given_in_all postings.now ≡ entered_in_all postings.now }
+{
+    let mut left: u64 = 0;
+    for posting in postings {
+        left += made(posting);
+        left -= taken(posting);
+    }
+    left
 }

@@ -6,6 +6,7 @@ use Rattle.tree.specs.Places.{Lookup, at_in, IsTree, IsPathOf, Leads}
 use Rattle.tree.specs.Listed.{node_at, IsClimbFault, IsNameTooLong}
 use Rattle.tree.specs.Moves.{IsFault, IsNameFault}
 use Rattle.paths.proofs.FrontLemmas.{path_bytes-push}
+use Rattle.tree.proofs.Census.{census_in}
 use Rattle.tree.proofs.Counting.{look}
 use Rattle.tree.proofs.Climbing.{path_of_lead}
 use Rattle.std.proofs.lemmas.Result.{err_from_is_err_and}
@@ -83,3 +84,15 @@ pub returns-in_err-names-clause-tree : goal.returns-in_err-names-clause-tree
 returns-in_err-names-clause-tree c =
     let same : node_at c.self.inside.nodes.items ≡ at_in c.args.self.now = sym (look c.self.inside.nodes.items) ∙ ap at_in c.self.view_is in
     subst IsTree same c.self.invariant.grown.tree
+
+pub returns-in_err-expect_path-clause-census : goal.returns-in_err-expect_path-clause-census
+returns-in_err-expect_path-clause-census c = census_in c.self.inside.nodes c.args.self.now _ _ c.self.invariant.grown.distinct c.self.view_is
+
+pub returns-in_err-bytes-clause-census : goal.returns-in_err-bytes-clause-census
+returns-in_err-bytes-clause-census c = census_in c.self.inside.nodes c.args.self.now _ _ c.self.invariant.grown.distinct c.self.view_is
+
+pub returns-in_err-names-clause-census : goal.returns-in_err-names-clause-census
+returns-in_err-names-clause-census c = census_in c.self.inside.nodes c.args.self.now _ _ c.self.invariant.grown.distinct c.self.view_is
+
+pub returns-clause-census : goal.returns-clause-census
+returns-clause-census c = census_in c.self.inside.nodes c.args.self.now _ _ c.self.invariant.grown.distinct c.self.view_is

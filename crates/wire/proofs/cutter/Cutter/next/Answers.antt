@@ -13,4 +13,8 @@ returns-in_ok-frame-in-Whole-clause-frame c =
     let n : start + len - start ≡ len = omega arith in
     let front : c.in_ok-frame-in-Whole.frame.items ≡ take len (drop start items) = rw (n, c.deref-in-Whole.ensures.value) at c.in_ok-frame-in-Whole.ensures.items in
     let both = handed (drop start items) c.in_ok-frame-in-Whole.frame.items len whole front in
-    (ap (λ k. k.kept) (sym c.self.view_is) ∙ both.0 ∙ ap (λ r. c.in_ok-frame-in-Whole.frame.items ++ r) (drop-drop len start items), both.1, ap (λ k. k.stopped) c.self.view_is)
+    record {
+      front = ap (λ k. k.kept) (sym c.self.view_is) ∙ both.0 ∙ ap (λ r. c.in_ok-frame-in-Whole.frame.items ++ r) (drop-drop len start items);
+      framed = both.1;
+      stopped = ap (λ k. k.stopped) c.self.view_is;
+    }

@@ -1,0 +1,7 @@
+pub mod CommandLine
+pub mod Faults
+pub mod Links
+pub mod Running
+pub mod Samples
+pub mod Serving
+pub mod Sessions

@@ -1,0 +1,95 @@
+-- A whole session: pieces of a stream are received, and the frames that they make are worked off in order.
+use Rattle.std.specs.Prelude.{ℕ, ◌≡◌, ◌≢◌, ◌-◌, ◌^◌, ◌⊎◌, Bool, List, [], ◌∷◌, ◌++◌, length, take, Option, Some, None}
+use Rattle.table.specs.World.{World, IsOpened}
+use Rattle.table.specs.declared.data.Limits.{Limits}
+use Rattle.programs.specs.Links.{Hexing, Receives, Sends}
+use Rattle.programs.specs.Sessions.{exit_of, fault_of}
+use Rattle.wire.specs.Requests.{IsFramed}
+use Rattle.wire.specs.Stream.{BeginsBadly, IsPartial}
+use Rattle.programs.specs.Serving.{Side, Serves}
+use Rattle.programs.specs.declared.links.Received.{Received}
+use Rattle.programs.specs.declared.links.Received.TheVariants as received
+use Rattle.programs.specs.declared.links.Sent.{Sent}
+use Rattle.programs.specs.declared.links.Sent.TheVariants.{Broken}
+use Rattle.programs.specs.declared.sessions.SessionEnd.{SessionEnd}
+use Rattle.programs.specs.declared.sessions.SessionEnd.TheVariants.{Closed, BadLength, LinkBroken, Memory}
+
+-- the bytes kept are whole frames, each worked off before the next, and then what is kept on; no reply broke the link
+abbrev pub Works : {L : Type 0} → (L → List ℕ → Sent → L → Type 0) → Bool → List (List ℕ) → Side L → List ℕ → Side L → List ℕ → Type 0
+Works sends samples [] old kept new rest = (new ≡ old) × (kept ≡ rest)
+Works {L} sends samples (frame ∷ frames) old kept new rest =
+    (mid : Side L) × (more : List ℕ) × (sent : Option Sent)
+    × (kept ≡ frame ++ more) × IsFramed frame × Serves sends samples frame old sent mid × (sent ≢ Some Broken)
+    × Works sends samples frames mid more new rest
+
+-- a frame whose reply broke the link
+abbrev pub Breaks : {L : Type 0} → (L → List ℕ → Sent → L → Type 0) → Bool → Side L → List ℕ → Side L → List ℕ → Type 0
+Breaks sends samples old kept new rest =
+    (frame : List ℕ) × (kept ≡ frame ++ rest) × IsFramed frame × Serves sends samples frame old (Some Broken) new
+
+-- why no further frame is worked off: none is there whole, or the session is over
+abbrev pub Stops : {L : Type 0} → (L → List ℕ → Sent → L → Type 0) → Bool → Side L → List ℕ → Option SessionEnd → Side L → List ℕ → Type 0
+Stops sends samples old kept None new rest = (new ≡ old) × (kept ≡ rest) × IsPartial rest
+Stops sends samples old kept (Some (Closed count)) new rest = ⊥
+Stops sends samples old kept (Some (BadLength len)) new rest = (new ≡ old) × (kept ≡ rest) × BeginsBadly rest len
+Stops sends samples old kept (Some LinkBroken) new rest = Breaks sends samples old kept new rest
+Stops sends samples old kept (Some Memory) new rest = (new ≡ old) × (kept ≡ rest)
+
+-- the frames that stand whole are worked off
+pub record Drains {L : Type 0} (sends : L → List ℕ → Sent → L → Type 0) (samples : Bool) (old : Side L) (kept : List ℕ) (over : Option SessionEnd) (new : Side L) (rest : List ℕ) : Type 0 where
+  pub frames : List (List ℕ)
+  pub mid : Side L
+  pub left : List ℕ
+  pub works : Works sends samples frames old kept mid left
+  pub stops : Stops sends samples mid left over new rest
+
+-- the link gave this piece
+abbrev pub Hears : {L : Type 0} → (L → Received → List ℕ → L → Type 0) → L → List ℕ → L → Type 0
+Hears receives old piece new = (count : ℕ) × (room : List ℕ) × receives old (received.Bytes count) room new × (piece ≡ take count room)
+
+-- a piece is received, and the frames that stand whole by it are worked off
+abbrev pub Takes : {L : Type 0} → (L → Received → List ℕ → L → Type 0) → (L → List ℕ → Sent → L → Type 0) → Bool → Side L → List ℕ → List ℕ → Option SessionEnd → Side L → List ℕ → Type 0
+Takes {L} receives sends samples old kept piece over new rest =
+    (heard : L) × Hears receives old.link piece heard × Drains sends samples (record { world = old.world; link = heard }) (kept ++ piece) over new rest
+
+-- one piece after another, and the session goes on
+abbrev pub Rounds : {L : Type 0} → (L → Received → List ℕ → L → Type 0) → (L → List ℕ → Sent → L → Type 0) → Bool → List (List ℕ) → Side L → List ℕ → Side L → List ℕ → Type 0
+Rounds receives sends samples [] old kept new rest = (new ≡ old) × (rest ≡ kept)
+Rounds {L} receives sends samples (piece ∷ pieces) old kept new rest =
+    (mid : Side L) × (more : List ℕ) × Takes receives sends samples old kept piece None mid more × Rounds receives sends samples pieces mid more new rest
+
+-- the end of the input, or of the session by a frame or by a link that broke; a session takes 2^64 - 1 pieces at most
+abbrev pub Ends : {L : Type 0} → (L → Received → List ℕ → L → Type 0) → (L → List ℕ → Sent → L → Type 0) → Bool → ℕ → Side L → List ℕ → SessionEnd → Side L → Type 0
+Ends receives sends samples rounds old kept (Closed rest) new =
+    (room : List ℕ) × receives old.link received.End room new.link × (new.world ≡ old.world) × (rest ≡ length kept)
+Ends receives sends samples rounds old kept (BadLength len) new =
+    (piece rest : List ℕ) × Takes receives sends samples old kept piece (Some (BadLength len)) new rest
+Ends receives sends samples rounds old kept LinkBroken new =
+    ((room : List ℕ) × receives old.link received.Broken room new.link × (new.world ≡ old.world))
+    ⊎ ((piece rest : List ℕ) × Takes receives sends samples old kept piece (Some LinkBroken) new rest)
+    ⊎ ((rounds ≡ 2 ^ 64 - 1) × (new ≡ old))
+Ends receives sends samples rounds old kept Memory new =
+    ((piece : List ℕ) × Hears receives old.link piece new.link × (new.world ≡ old.world))
+    ⊎ ((piece rest : List ℕ) × Takes receives sends samples old kept piece (Some Memory) new rest)
+
+-- a whole session
+pub record Runs {L : Type 0} (receives : L → Received → List ℕ → L → Type 0) (sends : L → List ℕ → Sent → L → Type 0) (samples : Bool) (old : Side L) (over : SessionEnd) (new : Side L) : Type 0 where
+  pub pieces : List (List ℕ)
+  pub mid : Side L
+  pub kept : List ℕ
+  pub rounds : Rounds receives sends samples pieces old [] mid kept
+  pub ends : Ends receives sends samples (length pieces) mid kept over new
+
+-- a link is served with a table of its own, unless there is no memory for one
+abbrev pub ServesLink : {L : Type 0} → (L → Received → List ℕ → L → Type 0) → (L → List ℕ → Sent → L → Type 0) → Bool → L → SessionEnd → L → Type 0
+ServesLink {L} receives sends samples old over new =
+    ((limits : Limits) × (world : World) × (last : World) × IsOpened limits world
+    × Runs receives sends samples (record { world = world; link = old }) over (record { world = last; link = new }))
+    ⊎ ((over ≡ Memory) × (new ≡ old))
+
+-- the program that reads and writes lines of hexadecimal digits, with its exit status
+pub record RunsHex (samples : Bool) (input output : Option (List ℕ)) (status : ℕ) : Type 0 where
+  pub over : SessionEnd
+  pub last : Hexing
+  pub serves : ServesLink Receives Sends samples (record { lines = 0; kept = []; input = input; output = output; cause = None }) over last
+  pub status_is : status ≡ exit_of (fault_of over last.cause)

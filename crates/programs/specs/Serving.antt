@@ -1,0 +1,108 @@
+-- What a session does with a frame: the steps of the table, and what the link is offered. Of each link it is asked only
+-- that it tells what became of a reply: `sends old reply sent new`.
+use Rattle.std.specs.Prelude.{ℕ, ℤ, ◌≡◌, ◌⊎◌, Bool, true, false, List, codes, slice_get, option_and_then, Option, Some, None, Result, Ok, Err}
+use Rattle.std.specs.List.{starts_with}
+use Rattle.std.specs.Prelude.{nat_eq}
+use Rattle.errno.specs.declared.TheConstants.{EAGAIN, ENOENT, ENOMEM}
+use Rattle.flights.specs.declared.data.Given.{Given}
+use Rattle.flights.specs.declared.data.Want.TheVariants as want
+use Rattle.table.specs.Answers.{Claim, Answer, Settlement}
+use Rattle.table.specs.Steps.{Begins, Finishes, Forgets, Settles}
+use Rattle.table.specs.World.{World, world_of}
+use Rattle.table.specs.declared.state.State.{State}
+use Rattle.table.specs.declared.data.Begin.{Begin}
+use Rattle.table.specs.declared.data.Begin.TheVariants.{Go, Busy, Refused}
+use Rattle.table.specs.declared.data.Outcome.{Outcome}
+use Rattle.table.specs.declared.data.Outcome.TheVariants.{Entry, Failed}
+use Rattle.wire.specs.Faults.{IsFirstFault, errno_of}
+use Rattle.wire.specs.Requests.{IsRequest, opcode_in, unique_in}
+use Rattle.wire.specs.Written.{reply_bytes}
+use Rattle.wire.specs.declared.fault.WireFault.{WireFault}
+use Rattle.wire.specs.declared.reply.ReplyBody.TheVariants as body
+use Rattle.wire.specs.declared.request.Operation.{Operation}
+use Rattle.wire.specs.declared.request.Operation.TheVariants.{Lookup, Forget}
+use Rattle.wire.specs.declared.request.Request.{Request}
+use Rattle.programs.specs.Samples.{stat_of, tree_of}
+use Rattle.programs.specs.Sessions.{lookup_body}
+use Rattle.programs.specs.declared.links.Sent.{Sent}
+use Rattle.programs.specs.declared.links.Sent.TheVariants.{Taken, Untaken, Broken}
+use Rattle.programs.specs.declared.samples.Stat.{Stat}
+
+-- the reply that only names an error
+abbrev pub refusal_bytes : ℕ → ℤ → List ℕ
+refusal_bytes unique errno = reply_bytes (record { unique = unique; body = body.Failed errno })
+
+-- a name that the server keeps for itself
+abbrev pub is_reserved : List ℕ → Bool
+is_reserved name = starts_with nat_eq name (codes ".fuse_hidden")
+
+abbrev pub is_taken : Sent → Bool
+is_taken Taken = true
+is_taken Untaken = false
+is_taken Broken = false
+
+-- the outcome of a LOOKUP, by what the tree told
+abbrev pub outcome_of : Result Stat ℤ → Outcome
+outcome_of (Ok stat) = Entry
+outcome_of (Err errno) = Failed
+
+-- the node that was given for its one name
+abbrev pub given_in : Answer → Option Given
+given_in answer = option_and_then (λ g. g) (slice_get answer.given 0)
+
+-- the world, and the link
+pub record Side (L : Type 0) : Type 0 where
+  pub world : World
+  pub link : L
+
+abbrev pub side : {L : Type 0} → State → L → Side L
+side table link = record { world = world_of table; link = link }
+
+-- the world stays, and this is offered
+pub record Only {L : Type 0} (sends : L → List ℕ → Sent → L → Type 0) (old : Side L) (reply : List ℕ) (sent : Sent) (new : Side L) : Type 0 where
+  pub world : new.world ≡ old.world
+  pub offer : sends old.link reply sent new.link
+
+-- a LOOKUP that began is finished by what the tree tells of its path, and its reply is offered and settled by what became
+-- of it; where the reply finds no memory it is settled as untaken first, and the error is offered
+pub record GivesName {L : Type 0} (sends : L → List ℕ → Sent → L → Type 0) (samples : Bool) (unique : ℕ) (claim : Claim) (old : Side L) (sent : Sent) (new : Side L) : Type 0 where
+  pub answer : Answer
+  pub mid : World
+  pub settled : Settlement
+  pub finishes : Finishes old.world claim.id (outcome_of (stat_of (tree_of samples) claim.path)) answer mid
+  pub settles : (sends old.link (reply_bytes (record { unique = unique; body = lookup_body (stat_of (tree_of samples) claim.path) (given_in answer) })) sent new.link
+      × Settles mid answer (is_taken sent) settled new.world)
+      ⊎ (sends old.link (refusal_bytes unique ENOMEM) sent new.link × Settles mid answer false settled new.world)
+
+abbrev pub Continues : {L : Type 0} → (L → List ℕ → Sent → L → Type 0) → Bool → ℕ → Begin → Side L → Sent → Side L → Type 0
+Continues sends samples unique (Go claim) old sent new = GivesName sends samples unique claim old sent new
+Continues sends samples unique Busy old sent new = Only sends old (refusal_bytes unique EAGAIN) sent new
+Continues sends samples unique (Refused errno) old sent new = Only sends old (refusal_bytes unique errno) sent new
+
+-- a LOOKUP of a reserved name finds nothing, before anything else is looked at; another is begun, if memory is there
+pub record LooksUp {L : Type 0} (sends : L → List ℕ → Sent → L → Type 0) (samples : Bool) (unique parent : ℕ) (name : List ℕ) (old : Side L) (sent : Sent) (new : Side L) : Type 0 where
+  pub reserved : is_reserved name ≡ true → Only sends old (refusal_bytes unique ENOENT) sent new
+  pub begun : is_reserved name ≡ false → Only sends old (refusal_bytes unique ENOMEM) sent new
+      ⊎ ((begin : Begin) × (mid : World) × Begins old.world unique (want.Name parent name) begin mid × Continues sends samples unique begin (record old { world = mid }) sent new)
+
+-- an operation, with what is offered for it, if anything
+abbrev pub Does : {L : Type 0} → (L → List ℕ → Sent → L → Type 0) → Bool → Request → Operation → Side L → Option Sent → Side L → Type 0
+Does sends samples q (Lookup name) old (Some sent) new = LooksUp sends samples q.unique q.node name.now old sent new
+Does sends samples q (Lookup name) old None new = ⊥
+Does sends samples q (Forget n) old (Some sent) new = ⊥
+Does sends samples q (Forget n) old None new = (amount : ℕ) × Forgets old.world q.node n amount new.world × (new.link ≡ old.link)
+
+-- opcodes 2, 36 and 42 are never answered
+abbrev pub IsSilent : ℕ → Type 0
+IsSilent opcode = (opcode ≡ 2) ⊎ (opcode ≡ 36) ⊎ (opcode ≡ 42)
+
+-- a frame that is no request is answered with its fault's error, unless its opcode is never answered
+abbrev pub Faults : {L : Type 0} → (L → List ℕ → Sent → L → Type 0) → List ℕ → WireFault → Side L → Option Sent → Side L → Type 0
+Faults sends frame fault old (Some sent) new = ¬ (IsSilent (opcode_in frame)) × Only sends old (refusal_bytes (unique_in frame) (errno_of fault)) sent new
+Faults sends frame fault old None new = IsSilent (opcode_in frame) × (new ≡ old)
+
+-- one frame is worked off
+abbrev pub Serves : {L : Type 0} → (L → List ℕ → Sent → L → Type 0) → Bool → List ℕ → Side L → Option Sent → Side L → Type 0
+Serves sends samples frame old sent new =
+    ((q : Request) × IsRequest frame q × Does sends samples q q.operation old sent new)
+    ⊎ ((fault : WireFault) × IsFirstFault frame fault × Faults sends frame fault old sent new)

@@ -1,0 +1,174 @@
+//! A link of hexadecimal lines.
+
+ghost use Rattle.std.specs.Prelude.{◌≡◌, ◌≢◌, ◌⊎◌, ◌/◌, ◌++◌, ◌∷◌, [], true, false, Ok, Err, IfSome, IfOk, IfErr, OnOk, OnErr, length};
+ghost use Rattle.std.specs.Io.KnownBytes.{Appends, IsAtEnd, Keeps};
+ghost use Rattle.std.specs.Io.BufRead.{first_piece, DropsThrough};
+ghost use Rattle.hex.specs.Hex.{decode_of, encode_lower};
+ghost use Rattle.programs.specs.Links.{Explains, HandsOut, IsOfWriting, ReadsLine, Receives, Sends};
+ghost use Rattle.hex.specs.declared.error.FromHexError.TheVariants.{OutOfMemory};
+
+use crate::faults::Fault;
+use crate::links::{Link, Received, Sent};
+use hex::FromHexError;
+use std::alloc::{AllocError, Global};
+use std::io;
+use std::io::{BufRead, Write};
+use std::marker::Model;
+
+/// Makes `line` the next line of the reader, without its line break. False says that the input is at its end.
+fn read_line<R: BufRead>(reader: &mut R, line: &mut Vec<u8>) -> io::Result<bool>
+    ensures line { IfOk result (λ more. more ≡ true → IfSome (R.remaining reader.old) (λ xs. (xs ≢ []) × (line.new.items ≡ first_piece 10 xs))) }
+    ensures end { IfOk result (λ more. more ≡ false → IsAtEnd (R.remaining reader.old)) }
+    ensures rest { OnOk result (DropsThrough (R.remaining reader.old) (R.remaining reader.new) 10) }
+{
+    line.clear();
+    let read = reader.read_until(b'\n', line)?;
+    if line.last() == Some(&b'\n') {
+        line.pop();
+    }
+    Ok(read > 0)
+}
+
+/// Makes `piece` the bytes that a line spells, or empty.
+fn spell(line: &[u8], piece: &mut Vec<u8>) -> Result<(), FromHexError>
+    ensures ok { OnOk result (decode_of line.now ≡ Ok piece.new.items) }
+    ensures err { IfErr result (λ e. (e ≡ OutOfMemory) ⊎ (decode_of line.now ≡ Err e)) }
+{
+    piece.clear();
+    piece.resize(line.len() / 2, 0)?;
+    hex::decode_to_slice(line, piece.as_mut_slice())
+}
+
+/// Makes `line` the digits of the frame, in lower case, and a line break.
+fn write_digits(frame: &[u8], line: &mut Vec<u8>) -> Result<(), AllocError>
+    ensures { OnOk result (line.new.items ≡ encode_lower frame.now ++ 10 ∷ []) }
+{
+    line.clear();
+    line.resize(frame.len() * 2, 0)?;
+    let _ = hex::encode_to_slice(frame, line.as_mut_slice());
+    line.push(b'\n')?;
+    Ok(())
+}
+
+/// A link whose client writes and reads hexadecimal digits. Each line of the input spells a piece of the stream, an
+/// empty line an empty one. Each reply is a line.
+#[derive(Drop)]
+pub struct HexLink<R: BufRead, W: Write> {
+    reader: R,
+    writer: W,
+    /// How many lines were read.
+    lines: u64,
+    /// The line that was read, or is written.
+    line: Vec<u8>,
+    /// What the last line spells. The bytes before `start` are handed out.
+    piece: Vec<u8>,
+    start: usize,
+    cause: Option<Fault>,
+}
+
+impl<R: BufRead, W: Write> Model for HexLink<R, W> {
+    ghost use Rattle.std.specs.Prelude.{◌≤◌, length, drop};
+    ghost use Rattle.programs.specs.Links.{Hexing};
+
+    ghost Value = { Hexing };
+
+    ghost view = { λ l. record { lines = l.lines; kept = drop l.start l.piece.items; input = R.remaining l.reader; output = W.contents l.writer; cause = l.cause } };
+
+    ghost invariant = { λ l. l.start ≤ length l.piece.items };
+}
+
+impl<R: BufRead, W: Write> HexLink<R, W> {
+    /// A link on which no line was read or written.
+    pub fn new(alloc: Global, reader: R, writer: W) -> HexLink<R, W>
+        ensures { result ≡ record { lines = 0; kept = []; input = R.remaining reader; output = W.contents writer; cause = None } }
+    {
+        HexLink {
+            reader,
+            writer,
+            lines: 0,
+            line: Vec::new(alloc),
+            piece: Vec::new(alloc),
+            start: 0,
+            cause: None,
+        }
+    }
+
+    /// Why it is broken.
+    pub fn cause(&self) -> Option<Fault>
+        ensures { result ≡ self.now.cause }
+    {
+        self.cause
+    }
+
+    // Keeps the bytes of the next line. False says that there is none.
+    fn read_piece(&mut self) -> Result<bool, Fault>
+        requires { self.old.kept ≡ [] }
+        ensures more { IfOk result (λ more. more ≡ true → ReadsLine self.old self.new) }
+        ensures end { IfOk result (λ more. more ≡ false → IsAtEnd self.old.input × (self.new ≡ record self.old { kept = []; input = self.new.input })) }
+        ensures output { self.new.output ≡ self.old.output }
+        ensures cause { IfErr result (Explains self.old self.new.lines) }
+    {
+        if !read_line(&mut self.reader, &mut self.line)? {
+            return Ok(false);
+        }
+        self.lines = self.lines.saturating_add(1);
+        self.start = 0;
+        match spell(&self.line, &mut self.piece) {
+            Ok(()) => Ok(true),
+            Err(FromHexError::OutOfMemory) => Err(Fault::Memory),
+            Err(_) => Err(Fault::Line { line: self.lines }),
+        }
+    }
+
+    // Moves as much of what is kept as there is room for.
+    fn hand_out(&mut self, room: &mut [u8]) -> usize
+        ensures { HandsOut self.old result room.new self.new }
+    {
+        let kept = &self.piece[self.start..];
+        let count = kept.len().min(room.len());
+        room[..count].copy_from_slice(&kept[..count]);
+        self.start += count;
+        count
+    }
+
+    fn write_line(&mut self, frame: &[u8]) -> Result<(), Fault>
+        ensures ok { OnOk result (Appends self.old.output self.new.output (encode_lower frame.now ++ 10 ∷ [])) }
+        ensures stays { self.new ≡ record self.old { output = self.new.output } }
+        ensures cause { IfErr result IsOfWriting }
+    {
+        write_digits(frame, &mut self.line)?;
+        self.writer.write_all(&self.line)?;
+        self.writer.flush()?;
+        Ok(())
+    }
+}
+
+impl<R: BufRead, W: Write> Link for HexLink<R, W> {
+    ghost receives = { λ old received room new. Receives old received room new };
+
+    ghost sends = { λ old frame sent new. Sends old frame sent new };
+
+    fn receive(&mut self, room: &mut [u8]) -> Received {
+        if self.start == self.piece.len() {
+            match self.read_piece() {
+                Ok(true) => {}
+                Ok(false) => return Received::End,
+                Err(fault) => {
+                    self.cause = Some(fault);
+                    return Received::Broken;
+                }
+            }
+        }
+        Received::Bytes(self.hand_out(room))
+    }
+
+    fn send(&mut self, frame: &[u8]) -> Sent {
+        match self.write_line(frame) {
+            Ok(()) => Sent::Taken,
+            Err(fault) => {
+                self.cause = Some(fault);
+                Sent::Broken
+            }
+        }
+    }
+}

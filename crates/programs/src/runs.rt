@@ -1,0 +1,99 @@
+//! Whole runs of the programs, but for the system around them.
+
+ghost use Rattle.std.specs.Prelude.{◌≡◌};
+ghost use Rattle.std.specs.Io.KnownBytes.{Keeps};
+ghost use Rattle.ledger.specs.Shares.{AreAll};
+ghost use Rattle.programs.specs.Running.{RunsHex, ServesLink};
+ghost use Rattle.programs.specs.Sessions.{exit_of, fault_of, IsEnding, IsStatus};
+
+use crate::faults::Fault;
+use crate::hexadecimal::HexLink;
+use crate::links::Link;
+use crate::samples::MemTree;
+use crate::sessions::{Session, SessionEnd};
+use ledger::{Blanks, Shared};
+use std::alloc::Global;
+use std::io::{BufRead, Write};
+use std::marker::Brand;
+use std::sync::ledger as tokens;
+use table::{Limits, Table};
+
+/// How many nodes may live at once, with the root (own).
+const NODES: u64 = 65_536;
+
+/// Serves a tree over a link with a table of its own, of one share.
+fn serve<B: Shared, E: tokens::Ledger, K: tokens::Ledger, F: tokens::Ledger, L: Link>(
+    alloc: Global,
+    blanks: Blanks,
+    tree: MemTree,
+    link: &mut L,
+) -> SessionEnd
+    requires names { blanks ≡ record { born = B.name; entries = E.name; backs = K.name; forgotten = F.name; parts = 1 } }
+    requires cut { AreAll 1 B.parts E.parts K.parts F.parts }
+    requires shares { B.shares ≡ 1 }
+    ensures serves { ServesLink L.receives L.sends tree.has_samples link.old result link.new }
+    ensures ending { IsEnding result }
+{
+    let limits = Limits {
+        nodes: NODES,
+        ..Limits::default()
+    };
+    let opened = Table::<B, E, K, F>::open(alloc, limits, blanks, 1);
+    let Ok((table, mut shares)) = opened else {
+        return SessionEnd::Memory;
+    };
+    let share = shares.pop().unwrap();
+    shares.destroy_empty();
+    let mut session = Session::new(alloc, tree, table, share);
+    let end = session.run(link);
+    let (_, share) = session.end();
+    share.leave();
+    end
+}
+
+/// The fault that a session ended with, where `cause` tells why its link broke.
+fn fault_of(end: SessionEnd, cause: Option<Fault>) -> Option<Fault>
+    ensures { result ≡ fault_of end cause }
+{
+    match end {
+        SessionEnd::Closed { .. } => None,
+        SessionEnd::BadLength { len } => Some(Fault::FrameLength { len }),
+        SessionEnd::LinkBroken => Some(cause.unwrap_or(Fault::Link)),
+        SessionEnd::Memory => Some(Fault::Memory),
+    }
+}
+
+/// Writes a fault as one line, and tells the exit status. A writer that fails leaves the status alone.
+pub fn report<F: Write>(faults: &mut F, fault: Option<Fault>) -> u8
+    ensures status { result ≡ exit_of fault }
+    ensures quiet { fault ≡ None → Keeps (F.contents faults.old) (F.contents faults.new) }
+{
+    let Some(fault) = fault else {
+        return 0;
+    };
+    let _ = writeln!(faults, "mirrord: {fault}");
+    fault.status()
+}
+
+/// Serves a tree in memory over hexadecimal lines: the program `hex` but for its command line. Answers its exit status.
+pub fn hex_run<I: BufRead + Drop, O: Write + Drop, F: Write>(
+    alloc: Global,
+    sample: bool,
+    input: I,
+    output: O,
+    faults: &mut F,
+) -> u8
+    ensures runs { RunsHex sample (I.remaining input) (O.contents output) result }
+    ensures status { IsStatus result }
+    ensures quiet { result ≡ 0 → Keeps (F.contents faults.old) (F.contents faults.new) }
+{
+    let mut link = HexLink::new(alloc, input, output);
+    let tree = MemTree::new(sample);
+    let end = serve::<Brand, Brand, Brand, Brand, HexLink<I, O>>(
+        alloc,
+        Blanks::new(1),
+        tree,
+        &mut link,
+    );
+    report(faults, fault_of(end, link.cause()))
+}

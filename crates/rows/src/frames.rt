@@ -1,0 +1,83 @@
+//! The frames that the tests send and the replies that they wait for, in hexadecimal digits. Spaces are for reading.
+
+use programs::hex_run;
+use std::alloc::{AllocError, Global};
+
+/// LOOKUP `a` in the root, unique 7.
+pub const LOOKUP_A: &str = "2a000000 01000000 0700000000000000 0100000000000000 00000000 00000000 00000000 00000000 6100";
+
+/// The entry of `a`: node 2, generation 0, a file of three bytes.
+pub const ENTRY_A: &str = "90000000 00000000 0700000000000000 \
+    0200000000000000 0000000000000000 0100000000000000 0100000000000000 00000000 00000000 \
+    0200000000000000 0300000000000000 0100000000000000 \
+    0000000000000000 0000000000000000 0000000000000000 00000000 00000000 00000000 \
+    a4810000 01000000 00000000 00000000 00000000 00100000 00000000";
+
+/// LOOKUP `e` in the root, unique 8.
+pub const LOOKUP_E: &str = "2a000000 01000000 0800000000000000 0100000000000000 00000000 00000000 00000000 00000000 6500";
+
+/// The entry of `e` where number 2 was born before: node 2, generation 1, an empty file.
+pub const ENTRY_E_REBORN: &str = "90000000 00000000 0800000000000000 \
+    0200000000000000 0100000000000000 0100000000000000 0100000000000000 00000000 00000000 \
+    0200000000000000 0000000000000000 0000000000000000 \
+    0000000000000000 0000000000000000 0000000000000000 00000000 00000000 00000000 \
+    a4810000 01000000 00000000 00000000 00000000 00100000 00000000";
+
+/// LOOKUP `d` in the root, unique 10.
+pub const LOOKUP_D: &str = "2a000000 01000000 0a00000000000000 0100000000000000 00000000 00000000 00000000 00000000 6400";
+
+/// The entry of `d`: node 2, generation 0, a folder.
+pub const ENTRY_D: &str = "90000000 00000000 0a00000000000000 \
+    0200000000000000 0000000000000000 0100000000000000 0100000000000000 00000000 00000000 \
+    0200000000000000 0000000000000000 0000000000000000 \
+    0000000000000000 0000000000000000 0000000000000000 00000000 00000000 00000000 \
+    ed410000 02000000 00000000 00000000 00000000 00100000 00000000";
+
+/// LOOKUP `zz` in the root, unique 7.
+pub const LOOKUP_ZZ: &str = "2b000000 01000000 0700000000000000 0100000000000000 00000000 00000000 00000000 00000000 7a7a00";
+
+/// ENOENT for unique 7.
+pub const ABSENT: &str = "10000000 feffffff 0700000000000000";
+
+/// FORGET of node 2, unique 9, nlookup 5.
+pub const FORGET_FIVE: &str = "30000000 02000000 0900000000000000 0200000000000000 00000000 00000000 00000000 00000000 0500000000000000";
+
+/// What a run of the program `hex` left behind.
+#[derive(Drop)]
+pub struct Run {
+    pub status: u8,
+    pub output: Vec<u8>,
+    pub faults: Vec<u8>,
+}
+
+/// The lines without their spaces, each with a line break.
+pub fn lines_of(alloc: Global, lines: &[&str]) -> Result<Vec<u8>, AllocError> {
+    let mut digits = Vec::new(alloc);
+    for line in lines {
+        for byte in line.as_bytes() {
+            if *byte != b' ' {
+                digits.push(*byte)?;
+            }
+        }
+        digits.push(b'\n')?;
+    }
+    Ok(digits)
+}
+
+/// Runs `hex` with the sample names on these bytes.
+pub fn run_on(alloc: Global, input: &[u8]) -> Run {
+    let mut output = Vec::new(alloc);
+    let mut faults = Vec::new(alloc);
+    let status = hex_run(alloc, true, input, &mut output, &mut faults);
+    Run {
+        status,
+        output,
+        faults,
+    }
+}
+
+/// Runs `hex` with the sample names on these lines.
+pub fn run_lines(alloc: Global, lines: &[&str]) -> Result<Run, AllocError> {
+    let input = lines_of(alloc, lines)?;
+    Ok(run_on(alloc, &input))
+}

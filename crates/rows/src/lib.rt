@@ -1,0 +1,13 @@
+//! Tests across the crates: whole sessions, with every byte taken from the protocol's description.
+#![tactic(auto)]
+
+#[cfg(test)]
+mod frames;
+#[cfg(test)]
+mod lines;
+#[cfg(test)]
+mod lookups;
+#[cfg(test)]
+mod untaken;
+#[cfg(test)]
+mod words;
