@@ -1,7 +1,8 @@
 -- The requests in flight, as contracts see them: by their ids.
 use Rattle.std.specs.Prelude.{ℕ, ◌+◌, ◌-◌, ◌≡◌, ◌==◌, ◌||◌, ◌↔◌, Bool, true, false, if◌then◌else◌, List, [], ◌∷◌, ◌++◌, Option, Some, None}
 use Rattle.std.specs.List.{list_any}
-use Rattle.holds.specs.Clashes.{Clash}
+use Rattle.paths.specs.Fronts.{Names}
+use Rattle.holds.specs.Clashes.{Clash, is_among}
 use Rattle.holds.specs.declared.held.Held.{Held}
 use Rattle.flights.specs.declared.data.Flight.{Flight}
 use Rattle.flights.specs.declared.data.Stage.{Stage}
@@ -41,6 +42,15 @@ postings_promised Answered = 0
 abbrev pub IsInTheWay : Stage → Held → Type 0
 IsInTheWay (Working work) wanted = Clash work.held wanted
 IsInTheWay Answered wanted = ⊥
+
+-- whether the request is worked on and has the path among these names
+abbrev pub has_shared : Stage → Names → Bool
+has_shared (Working work) path = is_among work.held.shared path
+has_shared Answered path = false
+
+abbrev pub has_exclusive : Stage → Names → Bool
+has_exclusive (Working work) path = is_among work.held.exclusive path
+has_exclusive Answered path = false
 
 -- some request that is worked on holds a name that is in the way of these
 pub record HoldsUp (at : Flights) (wanted : Held) : Type 0 where

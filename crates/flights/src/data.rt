@@ -4,7 +4,7 @@ ghost use Rattle.std.specs.Prelude.{◌≡◌, ◌==◌, ◌+◌, ◌-◌, ◌<�
 ghost use Rattle.std.specs.List.{list_any};
 
 use holds::Held;
-use paths::Name;
+use paths::{Name, Path};
 use std::alloc::{AllocError, Global};
 use std::marker::Model;
 
@@ -171,7 +171,7 @@ pub enum Stage {
 
 impl Stage {
     ghost use Rattle.std.specs.Prelude.{◌↔◌, IsTrue};
-    ghost use Rattle.flights.specs.Flying.{is_working, nodes_promised, postings_promised, IsInTheWay};
+    ghost use Rattle.flights.specs.Flying.{is_working, nodes_promised, postings_promised, IsInTheWay, has_exclusive, has_shared};
 
     /// Whether the request is worked on, and what it holds clashes with these names.
     pub fn clashes_with(&self, wanted: &Held) -> bool
@@ -179,6 +179,26 @@ impl Stage {
     {
         match self {
             Stage::Working(work) => work.held.clashes_with(wanted),
+            Stage::Answered => false,
+        }
+    }
+
+    /// Whether the request is worked on, and shares the path.
+    pub fn shares(&self, path: &Path) -> bool
+        ensures { result ≡ has_shared self.now path.now }
+    {
+        match self {
+            Stage::Working(work) => work.held.shared.contains(path),
+            Stage::Answered => false,
+        }
+    }
+
+    /// Whether the request is worked on, and holds the path for itself.
+    pub fn owns(&self, path: &Path) -> bool
+        ensures { result ≡ has_exclusive self.now path.now }
+    {
+        match self {
+            Stage::Working(work) => work.held.exclusive.contains(path),
             Stage::Answered => false,
         }
     }

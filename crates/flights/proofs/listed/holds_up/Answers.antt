@@ -8,9 +8,11 @@ use Rattle.flights.proofs.listed.holds_up.Goals as goal
 
 pub returns-then-clashes_with : goal.returns-then-clashes_with
 returns-then-clashes_with c =
-    let x = c.flight-item.result in
-    (λ _. held_up_at c.args.flights.now c.loop-flight.flight-index x c.args.wanted.now c.requires (search rules)
-        (subst (λ (f : Flight). IsInTheWay f.stage c.args.wanted.now) c.flight-item.is (c.clashes_with.ensures.0 c.if-clashes_with.true)), λ _. refl)
+    let x = c.flight-item.result in (
+      λ _. held_up_at c.args.flights.now c.loop-flight.flight-index x c.args.wanted.now c.requires (search rules)
+          (subst (λ (f : Flight). IsInTheWay f.stage c.args.wanted.now) c.flight-item.is (c.clashes_with.ensures.0 c.if-clashes_with.true)),
+      λ _. refl,
+    )
 
 pub loop-flight-preserved : goal.loop-flight-preserved
 loop-flight-preserved c =
