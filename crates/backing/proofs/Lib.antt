@@ -1,0 +1,16 @@
+pub mod KindLemmas
+pub mod Descending
+pub mod Listing
+pub mod Lawful
+pub mod Putting
+pub mod WriteLemmas
+pub mod Tests
+pub mod Relocating
+pub mod PathSetting
+pub mod Renaming
+pub mod Ending
+pub mod Witnesses
+pub mod RouteLemmas
+pub mod Keeping
+pub mod PathLemmas
+pub mod Looking

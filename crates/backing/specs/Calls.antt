@@ -1,0 +1,173 @@
+-- What a call answers and does on a tree: its tests in their order, and its work where all of them pass.
+use Rattle.std.specs.Prelude.{ℕ, ℤ, ◌≡◌, ◌≢◌, ◌<◌, ◌≤◌, ◌+◌, ◌⊎◌, Bool, true, false, if◌then◌else◌, List, [], ◌∷◌, ◌++◌, Option, Some, None, IsSome, length}
+use Rattle.std.specs.Option.{option_map}
+use Rattle.paths.specs.Fronts.{Name, Names, is_name, is_front}
+use Rattle.backing.specs.declared.call.Kind.{Kind}
+use Rattle.backing.specs.declared.call.Child.{Child}
+use Rattle.backing.specs.declared.call.Call.{Call}
+use Rattle.backing.specs.declared.call.Call.TheVariants as calls
+use Rattle.backing.specs.declared.call.Answer.{Answer}
+use Rattle.backing.specs.declared.call.Answer.TheVariants.{Done, Stat, Names as NamesAre, Bytes, Wrote, Fault}
+use Rattle.backing.specs.declared.entries.Item.{Item}
+use Rattle.backing.specs.declared.entries.Item.TheVariants.{Folder, File}
+use Rattle.errno.specs.declared.TheConstants.{ENOENT, EBUSY, EEXIST, ENOTDIR, EISDIR, EINVAL, EFBIG, ENOTEMPTY}
+use Rattle.backing.specs.declared.call.TheConstants.{MAX_FILE_LEN}
+use Rattle.backing.specs.Files.{resized, written, read}
+use Rattle.backing.specs.Tree.{Tree, IsFile, IsFolder, Leads, Stops, HasNames, IsBare, is_path, with_item, without, moved, kind_of, size_of}
+
+-- what is asked of a directory, wherever the paths and the bytes lie in memory
+pub data Asked : Type 0 where
+  AskStat : (p : Names) → Asked
+  AskList : (p : Names) → Asked
+  AskMake : (p : Names) → Asked
+  AskMakeDir : (p : Names) → Asked
+  AskRemove : (p : Names) → Asked
+  AskRemoveDir : (p : Names) → Asked
+  AskRename : (s t : Names) → Asked
+  AskRead : (p : Names) → (offset size : ℕ) → Asked
+  AskWrite : (p : Names) → (offset : ℕ) → (piece : List ℕ) → Asked
+  AskSetLen : (p : Names) → (size : ℕ) → Asked
+  AskSync : (p : Names) → Asked
+
+abbrev pub asked : Call → Asked
+asked (calls.Stat p) = AskStat p.now
+asked (calls.List p) = AskList p.now
+asked (calls.Make p) = AskMake p.now
+asked (calls.MakeDir p) = AskMakeDir p.now
+asked (calls.Remove p) = AskRemove p.now
+asked (calls.RemoveDir p) = AskRemoveDir p.now
+asked (calls.Rename s t) = AskRename s.now t.now
+asked (calls.Read p offset size) = AskRead p.now offset size
+asked (calls.Write p offset piece) = AskWrite p.now offset piece.now
+asked (calls.SetLen p size) = AskSetLen p.now size
+asked (calls.Sync p) = AskSync p.now
+
+-- What a call needs of the tree. Each test has one way to fail, but for the way down to a path.
+pub data Test : Type 0 where
+  BelowRoot : (p : Names) → Test  -- p is not the root, else EBUSY
+  Reached : (p : Names) → Test  -- folders lead down to p, else ENOENT or ENOTDIR
+  Present : (p : Names) → Test  -- something stands at p, else ENOENT
+  Free : (p : Names) → Test  -- nothing stands at p, else EEXIST
+  NoFolder : (p : Names) → Test  -- no folder stands at p, else EISDIR
+  NoFile : (p : Names) → Test  -- no file stands at p, else ENOTDIR
+  Bare : (p : Names) → Test  -- no name stands in p, else ENOTEMPTY
+  NotInto : (s t : Names) → Test  -- t is not below s, else EINVAL
+  NotOver : (s t : Names) → Test  -- s is not below t, else ENOTEMPTY
+  NoFileOnFolder : (s t : Names) → Test  -- not a file onto a folder, else EISDIR
+  NoFolderOnFile : (s t : Names) → Test  -- not a folder onto a file, else ENOTDIR
+  Fits : (end : ℕ) → Test  -- a file may end there, else EFBIG
+
+abbrev pub Passes : Tree → Test → Type 0
+Passes at (BelowRoot p) = p ≢ []
+Passes at (Reached p) = Leads at p
+Passes at (Present p) = IsSome (at p)
+Passes at (Free p) = at p ≡ None
+Passes at (NoFolder p) = IsFolder (at p) → ⊥
+Passes at (NoFile p) = IsFile (at p) → ⊥
+Passes at (Bare p) = IsBare at p
+Passes at (NotInto s t) = is_front s t ≡ false
+Passes at (NotOver s t) = is_front t s ≡ false
+Passes at (NoFileOnFolder s t) = IsFile (at s) → IsFolder (at t) → ⊥
+Passes at (NoFolderOnFile s t) = IsFolder (at s) → IsFile (at t) → ⊥
+Passes at (Fits end) = end ≤ MAX_FILE_LEN
+
+abbrev pub Fails : Tree → Test → ℤ → Type 0
+Fails at (BelowRoot p) errno = (p ≡ []) × (errno ≡ EBUSY)
+Fails at (Reached p) errno = Stops at p errno
+Fails at (Present p) errno = (at p ≡ None) × (errno ≡ ENOENT)
+Fails at (Free p) errno = IsSome (at p) × (errno ≡ EEXIST)
+Fails at (NoFolder p) errno = IsFolder (at p) × (errno ≡ EISDIR)
+Fails at (NoFile p) errno = IsFile (at p) × (errno ≡ ENOTDIR)
+Fails at (Bare p) errno = HasNames at p × (errno ≡ ENOTEMPTY)
+Fails at (NotInto s t) errno = (is_front s t ≡ true) × (errno ≡ EINVAL)
+Fails at (NotOver s t) errno = (is_front t s ≡ true) × (errno ≡ ENOTEMPTY)
+Fails at (NoFileOnFolder s t) errno = IsFile (at s) × IsFolder (at t) × (errno ≡ EISDIR)
+Fails at (NoFolderOnFile s t) errno = IsFolder (at s) × IsFile (at t) × (errno ≡ ENOTDIR)
+Fails at (Fits end) errno = (MAX_FILE_LEN < end) × (errno ≡ EFBIG)
+
+-- all of the tests pass
+abbrev pub PassesAll : Tree → List Test → Type 0
+PassesAll at [] = Unit {0}
+PassesAll at (test ∷ tests) = Passes at test × PassesAll at tests
+
+-- the first test that fails gives the error
+abbrev pub Refuses : Tree → List Test → ℤ → Type 0
+Refuses at [] errno = ⊥
+Refuses at (test ∷ tests) errno = Fails at test errno ⊎ (Passes at test × Refuses at tests errno)
+
+-- the tests, or none of them
+abbrev pub unless : Bool → List Test → List Test
+unless true tests = []
+unless false tests = tests
+
+-- A write of no bytes fits everywhere.
+abbrev pub end_of : ℕ → List ℕ → ℕ
+end_of offset [] = 0
+end_of offset (byte ∷ piece) = offset + length (byte ∷ piece)
+
+-- the tests of a call, in their order
+abbrev pub tests_of : Asked → List Test
+tests_of (AskStat p) = Reached p ∷ Present p ∷ []
+tests_of (AskList p) = Reached p ∷ Present p ∷ NoFile p ∷ []
+tests_of (AskMake p) = Reached p ∷ Free p ∷ []
+tests_of (AskMakeDir p) = Reached p ∷ Free p ∷ []
+tests_of (AskRemove p) = Reached p ∷ Present p ∷ NoFolder p ∷ []
+tests_of (AskRemoveDir p) = BelowRoot p ∷ Reached p ∷ Present p ∷ NoFile p ∷ Bare p ∷ []
+tests_of (AskRename s t) = BelowRoot s ∷ BelowRoot t ∷ Reached s ∷ Present s ∷ unless (is_path s t) (NotInto s t ∷ NotOver s t ∷ Reached t ∷ NoFileOnFolder s t ∷ NoFolderOnFile s t ∷ Bare t ∷ [])
+tests_of (AskRead p offset size) = Reached p ∷ Present p ∷ NoFolder p ∷ []
+tests_of (AskWrite p offset piece) = Reached p ∷ Present p ∷ NoFolder p ∷ Fits (end_of offset piece) ∷ []
+tests_of (AskSetLen p size) = Reached p ∷ Present p ∷ NoFolder p ∷ Fits size ∷ []
+tests_of (AskSync p) = Reached p ∷ Present p ∷ []
+
+-- the kind that a name has in a listing
+abbrev pub kind_in : List Child → Name → Option Kind
+kind_in [] name = None
+kind_in (child ∷ children) name = if is_name child.name name then Some child.kind else kind_in children name
+
+-- no name comes twice
+abbrev pub EachOnce : List Child → Type 0
+EachOnce [] = Unit {0}
+EachOnce (child ∷ children) = (kind_in children child.name ≡ None) × EachOnce children
+
+-- the names that stand in p, with their kinds, each once and in any order
+pub record Lists (at : Tree) (p : Names) (children : List Child) : Type 0 where
+  pub stands : (name : Name) → kind_in children name ≡ option_map kind_of (at (p ++ name ∷ []))
+  pub once : EachOnce children
+
+-- the answer of a call whose tests pass, and the tree then
+abbrev pub Does : Tree → Asked → Answer → Tree → Type 0
+Does old (AskStat p) answer new = ((item : Item) × (old p ≡ Some item) × (answer ≡ Stat (kind_of item) (size_of item))) × (new ≡ old)
+Does old (AskList p) answer new = ((children : List Child) × Lists old p children × (answer ≡ NamesAre children)) × (new ≡ old)
+Does old (AskMake p) answer new = (answer ≡ Done) × (new ≡ with_item old p (File []))
+Does old (AskMakeDir p) answer new = (answer ≡ Done) × (new ≡ with_item old p Folder)
+Does old (AskRemove p) answer new = (answer ≡ Done) × (new ≡ without old p)
+Does old (AskRemoveDir p) answer new = (answer ≡ Done) × (new ≡ without old p)
+Does old (AskRename s t) answer new = (answer ≡ Done) × (new ≡ (if is_path s t then old else moved old s t))
+Does old (AskRead p offset size) answer new = ((bytes : List ℕ) × (old p ≡ Some (File bytes)) × (answer ≡ Bytes (read bytes offset size))) × (new ≡ old)
+Does old (AskWrite p offset []) answer new = (answer ≡ Wrote 0) × (new ≡ old)
+Does old (AskWrite p offset (byte ∷ piece)) answer new = (answer ≡ Wrote (length (byte ∷ piece))) × ((bytes : List ℕ) × (old p ≡ Some (File bytes)) × (new ≡ with_item old p (File (written bytes offset (byte ∷ piece)))))
+Does old (AskSetLen p size) answer new = (answer ≡ Done) × ((bytes : List ℕ) × (old p ≡ Some (File bytes)) × (new ≡ with_item old p (File (resized size bytes))))
+Does old (AskSync p) answer new = (answer ≡ Done) × (new ≡ old)
+
+-- The tree's own answer and effect: the call's work where all of its tests pass, else the error of the first that fails
+-- and no change.
+abbrev pub Works : Tree → Asked → Answer → Tree → Type 0
+Works old call answer new = (PassesAll old (tests_of call) × Does old call answer new) ⊎ ((errno : ℤ) × Refuses old (tests_of call) errno × (answer ≡ Fault errno) × (new ≡ old))
+
+-- the calls that a tree in memory takes memory for
+abbrev pub TakesMemory : Asked → Type 0
+TakesMemory (AskStat p) = ⊥
+TakesMemory (AskList p) = Unit {0}
+TakesMemory (AskMake p) = Unit {0}
+TakesMemory (AskMakeDir p) = Unit {0}
+TakesMemory (AskRemove p) = ⊥
+TakesMemory (AskRemoveDir p) = ⊥
+TakesMemory (AskRename s t) = Unit {0}
+TakesMemory (AskRead p offset size) = Unit {0}
+TakesMemory (AskWrite p offset piece) = Unit {0}
+TakesMemory (AskSetLen p size) = Unit {0}
+TakesMemory (AskSync p) = ⊥
+
+-- Nothing but want of memory keeps the tree from doing the call's work.
+abbrev pub Starves : Tree → Asked → Type 0
+Starves old call = PassesAll old (tests_of call) × TakesMemory call

@@ -1,0 +1,20 @@
+-- What a write makes of an item.
+use Rattle.std.specs.Prelude.{ℕ, List}
+use Rattle.backing.specs.declared.entries.Item.{Item}
+use Rattle.backing.specs.declared.entries.Item.TheVariants.{Folder, File}
+use Rattle.backing.specs.declared.entries.Entry.{Entry}
+use Rattle.backing.specs.Files.{written, resized}
+
+abbrev pub item_written : Item → ℕ → List ℕ → Item
+item_written Folder offset piece = Folder
+item_written (File bytes) offset piece = File (written bytes offset piece)
+
+abbrev pub item_resized : Item → ℕ → Item
+item_resized Folder size = Folder
+item_resized (File bytes) size = File (resized size bytes)
+
+abbrev pub entry_written : Entry → ℕ → List ℕ → Entry
+entry_written entry offset piece = record entry { item = item_written entry.item offset piece }
+
+abbrev pub entry_resized : Entry → ℕ → Entry
+entry_resized entry size = record entry { item = item_resized entry.item size }

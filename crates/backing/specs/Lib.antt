@@ -1,0 +1,14 @@
+pub mod Files
+pub mod Tree
+pub mod Calls
+pub mod Device
+pub mod Entries
+pub mod Refusals
+pub mod Items
+pub mod Moves
+pub mod Memory
+pub mod Known
+pub mod Explained
+pub mod SharedTree
+pub mod Troubles
+pub mod Routes

@@ -1,0 +1,24 @@
+-- Where the entries of a list go when s is renamed t.
+use Rattle.std.specs.Prelude.{ℕ, ◌≡◌, ◌⊎◌, if◌then◌else◌, List, [], ◌∷◌, ◌++◌, Option, Some, None, length, drop}
+use Rattle.std.specs.List.{remove}
+use Rattle.paths.specs.Fronts.{Names, is_front}
+use Rattle.backing.specs.declared.entries.Entry.{Entry}
+use Rattle.backing.specs.Entries.{look, IsFoundAt}
+
+-- the new path of what stood at s or below it, and none for all else
+abbrev pub moved_path : Names → Names → Names → Option Names
+moved_path s t p = if is_front s p then Some (t ++ drop (length s) p) else None
+
+abbrev pub with_path : Entry → Option Names → Entry
+with_path entry None = entry
+with_path entry (Some p) = record entry { path = p }
+
+-- each entry with its new path
+abbrev pub with_paths : List Entry → List (Option Names) → List Entry
+with_paths [] paths = []
+with_paths (entry ∷ entries) [] = entry ∷ entries
+with_paths (entry ∷ entries) (path ∷ paths) = with_path entry path ∷ with_paths entries paths
+
+-- No entry bears the path, or the one that did is gone, and its new path with it.
+abbrev pub Clears : List Entry → List Entry → List (Option Names) → List (Option Names) → Names → Type 0
+Clears entries entries' paths paths' p = ((look entries p ≡ None) × (entries' ≡ entries) × (paths' ≡ paths)) ⊎ ((index : ℕ) × IsFoundAt entries p index × (entries' ≡ remove entries index) × (paths' ≡ remove paths index))

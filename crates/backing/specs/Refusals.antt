@@ -1,0 +1,41 @@
+-- How a call on a memory tree ended.
+use Rattle.std.specs.Prelude.{ℤ, ◌≡◌, Result, Ok, Err, Option, Some, None, List}
+use Rattle.backing.specs.declared.call.Answer.{Answer}
+use Rattle.backing.specs.declared.refusal.Refusal.{Refusal}
+use Rattle.backing.specs.declared.refusal.Refusal.TheVariants.{Errno, Memory}
+use Rattle.backing.specs.declared.call.Answer.TheVariants.{Fault}
+use Rattle.errno.specs.declared.TheConstants.{ENOMEM}
+use Rattle.backing.specs.Tree.{Tree}
+use Rattle.backing.specs.Calls.{Asked, Test, tests_of, PassesAll, Refuses, Does, Starves}
+
+-- It did its work; or the first test that failed gave the error; or there was no memory for its work. Only its work changes the tree.
+abbrev pub Ends : Tree → Asked → Result Answer Refusal → Tree → Type 0
+Ends old call (Ok answer) new = PassesAll old (tests_of call) × Does old call answer new
+Ends old call (Err (Errno errno)) new = Refuses old (tests_of call) errno × (new ≡ old)
+Ends old call (Err Memory) new = Starves old call × (new ≡ old)
+
+-- why these tests did not all pass, unless they did and there was no memory
+abbrev pub Refusing : Tree → List Test → Refusal → Type 0
+Refusing at tests (Errno errno) = Refuses at tests errno
+Refusing at tests Memory = PassesAll at tests
+
+abbrev pub errno_of : Refusal → ℤ
+errno_of (Errno errno) = errno
+errno_of Memory = ENOMEM
+
+-- the error number of a call that fails after its work
+abbrev pub errno_after : Result Answer Refusal → ℤ → ℤ
+errno_after (Ok answer) errno = errno
+errno_after (Err (Errno refused)) errno = errno
+errno_after (Err Memory) errno = ENOMEM
+
+-- whether it was done, or its error number
+abbrev pub settled : Result Answer Refusal → Result (Unit {0}) ℤ
+settled (Ok answer) = Ok tt
+settled (Err refusal) = Err (errno_of refusal)
+
+-- the tree's own answer, a refusal too, and none where there was no memory
+abbrev pub answered : Result Answer Refusal → Option Answer
+answered (Ok answer) = Some answer
+answered (Err (Errno errno)) = Some (Fault errno)
+answered (Err Memory) = None

@@ -1,0 +1,80 @@
+-- A tree is what stands at each path. The empty path is the root's.
+use Rattle.std.specs.Prelude.{ℕ, ℤ, ◌≡◌, ◌<◌, ◌&&◌, Bool, true, false, if◌then◌else◌, [], ◌∷◌, ◌++◌, Option, Some, None, IsSome, length, take, drop}
+use Rattle.paths.specs.Fronts.{Name, Names, is_name, is_front}
+use Rattle.backing.specs.declared.call.Kind.{Kind}
+use Rattle.backing.specs.declared.call.Kind.TheVariants as kinds
+use Rattle.backing.specs.declared.entries.Item.{Item}
+use Rattle.backing.specs.declared.entries.Item.TheVariants.{Folder, File}
+use Rattle.errno.specs.declared.TheConstants.{ENOENT, ENOTDIR}
+
+abbrev pub Tree : Type 0
+Tree = Names → Option Item
+
+-- both paths have the same names
+abbrev pub is_path : Names → Names → Bool
+is_path [] [] = true
+is_path (x ∷ p) (y ∷ q) = is_name x y && is_path p q
+is_path [] (y ∷ q) = false
+is_path (x ∷ p) [] = false
+
+-- The root is a folder, and each other path's parent is a folder.
+pub record IsTree (at : Tree) : Type 0 where
+  pub root : at [] ≡ Some Folder
+  pub parents : (up : Names) (name : Name) → IsSome (at (up ++ name ∷ [])) → at up ≡ Some Folder
+
+-- the same tree, but that the item stands at p
+abbrev pub with_item : Tree → Names → Item → Tree
+with_item at p item = λ q. if is_path p q then Some item else at q
+
+-- the same tree, but that nothing stands at p
+abbrev pub without : Tree → Names → Tree
+without at p = λ q. if is_path p q then None else at q
+
+-- what stood at s or below it stands at t or below it, and no longer where it was
+abbrev pub moved : Tree → Names → Names → Tree
+moved at s t = λ q. if is_front t q then at (s ++ drop (length t) q) else (if is_front s q then None else at q)
+
+abbrev pub kind_of : Item → Kind
+kind_of Folder = kinds.Folder
+kind_of (File bytes) = kinds.File
+
+-- in bytes, 0 for a folder
+abbrev pub size_of : Item → ℕ
+size_of Folder = 0
+size_of (File bytes) = length bytes
+
+abbrev pub IsFile : Option Item → Type 0
+IsFile (Some (File bytes)) = Unit {0}
+IsFile (Some Folder) = ⊥
+IsFile None = ⊥
+
+abbrev pub IsFolder : Option Item → Type 0
+IsFolder (Some Folder) = Unit {0}
+IsFolder (Some (File bytes)) = ⊥
+IsFolder None = ⊥
+
+-- each folder on the way down to p is one
+pub record Leads (at : Tree) (p : Names) : Type 0 where
+  pub down : (k : ℕ) → k < length p → IsFolder (at (take k p))
+
+-- why nothing stands below what stands here
+abbrev pub Blocks : Option Item → ℤ → Type 0
+Blocks None errno = errno ≡ ENOENT
+Blocks (Some (File bytes)) errno = errno ≡ ENOTDIR
+Blocks (Some Folder) errno = ⊥
+
+-- the first place on the way down to p, from the root on, that is no folder
+pub record Stops (at : Tree) (p : Names) (errno : ℤ) : Type 0 where
+  pub depth : ℕ
+  pub above_path : depth < length p
+  pub down : (k : ℕ) → k < depth → IsFolder (at (take k p))
+  pub why : Blocks (at (take depth p)) errno
+
+-- some name stands in the folder p
+pub record HasNames (at : Tree) (p : Names) : Type 0 where
+  pub name : Name
+  pub stands : IsSome (at (p ++ name ∷ []))
+
+-- no name does
+pub record IsBare (at : Tree) (p : Names) : Type 0 where
+  pub none : (name : Name) → at (p ++ name ∷ []) ≡ None

@@ -1,0 +1,113 @@
+//! The tests of a call, each with its error.
+
+ghost use Rattle.std.specs.Prelude.{true, false, ◌≡◌, ◌≢◌, ◌≤◌, ◌<◌, ◌+◌, ◌^◌, ◌↔◌, ℕ, List, [], ◌∷◌, ◌++◌, None, Some, IsTrue, IfOk, IfErr, OnOk, length, slice_get};
+ghost use Rattle.std.specs.Option.{option_map};
+ghost use Rattle.backing.specs.Tree.{kind_of, Leads, Stops, IsFolder, IsFile};
+ghost use Rattle.backing.specs.Calls.{PassesAll, Refuses, Reached, Present, Free, NoFolder, NoFile, Bare, Fits};
+ghost use Rattle.backing.specs.Entries.{look, tree_of, IsFoundAt, IsLawful};
+
+use crate::call::{Kind, MAX_FILE_LEN};
+use crate::entries::{Entry, Item};
+use crate::lookups::{has_names, index_of, kind_at};
+use errno::{EBUSY, EEXIST, EFBIG, EISDIR, ENOENT, ENOTDIR, ENOTEMPTY};
+use paths::Path;
+
+/// The path is not the root's.
+pub fn expect_below_root(path: &Path) -> Result<(), i32>
+    ensures ok { OnOk result (path.now ≢ []) }
+    ensures err { IfErr result (λ errno. (path.now ≡ []) × (errno ≡ EBUSY)) }
+{
+    if path.len() == 0 { Err(EBUSY) } else { Ok(()) }
+}
+
+/// Folders lead down to the path.
+pub fn expect_reached(entries: &[Entry], path: &Path) -> Result<(), i32>
+    ensures ok { OnOk result (Leads (tree_of entries.now) path.now) }
+    ensures err { IfErr result (Stops (tree_of entries.now) path.now) }
+{
+    let names = path.names();
+    for depth in 0..names.len() {
+        match kind_at(entries, &names[..depth]) {
+            None => return Err(ENOENT),
+            Some(Kind::File) => return Err(ENOTDIR),
+            Some(Kind::Folder) => {}
+        }
+    }
+    Ok(())
+}
+
+/// Something stands there: what kind of item.
+pub fn expect_present(entries: &[Entry], path: &Path) -> Result<Kind, i32>
+    ensures ok { OnOk result (PassesAll (tree_of entries.now) (Reached path.now ∷ Present path.now ∷ [])) }
+    ensures kind { IfOk result (λ kind. option_map kind_of (tree_of entries.now path.now) ≡ Some kind) }
+    ensures err { IfErr result (Refuses (tree_of entries.now) (Reached path.now ∷ Present path.now ∷ [])) }
+{
+    expect_reached(entries, path)?;
+    match kind_at(entries, path.names()) {
+        Some(kind) => Ok(kind),
+        None => Err(ENOENT),
+    }
+}
+
+/// Nothing stands there.
+pub fn expect_free(entries: &[Entry], path: &Path) -> Result<(), i32>
+    ensures ok { OnOk result (PassesAll (tree_of entries.now) (Reached path.now ∷ Free path.now ∷ [])) }
+    ensures err { IfErr result (Refuses (tree_of entries.now) (Reached path.now ∷ Free path.now ∷ [])) }
+{
+    expect_reached(entries, path)?;
+    match kind_at(entries, path.names()) {
+        Some(_) => Err(EEXIST),
+        None => Ok(()),
+    }
+}
+
+/// A file stands there: the place of its entry.
+pub fn expect_file(entries: &[Entry], path: &Path) -> Result<usize, i32>
+    ensures ok { OnOk result (PassesAll (tree_of entries.now) (Reached path.now ∷ Present path.now ∷ NoFolder path.now ∷ [])) }
+    ensures found { IfOk result (IsFoundAt entries.now path.now) }
+    ensures err { IfErr result (Refuses (tree_of entries.now) (Reached path.now ∷ Present path.now ∷ NoFolder path.now ∷ [])) }
+{
+    match expect_present(entries, path)? {
+        Kind::Folder => Err(EISDIR),
+        Kind::File => match index_of(entries, path.names()) {
+            Some(i) => Ok(i),
+            None => unreachable!(),
+        },
+    }
+}
+
+/// A folder stands there.
+pub fn expect_folder(entries: &[Entry], path: &Path) -> Result<(), i32>
+    ensures ok { OnOk result (PassesAll (tree_of entries.now) (Reached path.now ∷ Present path.now ∷ NoFile path.now ∷ [])) }
+    ensures err { IfErr result (Refuses (tree_of entries.now) (Reached path.now ∷ Present path.now ∷ NoFile path.now ∷ [])) }
+{
+    match expect_present(entries, path)? {
+        Kind::Folder => Ok(()),
+        Kind::File => Err(ENOTDIR),
+    }
+}
+
+/// The folder has no names.
+pub fn expect_bare(entries: &[Entry], path: &Path) -> Result<(), i32>
+    requires { IsLawful entries.now }
+    ensures ok { OnOk result (PassesAll (tree_of entries.now) (Bare path.now ∷ [])) }
+    ensures err { IfErr result (Refuses (tree_of entries.now) (Bare path.now ∷ [])) }
+{
+    if has_names(entries, path.names()) {
+        Err(ENOTEMPTY)
+    } else {
+        Ok(())
+    }
+}
+
+/// A file may be so long.
+pub fn expect_fits(entries: &[Entry], end: u64) -> Result<(), i32>
+    ensures ok { OnOk result (end ≤ MAX_FILE_LEN) }
+    ensures err { IfErr result (Refuses (tree_of entries.now) (Fits end ∷ [])) }
+{
+    if end > MAX_FILE_LEN {
+        Err(EFBIG)
+    } else {
+        Ok(())
+    }
+}

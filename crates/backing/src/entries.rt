@@ -1,0 +1,47 @@
+//! A tree below its root, kept as a flat list.
+
+ghost use Rattle.std.specs.Prelude.{◌≡◌, ◌≤◌, ◌<◌, ◌+◌, ◌^◌, ◌↔◌, ℕ, List, [], ◌∷◌, ◌++◌, None, Some, IsTrue, IfSome, IfNone, length, slice_get};
+ghost use Rattle.std.specs.Option.{option_map};
+ghost use Rattle.paths.specs.Fronts.{is_front};
+ghost use Rattle.backing.specs.Tree.{is_path};
+
+use crate::bytes::Bytes;
+use crate::call::Kind;
+use paths::{Name, Path};
+
+/// What stands at a path.
+#[derive(Drop)]
+pub enum Item {
+    Folder,
+    File(Bytes),
+}
+
+impl Item {
+    ghost use Rattle.backing.specs.Tree.{kind_of, size_of};
+
+    pub fn kind(&self) -> Kind
+        ensures { result ≡ kind_of self.now }
+    {
+        match self {
+            Item::Folder => Kind::Folder,
+            Item::File(_) => Kind::File,
+        }
+    }
+
+    /// In bytes, 0 for a folder.
+    pub fn size(&self) -> usize
+        ensures { result ≡ size_of self.now }
+    {
+        match self {
+            Item::Folder => 0,
+            Item::File(bytes) => bytes.len(),
+        }
+    }
+}
+
+/// A path below the root, and what stands there.
+#[derive(Drop)]
+pub struct Entry {
+    pub path: Path,
+    pub item: Item,
+}

@@ -1,0 +1,128 @@
+//! A real folder.
+
+mod entries;
+mod explained;
+mod files;
+mod trouble;
+mod walk;
+
+ghost use Rattle.std.specs.Prelude.{◌≡◌, ℕ, IfOk};
+ghost use Rattle.backing.specs.Calls.{asked};
+ghost use Rattle.backing.specs.Explained.{Suits, Tells};
+
+use crate::call::{Answer, Call};
+use crate::calls::Calls;
+use crate::perform::fail;
+use entries::{list, make, make_dir, remove, remove_dir, rename};
+use explained::is_explained;
+use files::{read, set_len, stat, sync, write};
+use std::fs::File;
+use std::marker::Model;
+use std::rt::Files;
+use std::{fs, io};
+use trouble::{Reason, Trouble};
+use walk::{Identity, Walk};
+
+/// A folder of the file system, and all that is below it.
+///
+/// It shows files and folders alone: a symbolic link, a pipe, a socket or a device is absent to it, wherever it stands in a
+/// path, and is never followed or opened. Each call first walks down the path, with one `lstat` for each name. What it then
+/// opens is compared with what it found there, by device and inode number, before a byte moves.
+#[derive(Drop)]
+pub struct Folder<R: Files<File = File> + AllocGlobal + Clone + Drop> {
+    rt: R,
+    walk: Walk,
+    target: Walk,
+    failures: u64,
+}
+
+impl<R: Files<File = File> + AllocGlobal + Clone + Drop> Model for Folder<R> {
+    ghost Value = { ℕ };
+
+    ghost view = { λ f. f.failures };
+}
+
+impl<R: Files<File = File> + AllocGlobal + Clone + Drop> Folder<R> {
+    /// Opens the folder at `root`, whose own links are resolved once (`realpath`, `stat`).
+    pub fn open(rt: R, root: &str) -> io::Result<Folder<R>>
+        ensures { IfOk result (λ f. f ≡ 0) }
+    {
+        let root = fs::canonicalize(&rt, root)?.into_string();
+        let metadata = fs::metadata(&rt, root.as_str())?;
+        if !metadata.is_dir() {
+            return Err(io::Error::from(io::ErrorKind::NotADirectory));
+        }
+        let top = Identity::of(&metadata);
+        let again = root.clone()?;
+        let target = Walk::new(rt.alloc(), again, top);
+        let walk = Walk::new(rt.alloc(), root, top);
+        Ok(Folder {
+            rt,
+            walk,
+            target,
+            failures: 0,
+        })
+    }
+
+    /// How many of its calls have failed.
+    pub fn failures(&self) -> u64
+        ensures { result ≡ self.now }
+    {
+        self.failures
+    }
+}
+
+impl<R: Files<File = File> + AllocGlobal + Clone + Drop> Calls for Folder<R> {
+    ghost gives = { Tells };
+
+    fn call(&mut self, call: Call<'_>) -> Answer {
+        let ended = perform(&self.rt, &mut self.walk, &mut self.target, call);
+        conclude(&mut self.failures, call, ended)
+    }
+}
+
+/// What the system answers and does.
+fn perform<R: Files<File = File> + AllocGlobal + Clone + Drop>(
+    rt: &R,
+    walk: &mut Walk,
+    target: &mut Walk,
+    call: Call<'_>,
+) -> Result<Answer, Trouble>
+    ensures { IfOk result (Suits (asked call.entry)) }
+{
+    match call {
+        Call::Stat(path) => stat(rt, walk, path),
+        Call::List(path) => list(rt, walk, path),
+        Call::Make(path) => make(rt, walk, path),
+        Call::MakeDir(path) => make_dir(rt, walk, path),
+        Call::Remove(path) => remove(rt, walk, path),
+        Call::RemoveDir(path) => remove_dir(rt, walk, path),
+        Call::Rename { from, to } => rename(rt, walk, target, from, to),
+        Call::Read { path, offset, size } => read(rt, walk, path, offset, size),
+        Call::Write { path, offset, data } => write(rt, walk, path, offset, data),
+        Call::SetLen { path, size } => set_len(rt, walk, path, size),
+        Call::Sync(path) => sync(rt, walk, path),
+    }
+}
+
+/// The answer, and one failure more unless the call was done or what was found explains its error.
+fn conclude(failures: &mut u64, call: Call<'_>, ended: Result<Answer, Trouble>) -> Answer
+    requires { IfOk ended (Suits (asked call)) }
+    ensures { Tells failures.old (asked call.entry) result failures.new }
+{
+    match ended {
+        Ok(answer) => answer,
+        Err(Trouble::Refused(reason)) => refuse(failures, call, reason),
+        Err(Trouble::Failed(errno)) => fail(failures, errno),
+    }
+}
+
+/// A refusal, which is a failure unless some tree explains it.
+fn refuse(failures: &mut u64, call: Call<'_>, reason: Reason) -> Answer
+    ensures { Tells failures.old (asked call.entry) result failures.new }
+{
+    if is_explained(call, reason) {
+        return Answer::Fault(reason.errno());
+    }
+    fail(failures, reason.errno())
+}

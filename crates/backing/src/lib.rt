@@ -1,0 +1,28 @@
+//! A directory by calls on paths: in memory, or a real folder.
+#![tactic(auto)]
+
+mod bytes;
+mod call;
+mod calls;
+mod checks;
+mod entries;
+mod folder;
+mod lookups;
+mod making;
+mod memory;
+mod moving;
+mod perform;
+mod plans;
+mod reading;
+mod refusal;
+mod removing;
+mod shared;
+mod writing;
+
+pub use bytes::Bytes;
+pub use call::{Answer, Call, Child, Children, Kind};
+pub use calls::{Calls, KnownTree};
+pub use folder::Folder;
+pub use memory::MemTree;
+pub use plans::Fault;
+pub use shared::Shared;

@@ -1,0 +1,78 @@
+//! What stands at a path, in a tree that is kept as a flat list.
+
+ghost use Rattle.std.specs.Prelude.{true, false, ◌≡◌, ◌≤◌, ◌<◌, ◌+◌, ◌^◌, ◌↔◌, ℕ, List, [], ◌∷◌, ◌++◌, None, Some, IsTrue, IfSome, IfNone, length, slice_get};
+ghost use Rattle.std.specs.Option.{option_map};
+ghost use Rattle.paths.specs.Fronts.{is_front};
+ghost use Rattle.backing.specs.Tree.{is_path, kind_of, HasNames, IsBare};
+ghost use Rattle.backing.specs.Entries.{look, tree_of, IsFoundAt, IsLawful};
+
+use crate::call::Kind;
+use crate::entries::{Entry, Item};
+use paths::{Name, Path};
+
+/// Whether both paths have the same names.
+pub fn are_same(names: &[Name], others: &[Name]) -> bool
+    ensures { result ≡ is_path names.now others.now }
+{
+    if names.len() != others.len() {
+        return false;
+    }
+    for (i, name) in names.iter().enumerate() {
+        if !name.is(&others[i]) {
+            return false;
+        }
+    }
+    true
+}
+
+/// The place in the list of the entry at that path.
+pub fn index_of(entries: &[Entry], names: &[Name]) -> Option<usize>
+    ensures none { IfNone result (look entries.now names.now ≡ None) }
+    ensures found { IfSome result (λ i. IsFoundAt entries.now names.now i) }
+{
+    for (i, entry) in entries.iter().enumerate() {
+        if are_same(entry.path.names(), names) {
+            return Some(i);
+        }
+    }
+    None
+}
+
+/// What kind of item stands at that path.
+pub fn kind_at(entries: &[Entry], names: &[Name]) -> Option<Kind>
+    ensures { result ≡ option_map kind_of (tree_of entries.now names.now) }
+{
+    if names.is_empty() {
+        return Some(Kind::Folder);
+    }
+    let i = index_of(entries, names)?;
+    let entry = &entries[i];
+    Some(entry.item.kind())
+}
+
+/// The last name of the path, where the rest is that folder's.
+pub fn child_of<'a>(path: &'a Path, folder: &[Name]) -> Option<&'a Name>
+    ensures some { IfSome result (λ name. path.now ≡ folder.now ++ name.now ∷ []) }
+    ensures none { IfNone result ((name : List ℕ) → path.now ≡ folder.now ++ name ∷ [] → ⊥) }
+{
+    let (name, parent) = path.names().split_last()?;
+    if are_same(parent, folder) {
+        Some(name)
+    } else {
+        None
+    }
+}
+
+/// Whether a name stands in the folder.
+pub fn has_names(entries: &[Entry], folder: &[Name]) -> bool
+    requires { IsLawful entries.now }
+    ensures yes { result ≡ true → HasNames (tree_of entries.now) folder.now }
+    ensures no { result ≡ false → IsBare (tree_of entries.now) folder.now }
+{
+    for entry in entries {
+        if child_of(&entry.path, folder).is_some() {
+            return true;
+        }
+    }
+    false
+}

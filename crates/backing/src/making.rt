@@ -1,0 +1,50 @@
+//! Calls that make an item.
+
+ghost use Rattle.std.specs.Prelude.{◌≡◌, ℕ, List, [], ◌∷◌, ◌++◌, OnOk, OnErr, IfErr};
+ghost use Rattle.backing.specs.Tree.{with_item};
+ghost use Rattle.backing.specs.Calls.{AskMake, AskMakeDir, PassesAll, Reached, Free};
+ghost use Rattle.backing.specs.Entries.{tree_of, IsLawful};
+ghost use Rattle.backing.specs.Refusals.{Ends, Refusing};
+
+use crate::bytes::Bytes;
+use crate::call::Answer;
+use crate::checks::expect_free;
+use crate::entries::{Entry, Item};
+use crate::refusal::Refusal;
+use paths::Path;
+use std::alloc::Global;
+
+/// Makes an empty file.
+pub fn make(alloc: Global, entries: &mut Vec<Entry>, path: &Path) -> Result<Answer, Refusal>
+    requires { IsLawful entries.old.items }
+    ensures ends { Ends (tree_of entries.old.items) (AskMake path.now) result (tree_of entries.new.items) }
+    ensures lawful { IsLawful entries.new.items }
+{
+    put(entries, path, Item::File(Bytes::new(alloc)))?;
+    Ok(Answer::Done)
+}
+
+/// Makes an empty folder.
+pub fn make_dir(entries: &mut Vec<Entry>, path: &Path) -> Result<Answer, Refusal>
+    requires { IsLawful entries.old.items }
+    ensures ends { Ends (tree_of entries.old.items) (AskMakeDir path.now) result (tree_of entries.new.items) }
+    ensures lawful { IsLawful entries.new.items }
+{
+    put(entries, path, Item::Folder)?;
+    Ok(Answer::Done)
+}
+
+/// Puts the item where nothing stands.
+fn put(entries: &mut Vec<Entry>, path: &Path, item: Item) -> Result<(), Refusal>
+    requires { IsLawful entries.old.items }
+    ensures passes { OnOk result (PassesAll (tree_of entries.old.items) (Reached path.now ∷ Free path.now ∷ [])) }
+    ensures ok { OnOk result (tree_of entries.new.items ≡ with_item (tree_of entries.old.items) path.now item) }
+    ensures refuses { IfErr result (Refusing (tree_of entries.old.items) (Reached path.now ∷ Free path.now ∷ [])) }
+    ensures err { OnErr result (entries.new.items ≡ entries.old.items) }
+    ensures lawful { IsLawful entries.new.items }
+{
+    expect_free(entries, path)?;
+    let path = path.copy()?;
+    entries.push(Entry { path, item })?;
+    Ok(())
+}

@@ -1,0 +1,115 @@
+//! A directory in memory, which fails at planned calls.
+
+ghost use Rattle.std.specs.Prelude.{◌≡◌, ℕ, List, [], ◌∷◌, OnOk, OnErr};
+ghost use Rattle.backing.specs.Memory.{Memory, Gives, PutsDir, PutsFile, SameBut, memory_tree};
+ghost use Rattle.backing.specs.Tree.{IsTree};
+
+use crate::call::{Answer, Call};
+use crate::calls::{Calls, KnownTree};
+use crate::entries::Entry;
+use crate::perform::{put_dir_in, put_file_in, treat};
+use crate::plans::{Fault, Plan, add_plan, next_fault};
+use paths::Path;
+use std::alloc::{AllocError, Global};
+use std::marker::Model;
+
+/// A directory in memory. Contracts see what stands in it, its plans, and its counts of calls and of failures.
+#[derive(Drop)]
+pub struct MemTree {
+    alloc: Global,
+    standing: Vec<Entry>,
+    calls: u64,
+    planned: Vec<Plan>,
+    failures: u64,
+}
+
+impl Model for MemTree {
+    ghost use Rattle.backing.specs.Memory.{Memory};
+
+    ghost Value = { Memory };
+
+    ghost use Rattle.backing.specs.Entries.{IsLawful};
+
+    ghost view = { λ m. record { entries = m.standing.items; made = m.calls; plans = m.planned.items; failed = m.failures } };
+
+    ghost invariant = { λ m. IsLawful m.standing.items };
+}
+
+impl MemTree {
+    /// A tree of a root alone, of which no call is to fail. It takes no memory.
+    pub fn new(alloc: Global) -> MemTree
+        ensures { result ≡ record { entries = []; made = 0; plans = []; failed = 0 } }
+    {
+        MemTree {
+            alloc,
+            standing: Vec::new(alloc),
+            calls: 0,
+            planned: Vec::new(alloc),
+            failures: 0,
+        }
+    }
+
+    /// Has that call fail, counted from 1 since the tree was made. It replaces what was planned for that call. A call
+    /// that has passed, and call 0, never come.
+    pub fn fail_at(&mut self, call: u64, fault: Fault) -> Result<(), AllocError>
+        ensures ok { OnOk result (self.new ≡ record self.old { plans = (record { call = call; fault = fault }) ∷ self.old.plans }) }
+        ensures err { OnErr result (self.new ≡ self.old) }
+    {
+        add_plan(&mut self.planned, Plan { call, fault })
+    }
+
+    /// Makes an empty folder, or answers the errno that the call would. It is no call: no plan and no count speaks of it.
+    pub fn put_dir(&mut self, path: &Path) -> Result<(), i32>
+        ensures puts { PutsDir (memory_tree self.old) path.now result (memory_tree self.new) }
+        ensures same { SameBut self.old self.new }
+        ensures tree { IsTree (memory_tree self.new) }
+    {
+        put_dir_in(&mut self.standing, path)
+    }
+
+    /// Makes a file and writes its bytes, or answers the errno that these calls would. Where the second would fail, the
+    /// empty file stays. It is no call: no plan and no count speaks of it.
+    pub fn put_file(&mut self, path: &Path, bytes: &[u8]) -> Result<(), i32>
+        ensures puts { PutsFile (memory_tree self.old) path.now bytes.now result (memory_tree self.new) }
+        ensures same { SameBut self.old self.new }
+        ensures tree { IsTree (memory_tree self.new) }
+    {
+        put_file_in(self.alloc, &mut self.standing, path, bytes)
+    }
+
+    /// How many of its calls have failed.
+    pub fn failures(&self) -> u64
+        ensures failed { result ≡ self.now.failed }
+        ensures tree { IsTree (memory_tree self.now) }
+    {
+        self.failures
+    }
+}
+
+impl Calls for MemTree {
+    ghost gives = { Gives };
+
+    /// The tree's own answer and effect, or the failure that is planned for the call.
+    fn call(&mut self, call: Call<'_>) -> Answer {
+        let fault = next_fault(&self.planned, self.calls);
+        self.calls = self.calls.saturating_add(1);
+        treat(
+            self.alloc,
+            &mut self.standing,
+            &mut self.failures,
+            fault,
+            call,
+        )
+    }
+}
+
+impl KnownTree for MemTree {
+    ghost use Rattle.backing.specs.Memory.{Memory, memory_tree};
+    ghost use Rattle.backing.specs.Known.{memory_known};
+
+    ghost tree = { memory_tree };
+
+    ghost faults = { λ m. m.failed };
+
+    ghost known = { memory_known };
+}

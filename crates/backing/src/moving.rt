@@ -1,0 +1,182 @@
+//! The call that gives items other paths.
+
+ghost use Rattle.std.specs.Prelude.{◌≡◌, ◌≢◌, ◌<◌, ◌≤◌, ℕ, List, [], ◌∷◌, ◌++◌, true, false, OnOk, OnErr, IfErr, IfOk, IsSome, Some, None, length, map, vec_len, slice_set, slice_index_or};
+ghost use Rattle.std.specs.List.{remove};
+ghost use Rattle.paths.specs.Fronts.{is_front};
+ghost use Rattle.backing.specs.declared.entries.Entry.{Entry};
+ghost use Rattle.backing.specs.Tree.{IsBare, Leads, moved};
+ghost use Rattle.backing.specs.Calls.{AskRename, PassesAll, Refuses, BelowRoot, Reached, Present, NotInto, NotOver, NoFileOnFolder, NoFolderOnFile, Bare};
+ghost use Rattle.backing.specs.Entries.{tree_of, look, IsLawful, IsFoundAt};
+ghost use Rattle.backing.specs.Moves.{moved_path, with_path, with_paths, Clears};
+ghost use Rattle.backing.specs.Refusals.{Ends};
+
+use crate::call::{Answer, Kind};
+use crate::checks::{expect_bare, expect_below_root, expect_present, expect_reached};
+use crate::entries::Entry;
+use crate::lookups::{index_of, kind_at};
+use crate::refusal::Refusal;
+use errno::{EINVAL, EISDIR, ENOTDIR, ENOTEMPTY};
+use paths::Path;
+use std::alloc::{AllocError, Global};
+
+/// Gives what stands at a path another one, with all that is below it.
+pub fn rename(
+    alloc: Global,
+    entries: &mut Vec<Entry>,
+    from: &Path,
+    to: &Path,
+) -> Result<Answer, Refusal>
+    requires { IsLawful entries.old.items }
+    ensures ends { Ends (tree_of entries.old.items) (AskRename from.now to.now) result (tree_of entries.new.items) }
+    ensures lawful { IsLawful entries.new.items }
+{
+    expect_source(entries, from, to)?;
+    if from.is(to) {
+        return Ok(Answer::Done);
+    }
+    expect_room(entries, from, to)?;
+    move_all(alloc, entries, from, to)?;
+    Ok(Answer::Done)
+}
+
+/// Something stands there that may be renamed.
+fn expect_source(entries: &[Entry], from: &Path, to: &Path) -> Result<(), i32>
+    ensures ok { OnOk result (PassesAll (tree_of entries.now) (BelowRoot from.now ∷ BelowRoot to.now ∷ Reached from.now ∷ Present from.now ∷ [])) }
+    ensures err { IfErr result (Refuses (tree_of entries.now) (BelowRoot from.now ∷ BelowRoot to.now ∷ Reached from.now ∷ Present from.now ∷ [])) }
+{
+    expect_below_root(from)?;
+    expect_below_root(to)?;
+    expect_present(entries, from)?;
+    Ok(())
+}
+
+/// It may go there.
+fn expect_room(entries: &[Entry], from: &Path, to: &Path) -> Result<(), i32>
+    requires { IsLawful entries.now }
+    ensures ok { OnOk result (PassesAll (tree_of entries.now) (NotInto from.now to.now ∷ NotOver from.now to.now ∷ Reached to.now ∷ NoFileOnFolder from.now to.now ∷ NoFolderOnFile from.now to.now ∷ Bare to.now ∷ [])) }
+    ensures err { IfErr result (Refuses (tree_of entries.now) (NotInto from.now to.now ∷ NotOver from.now to.now ∷ Reached to.now ∷ NoFileOnFolder from.now to.now ∷ NoFolderOnFile from.now to.now ∷ Bare to.now ∷ [])) }
+{
+    if from.is_front_of(to) {
+        return Err(EINVAL);
+    }
+    if to.is_front_of(from) {
+        return Err(ENOTEMPTY);
+    }
+    expect_reached(entries, to)?;
+    expect_kinds(entries, from, to)?;
+    expect_bare(entries, to)
+}
+
+/// Neither a file goes onto a folder nor a folder onto a file.
+fn expect_kinds(entries: &[Entry], from: &Path, to: &Path) -> Result<(), i32>
+    ensures ok { OnOk result (PassesAll (tree_of entries.now) (NoFileOnFolder from.now to.now ∷ NoFolderOnFile from.now to.now ∷ [])) }
+    ensures err { IfErr result (Refuses (tree_of entries.now) (NoFileOnFolder from.now to.now ∷ NoFolderOnFile from.now to.now ∷ [])) }
+{
+    let target = kind_at(entries, to.names());
+    match kind_at(entries, from.names()) {
+        Some(Kind::File) => match target {
+            Some(Kind::Folder) => Err(EISDIR),
+            _ => Ok(()),
+        },
+        Some(Kind::Folder) => match target {
+            Some(Kind::File) => Err(ENOTDIR),
+            _ => Ok(()),
+        },
+        None => Ok(()),
+    }
+}
+
+/// Moves the items. All memory is taken before the first of them moves.
+fn move_all(
+    alloc: Global,
+    entries: &mut Vec<Entry>,
+    from: &Path,
+    to: &Path,
+) -> Result<(), AllocError>
+    requires lawful { IsLawful entries.old.items }
+    requires below_root { (from.now ≢ []) × (to.now ≢ []) }
+    requires apart { (is_front from.now to.now ≡ false) × (is_front to.now from.now ≡ false) }
+    requires leads { Leads (tree_of entries.old.items) to.now }
+    requires bare { IsBare (tree_of entries.old.items) to.now }
+    ensures ok { OnOk result (tree_of entries.new.items ≡ moved (tree_of entries.old.items) from.now to.now) }
+    ensures err { OnErr result (entries.new.items ≡ entries.old.items) }
+    ensures lawful { IsLawful entries.new.items }
+{
+    let mut paths = new_paths(alloc, entries, from, to)?;
+    clear_place(entries, &mut paths, to);
+    set_paths(entries, paths);
+    Ok(())
+}
+
+/// The new path of each entry that moves.
+fn new_paths(
+    alloc: Global,
+    entries: &[Entry],
+    from: &Path,
+    to: &Path,
+) -> Result<Vec<Option<Path>>, AllocError>
+    ensures { IfOk result (λ paths. paths.items ≡ map (λ entry. moved_path from.now to.now entry.path) entries.now) }
+{
+    let mut paths = Vec::with_capacity(alloc, entries.len())?;
+    for entry in entries {
+        paths.push(new_path(from, to, &entry.path)?)?;
+    }
+    Ok(paths)
+}
+
+/// The new path of what stands there, if it moves.
+fn new_path(from: &Path, to: &Path, path: &Path) -> Result<Option<Path>, AllocError>
+    ensures { IfOk result (λ new. new ≡ moved_path from.now to.now path.now) }
+{
+    if !from.is_front_of(path) {
+        return Ok(None);
+    }
+    let mut moved = to.copy()?;
+    let (_, below) = path.names().split_at(from.len());
+    for name in below {
+        moved.push(name.copy()?)?;
+    }
+    Ok(Some(moved))
+}
+
+/// Takes away what stands where the items go.
+fn clear_place(entries: &mut Vec<Entry>, paths: &mut Vec<Option<Path>>, to: &Path)
+    requires { length paths.old.items ≡ length entries.old.items }
+    ensures { Clears entries.old.items entries.new.items paths.old.items paths.new.items to.now }
+{
+    match index_of(entries, to.names()) {
+        Some(i) => {
+            let _gone = entries.remove(i);
+            let _path = paths.remove(i);
+        }
+        None => {}
+    }
+}
+
+/// Gives each entry its new path.
+fn set_paths(entries: &mut Vec<Entry>, paths: Vec<Option<Path>>)
+    requires { length paths.items ≡ length entries.old.items }
+    ensures { entries.new.items ≡ with_paths entries.old.items paths.items }
+{
+    let mut left = paths;
+    let mut i = entries.len();
+    while let Some(path) = left.pop() {
+        i -= 1;
+        set_path(entries, i, path);
+    }
+}
+
+/// Gives the entry its new path.
+fn set_path(entries: &mut Vec<Entry>, i: usize, path: Option<Path>)
+    requires { i < length entries.old.items }
+    ensures len { length entries.new.items ≡ length entries.old.items }
+    ensures set { (d : Entry) → entries.new.items ≡ slice_set entries.old.items i (with_path (slice_index_or entries.old.items i d) path) }
+{
+    match path {
+        Some(path) => {
+            let entry = &mut entries[i];
+            entry.path = path;
+        }
+        None => {}
+    }
+}

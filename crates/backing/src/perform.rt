@@ -1,0 +1,181 @@
+//! One call on a list of entries.
+
+ghost use Rattle.std.specs.Prelude.{◌≡◌, ℕ, List, OnErr, IfOk};
+ghost use Rattle.backing.specs.Calls.{asked};
+ghost use Rattle.backing.specs.Entries.{tree_of, IsLawful};
+ghost use Rattle.backing.specs.Refusals.{Ends, answered, errno_after, settled};
+ghost use Rattle.backing.specs.Device.{Sound, After};
+ghost use Rattle.backing.specs.Memory.{Treated, PutsDir, PutsFile, counted, device_of, treated_as};
+ghost use Rattle.backing.specs.declared.call.Answer.TheVariants as Answer;
+
+use crate::call::{Answer, Call};
+use crate::entries::Entry;
+use crate::making::{make, make_dir};
+use crate::moving::rename;
+use crate::plans::Fault;
+use crate::reading::{list, read, stat, sync};
+use crate::refusal::Refusal;
+use crate::removing::{remove, remove_dir};
+use crate::writing::{set_len, write};
+use errno::ENOMEM;
+use paths::Path;
+use std::alloc::Global;
+
+/// What the tree itself answers and does.
+pub fn perform(alloc: Global, entries: &mut Vec<Entry>, call: Call<'_>) -> Result<Answer, Refusal>
+    requires { IsLawful entries.old.items }
+    ensures ends { Ends (tree_of entries.old.items) (asked call.entry) result (tree_of entries.new.items) }
+    ensures lawful { IsLawful entries.new.items }
+{
+    match call {
+        Call::Stat(path) => stat(entries, path),
+        Call::List(path) => list(alloc, entries, path),
+        Call::Make(path) => make(alloc, entries, path),
+        Call::MakeDir(path) => make_dir(entries, path),
+        Call::Remove(path) => remove(entries, path),
+        Call::RemoveDir(path) => remove_dir(entries, path),
+        Call::Rename { from, to } => rename(alloc, entries, from, to),
+        Call::Read { path, offset, size } => read(alloc, entries, path, offset, size),
+        Call::Write { path, offset, data } => write(entries, path, offset, data),
+        Call::SetLen { path, size } => set_len(entries, path, size),
+        Call::Sync(path) => sync(entries, path),
+    }
+}
+
+/// A call as the device treats it, for which this failure is planned.
+pub fn treat(
+    alloc: Global,
+    entries: &mut Vec<Entry>,
+    failures: &mut u64,
+    fault: Option<Fault>,
+    call: Call<'_>,
+) -> Answer
+    requires { IsLawful entries.old.items }
+    ensures treated { Treated (tree_of entries.old.items) failures.old (treated_as fault) (asked call.entry) result (tree_of entries.new.items) failures.new }
+    ensures lawful { IsLawful entries.new.items }
+{
+    match fault {
+        None => treat_soundly(alloc, entries, failures, call),
+        Some(fault) => treat_as_planned(alloc, entries, failures, fault, call),
+    }
+}
+
+/// A call that fails by plan.
+fn treat_as_planned(
+    alloc: Global,
+    entries: &mut Vec<Entry>,
+    failures: &mut u64,
+    fault: Fault,
+    call: Call<'_>,
+) -> Answer
+    requires { IsLawful entries.old.items }
+    ensures treated { Treated (tree_of entries.old.items) failures.old (device_of fault) (asked call.entry) result (tree_of entries.new.items) failures.new }
+    ensures lawful { IsLawful entries.new.items }
+{
+    match fault {
+        Fault::Before(errno) => fail(failures, errno),
+        Fault::After(errno) => treat_and_fail(alloc, entries, failures, errno, call),
+    }
+}
+
+/// A call that fails only where there is no memory.
+fn treat_soundly(
+    alloc: Global,
+    entries: &mut Vec<Entry>,
+    failures: &mut u64,
+    call: Call<'_>,
+) -> Answer
+    requires { IsLawful entries.old.items }
+    ensures treated { Treated (tree_of entries.old.items) failures.old Sound (asked call.entry) result (tree_of entries.new.items) failures.new }
+    ensures lawful { IsLawful entries.new.items }
+{
+    let ended = perform(alloc, entries, call);
+    match answered(ended) {
+        Some(answer) => answer,
+        None => fail(failures, ENOMEM),
+    }
+}
+
+/// The tree's own answer, a refusal too, and none where there was no memory.
+fn answered(ended: Result<Answer, Refusal>) -> Option<Answer>
+    ensures { result ≡ answered ended }
+{
+    match ended {
+        Ok(answer) => Some(answer),
+        Err(Refusal::Errno(errno)) => Some(Answer::Fault(errno)),
+        Err(Refusal::Memory) => None,
+    }
+}
+
+/// A call that does its work and fails.
+fn treat_and_fail(
+    alloc: Global,
+    entries: &mut Vec<Entry>,
+    failures: &mut u64,
+    errno: i32,
+    call: Call<'_>,
+) -> Answer
+    requires { IsLawful entries.old.items }
+    ensures treated { Treated (tree_of entries.old.items) failures.old (After errno) (asked call.entry) result (tree_of entries.new.items) failures.new }
+    ensures lawful { IsLawful entries.new.items }
+{
+    let ended = perform(alloc, entries, call);
+    fail(failures, errno_after(ended, errno))
+}
+
+/// The error number of a call that fails after its work: want of memory comes first.
+fn errno_after(ended: Result<Answer, Refusal>, errno: i32) -> i32
+    ensures { result ≡ errno_after ended errno }
+{
+    match ended {
+        Ok(_) => errno,
+        Err(Refusal::Errno(_)) => errno,
+        Err(Refusal::Memory) => ENOMEM,
+    }
+}
+
+/// The answer of a failure, which is counted.
+pub fn fail(failures: &mut u64, errno: i32) -> Answer
+    ensures answer { result ≡ Answer.Fault errno }
+    ensures counted { failures.new ≡ counted failures.old 1 }
+{
+    *failures = failures.saturating_add(1);
+    Answer::Fault(errno)
+}
+
+/// Puts a folder, as no call does.
+pub fn put_dir_in(entries: &mut Vec<Entry>, path: &Path) -> Result<(), i32>
+    requires { IsLawful entries.old.items }
+    ensures puts { PutsDir (tree_of entries.old.items) path.now result (tree_of entries.new.items) }
+    ensures lawful { IsLawful entries.new.items }
+{
+    settle(make_dir(entries, path))
+}
+
+/// Puts a file, as no call does.
+pub fn put_file_in(
+    alloc: Global,
+    entries: &mut Vec<Entry>,
+    path: &Path,
+    bytes: &[u8],
+) -> Result<(), i32>
+    requires { IsLawful entries.old.items }
+    ensures puts { PutsFile (tree_of entries.old.items) path.now bytes.now result (tree_of entries.new.items) }
+    ensures lawful { IsLawful entries.new.items }
+{
+    match settle(make(alloc, entries, path)) {
+        Ok(()) => {}
+        Err(errno) => return Err(errno),
+    }
+    settle(write(entries, path, 0, bytes))
+}
+
+/// Whether it was done, or its error number.
+fn settle(ended: Result<Answer, Refusal>) -> Result<(), i32>
+    ensures { result ≡ settled ended }
+{
+    match ended {
+        Ok(_) => Ok(()),
+        Err(refusal) => Err(refusal.errno()),
+    }
+}

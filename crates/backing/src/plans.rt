@@ -1,0 +1,53 @@
+//! Which calls of a memory tree are to fail.
+
+ghost use Rattle.std.specs.Prelude.{◌≡◌, ℕ, List, ◌∷◌, OnOk, OnErr};
+ghost use Rattle.backing.specs.Memory.{planned_at, treated_as, next_device};
+
+use std::alloc::AllocError;
+
+/// How a call fails, and with which error number.
+#[derive(Clone, Copy, Debug, PartialEq, Eq)]
+pub enum Fault {
+    /// Before its work.
+    Before(i32),
+    /// After its work, unless the tree refuses the call.
+    After(i32),
+}
+
+/// A failure of one call. Calls are counted from 1.
+#[derive(Clone, Copy)]
+pub struct Plan {
+    pub call: u64,
+    pub fault: Fault,
+}
+
+/// What is planned for that call. Of two plans for it the first counts.
+pub fn planned(plans: &[Plan], call: u64) -> Option<Fault>
+    ensures { treated_as result ≡ planned_at plans.now call }
+{
+    for plan in plans {
+        if plan.call == call {
+            return Some(plan.fault);
+        }
+    }
+    None
+}
+
+/// Puts a plan before all others, so that it replaces the one that was there for its call.
+pub fn add_plan(plans: &mut Vec<Plan>, plan: Plan) -> Result<(), AllocError>
+    ensures ok { OnOk result (plans.new.items ≡ plan ∷ plans.old.items) }
+    ensures err { OnErr result (plans.new.items ≡ plans.old.items) }
+{
+    plans.insert(0, plan)?;
+    Ok(())
+}
+
+/// What is planned for the call after so many.
+pub fn next_fault(plans: &[Plan], made: u64) -> Option<Fault>
+    ensures { treated_as result ≡ next_device plans.now made }
+{
+    match made.checked_add(1) {
+        Some(call) => planned(plans, call),
+        None => None,
+    }
+}

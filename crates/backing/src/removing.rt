@@ -1,0 +1,56 @@
+//! Calls that remove an item.
+
+ghost use Rattle.std.specs.Prelude.{◌≡◌, ◌≢◌, ℕ, List, [], ◌∷◌, ◌++◌, OnOk, OnErr, IfErr, IfOk, IsSome};
+ghost use Rattle.std.specs.List.{remove};
+ghost use Rattle.backing.specs.Tree.{IsBare, without};
+ghost use Rattle.backing.specs.Calls.{AskRemove, AskRemoveDir};
+ghost use Rattle.backing.specs.Entries.{tree_of, look, IsLawful, IsFoundAt};
+ghost use Rattle.backing.specs.Refusals.{Ends};
+
+use crate::call::Answer;
+use crate::checks::{expect_bare, expect_below_root, expect_file, expect_folder};
+use crate::entries::Entry;
+use crate::lookups::index_of;
+use crate::refusal::Refusal;
+use paths::Path;
+
+/// Removes the file.
+pub fn remove(entries: &mut Vec<Entry>, path: &Path) -> Result<Answer, Refusal>
+    requires { IsLawful entries.old.items }
+    ensures ends { Ends (tree_of entries.old.items) (AskRemove path.now) result (tree_of entries.new.items) }
+    ensures lawful { IsLawful entries.new.items }
+{
+    expect_file(entries, path)?;
+    take_out(entries, path);
+    Ok(Answer::Done)
+}
+
+/// Removes the folder, which has no names.
+pub fn remove_dir(entries: &mut Vec<Entry>, path: &Path) -> Result<Answer, Refusal>
+    requires { IsLawful entries.old.items }
+    ensures ends { Ends (tree_of entries.old.items) (AskRemoveDir path.now) result (tree_of entries.new.items) }
+    ensures lawful { IsLawful entries.new.items }
+{
+    expect_below_root(path)?;
+    expect_folder(entries, path)?;
+    expect_bare(entries, path)?;
+    take_out(entries, path);
+    Ok(Answer::Done)
+}
+
+/// Takes out what stands at the path, and has no names below it.
+pub fn take_out(entries: &mut Vec<Entry>, path: &Path)
+    requires lawful { IsLawful entries.old.items }
+    requires below_root { path.now ≢ [] }
+    requires stands { IsSome (tree_of entries.old.items path.now) }
+    requires bare { IsBare (tree_of entries.old.items) path.now }
+    ensures taken { tree_of entries.new.items ≡ without (tree_of entries.old.items) path.now }
+    ensures lawful { IsLawful entries.new.items }
+{
+    match index_of(entries, path.names()) {
+        Some(i) => {
+            let _gone = entries.remove(i);
+        }
+        None => unreachable!(),
+    }
+}

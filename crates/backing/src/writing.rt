@@ -1,0 +1,98 @@
+//! Calls that change a file's bytes.
+
+ghost use Rattle.std.specs.Prelude.{◌≡◌, ◌<◌, ◌+◌, ◌^◌, ℕ, List, [], ◌∷◌, ◌++◌, OnOk, OnErr, length, Some, slice_set, slice_index_or};
+ghost use Rattle.backing.specs.Files.{written, resized};
+ghost use Rattle.backing.specs.Tree.{with_item};
+ghost use Rattle.backing.specs.Calls.{AskWrite, AskSetLen};
+ghost use Rattle.backing.specs.Entries.{tree_of, look, IsLawful, IsFoundAt};
+ghost use Rattle.backing.specs.Refusals.{Ends};
+ghost use Rattle.backing.specs.declared.entries.Entry.{Entry};
+ghost use Rattle.backing.specs.Items.{item_written, item_resized, entry_written, entry_resized};
+
+use crate::call::Answer;
+use crate::checks::{expect_file, expect_fits};
+use crate::entries::{Entry, Item};
+use crate::refusal::Refusal;
+use paths::Path;
+use std::alloc::AllocError;
+
+/// Lays the piece over the file.
+pub fn write(
+    entries: &mut Vec<Entry>,
+    path: &Path,
+    offset: u64,
+    piece: &[u8],
+) -> Result<Answer, Refusal>
+    requires { IsLawful entries.old.items }
+    ensures ends { Ends (tree_of entries.old.items) (AskWrite path.now offset piece.now) result (tree_of entries.new.items) }
+    ensures lawful { IsLawful entries.new.items }
+{
+    let i = expect_file(entries, path)?;
+    if piece.is_empty() {
+        return Ok(Answer::Wrote(0));
+    }
+    expect_fits(entries, offset.saturating_add(piece.len() as u64))?;
+    write_at(entries, i, offset as usize, piece)?;
+    Ok(Answer::Wrote(piece.len()))
+}
+
+/// Cuts the file, or fills it with zeros.
+pub fn set_len(entries: &mut Vec<Entry>, path: &Path, size: u64) -> Result<Answer, Refusal>
+    requires { IsLawful entries.old.items }
+    ensures ends { Ends (tree_of entries.old.items) (AskSetLen path.now size) result (tree_of entries.new.items) }
+    ensures lawful { IsLawful entries.new.items }
+{
+    let i = expect_file(entries, path)?;
+    expect_fits(entries, size)?;
+    set_len_at(entries, i, size as usize)?;
+    Ok(Answer::Done)
+}
+
+/// Lays the piece over the bytes of that entry's file.
+fn write_at(
+    entries: &mut Vec<Entry>,
+    i: usize,
+    offset: usize,
+    piece: &[u8],
+) -> Result<(), AllocError>
+    requires within { i < length entries.old.items }
+    requires fits { offset + length piece.now < 2 ^ 64 }
+    ensures ok { OnOk result ((d : Entry) → entries.new.items ≡ slice_set entries.old.items i (entry_written (slice_index_or entries.old.items i d) offset piece.now)) }
+    ensures err { OnErr result (entries.new.items ≡ entries.old.items) }
+{
+    let entry = &mut entries[i];
+    write_item(&mut entry.item, offset, piece)
+}
+
+/// Gives the file of that entry another length.
+fn set_len_at(entries: &mut Vec<Entry>, i: usize, size: usize) -> Result<(), AllocError>
+    requires within { i < length entries.old.items }
+    ensures ok { OnOk result ((d : Entry) → entries.new.items ≡ slice_set entries.old.items i (entry_resized (slice_index_or entries.old.items i d) size)) }
+    ensures err { OnErr result (entries.new.items ≡ entries.old.items) }
+{
+    let entry = &mut entries[i];
+    resize_item(&mut entry.item, size)
+}
+
+/// Lays the piece over the bytes, if it is a file.
+fn write_item(item: &mut Item, offset: usize, piece: &[u8]) -> Result<(), AllocError>
+    requires { offset + length piece.now < 2 ^ 64 }
+    ensures ok { OnOk result (item.new ≡ item_written item.old offset piece.now) }
+    ensures err { OnErr result (item.new ≡ item.old) }
+{
+    match item {
+        Item::Folder => Ok(()),
+        Item::File(bytes) => bytes.write(offset, piece),
+    }
+}
+
+/// Gives the bytes another length, if it is a file.
+fn resize_item(item: &mut Item, size: usize) -> Result<(), AllocError>
+    ensures ok { OnOk result (item.new ≡ item_resized item.old size) }
+    ensures err { OnErr result (item.new ≡ item.old) }
+{
+    match item {
+        Item::Folder => Ok(()),
+        Item::File(bytes) => bytes.set_len(size),
+    }
+}

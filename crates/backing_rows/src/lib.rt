@@ -1,0 +1,15 @@
+//! The calls of `backing` on a memory tree and on a real folder, row by row and at random, side by side.
+#![tactic(auto)]
+
+#[cfg(test)]
+mod asking;
+#[cfg(test)]
+mod faults;
+#[cfg(test)]
+mod links;
+#[cfg(test)]
+mod places;
+#[cfg(test)]
+mod random;
+#[cfg(test)]
+mod rows;
