@@ -4,14 +4,13 @@ use crate::asking::ask;
 use crate::places::sample_folder;
 use backing::Folder;
 use std::alloc::{Allocator, Global};
-use std::fs;
 use std::fs::{File, Metadata, OpenOptions};
-use std::io;
 use std::io::ErrorKind;
 use std::os::unix::fs::symlink;
 use std::path::PathBuf;
 use std::rt::Files;
 use std::test::Fail;
+use std::{fs, io};
 
 /// What goes wrong.
 #[derive(Clone, Copy)]
@@ -109,11 +108,26 @@ fn told(rt: HostRuntime, kind: ErrorKind) -> Result<String, Fail> {
 
 #[test]
 fn a_failure_has_its_number(rt: HostRuntime) -> Result<(), Fail> {
-    assert_eq!(rt; told(rt, ErrorKind::NotFound)?.as_str(), "fault 2, 0 counted");
-    assert_eq!(rt; told(rt, ErrorKind::PermissionDenied)?.as_str(), "fault 13, 1 counted");
-    assert_eq!(rt; told(rt, ErrorKind::AlreadyExists)?.as_str(), "fault 17, 1 counted");
-    assert_eq!(rt; told(rt, ErrorKind::OutOfMemory)?.as_str(), "fault 12, 1 counted");
-    assert_eq!(rt; told(rt, ErrorKind::FilesystemLoop)?.as_str(), "fault 5, 1 counted");
+    assert_eq!(rt;
+        told(rt, ErrorKind::NotFound)?.as_str(),
+        "fault 2, 0 counted"
+    );
+    assert_eq!(rt;
+        told(rt, ErrorKind::PermissionDenied)?.as_str(),
+        "fault 13, 1 counted"
+    );
+    assert_eq!(rt;
+        told(rt, ErrorKind::AlreadyExists)?.as_str(),
+        "fault 17, 1 counted"
+    );
+    assert_eq!(rt;
+        told(rt, ErrorKind::OutOfMemory)?.as_str(),
+        "fault 12, 1 counted"
+    );
+    assert_eq!(rt;
+        told(rt, ErrorKind::FilesystemLoop)?.as_str(),
+        "fault 5, 1 counted"
+    );
     Ok(())
 }
 

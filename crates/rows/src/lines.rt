@@ -16,11 +16,17 @@ fn bad_length(rt: HostRuntime) -> Result<(), Fail> {
     let short = run_lines(rt.alloc(), &["27000000"])?;
     assert_eq!(rt; short.status, 3);
     assert!(rt; short.output.is_empty());
-    assert!(rt; short.faults.as_slice() == b"mirrord: frame length 39 is not between 40 and 69632\n".as_slice());
+    assert!(rt;
+        short.faults.as_slice()
+            == b"mirrord: frame length 39 is not between 40 and 69632\n".as_slice()
+    );
     let long = run_lines(rt.alloc(), &["01100100"])?;
     assert_eq!(rt; long.status, 3);
     assert!(rt; long.output.is_empty());
-    assert!(rt; long.faults.as_slice() == b"mirrord: frame length 69633 is not between 40 and 69632\n".as_slice());
+    assert!(rt;
+        long.faults.as_slice()
+            == b"mirrord: frame length 69633 is not between 40 and 69632\n".as_slice()
+    );
     for line in ["28000000", "00100100"] {
         let taken_up = run_lines(rt.alloc(), &[line])?;
         assert_eq!(rt; taken_up.status, 0);
@@ -43,7 +49,10 @@ fn bad_length_between_frames(rt: HostRuntime) -> Result<(), Fail> {
 fn bad_length_before_a_bad_line(rt: HostRuntime) -> Result<(), Fail> {
     let run = run_lines(rt.alloc(), &["27000000", "no digits"])?;
     assert_eq!(rt; run.status, 3);
-    assert!(rt; run.faults.as_slice() == b"mirrord: frame length 39 is not between 40 and 69632\n".as_slice());
+    assert!(rt;
+        run.faults.as_slice()
+            == b"mirrord: frame length 39 is not between 40 and 69632\n".as_slice()
+    );
     Ok(())
 }
 
@@ -88,7 +97,8 @@ fn last_line_without_a_break(rt: HostRuntime) -> Result<(), Fail> {
 
 #[test]
 fn empty_lines_and_digits_of_either_case(rt: HostRuntime) -> Result<(), Fail> {
-    let head = "2B000000 01000000 0700000000000000 0100000000000000 00000000 00000000 00000000 00000000";
+    let head =
+        "2B000000 01000000 0700000000000000 0100000000000000 00000000 00000000 00000000 00000000";
     let run = run_lines(rt.alloc(), &["", head, "", "7A7a00", ""])?;
     assert_eq!(rt; run.status, 0);
     assert!(rt; run.output.as_slice() == lines_of(rt.alloc(), &[ABSENT])?.as_slice());
