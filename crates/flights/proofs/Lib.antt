@@ -1,4 +1,5 @@
 pub mod ById
 pub mod Lookups
+mod InTheWay
 mod Kept
 mod Stepping

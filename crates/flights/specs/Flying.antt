@@ -1,6 +1,9 @@
 -- The requests in flight, as contracts see them: by their ids.
 use Rattle.std.specs.Prelude.{ℕ, ◌+◌, ◌-◌, ◌≡◌, ◌==◌, ◌||◌, ◌↔◌, Bool, true, false, if◌then◌else◌, List, [], ◌∷◌, ◌++◌, Option, Some, None}
 use Rattle.std.specs.List.{list_any}
+use Rattle.paths.specs.Fronts.{Names}
+use Rattle.holds.specs.Clashes.{Clash, is_among}
+use Rattle.holds.specs.declared.held.Held.{Held}
 use Rattle.flights.specs.declared.data.Flight.{Flight}
 use Rattle.flights.specs.declared.data.Stage.{Stage}
 use Rattle.flights.specs.declared.data.Stage.TheVariants.{Working, Answered}
@@ -34,6 +37,27 @@ nodes_promised Answered = 0
 abbrev pub postings_promised : Stage → ℕ
 postings_promised (Working work) = work.promise.postings
 postings_promised Answered = 0
+
+-- what the request holds while it is worked on clashes with these names
+abbrev pub IsInTheWay : Stage → Held → Type 0
+IsInTheWay (Working work) wanted = Clash work.held wanted
+IsInTheWay Answered wanted = ⊥
+
+-- whether the request is worked on and has the path among these names
+abbrev pub has_shared : Stage → Names → Bool
+has_shared (Working work) path = is_among work.held.shared path
+has_shared Answered path = false
+
+abbrev pub has_exclusive : Stage → Names → Bool
+has_exclusive (Working work) path = is_among work.held.exclusive path
+has_exclusive Answered path = false
+
+-- some request that is worked on holds a name that is in the way of these
+pub record HoldsUp (at : Flights) (wanted : Held) : Type 0 where
+  pub id : ℕ
+  pub flight : Flight
+  pub here : at id ≡ Some flight
+  pub clash : IsInTheWay flight.stage wanted
 
 -- all requests in flight
 pub record Flying : Type 0 where

@@ -3,15 +3,20 @@
 ghost use Rattle.std.specs.Prelude.{◌≡◌, ◌==◌, ◌+◌, ◌-◌, ◌<◌, [], ◌∷◌, ◌++◌, IfOk, Some, length, count_by, is_some};
 ghost use Rattle.std.specs.List.{list_any};
 
-use paths::Name;
+use holds::Held;
+use paths::{Name, Path};
 use std::alloc::{AllocError, Global};
 use std::marker::Model;
 
 /// What a request is begun with.
 #[derive(Drop)]
 pub enum Want {
+    /// A node (GETATTR).
+    Node { number: u64 },
     /// A name under a parent (LOOKUP).
     Name { parent: u64, name: Name },
+    /// A name to be removed, whatever stands there (UNLINK, RMDIR).
+    Remove { parent: u64, name: Name },
 }
 
 /// What a request may still add, kept free for it from its begin to its finish.
@@ -146,8 +151,10 @@ impl Pins {
 #[derive(Drop)]
 pub struct Work {
     pub want: Want,
-    /// The want's name once more: a node that is born is put into the tree under two keys.
-    pub copy: Name,
+    /// The want's name once more, if it has one: a node that is born is put into the tree under two keys.
+    pub copy: Option<Name>,
+    /// The names that others have to wait for.
+    pub held: Held,
     pub promise: Promise,
     /// Where its answer is put, so that the end of the work takes no memory.
     pub answer: Givens,
@@ -163,7 +170,38 @@ pub enum Stage {
 }
 
 impl Stage {
-    ghost use Rattle.flights.specs.Flying.{is_working, nodes_promised, postings_promised};
+    ghost use Rattle.std.specs.Prelude.{◌↔◌, IsTrue};
+    ghost use Rattle.flights.specs.Flying.{is_working, nodes_promised, postings_promised, IsInTheWay, has_exclusive, has_shared};
+
+    /// Whether the request is worked on, and what it holds clashes with these names.
+    pub fn clashes_with(&self, wanted: &Held) -> bool
+        ensures { IsTrue result ↔ IsInTheWay self.now wanted.now }
+    {
+        match self {
+            Stage::Working(work) => work.held.clashes_with(wanted),
+            Stage::Answered => false,
+        }
+    }
+
+    /// Whether the request is worked on, and shares the path.
+    pub fn shares(&self, path: &Path) -> bool
+        ensures { result ≡ has_shared self.now path.now }
+    {
+        match self {
+            Stage::Working(work) => work.held.shared.contains(path),
+            Stage::Answered => false,
+        }
+    }
+
+    /// Whether the request is worked on, and holds the path for itself.
+    pub fn owns(&self, path: &Path) -> bool
+        ensures { result ≡ has_exclusive self.now path.now }
+    {
+        match self {
+            Stage::Working(work) => work.held.exclusive.contains(path),
+            Stage::Answered => false,
+        }
+    }
 
     /// Whether the request is worked on.
     pub fn is_working(&self) -> bool

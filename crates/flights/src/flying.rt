@@ -1,12 +1,16 @@
 //! The requests in flight, with the totals of what is promised to them.
 
-ghost use Rattle.std.specs.Prelude.{true, false, ◌≡◌, ◌≢◌, ◌<◌, ◌≤◌, ◌+◌, ◌^◌, ℕ, None, Some, IfNone, IfSome, IsOk, OnOk, IsTrue, AllPairs, ◌↔◌, option_copied, length};
+ghost use Rattle.std.specs.Prelude.{true, false, ◌≡◌, ◌≢◌, ◌<◌, ◌≤◌, ◌+◌, ◌^◌, ℕ, None, Some, IfNone, IfSome, IsOk, OnOk, IsTrue, AllPairs, ◌↔◌, option_copied, count_by, length};
 ghost use Rattle.flights.specs.declared.data.Flight.{Flight};
-ghost use Rattle.flights.specs.Flying.{none_flying, nodes_promised, postings_promised, IsFlying, HasNoneWorking, HasNoneAnswered, Adds, Answers, PinsMore, Goes};
+ghost use Rattle.flights.specs.Flying.{none_flying, nodes_promised, postings_promised, IsFlying, HasNoneWorking, HasNoneAnswered, Adds, Answers, PinsMore, Goes, HoldsUp, has_exclusive, has_shared};
 ghost use Rattle.flights.specs.Listed.{flying_of, flight_in, pinned_in};
 
 use crate::data::{Flight, Pins, Promise, Work};
-use crate::listed::{end_work, least_free, pin_for, take_answered};
+use crate::listed::{
+    end_work, exclusive_on, holds_up, least_free, pin_for, shared_on, take_answered,
+};
+use holds::Held;
+use paths::Path;
 use std::alloc::{AllocError, Global};
 use std::marker::Model;
 
@@ -91,6 +95,28 @@ impl Flights {
         ensures law { IsFlying (flying_of self.now) }
     {
         self.flights.iter().any(|f| f.pins.contains(number))
+    }
+
+    /// Whether one that is worked on holds a name that is in the way of these.
+    pub fn holds_up(&self, wanted: &Held) -> bool
+        ensures held { IsTrue result ↔ HoldsUp (flying_of self.now).at wanted.now }
+        ensures law { IsFlying (flying_of self.now) }
+    {
+        holds_up(&self.flights, wanted)
+    }
+
+    /// How many of those that are worked on share the path.
+    pub fn shared_on(&self, path: &Path) -> u64
+        ensures { result ≡ count_by (λ (f : Flight). has_shared f.stage path.now) self.now.flights }
+    {
+        shared_on(&self.flights, path)
+    }
+
+    /// How many of those that are worked on hold the path for themselves.
+    pub fn exclusive_on(&self, path: &Path) -> u64
+        ensures { result ≡ count_by (λ (f : Flight). has_exclusive f.stage path.now) self.now.flights }
+    {
+        exclusive_on(&self.flights, path)
     }
 
     /// Makes room for one more.

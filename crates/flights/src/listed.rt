@@ -1,13 +1,15 @@
 //! The requests in flight as a list of them, each step on its own.
 
-ghost use Rattle.std.specs.Prelude.{true, false, ◌≡◌, ◌<◌, ◌≤◌, ◌+◌, ◌^◌, ℕ, None, Some, IfNone, IfSome, length, slice_get, slice_set, slice_index_or, vec_len, vec_capacity};
+ghost use Rattle.std.specs.Prelude.{true, false, ◌≡◌, ◌<◌, ◌≤◌, ◌+◌, ◌^◌, ◌↔◌, ℕ, None, Some, IfNone, IfSome, IsTrue, count_by, length, slice_get, slice_set, slice_index_or, vec_len, vec_capacity};
 ghost use Rattle.std.specs.List.{remove};
 ghost use Rattle.flights.specs.declared.data.Flight.{Flight};
 ghost use Rattle.flights.specs.declared.data.Stage.TheVariants as Stage;
-ghost use Rattle.flights.specs.Flying.{is_working, answered, pinning, HasNoneWorking, HasNoneAnswered, Answers, PinsMore, Goes};
+ghost use Rattle.flights.specs.Flying.{is_working, answered, pinning, HasNoneWorking, HasNoneAnswered, Answers, PinsMore, Goes, HoldsUp, has_exclusive, has_shared};
 ghost use Rattle.flights.specs.Listed.{flight_in, in_flight, flying_of, HaveOwnIds};
 
 use crate::data::{Flight, Pins, Stage, Work};
+use holds::Held;
+use paths::Path;
 use std::mem;
 
 /// The place of the request in the list.
@@ -22,6 +24,45 @@ fn index_of(flights: &[Flight], id: u64) -> Option<usize>
         }
     }
     None
+}
+
+/// Whether one of the requests is in the way of these names.
+pub fn holds_up(flights: &[Flight], wanted: &Held) -> bool
+    requires { HaveOwnIds flights.now }
+    ensures { IsTrue result ↔ HoldsUp (flight_in flights.now) wanted.now }
+{
+    for flight in flights {
+        if flight.stage.clashes_with(wanted) {
+            return true;
+        }
+    }
+    false
+}
+
+/// How many of the requests that are worked on share the path.
+pub fn shared_on(flights: &[Flight], path: &Path) -> u64
+    ensures { result ≡ count_by (λ (f : Flight). has_shared f.stage path.now) flights.now }
+{
+    let mut count = 0;
+    for flight in flights {
+        if flight.stage.shares(path) {
+            count += 1;
+        }
+    }
+    count
+}
+
+/// How many of the requests that are worked on hold the path for themselves.
+pub fn exclusive_on(flights: &[Flight], path: &Path) -> u64
+    ensures { result ≡ count_by (λ (f : Flight). has_exclusive f.stage path.now) flights.now }
+{
+    let mut count = 0;
+    for flight in flights {
+        if flight.stage.owns(path) {
+            count += 1;
+        }
+    }
+    count
 }
 
 /// Ends the work on the request at that place, and gives it back.

@@ -1,3 +1,2 @@
 pub mod Among
-pub mod Listing
-pub mod Recorded
+pub mod Fronting

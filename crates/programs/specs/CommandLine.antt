@@ -15,7 +15,9 @@ hex_app = with_rule (new_app (codes "hex")) sample_rule
 
 -- the program, whose version can be asked for, without its subcommands
 abbrev pub bare_app : App
-bare_app = record (new_app (codes "mirrord")) { top = record (new_app (codes "mirrord")).top { has_version = true; subcommand_required = true; arg_required_else_help = true } }
+bare_app = record (new_app (codes "mirrord")) {
+  top = record (new_app (codes "mirrord")).top { has_version = true; subcommand_required = true; arg_required_else_help = true };
+}
 
 abbrev pub mirrord_app : App
 mirrord_app = with_subcommand bare_app hex_app.top

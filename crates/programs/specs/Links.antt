@@ -50,14 +50,18 @@ pub record HandsOut (old : Hexing) (n : ℕ) (room : List ℕ) (new : Hexing) : 
 -- the next line is the one that is not hexadecimal, or the reader, the writer or memory failed
 abbrev pub Explains : Hexing → ℕ → Fault → Type 0
 Explains old lines (fault.FrameLength len) = ⊥
-Explains old lines (fault.Line n) = (n ≡ lines) × (lines ≡ min (old.lines + 1) (2 ^ 64 - 1)) × IfSome old.input (λ xs. (xs ≢ []) × IsErr (decode_of (first_piece 10 xs)))
+Explains old lines (fault.Line n) =
+    (n ≡ lines) × (lines ≡ min (old.lines + 1) (2 ^ 64 - 1))
+    × IfSome old.input (λ xs. (xs ≢ []) × IsErr (decode_of (first_piece 10 xs)))
 Explains old lines fault.Link = Unit {0}
 Explains old lines fault.Memory = Unit {0}
 
 abbrev pub Receives : Hexing → Received → List ℕ → Hexing → Type 0
 Receives old (Bytes n) room new = (mid : Hexing) × HasPiece old mid × HandsOut mid n room new
-Receives old End room new = (old.kept ≡ []) × IsAtEnd old.input × (new ≡ record old { kept = []; input = new.input })
-Receives old Broken room new = (old.kept ≡ []) × IsSomeAnd new.cause (Explains old new.lines) × (new.output ≡ old.output)
+Receives old End room new =
+    (old.kept ≡ []) × IsAtEnd old.input × (new ≡ record old { kept = []; input = new.input })
+Receives old Broken room new =
+    (old.kept ≡ []) × IsSomeAnd new.cause (Explains old new.lines) × (new.output ≡ old.output)
 
 -- a reply was not written whole
 abbrev pub IsOfWriting : Fault → Type 0
@@ -68,6 +72,8 @@ IsOfWriting fault.Memory = Unit {0}
 
 -- a reply that was taken is one line of lower-case digits
 abbrev pub Sends : Hexing → List ℕ → Sent → Hexing → Type 0
-Sends old frame sent.Taken new = Appends old.output new.output (encode_lower frame ++ 10 ∷ []) × (new ≡ record old { output = new.output })
+Sends old frame sent.Taken new =
+    Appends old.output new.output (encode_lower frame ++ 10 ∷ []) × (new ≡ record old { output = new.output })
 Sends old frame sent.Untaken new = ⊥
-Sends old frame sent.Broken new = IsSomeAnd new.cause IsOfWriting × (new ≡ record old { output = new.output; cause = new.cause })
+Sends old frame sent.Broken new =
+    IsSomeAnd new.cause IsOfWriting × (new ≡ record old { output = new.output; cause = new.cause })

@@ -14,82 +14,92 @@ use Rattle.programs.specs.declared.links.Sent.TheVariants.{Broken}
 use Rattle.programs.specs.declared.sessions.SessionEnd.{SessionEnd}
 use Rattle.programs.specs.declared.sessions.SessionEnd.TheVariants.{Closed, BadLength, LinkBroken, Memory}
 
--- the bytes kept are whole frames, each worked off before the next, and then what is kept on; no reply broke the link
-abbrev pub Works : {L : Type 0} → (L → List ℕ → Sent → L → Type 0) → Bool → List (List ℕ) → Side L → List ℕ → Side L → List ℕ → Type 0
-Works sends samples [] old kept new rest = (new ≡ old) × (kept ≡ rest)
-Works {L} sends samples (frame ∷ frames) old kept new rest =
-    (mid : Side L) × (more : List ℕ) × (sent : Option Sent)
-    × (kept ≡ frame ++ more) × IsFramed frame × Serves sends samples frame old sent mid × (sent ≢ Some Broken)
-    × Works sends samples frames mid more new rest
+-- how frames are worked off, by what a link tells of a reply, and which tree is served
+module _ {L : Type 0} (sends : L → List ℕ → Sent → L → Type 0) (samples : Bool) where
+  -- the bytes kept are whole frames, each worked off before the next, and then what is kept on; no reply broke the link
+  abbrev pub Works : List (List ℕ) → Side L → List ℕ → Side L → List ℕ → Type 0
+  Works [] old kept new rest = (new ≡ old) × (kept ≡ rest)
+  Works (frame ∷ frames) old kept new rest =
+      (mid : Side L) × (more : List ℕ) × (sent : Option Sent)
+      × (kept ≡ frame ++ more) × IsFramed frame × Serves sends samples frame old sent mid × (sent ≢ Some Broken)
+      × Works frames mid more new rest
 
--- a frame whose reply broke the link
-abbrev pub Breaks : {L : Type 0} → (L → List ℕ → Sent → L → Type 0) → Bool → Side L → List ℕ → Side L → List ℕ → Type 0
-Breaks sends samples old kept new rest =
-    (frame : List ℕ) × (kept ≡ frame ++ rest) × IsFramed frame × Serves sends samples frame old (Some Broken) new
+  -- a frame whose reply broke the link
+  abbrev pub Breaks : Side L → List ℕ → Side L → List ℕ → Type 0
+  Breaks old kept new rest =
+      (frame : List ℕ) × (kept ≡ frame ++ rest) × IsFramed frame × Serves sends samples frame old (Some Broken) new
 
--- why no further frame is worked off: none is there whole, or the session is over
-abbrev pub Stops : {L : Type 0} → (L → List ℕ → Sent → L → Type 0) → Bool → Side L → List ℕ → Option SessionEnd → Side L → List ℕ → Type 0
-Stops sends samples old kept None new rest = (new ≡ old) × (kept ≡ rest) × IsPartial rest
-Stops sends samples old kept (Some (Closed count)) new rest = ⊥
-Stops sends samples old kept (Some (BadLength len)) new rest = (new ≡ old) × (kept ≡ rest) × BeginsBadly rest len
-Stops sends samples old kept (Some LinkBroken) new rest = Breaks sends samples old kept new rest
-Stops sends samples old kept (Some Memory) new rest = (new ≡ old) × (kept ≡ rest)
+  -- why no further frame is worked off: none is there whole, or the session is over
+  abbrev pub Stops : Side L → List ℕ → Option SessionEnd → Side L → List ℕ → Type 0
+  Stops old kept None new rest = (new ≡ old) × (kept ≡ rest) × IsPartial rest
+  Stops old kept (Some (Closed count)) new rest = ⊥
+  Stops old kept (Some (BadLength len)) new rest = (new ≡ old) × (kept ≡ rest) × BeginsBadly rest len
+  Stops old kept (Some LinkBroken) new rest = Breaks old kept new rest
+  Stops old kept (Some Memory) new rest = (new ≡ old) × (kept ≡ rest)
 
--- the frames that stand whole are worked off
-pub record Drains {L : Type 0} (sends : L → List ℕ → Sent → L → Type 0) (samples : Bool) (old : Side L) (kept : List ℕ) (over : Option SessionEnd) (new : Side L) (rest : List ℕ) : Type 0 where
-  pub frames : List (List ℕ)
-  pub mid : Side L
-  pub left : List ℕ
-  pub works : Works sends samples frames old kept mid left
-  pub stops : Stops sends samples mid left over new rest
+  -- the frames that stand whole are worked off
+  pub record Drains (old : Side L) (kept : List ℕ) (over : Option SessionEnd) (new : Side L) (rest : List ℕ) : Type 0 where
+    pub frames : List (List ℕ)
+    pub mid : Side L
+    pub left : List ℕ
+    pub works : Works frames old kept mid left
+    pub stops : Stops mid left over new rest
 
 -- the link gave this piece
 abbrev pub Hears : {L : Type 0} → (L → Received → List ℕ → L → Type 0) → L → List ℕ → L → Type 0
-Hears receives old piece new = (count : ℕ) × (room : List ℕ) × receives old (received.Bytes count) room new × (piece ≡ take count room)
+Hears receives old piece new =
+    (count : ℕ) × (room : List ℕ) × receives old (received.Bytes count) room new × (piece ≡ take count room)
 
--- a piece is received, and the frames that stand whole by it are worked off
-abbrev pub Takes : {L : Type 0} → (L → Received → List ℕ → L → Type 0) → (L → List ℕ → Sent → L → Type 0) → Bool → Side L → List ℕ → List ℕ → Option SessionEnd → Side L → List ℕ → Type 0
-Takes {L} receives sends samples old kept piece over new rest =
-    (heard : L) × Hears receives old.link piece heard × Drains sends samples (record { world = old.world; link = heard }) (kept ++ piece) over new rest
+-- the same with what the link gives
+module _ {L : Type 0} (receives : L → Received → List ℕ → L → Type 0) (sends : L → List ℕ → Sent → L → Type 0) (samples : Bool) where
+  -- a piece is received, and the frames that stand whole by it are worked off
+  abbrev pub Takes : Side L → List ℕ → List ℕ → Option SessionEnd → Side L → List ℕ → Type 0
+  Takes old kept piece over new rest =
+      (heard : L) × Hears receives old.link piece heard
+      × Drains sends samples (record { world = old.world; link = heard }) (kept ++ piece) over new rest
 
--- one piece after another, and the session goes on
-abbrev pub Rounds : {L : Type 0} → (L → Received → List ℕ → L → Type 0) → (L → List ℕ → Sent → L → Type 0) → Bool → List (List ℕ) → Side L → List ℕ → Side L → List ℕ → Type 0
-Rounds receives sends samples [] old kept new rest = (new ≡ old) × (rest ≡ kept)
-Rounds {L} receives sends samples (piece ∷ pieces) old kept new rest =
-    (mid : Side L) × (more : List ℕ) × Takes receives sends samples old kept piece None mid more × Rounds receives sends samples pieces mid more new rest
+  -- one piece after another, and the session goes on
+  abbrev pub Rounds : List (List ℕ) → Side L → List ℕ → Side L → List ℕ → Type 0
+  Rounds [] old kept new rest = (new ≡ old) × (rest ≡ kept)
+  Rounds (piece ∷ pieces) old kept new rest =
+      (mid : Side L) × (more : List ℕ) × Takes old kept piece None mid more × Rounds pieces mid more new rest
 
--- the end of the input, or of the session by a frame or by a link that broke; a session takes 2^64 - 1 pieces at most
-abbrev pub Ends : {L : Type 0} → (L → Received → List ℕ → L → Type 0) → (L → List ℕ → Sent → L → Type 0) → Bool → ℕ → Side L → List ℕ → SessionEnd → Side L → Type 0
-Ends receives sends samples rounds old kept (Closed rest) new =
-    (room : List ℕ) × receives old.link received.End room new.link × (new.world ≡ old.world) × (rest ≡ length kept)
-Ends receives sends samples rounds old kept (BadLength len) new =
-    (piece rest : List ℕ) × Takes receives sends samples old kept piece (Some (BadLength len)) new rest
-Ends receives sends samples rounds old kept LinkBroken new =
-    ((room : List ℕ) × receives old.link received.Broken room new.link × (new.world ≡ old.world))
-    ⊎ ((piece rest : List ℕ) × Takes receives sends samples old kept piece (Some LinkBroken) new rest)
-    ⊎ ((rounds ≡ 2 ^ 64 - 1) × (new ≡ old))
-Ends receives sends samples rounds old kept Memory new =
-    ((piece : List ℕ) × Hears receives old.link piece new.link × (new.world ≡ old.world))
-    ⊎ ((piece rest : List ℕ) × Takes receives sends samples old kept piece (Some Memory) new rest)
+  -- the end of the input, or of the session by a frame or by a link that broke; at most 2^64 - 1 pieces are taken
+  abbrev pub Ends : ℕ → Side L → List ℕ → SessionEnd → Side L → Type 0
+  Ends rounds old kept (Closed rest) new =
+      (room : List ℕ) × receives old.link received.End room new.link × (new.world ≡ old.world) × (rest ≡ length kept)
+  Ends rounds old kept (BadLength len) new =
+      (piece rest : List ℕ) × Takes old kept piece (Some (BadLength len)) new rest
+  Ends rounds old kept LinkBroken new =
+      ((room : List ℕ) × receives old.link received.Broken room new.link × (new.world ≡ old.world))
+      ⊎ ((piece rest : List ℕ) × Takes old kept piece (Some LinkBroken) new rest)
+      ⊎ ((rounds ≡ 2 ^ 64 - 1) × (new ≡ old))
+  Ends rounds old kept Memory new =
+      ((piece : List ℕ) × Hears receives old.link piece new.link × (new.world ≡ old.world))
+      ⊎ ((piece rest : List ℕ) × Takes old kept piece (Some Memory) new rest)
 
--- a whole session
-pub record Runs {L : Type 0} (receives : L → Received → List ℕ → L → Type 0) (sends : L → List ℕ → Sent → L → Type 0) (samples : Bool) (old : Side L) (over : SessionEnd) (new : Side L) : Type 0 where
-  pub pieces : List (List ℕ)
-  pub mid : Side L
-  pub kept : List ℕ
-  pub rounds : Rounds receives sends samples pieces old [] mid kept
-  pub ends : Ends receives sends samples (length pieces) mid kept over new
+  -- a whole session
+  pub record Runs (old : Side L) (over : SessionEnd) (new : Side L) : Type 0 where
+    pub pieces : List (List ℕ)
+    pub mid : Side L
+    pub kept : List ℕ
+    pub rounds : Rounds pieces old [] mid kept
+    pub ends : Ends (length pieces) mid kept over new
 
--- a link is served with a table of its own, unless there is no memory for one
-abbrev pub ServesLink : {L : Type 0} → (L → Received → List ℕ → L → Type 0) → (L → List ℕ → Sent → L → Type 0) → Bool → L → SessionEnd → L → Type 0
-ServesLink {L} receives sends samples old over new =
-    ((limits : Limits) × (world : World) × (last : World) × IsOpened limits world
-    × Runs receives sends samples (record { world = world; link = old }) over (record { world = last; link = new }))
-    ⊎ ((over ≡ Memory) × (new ≡ old))
+  -- a link is served with a table of its own, unless there is no memory for one
+  abbrev pub ServesLink : L → SessionEnd → L → Type 0
+  ServesLink old over new =
+      ((limits : Limits) × (world : World) × (last : World) × IsOpened limits world
+      × Runs (record { world = world; link = old }) over (record { world = last; link = new }))
+      ⊎ ((over ≡ Memory) × (new ≡ old))
+
+-- a link of hexadecimal lines before its first line
+abbrev pub unread : Option (List ℕ) → Option (List ℕ) → Hexing
+unread input output = record { lines = 0; kept = []; input = input; output = output; cause = None }
 
 -- the program that reads and writes lines of hexadecimal digits, with its exit status
 pub record RunsHex (samples : Bool) (input output : Option (List ℕ)) (status : ℕ) : Type 0 where
   pub over : SessionEnd
   pub last : Hexing
-  pub serves : ServesLink Receives Sends samples (record { lines = 0; kept = []; input = input; output = output; cause = None }) over last
+  pub serves : ServesLink Receives Sends samples (unread input output) over last
   pub status_is : status ≡ exit_of (fault_of over last.cause)

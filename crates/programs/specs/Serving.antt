@@ -8,7 +8,8 @@ use Rattle.flights.specs.declared.data.Given.{Given}
 use Rattle.flights.specs.declared.data.Want.TheVariants as want
 use Rattle.table.specs.Answers.{Claim, Answer, Settlement}
 use Rattle.table.specs.Steps.{Begins, Finishes, Forgets, Settles}
-use Rattle.table.specs.World.{World}
+use Rattle.table.specs.World.{World, world_of}
+use Rattle.table.specs.declared.state.State.{State}
 use Rattle.table.specs.declared.data.Begin.{Begin}
 use Rattle.table.specs.declared.data.Begin.TheVariants.{Go, Busy, Refused}
 use Rattle.table.specs.declared.data.Outcome.{Outcome}
@@ -54,51 +55,69 @@ pub record Side (L : Type 0) : Type 0 where
   pub world : World
   pub link : L
 
--- the world stays, and this is offered
-pub record Only {L : Type 0} (sends : L → List ℕ → Sent → L → Type 0) (old : Side L) (reply : List ℕ) (sent : Sent) (new : Side L) : Type 0 where
-  pub world : new.world ≡ old.world
-  pub offer : sends old.link reply sent new.link
+abbrev pub side : {L : Type 0} → State → L → Side L
+side table link = record { world = world_of table; link = link }
 
--- a LOOKUP that began is finished by what the tree tells of its path, and its reply is offered and settled by what became
--- of it; where the reply finds no memory it is settled as untaken first, and the error is offered
-pub record GivesName {L : Type 0} (sends : L → List ℕ → Sent → L → Type 0) (samples : Bool) (unique : ℕ) (claim : Claim) (old : Side L) (sent : Sent) (new : Side L) : Type 0 where
-  pub answer : Answer
-  pub mid : World
-  pub settled : Settlement
-  pub finishes : Finishes old.world claim.id (outcome_of (stat_of (tree_of samples) claim.path)) answer mid
-  pub settles : (sends old.link (reply_bytes (record { unique = unique; body = lookup_body (stat_of (tree_of samples) claim.path) (given_in answer) })) sent new.link
-      × Settles mid answer (is_taken sent) settled new.world)
-      ⊎ (sends old.link (refusal_bytes unique ENOMEM) sent new.link × Settles mid answer false settled new.world)
+-- the reply to a LOOKUP that was finished
+abbrev pub name_bytes : Bool → ℕ → Claim → Answer → List ℕ
+name_bytes samples unique claim answer =
+    reply_bytes (record { unique = unique; body = lookup_body (stat_of (tree_of samples) claim.path) (given_in answer) })
 
-abbrev pub Continues : {L : Type 0} → (L → List ℕ → Sent → L → Type 0) → Bool → ℕ → Begin → Side L → Sent → Side L → Type 0
-Continues sends samples unique (Go claim) old sent new = GivesName sends samples unique claim old sent new
-Continues sends samples unique Busy old sent new = Only sends old (refusal_bytes unique EAGAIN) sent new
-Continues sends samples unique (Refused errno) old sent new = Only sends old (refusal_bytes unique errno) sent new
-
--- a LOOKUP of a reserved name finds nothing, before anything else is looked at; another is begun, if memory is there
-pub record LooksUp {L : Type 0} (sends : L → List ℕ → Sent → L → Type 0) (samples : Bool) (unique parent : ℕ) (name : List ℕ) (old : Side L) (sent : Sent) (new : Side L) : Type 0 where
-  pub reserved : is_reserved name ≡ true → Only sends old (refusal_bytes unique ENOENT) sent new
-  pub begun : is_reserved name ≡ false → Only sends old (refusal_bytes unique ENOMEM) sent new
-      ⊎ ((begin : Begin) × (mid : World) × Begins old.world unique (want.Name parent name) begin mid × Continues sends samples unique begin (record old { world = mid }) sent new)
-
--- an operation, with what is offered for it, if anything
-abbrev pub Does : {L : Type 0} → (L → List ℕ → Sent → L → Type 0) → Bool → Request → Operation → Side L → Option Sent → Side L → Type 0
-Does sends samples q (Lookup name) old (Some sent) new = LooksUp sends samples q.unique q.node name.now old sent new
-Does sends samples q (Lookup name) old None new = ⊥
-Does sends samples q (Forget n) old (Some sent) new = ⊥
-Does sends samples q (Forget n) old None new = (amount : ℕ) × Forgets old.world q.node n amount new.world × (new.link ≡ old.link)
-
--- opcodes 2, 36 and 42 are never answered
 abbrev pub IsSilent : ℕ → Type 0
 IsSilent opcode = (opcode ≡ 2) ⊎ (opcode ≡ 36) ⊎ (opcode ≡ 42)
 
--- a frame that is no request is answered with its fault's error, unless its opcode is never answered
-abbrev pub Faults : {L : Type 0} → (L → List ℕ → Sent → L → Type 0) → List ℕ → WireFault → Side L → Option Sent → Side L → Type 0
-Faults sends frame fault old (Some sent) new = ¬ (IsSilent (opcode_in frame)) × Only sends old (refusal_bytes (unique_in frame) (errno_of fault)) sent new
-Faults sends frame fault old None new = IsSilent (opcode_in frame) × (new ≡ old)
+-- what a session does, by what its link tells of a reply
+module _ {L : Type 0} (sends : L → List ℕ → Sent → L → Type 0) where
+  -- the world stays, and this is offered
+  pub record Only (old : Side L) (reply : List ℕ) (sent : Sent) (new : Side L) : Type 0 where
+    pub world : new.world ≡ old.world
+    pub offer : sends old.link reply sent new.link
 
--- one frame is worked off
-abbrev pub Serves : {L : Type 0} → (L → List ℕ → Sent → L → Type 0) → Bool → List ℕ → Side L → Option Sent → Side L → Type 0
-Serves sends samples frame old sent new =
-    ((q : Request) × IsRequest frame q × Does sends samples q q.operation old sent new)
-    ⊎ ((fault : WireFault) × IsFirstFault frame fault × Faults sends frame fault old sent new)
+  -- opcodes 2, 36 and 42 are never answered; another frame that is no request is answered with its fault's error
+  abbrev pub Faults : List ℕ → WireFault → Side L → Option Sent → Side L → Type 0
+  Faults frame fault old (Some sent) new =
+      ¬ (IsSilent (opcode_in frame)) × Only old (refusal_bytes (unique_in frame) (errno_of fault)) sent new
+  Faults frame fault old None new = IsSilent (opcode_in frame) × (new ≡ old)
+
+  -- the samples say which tree is served
+  module _ (samples : Bool) where
+    -- a LOOKUP that began is finished by what the tree tells of its path, and its reply is offered and settled by what
+    -- became of it; where the reply finds no memory, it is settled as untaken first, and the error is offered
+    pub record GivesName (unique : ℕ) (claim : Claim) (old : Side L) (sent : Sent) (new : Side L) : Type 0 where
+      pub answer : Answer
+      pub mid : World
+      pub settled : Settlement
+      pub finishes : Finishes old.world claim.id (outcome_of (stat_of (tree_of samples) claim.path)) answer mid
+      pub settles : (sends old.link (name_bytes samples unique claim answer) sent new.link
+          × Settles mid answer (is_taken sent) settled new.world)
+          ⊎ (sends old.link (refusal_bytes unique ENOMEM) sent new.link × Settles mid answer false settled new.world)
+
+    abbrev pub Continues : ℕ → Begin → Side L → Sent → Side L → Type 0
+    Continues unique (Go claim) old sent new = GivesName unique claim old sent new
+    Continues unique Busy old sent new = Only old (refusal_bytes unique EAGAIN) sent new
+    Continues unique (Refused errno) old sent new = Only old (refusal_bytes unique errno) sent new
+
+    abbrev pub BeginsName : ℕ → ℕ → List ℕ → Side L → Sent → Side L → Type 0
+    BeginsName unique parent name old sent new =
+        (begin : Begin) × (mid : World) × Begins old.world unique (want.Name parent name) begin mid
+        × Continues unique begin (record old { world = mid }) sent new
+
+    -- a LOOKUP of a reserved name finds nothing, before anything else is looked at; another is begun, if memory is there
+    pub record LooksUp (unique parent : ℕ) (name : List ℕ) (old : Side L) (sent : Sent) (new : Side L) : Type 0 where
+      pub reserved : is_reserved name ≡ true → Only old (refusal_bytes unique ENOENT) sent new
+      pub begun : is_reserved name ≡ false
+          → Only old (refusal_bytes unique ENOMEM) sent new ⊎ BeginsName unique parent name old sent new
+
+    -- an operation, with what is offered for it, if anything
+    abbrev pub Does : Request → Operation → Side L → Option Sent → Side L → Type 0
+    Does q (Lookup name) old (Some sent) new = LooksUp q.unique q.node name.now old sent new
+    Does q (Lookup name) old None new = ⊥
+    Does q (Forget n) old (Some sent) new = ⊥
+    Does q (Forget n) old None new =
+        (amount : ℕ) × Forgets old.world q.node n amount new.world × (new.link ≡ old.link)
+
+    -- one frame is worked off
+    abbrev pub Serves : List ℕ → Side L → Option Sent → Side L → Type 0
+    Serves frame old sent new =
+        ((q : Request) × IsRequest frame q × Does q q.operation old sent new)
+        ⊎ ((fault : WireFault) × IsFirstFault frame fault × Faults frame fault old sent new)

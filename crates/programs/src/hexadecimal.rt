@@ -17,7 +17,8 @@ use std::marker::Model;
 
 /// Makes `line` the next line of the reader, without its line break. False says that the input is at its end.
 fn read_line<R: BufRead>(reader: &mut R, line: &mut Vec<u8>) -> io::Result<bool>
-    ensures line { IfOk result (λ more. more ≡ true → IfSome (R.remaining reader.old) (λ xs. (xs ≢ []) × (line.new.items ≡ first_piece 10 xs))) }
+    ensures line { IfOk result (λ more. more ≡ true
+        → IfSome (R.remaining reader.old) (λ xs. (xs ≢ []) × (line.new.items ≡ first_piece 10 xs))) }
     ensures end { IfOk result (λ more. more ≡ false → IsAtEnd (R.remaining reader.old)) }
     ensures rest { OnOk result (DropsThrough (R.remaining reader.old) (R.remaining reader.new) 10) }
 {
@@ -72,7 +73,13 @@ impl<R: BufRead, W: Write> Model for HexLink<R, W> {
 
     ghost Value = { Hexing };
 
-    ghost view = { λ l. record { lines = l.lines; kept = drop l.start l.piece.items; input = R.remaining l.reader; output = W.contents l.writer; cause = l.cause } };
+    ghost view = { λ l. record {
+      lines = l.lines;
+      kept = drop l.start l.piece.items;
+      input = R.remaining l.reader;
+      output = W.contents l.writer;
+      cause = l.cause;
+    } };
 
     ghost invariant = { λ l. l.start ≤ length l.piece.items };
 }
@@ -80,7 +87,13 @@ impl<R: BufRead, W: Write> Model for HexLink<R, W> {
 impl<R: BufRead, W: Write> HexLink<R, W> {
     /// A link on which no line was read or written.
     pub fn new(alloc: Global, reader: R, writer: W) -> HexLink<R, W>
-        ensures { result ≡ record { lines = 0; kept = []; input = R.remaining reader; output = W.contents writer; cause = None } }
+        ensures { result ≡ record {
+          lines = 0;
+          kept = [];
+          input = R.remaining reader;
+          output = W.contents writer;
+          cause = None;
+        } }
     {
         HexLink {
             reader,
@@ -104,7 +117,8 @@ impl<R: BufRead, W: Write> HexLink<R, W> {
     fn read_piece(&mut self) -> Result<bool, Fault>
         requires { self.old.kept ≡ [] }
         ensures more { IfOk result (λ more. more ≡ true → ReadsLine self.old self.new) }
-        ensures end { IfOk result (λ more. more ≡ false → IsAtEnd self.old.input × (self.new ≡ record self.old { kept = []; input = self.new.input })) }
+        ensures end { IfOk result (λ more. more ≡ false → IsAtEnd self.old.input
+            × (self.new ≡ record self.old { kept = []; input = self.new.input })) }
         ensures output { self.new.output ≡ self.old.output }
         ensures cause { IfErr result (Explains self.old self.new.lines) }
     {

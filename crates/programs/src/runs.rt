@@ -28,7 +28,13 @@ fn serve<B: Shared, E: tokens::Ledger, K: tokens::Ledger, F: tokens::Ledger, L: 
     tree: MemTree,
     link: &mut L,
 ) -> SessionEnd
-    requires names { blanks ≡ record { born = B.name; entries = E.name; backs = K.name; forgotten = F.name; parts = 1 } }
+    requires names { blanks ≡ record {
+      born = B.name;
+      entries = E.name;
+      backs = K.name;
+      forgotten = F.name;
+      parts = 1;
+    } }
     requires cut { AreAll 1 B.parts E.parts K.parts F.parts }
     requires shares { B.shares ≡ 1 }
     ensures serves { ServesLink L.receives L.sends tree.has_samples link.old result link.new }

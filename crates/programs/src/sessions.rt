@@ -1,12 +1,11 @@
 //! One session over a link: frames are cut from what comes, and each is worked off before the next.
 
 ghost use Rattle.std.specs.Prelude.{◌≡◌, ◌≢◌, ◌≤◌, true, false, length, IfNone, IfSome};
-ghost use Rattle.table.specs.World.{world_of};
 ghost use Rattle.wire.specs.Faults.{errno_of};
 ghost use Rattle.wire.specs.Requests.{opcode_in, unique_in, IsFramed};
 ghost use Rattle.wire.specs.Stream.{IsPartial};
 ghost use Rattle.programs.specs.Running.{Drains, Runs};
-ghost use Rattle.programs.specs.Serving.{given_in, is_reserved, is_taken, outcome_of, refusal_bytes, GivesName, IsSilent, LooksUp, Serves};
+ghost use Rattle.programs.specs.Serving.{given_in, is_reserved, is_taken, outcome_of, refusal_bytes, side, GivesName, IsSilent, LooksUp, Serves};
 ghost use Rattle.programs.specs.Sessions.{ended_by, lookup_body, IsEnding};
 
 use crate::links::{Link, Received, Sent};
@@ -90,6 +89,7 @@ fn is_broken(sent: Option<Sent>) -> bool
     matches!(sent, Some(Sent::Broken))
 }
 
+/// Whether the client has the reply.
 fn is_taken(sent: Sent) -> bool
     ensures { result ≡ is_taken sent }
 {
@@ -116,7 +116,8 @@ fn refuse<L: Link>(link: &mut L, unique: u64, errno: i32) -> Sent
 /// Answers a faulty frame, unless it is of an opcode that gets no reply.
 fn refuse_frame<L: Link>(link: &mut L, frame: &[u8], fault: WireFault) -> Option<Sent>
     requires { HEADER_LEN ≤ length frame.now }
-    ensures some { IfSome result (λ sent. ¬ (IsSilent (opcode_in frame.now)) × L.sends link.old (refusal_bytes (unique_in frame.now) (errno_of fault)) sent link.new) }
+    ensures some { IfSome result (λ sent. ¬ (IsSilent (opcode_in frame.now))
+        × L.sends link.old (refusal_bytes (unique_in frame.now) (errno_of fault)) sent link.new) }
     ensures none { IfNone result (IsSilent (opcode_in frame.now) × (link.new ≡ link.old)) }
 {
     match header_of(frame) {
@@ -175,7 +176,8 @@ impl<B: Shared, E: tokens::Ledger, K: tokens::Ledger, F: tokens::Ledger> Session
 
     /// Serves the link until it ends.
     pub fn run<L: Link>(&mut self, link: &mut L) -> SessionEnd
-        ensures runs { Runs L.receives L.sends self.old.tree.has_samples (record { world = world_of self.old.table; link = link.old }) result (record { world = world_of self.new.table; link = link.new }) }
+        ensures runs { Runs L.receives L.sends self.old.tree.has_samples
+            (side self.old.table link.old) result (side self.new.table link.new) }
         ensures ending { IsEnding result }
     {
         let mut cutter = Cutter::new(self.alloc);
@@ -204,7 +206,8 @@ impl<B: Shared, E: tokens::Ledger, K: tokens::Ledger, F: tokens::Ledger> Session
 
     /// Works off the frames that are there whole. Some end says that the session is over.
     fn drain<L: Link>(&mut self, link: &mut L, cutter: &mut Cutter) -> Option<SessionEnd>
-        ensures drains { Drains L.sends self.old.tree.has_samples (record { world = world_of self.old.table; link = link.old }) cutter.old.kept result (record { world = world_of self.new.table; link = link.new }) cutter.new.kept }
+        ensures drains { Drains L.sends self.old.tree.has_samples
+            (side self.old.table link.old) cutter.old.kept result (side self.new.table link.new) cutter.new.kept }
         ensures on { IfNone result (cutter.new.stopped ≡ cutter.old.stopped) }
         ensures tree { self.new.tree ≡ self.old.tree }
     {
@@ -225,7 +228,8 @@ impl<B: Shared, E: tokens::Ledger, K: tokens::Ledger, F: tokens::Ledger> Session
     /// Answers what a frame asks for, if it is to be answered.
     fn work_off<L: Link>(&mut self, link: &mut L, frame: &[u8]) -> Option<Sent>
         requires { IsFramed frame.now }
-        ensures serves { Serves L.sends self.old.tree.has_samples frame.now (record { world = world_of self.old.table; link = link.old }) result (record { world = world_of self.new.table; link = link.new }) }
+        ensures serves { Serves L.sends self.old.tree.has_samples frame.now
+            (side self.old.table link.old) result (side self.new.table link.new) }
         ensures tree { self.new.tree ≡ self.old.tree }
     {
         let request = match decode(frame) {
@@ -245,7 +249,8 @@ impl<B: Shared, E: tokens::Ledger, K: tokens::Ledger, F: tokens::Ledger> Session
 
     /// Answers a LOOKUP.
     fn look_up<L: Link>(&mut self, link: &mut L, unique: u64, parent: u64, name: &str) -> Sent
-        ensures looks_up { LooksUp L.sends self.old.tree.has_samples unique parent name.now (record { world = world_of self.old.table; link = link.old }) result (record { world = world_of self.new.table; link = link.new }) }
+        ensures looks_up { LooksUp L.sends self.old.tree.has_samples unique parent name.now
+            (side self.old.table link.old) result (side self.new.table link.new) }
         ensures tree { self.new.tree ≡ self.old.tree }
     {
         if is_reserved(name) {
@@ -263,7 +268,8 @@ impl<B: Shared, E: tokens::Ledger, K: tokens::Ledger, F: tokens::Ledger> Session
 
     /// Answers a LOOKUP that has begun.
     fn give_name<L: Link>(&mut self, link: &mut L, unique: u64, ticket: Ticket) -> Sent
-        ensures gives { GivesName L.sends self.old.tree.has_samples unique ticket (record { world = world_of self.old.table; link = link.old }) result (record { world = world_of self.new.table; link = link.new }) }
+        ensures gives { GivesName L.sends self.old.tree.has_samples unique ticket
+            (side self.old.table link.old) result (side self.new.table link.new) }
         ensures tree { self.new.tree ≡ self.old.tree }
     {
         let found = self.tree.stat(ticket.path());

@@ -10,11 +10,12 @@ use Rattle.image.specs.Law.{IsLawful}
 use Rattle.table.specs.declared.state.State.{State}
 use Rattle.table.specs.Sweeping.{IsEntered, KeepsNames}
 use Rattle.flights.specs.declared.data.Want.{Want}
-use Rattle.flights.specs.declared.data.Want.TheVariants.{Name}
+use Rattle.flights.specs.declared.data.Want.TheVariants.{Name, Remove}
 use Rattle.flights.specs.declared.data.Work.{Work}
-use Rattle.table.specs.World.{AreReady, IsKept, IsEnding, IsNameEnding, IsNameReady, IsReadyFor}
+use Rattle.table.specs.World.{AreReady, IsRemovable, IsRemovalReady, IsKept, IsEnding, IsNameEnding, IsNameReady, IsReadyFor}
 use Rattle.table.proofs.Laws.{lawful_pins}
 use Rattle.table.proofs.Ready.{AreReady-same, AreReady-idle}
+use Rattle.table.proofs.Apart.{AreApart, AreApart-idle, held_of}
 
 module _ (s : State) (id parent : ℕ) (name : List ℕ) (promise : Promise) (e : IsNameEnding s id parent name promise) where
   -- where no node stands at the name, one was promised
@@ -39,6 +40,8 @@ module _ (s : State) (id parent : ℕ) (name : List ℕ) (promise : Promise) (e 
     give_kept =
         let more = entered.more_is in
         let ready : AreReady (at_in tree) (flying_of s.flights).at = AreReady-same (at_in s.tree) (at_in tree) (flying_of s.flights).at names kept.ready in
+        let still : AreReady (at_in tree) (flying_of flights).at = subst (λ (f : Flights). AreReady (at_in tree) f) (sym pins.at) (AreReady-idle (at_in tree) (flying_of s.flights).at id (pinning e.flight number) e.answered ready) in
+        let apart : AreApart (flying_of flights).at = subst (λ (f : Flights). AreApart f) (sym pins.at) (AreApart-idle (flying_of s.flights).at id (pinning e.flight number) e.answered kept.held.apart) in
         record {
           law = lawful_pins (at_in tree) ledger.made (flying_of s.flights).pinned (flying_of flights).pinned law
               (λ m h. pinned_is m ∙ or_left ((flying_of s.flights).pinned m) (number == m) h)
@@ -47,7 +50,8 @@ module _ (s : State) (id parent : ℕ) (name : List ℕ) (promise : Promise) (e 
                 | inr here ↦ (alive.0, ap (at_in tree) (sym (eqb-true number m here)) ∙ alive.1)
               ]);
           flying = flying;
-          ready = subst (λ (f : Flights). AreReady (at_in tree) f) (sym pins.at) (AreReady-idle (at_in tree) (flying_of s.flights).at id (pinning e.flight number) e.answered ready);
+          held = held_of (at_in tree) (flying_of flights).at apart still;
+          ready = still;
           reserved = record {
             nodes = omega (arith, pins.nodes, e.room.nodes, more.room, born_promised);
             postings = omega (arith, pins.postings, e.room.postings, e.three, more.counts, more.posting_room, entered.one);
@@ -76,4 +80,14 @@ name_ending s id work parent name want e =
       node = elim ready.node [ inl one ↦ inl one | inr (n, named, pinned) ↦ inr (n, named) ];
       three = ready.postings;
       room = e.room;
+    }
+
+-- a request that was begun to remove a name may remove it
+pub removal_ending : (s : State) (id : ℕ) (work : Work) (parent : ℕ) (name : List ℕ) → IsKept s → work.want ≡ Remove parent name → IsEnding s id work → IsRemovable s work.held parent name
+removal_ending s id work parent name kept want e =
+    let ready : IsRemovalReady (at_in s.tree) e.flight work parent name = subst (λ (w : Want). IsReadyFor (at_in s.tree) e.flight work w) want e.ready in
+    record {
+      holds = ready.holds;
+      pinned = (kept.flying.pins parent).1 (id, e.flight, e.here, ready.pinned);
+      clear = e.clear;
     }

@@ -14,6 +14,7 @@ use Rattle.table.specs.Sweeping.{HaveReasonsBut, IsPruned, IsSameRest, IsBooked}
 use Rattle.table.specs.World.{AreReady, IsKept}
 use Rattle.table.proofs.Laws.{booked_of, booked_forget, lawful_swept}
 use Rattle.table.proofs.Ready.{AreReady-same, AreReady-swept, named_written}
+use Rattle.table.proofs.Apart.{held_of}
 use Rattle.table.proofs.Reasons.{HaveReasons-some, HaveReasons-write}
 
 -- one posting more
@@ -42,6 +43,7 @@ pub kept_changed : (s : State) (tree : Nodes) (ledger : Postings) (counts : ℕ)
 kept_changed s tree ledger counts kept law ready room living limit posting_room made posting_limit same = record {
   law = law;
   flying = kept.flying;
+  held = held_of (at_in tree) (flying_of s.flights).at kept.held.apart ready;
   ready = ready;
   reserved = record { nodes = omega (arith, kept.reserved.nodes); postings = omega (arith, kept.reserved.postings) };
   within = record { nodes = omega (arith, kept.within.nodes); postings = omega (arith, kept.within.postings); flights = kept.within.flights };

@@ -3,6 +3,7 @@ pub mod Booked
 pub mod Reasons
 pub mod Laws
 pub mod Ready
+pub mod Apart
 pub mod Kept
 pub mod Backs
 pub mod Settling
@@ -13,3 +14,5 @@ pub mod Counting
 pub mod Longer
 pub mod Starting
 pub mod Exporting
+pub mod Guarded
+pub mod Removing

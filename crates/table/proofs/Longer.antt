@@ -14,13 +14,13 @@ use Rattle.flights.specs.declared.data.Given.{Given}
 use Rattle.flights.specs.declared.data.Stage.{Stage}
 use Rattle.flights.specs.declared.data.Stage.TheVariants.{Working, Answered}
 use Rattle.flights.specs.declared.data.Want.{Want}
-use Rattle.flights.specs.declared.data.Want.TheVariants.{Name}
+use Rattle.flights.specs.declared.data.Want.TheVariants.{Node, Name, Remove}
 use Rattle.flights.specs.declared.data.Work.{Work}
-use Rattle.flights.specs.Flying.{is_working}
+use Rattle.flights.specs.Flying.{answered, is_working}
 use Rattle.table.specs.declared.data.Outcome.{Outcome}
 use Rattle.table.specs.declared.data.Outcome.TheVariants as outcome
 use Rattle.table.specs.Answers.{Answer, Settlement}
-use Rattle.table.specs.Steps.{Forgets, Finishes, Settles, Ends, Enters, TakesAllBack, untaken_of}
+use Rattle.table.specs.Steps.{Forgets, Finishes, Settles, Ends, Enters, Gives, TakesAllBack, untaken_of}
 use Rattle.table.specs.World.{World}
 
 pub record IsLonger (old new : List Posting) : Type 0 where
@@ -54,17 +54,24 @@ longer_enters : (at new : Lookup) (ps qs : List Posting) (p : ℕ) (name : List 
 longer_enters at new ps qs p name g (inl again) = record { more = Entry g.number g.generation ∷ []; is = again.postings }
 longer_enters at new ps qs p name g (inr born) = record { more = (Born g.number g.generation ∷ []) ++ Entry g.number g.generation ∷ []; is = born.postings ∙ append_assoc ps (Born g.number g.generation ∷ []) (Entry g.number g.generation ∷ []) }
 
-longer_ends : (old : World) (id : ℕ) (work : Work) (want : Want) (o : Outcome) (answer : Answer) (new : World) → Ends old id work want o answer new → IsLonger old.postings new.postings
-longer_ends old id work (Name p name) outcome.Entry answer new e = longer_enters old.at new.at old.postings new.postings p name e.gives.given e.gives.entry
-longer_ends old id work (Name p name) outcome.Failed answer new e = longer_same old.postings new.postings (ap (λ (w : World). w.postings) e.rest)
-longer_ends old id work (Name p name) outcome.Done answer new e = longer_same old.postings new.postings (ap (λ (w : World). w.postings) e.rest)
+longer_gives : (old : World) (id : ℕ) (f : Flight) (want : Want) (o : Outcome) (answer : Answer) (new : World) → Gives old id f want o answer new → IsLonger old.postings new.postings
+longer_gives old id f (Node number) o answer new e = longer_same old.postings new.postings (ap (λ (w : World). w.postings) e.1)
+longer_gives old id f (Name p name) outcome.Entry answer new e = longer_enters old.at new.at old.postings new.postings p name e.given e.entry
+longer_gives old id f (Name p name) outcome.Failed answer new e = longer_same old.postings new.postings (ap (λ (w : World). w.postings) e.1)
+longer_gives old id f (Name p name) outcome.Done answer new e = longer_same old.postings new.postings (ap (λ (w : World). w.postings) e.1)
+longer_gives old id f (Remove p name) outcome.Entry answer new e = longer_same old.postings new.postings (ap (λ (w : World). w.postings) e.1)
+longer_gives old id f (Remove p name) outcome.Failed answer new e = longer_same old.postings new.postings (ap (λ (w : World). w.postings) e.1)
+longer_gives old id f (Remove p name) outcome.Done answer new e = longer_same old.postings new.postings e.1.postings
+
+longer_ends : (old : World) (id : ℕ) (work : Work) (o : Outcome) (answer : Answer) (new : World) → Ends old id work o answer new → IsLonger old.postings new.postings
+longer_ends old id work o answer new e = longer_gives (record old { flying = e.mid }) id (answered e.ends.flight) work.want o answer new e.gives
 
 pub longer_finishes : (old : World) (id : ℕ) (o : Outcome) (answer : Answer) (new : World) → Finishes old id o answer new → IsLonger old.postings new.postings
 longer_finishes old id o answer new f = elim (cases_flight (old.flying.at id)) [
   | inl none ↦ longer_same old.postings new.postings (ap (λ (w : World). w.postings) (f.lost (λ g here. absurd (none-some g (sym none ∙ here)))).1)
   | inr (g, here) ↦ elim (cases_stage g.stage) [
     | inl idle ↦ longer_same old.postings new.postings (ap (λ (w : World). w.postings) (f.lost (λ h there. ap (λ s. is_working s) (ap (λ (k : Flight). k.stage) (same_Some h g (sym there ∙ here)) ∙ idle))).1)
-    | inr (work, working) ↦ longer_ends old id work work.want o answer new (f.found g work here working)
+    | inr (work, working) ↦ longer_ends old id work o answer new (f.found g work here working)
   ]
 ]
 

@@ -1,5 +1,5 @@
 -- What requests that go on may rely on stays, whatever else is done.
-use Rattle.std.proofs.Common.{ℕ, ◌≡◌, ◌==◌, Bool, true, List, [], ◌∷◌, Some, None, refl, sym, ap, ◌∙◌, subst, ◌⊎◌, inl, inr}
+use Rattle.std.proofs.Common.{ℕ, ◌≡◌, ◌==◌, Bool, true, List, [], ◌∷◌, reverse, Some, None, refl, sym, ap, ◌∙◌, subst, ◌⊎◌, inl, inr}
 use Rattle.std.proofs.lemmas.Bool.{cases_eq, ne_eqb, eq-eqb, cond-true, cond-false}
 use Rattle.std.proofs.lemmas.Option.{none-some, same_Some}
 use Rattle.tree.specs.declared.nodes.Node.{Node}
@@ -8,10 +8,12 @@ use Rattle.tree.proofs.LookupLemmas.{with_same, with_other, cases_option}
 use Rattle.flights.specs.declared.data.Flight.{Flight}
 use Rattle.flights.specs.declared.data.Stage.TheVariants.{Working, Answered}
 use Rattle.flights.specs.declared.data.Want.{Want}
-use Rattle.flights.specs.declared.data.Want.TheVariants.{Name}
+use Rattle.flights.specs.declared.data.Want.TheVariants as wants
 use Rattle.flights.specs.declared.data.Work.{Work}
 use Rattle.flights.specs.Flying.{Flights, with_flight, without_flight, pins_number, Flying, IsFlying}
 use Rattle.table.specs.Steps.{IsSwept}
+use Rattle.holds.specs.declared.held.Held.{Held}
+use Rattle.table.specs.Holding.{HoldsName, HoldsNode, HoldsRemoved}
 use Rattle.table.specs.World.{IsReadyFor, AreReady}
 use Rattle.table.proofs.Reasons.{stays_pinned}
 
@@ -66,14 +68,35 @@ named_born at n y fresh m p name h = (h.0, with_other at n y m (λ e. none-some 
 
 -- ---- readiness
 
+holds_name_on : (old new : Lookup) (parent : ℕ) (name : List ℕ) (held : Held) → ((up : List (List ℕ)) → Reaches old 1 parent up → Reaches new 1 parent up) → HoldsName old parent name held → HoldsName new parent name held
+holds_name_on old new parent name held still h = record { above = h.above; leads = still (reverse h.above) h.leads; given = h.given; shared = h.shared; exclusive = h.exclusive }
+
+holds_node_on : (old new : Lookup) (number : ℕ) (held : Held) → ((up : List (List ℕ)) → Reaches old 1 number up → Reaches new 1 number up) → HoldsNode old number held → HoldsNode new number held
+holds_node_on old new number held still h = record { path = h.path; leads = still (reverse h.path) h.leads; given = h.given; shared = h.shared; exclusive = h.exclusive }
+
+holds_removed_on : (old new : Lookup) (parent : ℕ) (name : List ℕ) (held : Held) → ((up : List (List ℕ)) → Reaches old 1 parent up → Reaches new 1 parent up) → HoldsRemoved old parent name held → HoldsRemoved new parent name held
+holds_removed_on old new parent name held still h = record { above = h.above; leads = still (reverse h.above) h.leads; given = h.given; shared = h.shared; exclusive = h.exclusive }
+
 ready_same : (old new : Lookup) (f : Flight) (work : Work) (want : Want) → ((n p : ℕ) (name : List ℕ) → IsNamed old n p name → IsNamed new n p name) → IsReadyFor old f work want → IsReadyFor new f work want
-ready_same old new f work (Name parent name) named ready = record {
+ready_same old new f work (wants.Node number) named ready = record {
+  holds = holds_node_on old new number work.held (reaches_same old new named 1 number) ready.holds;
+  pinned = ready.pinned;
+  unanswered = ready.unanswered;
+}
+ready_same old new f work (wants.Name parent name) named ready = record {
   leads = record { names = ready.leads.names; climb = reaches_same old new named 1 parent ready.leads.names ready.leads.climb };
   parent_pinned = ready.parent_pinned;
   node = elim ready.node [ inl promised ↦ inl promised | inr (n, here, pin) ↦ inr (n, named n parent name here, pin) ];
   postings = ready.postings;
+  holds = holds_name_on old new parent name work.held (reaches_same old new named 1 parent) ready.holds;
+  copy = ready.copy;
   pin_room = ready.pin_room;
   answer_room = ready.answer_room;
+  unanswered = ready.unanswered;
+}
+ready_same old new f work (wants.Remove parent name) named ready = record {
+  holds = holds_removed_on old new parent name work.held (reaches_same old new named 1 parent) ready.holds;
+  pinned = ready.pinned;
   unanswered = ready.unanswered;
 }
 
@@ -81,18 +104,36 @@ pub AreReady-same : (old new : Lookup) (flights : Flights) → ((n p : ℕ) (nam
 AreReady-same old new flights named ready id f work h stage = ready_same old new f work work.want named (ready id f work h stage)
 
 ready_swept : (pinned : ℕ → Bool) (old new : Lookup) (f : Flight) (work : Work) (want : Want) → IsSwept pinned old new → ((n : ℕ) → pins_number f n ≡ true → pinned n ≡ true) → IsReadyFor old f work want → IsReadyFor new f work want
-ready_swept pinned old new f work (Name parent name) swept pins ready = record {
-  leads = record { names = ready.leads.names; climb = reaches_swept pinned old new swept 1 parent ready.leads.names (λ x was none. none-some x (sym none ∙ stays_pinned pinned old new parent x swept was (pins parent ready.parent_pinned))) ready.leads.climb };
-  parent_pinned = ready.parent_pinned;
-  node = elim ready.node [
-    | inl promised ↦ inl promised
-    | inr (n, here, pin) ↦ inr (n, (here.0, stays_pinned pinned old new n here.0 swept here.1 (pins n pin), here.2), pin)
-  ];
-  postings = ready.postings;
-  pin_room = ready.pin_room;
-  answer_room = ready.answer_room;
-  unanswered = ready.unanswered;
-}
+ready_swept pinned old new f work (wants.Node number) swept pins ready =
+    let still : (up : List (List ℕ)) → Reaches old 1 number up → Reaches new 1 number up = λ up h. reaches_swept pinned old new swept 1 number up (λ x was none. none-some x (sym none ∙ stays_pinned pinned old new number x swept was (pins number ready.pinned))) h in
+    record {
+      holds = holds_node_on old new number work.held still ready.holds;
+      pinned = ready.pinned;
+      unanswered = ready.unanswered;
+    }
+ready_swept pinned old new f work (wants.Name parent name) swept pins ready =
+    let still : (up : List (List ℕ)) → Reaches old 1 parent up → Reaches new 1 parent up = λ up h. reaches_swept pinned old new swept 1 parent up (λ x was none. none-some x (sym none ∙ stays_pinned pinned old new parent x swept was (pins parent ready.parent_pinned))) h in
+    record {
+      leads = record { names = ready.leads.names; climb = still ready.leads.names ready.leads.climb };
+      parent_pinned = ready.parent_pinned;
+      node = elim ready.node [
+        | inl promised ↦ inl promised
+        | inr (n, here, pin) ↦ inr (n, (here.0, stays_pinned pinned old new n here.0 swept here.1 (pins n pin), here.2), pin)
+      ];
+      postings = ready.postings;
+      holds = holds_name_on old new parent name work.held still ready.holds;
+      copy = ready.copy;
+      pin_room = ready.pin_room;
+      answer_room = ready.answer_room;
+      unanswered = ready.unanswered;
+    }
+ready_swept pinned old new f work (wants.Remove parent name) swept pins ready =
+    let still : (up : List (List ℕ)) → Reaches old 1 parent up → Reaches new 1 parent up = λ up h. reaches_swept pinned old new swept 1 parent up (λ x was none. none-some x (sym none ∙ stays_pinned pinned old new parent x swept was (pins parent ready.pinned))) h in
+    record {
+      holds = holds_removed_on old new parent name work.held still ready.holds;
+      pinned = ready.pinned;
+      unanswered = ready.unanswered;
+    }
 
 pub AreReady-swept : (old new : Lookup) (flying : Flying) → IsFlying flying → IsSwept flying.pinned old new → AreReady old flying.at → AreReady new flying.at
 AreReady-swept old new flying law swept ready id f work h stage =

@@ -1,5 +1,5 @@
 -- Who has a reason to stay after a node was dropped or changed, and what a sweep leaves.
-use Rattle.std.proofs.Common.{ℕ, ◌≡◌, ◌≢◌, Bool, true, List, [], ◌∷◌, Option, Some, None, MatchOption, refl, sym, ap, ◌∙◌, subst, ◌⊎◌, inl, inr, arith}
+use Rattle.std.proofs.Common.{ℕ, ◌+◌, ◌≤◌, ◌≡◌, ◌≢◌, Bool, true, List, [], ◌∷◌, Option, Some, None, MatchOption, refl, sym, ap, ◌∙◌, subst, ◌⊎◌, inl, inr, arith}
 use Rattle.std.proofs.lemmas.Bool.{cases_eq, true≢false}
 use Rattle.std.proofs.lemmas.Option.{none-some, same_Some}
 use Rattle.tree.specs.declared.nodes.Key.{Key}
@@ -10,7 +10,8 @@ use Rattle.tree.specs.Places.{Lookup, Nodes, with_node, without, IsNamed, HasChi
 use Rattle.tree.proofs.LookupLemmas.{without_some, without_other, with_other, with_same, with_some, cases_option}
 use Rattle.image.specs.Law.{HasReason, HaveReasons}
 use Rattle.table.specs.Steps.{IsNeedless, IsSwept}
-use Rattle.table.specs.Sweeping.{IsAmong, HaveReasonsBut, IsPruned, IsSameRest, parent_in}
+use Rattle.tree.proofs.Climbing.{cut_unnamed}
+use Rattle.table.specs.Sweeping.{HaveReasonsBelow, IsAmong, HaveReasonsBut, IsPruned, IsSameRest, parent_in}
 
 -- ---- dropping
 
@@ -21,7 +22,7 @@ child_stays at n c other h =
     (h.0, h.1, (h.2.0, without_other at n h.0 ne ∙ h.2.1, h.2.2))
 
 -- a node keeps its reason where it does not lose a child
-stays_kept : (at : Lookup) (pinned : ℕ → Bool) (n c : ℕ) (x : Node) → ((name : List ℕ) → IsNamed at n c name → ⊥) → HasReason at pinned c x → HasReason (without at n) pinned c x
+pub stays_kept : (at : Lookup) (pinned : ℕ → Bool) (n c : ℕ) (x : Node) → ((name : List ℕ) → IsNamed at n c name → ⊥) → HasReason at pinned c x → HasReason (without at n) pinned c x
 stays_kept at pinned n c x other (inl counted) = inl counted
 stays_kept at pinned n c x other (inr (inl hidden)) = inr (inl hidden)
 stays_kept at pinned n c x other (inr (inr (inl pin))) = inr (inr (inl pin))
@@ -202,3 +203,31 @@ IsSameRest-trans a b c first then = record {
   limit = then.limit ∙ first.limit;
   room = omega (arith, first.room, then.room);
 }
+
+-- ---- nodes that are cut, one number after another
+
+-- the node of that number has a reason
+pub below_needed : (at : Lookup) (pinned : ℕ → Bool) (number : ℕ) (x : Node) → at number ≡ Some x → HasReason at pinned number x ⊎ (number ≡ 1) → HaveReasonsBelow at pinned number → HaveReasonsBelow at pinned (number + 1)
+below_needed at pinned number x stood needed before = record {
+  reasons = λ n y h not_root below. elim (cases_eq n number) [
+    | inl e ↦ elim needed [
+      | inl reason ↦ subst (λ k. HasReason at pinned k y) (sym e) (subst (λ (z : Node). HasReason at pinned number z) (same_Some x y (sym stood ∙ (ap at (sym e) ∙ h))) reason)
+      | inr root ↦ absurd (not_root (e ∙ root))
+    ]
+    | inr ne ↦ before.reasons n y h not_root (λ lost. let b = below lost in omega (arith, ne))
+  ];
+}
+
+-- it was cut, and is dropped
+pub below_dropped : (at new : Lookup) (pinned : ℕ → Bool) (number : ℕ) (x : Node) → at number ≡ Some x → x.place ≡ Cut → new ≡ without at number → HaveReasonsBelow at pinned number → HaveReasonsBelow new pinned (number + 1)
+below_dropped at new pinned number x stood place is before = subst (λ a. HaveReasonsBelow a pinned (number + 1)) (sym is) (record {
+  reasons = λ n y h not_root below.
+      let was = without_some at number n y h in
+      let other : (name : List ℕ) → IsNamed at number n name → ⊥ = λ name k. cut_unnamed at number x stood place n name k in
+      let ne : number ≢ n = was.0 in
+      stays_kept at pinned number n y other (before.reasons n y was.1 not_root (λ lost. let b = below lost in omega (arith, ne)));
+})
+
+-- all that live were looked at
+pub below_all : (at : Lookup) (pinned : ℕ → Bool) (last : ℕ) → ((n : ℕ) (x : Node) → at n ≡ Some x → n ≤ last) → HaveReasonsBelow at pinned (last + 1) → HaveReasons at pinned
+below_all at pinned last within before n x h not_root = before.reasons n x h not_root (λ lost. let b = within n x h in omega arith)

@@ -15,6 +15,7 @@ use Rattle.table.specs.Sweeping.{IsAmong, IsPruned, IsSameRest, IsNearly, IsTake
 use Rattle.table.specs.World.{AreReady, IsKept, world_of}
 use Rattle.table.proofs.Booked.{IsBooked-pins}
 use Rattle.table.proofs.Laws.{booked_of, lawful_swept}
+use Rattle.table.proofs.Apart.{AreApart, AreApart-less, held_of}
 use Rattle.table.proofs.Ready.{AreReady-same, AreReady-swept, AreReady-less, named_written}
 use Rattle.table.proofs.Reasons.{HaveReasons-some, HaveReasons-unpin, IsSwept-trans, IsSameRest-trans}
 
@@ -84,10 +85,13 @@ module _ (s : State) (kept : IsKept s) (flights : InFlight) (id : ℕ) (pins : L
         let after = IsSameRest-trans tree two new rest_given rest_pins in
         let one : AreReady (at_in tree) (flying_of s.flights).at = AreReady-same (at_in s.tree) (at_in tree) (flying_of s.flights).at (names_back given (at_in s.tree) (at_in tree) s.ledger.made ledger.made back) kept.ready in
         let less : AreReady (at_in tree) (flying_of flights).at = subst (λ (f : Flights). AreReady (at_in tree) f) (sym goes.at) (AreReady-less (at_in tree) (flying_of s.flights).at id one) in
+        let still : AreReady (at_in new) (flying_of flights).at = AreReady-swept (at_in tree) (at_in new) (flying_of flights) law swept less in
+        let apart : AreApart (flying_of flights).at = subst (λ (f : Flights). AreApart f) (sym goes.at) (AreApart-less (flying_of s.flights).at id kept.held.apart) in
         record {
           law = lawful_swept (at_in tree) (at_in new) ledger.made (flying_of flights).pinned nearly.booked swept pruned;
           flying = law;
-          ready = AreReady-swept (at_in tree) (at_in new) (flying_of flights) law swept less;
+          held = held_of (at_in new) (flying_of flights).at apart still;
+          ready = still;
           reserved = record { nodes = omega (arith, kept.reserved.nodes, goes.nodes, rest.room, after.room); postings = omega (arith, kept.reserved.postings, goes.postings, rest.posting_room, after.counts) };
           within = record { nodes = omega (arith, kept.within.nodes, goes.nodes, rest.living, after.fewer); postings = omega (arith, kept.within.postings, goes.postings, rest.postings, after.counts); flights = omega (arith, kept.within.flights, goes.many) };
           counts = same ∙ sym after.counts;

@@ -1,5 +1,5 @@
 -- What the beginning of a request leaves.
-use Rattle.std.proofs.Common.{ℕ, ℤ, ◌+◌, ◌<◌, ◌≤◌, ◌≡◌, ◌||◌, ◌↔◌, ◌++◌, Bool, true, List, [], ◌∷◌, reverse, Option, Some, None, IfNone, IfSome, refl, sym, ap, ◌∙◌, subst, ◌⊎◌, inl, inr, arith, to_z, of_z, w32}
+use Rattle.std.proofs.Common.{ℕ, ℤ, ◌+◌, ◌<◌, ◌≤◌, ◌≡◌, ◌||◌, ◌↔◌, ◌++◌, ◌-◌, length, take, length-append, Bool, true, List, [], ◌∷◌, reverse, Option, Some, None, IfNone, IfSome, refl, sym, ap, ◌∙◌, subst, ◌⊎◌, inl, inr, arith, to_z, of_z, w32}
 use Rattle.std.proofs.lemmas.Bool.{or_cases, or_left}
 use Rattle.std.proofs.lemmas.Option.{none-some, same_Some}
 use Rattle.paths.specs.Fronts.{Names, path_bytes}
@@ -8,23 +8,28 @@ use Rattle.tree.specs.declared.nodes.Node.{Node}
 use Rattle.tree.specs.declared.nodes.Place.TheVariants as place
 use Rattle.tree.specs.declared.nodes.TreeFault.{TreeFault}
 use Rattle.tree.specs.declared.nodes.TreeFault.TheVariants as fault
-use Rattle.tree.specs.Places.{Lookup, at_in, IsAlive, IsFree, IsNamed, IsTree, Leads, Reaches}
-use Rattle.tree.specs.Moves.{IsNameFault, IsPathOfName}
+use Rattle.tree.specs.Places.{Lookup, at_in, IsAlive, IsFree, IsNamed, IsPathOf, IsTree, Leads, Reaches}
+use Rattle.tree.specs.Moves.{IsNameFault, IsPathFault, IsPathOfName}
 use Rattle.tree.proofs.Climbing.{climbs_alive, cut_unnamed, path_same}
 use Rattle.flights.specs.declared.data.Flight.{Flight}
 use Rattle.flights.specs.declared.data.Promise.{Promise}
-use Rattle.flights.specs.declared.data.Stage.{Stage}
 use Rattle.flights.specs.declared.data.Stage.TheVariants.{Working}
 use Rattle.flights.specs.declared.data.Want.{Want}
-use Rattle.flights.specs.declared.data.Want.TheVariants.{Name}
+use Rattle.flights.specs.declared.data.Want.TheVariants as wants
 use Rattle.flights.specs.declared.data.Work.{Work}
-use Rattle.flights.specs.Flying.{Adds, Flights, Flying, IsFlying, with_flight, nodes_promised, pins_number, postings_promised}
+use Rattle.flights.specs.Flying.{HoldsUp, Adds, Flights, Flying, IsFlying, with_flight, nodes_promised, pins_number, postings_promised}
 use Rattle.flights.specs.Listed.{InFlight, flying_of}
 use Rattle.table.specs.declared.state.State.{State}
-use Rattle.table.specs.Beginning.{Allows, Forbids, IsFlightFor, IsPromised, IsRoomForOne, IsSameButRoom, Stands, errno_of}
-use Rattle.table.specs.Steps.{GoesOn, IsCrowded, IsFull, IsLong, IsPromiseFor, IsRefusal, IsStale, IsTooMuch}
+use Rattle.table.specs.Beginning.{Allows, Forbids, IsNameWork, IsNodeWork, IsPlan, IsPromised, IsRemovalWork, IsRoomForOne, IsSameButRoom, Stands, errno_of, pins_in}
+use Rattle.table.specs.Steps.{GoesOn, IsCrowded, IsFull, IsHeldUp, IsLong, IsPinFor, IsPromiseFor, IsRefusal, IsStale, IsTooMuch}
 use Rattle.table.specs.World.{AreReady, IsKept, IsNameReady, IsReadyFor, World, world_of}
 use Rattle.table.proofs.Laws.{lawful_pins}
+use Rattle.table.specs.Holding.{HoldsFor, HoldsName, HoldsNode, HoldsRemoved}
+use Rattle.holds.specs.declared.held.Held.{Held}
+use Rattle.holds.specs.Clashes.{AreFronts}
+use Rattle.flights.specs.Roomy.{Pinned}
+use Rattle.std.proofs.Math.Seq.{take-append_seam}
+use Rattle.table.proofs.Apart.{AreApart, AreApart-more, held_of, held_up_same}
 use Rattle.table.proofs.Ready.{AreReady-more}
 
 -- ---- refusals
@@ -33,8 +38,8 @@ use Rattle.table.proofs.Ready.{AreReady-more}
 pub refusal_bits : (w : World) (want : Want) (e : ℤ) → IsRefusal w want e → IsRefusal w want (to_z w32 (of_z w32 e))
 refusal_bits w want e (inl (is, stale)) = inl (ap (λ z. to_z w32 (of_z w32 z)) is, stale)
 refusal_bits w want e (inr (inl (is, a, long))) = inr (inl (ap (λ z. to_z w32 (of_z w32 z)) is, a, long))
-refusal_bits w want e (inr (inr (inl (is, a, b, full)))) = inr (inr (inl (ap (λ z. to_z w32 (of_z w32 z)) is, a, b, full)))
-refusal_bits w want e (inr (inr (inr (inl (is, a, b, c, crowded))))) = inr (inr (inr (inl (ap (λ z. to_z w32 (of_z w32 z)) is, a, b, c, crowded))))
+refusal_bits w want e (inr (inr (inl (is, a, b, c, full)))) = inr (inr (inl (ap (λ z. to_z w32 (of_z w32 z)) is, a, b, c, full)))
+refusal_bits w want e (inr (inr (inr (inl (is, a, b, c, d, crowded))))) = inr (inr (inr (inl (ap (λ z. to_z w32 (of_z w32 z)) is, a, b, c, d, crowded))))
 refusal_bits w want e (inr (inr (inr (inr (is, a))))) = inr (inr (inr (inr (ap (λ z. to_z w32 (of_z w32 z)) is, a))))
 
 -- a path and a cut exclude each other, and so do a path and no node
@@ -50,13 +55,30 @@ no_way : (at : Lookup) (n : ℕ) → IsTree at → Leads at n → IsAlive at n �
 no_way at n tree leads = (climbs_alive at tree.rooted leads.names n leads.climb, λ x stood cut. way_or_cut at n tree leads.names leads.climb x stood cut)
 
 -- the refusal that stands for a fault of the tree
-pub path_refusal : (w : World) (parent : ℕ) (name : List ℕ) (e : TreeFault) → IsTree w.at → IsNameFault w.at parent name e → IsRefusal w (Name parent name) (errno_of e)
+pub path_refusal : (w : World) (parent : ℕ) (name : List ℕ) (e : TreeFault) → IsTree w.at → IsNameFault w.at parent name e → IsRefusal w (wants.Name parent name) (errno_of e)
 path_refusal w parent name fault.Unknown tree bad = inl (refl, λ leads. let it = (no_way w.at parent tree leads).0 in none-some it.0 (sym bad ∙ it.1))
 path_refusal w parent name fault.Cut tree bad = inl (refl, λ leads. (no_way w.at parent tree leads).1 bad.0 bad.1 bad.2)
 path_refusal w parent name fault.Full tree bad = absurd bad
 path_refusal w parent name fault.Memory tree bad = inr (inr (inr (inr (refl, λ stale. stale bad))))
 path_refusal w parent name fault.PathLong tree (path, it, long) =
     inr (inl (refl, λ stale. stale (record { names = reverse it.above; climb = it.leads }), (it.above, it.leads, subst (λ (p : Names). 4096 < path_bytes p) it.whole long)))
+
+-- the same for a name that is to be removed
+pub removal_refusal : (w : World) (parent : ℕ) (name : List ℕ) (e : TreeFault) → IsTree w.at → IsNameFault w.at parent name e → IsRefusal w (wants.Remove parent name) (errno_of e)
+removal_refusal w parent name fault.Unknown tree bad = inl (refl, λ leads. let it = (no_way w.at parent tree leads).0 in none-some it.0 (sym bad ∙ it.1))
+removal_refusal w parent name fault.Cut tree bad = inl (refl, λ leads. (no_way w.at parent tree leads).1 bad.0 bad.1 bad.2)
+removal_refusal w parent name fault.Full tree bad = absurd bad
+removal_refusal w parent name fault.Memory tree bad = inr (inr (inr (inr (refl, λ stale. stale bad))))
+removal_refusal w parent name fault.PathLong tree (path, it, long) =
+    inr (inl (refl, λ stale. stale (record { names = reverse it.above; climb = it.leads }), (it.above, it.leads, subst (λ (p : Names). 4096 < path_bytes p) it.whole long)))
+
+-- the same where the path of a node was asked for
+pub node_refusal : (w : World) (number : ℕ) (e : TreeFault) → IsTree w.at → Leads w.at number → IsPathFault w.at number e → IsRefusal w (wants.Node number) (errno_of e)
+node_refusal w number fault.Unknown tree leads bad = let it = (no_way w.at number tree leads).0 in absurd (none-some it.0 (sym bad ∙ it.1))
+node_refusal w number fault.Cut tree leads bad = absurd ((no_way w.at number tree leads).1 bad.0 bad.1 bad.2)
+node_refusal w number fault.Full tree leads bad = absurd bad
+node_refusal w number fault.Memory tree leads bad = inr (inr (inr (inr (refl, λ stale. stale leads))))
+node_refusal w number fault.PathLong tree leads (path, it, long) = inr (inl (refl, λ stale. stale leads, (path, it, long)))
 
 -- an error number is written and read as it is, for each fault
 pub errno_bits : (e : TreeFault) → to_z w32 (of_z w32 (errno_of e)) ≡ errno_of e
@@ -74,55 +96,25 @@ stands_of s key None none some = none
 stands_of s key (Some n) none some = some
 
 module _ (s : State) (key : Key) (promise : Promise) where
-  pub promise_for : (o : Option ℕ) → Stands s key o → IsPromised o promise → IsPromiseFor (world_of s) (Name key.parent key.name) promise
+  pub promise_for : (o : Option ℕ) → Stands s key o → IsPromised o promise → IsPromiseFor (world_of s) (wants.Name key.parent key.name) promise
   promise_for None stands p = (λ free. p.none refl, λ n named. absurd (stands n named), p.postings)
   promise_for (Some k) stands p = (λ free. absurd (free k stands), λ n named. p.some k refl, p.postings)
 
   -- there is one promise for a want
-  one_promise : (o : Option ℕ) → Stands s key o → IsPromised o promise → (q : Promise) → IsPromiseFor (world_of s) (Name key.parent key.name) q → (q.nodes ≡ promise.nodes) × (q.postings ≡ promise.postings)
+  one_promise : (o : Option ℕ) → Stands s key o → IsPromised o promise → (q : Promise) → IsPromiseFor (world_of s) (wants.Name key.parent key.name) q → (q.nodes ≡ promise.nodes) × (q.postings ≡ promise.postings)
   one_promise None stands p q for_q = (for_q.0 stands ∙ sym (p.none refl), for_q.2 ∙ sym p.postings)
   one_promise (Some k) stands p q for_q = (for_q.1 k stands ∙ sym (p.some k refl), for_q.2 ∙ sym p.postings)
 
-  not_too_much : Allows (world_of s) promise → (q : Promise) → q.nodes ≡ promise.nodes → q.postings ≡ promise.postings → IsTooMuch (world_of s) q → ⊥
-  not_too_much allows q nodes postings (inl much) = absurd (omega (arith, allows.nodes))
-  not_too_much allows q nodes postings (inr much) = absurd (omega (arith, allows.postings))
-
-  pub not_full : (o : Option ℕ) → Stands s key o → IsPromised o promise → Allows (world_of s) promise → IsFull (world_of s) (Name key.parent key.name) → ⊥
-  not_full o stands p allows full =
-      let same = one_promise o stands p full.0 full.1 in
-      not_too_much allows full.0 same.0 same.1 full.2
-
-  pub not_crowded : Allows (world_of s) promise → IsCrowded (world_of s) → ⊥
-  not_crowded allows crowded = absurd (omega (arith, allows.flights))
-
-  too_much : (q : Promise) → q.nodes ≡ promise.nodes → q.postings ≡ promise.postings → IsTooMuch (world_of s) q → IsTooMuch (world_of s) promise
-  too_much q nodes postings (inl much) = inl (omega arith)
-  too_much q nodes postings (inr much) = inr (omega arith)
-
   -- the path is there, and short enough
-  pub not_stale : (path : Names) → IsPathOfName (at_in s.tree) key.parent key.name path → IsStale (world_of s) (Name key.parent key.name) → ⊥
+  pub not_stale : (path : Names) → IsPathOfName (at_in s.tree) key.parent key.name path → IsStale (world_of s) (wants.Name key.parent key.name) → ⊥
   not_stale path it stale = stale (record { names = reverse it.above; climb = it.leads })
 
-  pub not_long : (path : Names) → IsTree (at_in s.tree) → IsPathOfName (at_in s.tree) key.parent key.name path → path_bytes path ≤ 4096 → IsLong (world_of s) (Name key.parent key.name) → ⊥
+  pub not_long : (path : Names) → IsTree (at_in s.tree) → IsPathOfName (at_in s.tree) key.parent key.name path → path_bytes path ≤ 4096 → IsLong (world_of s) (wants.Name key.parent key.name) → ⊥
   not_long path tree it short long =
       let same : long.0 ≡ it.above = path_same (at_in s.tree) tree.rooted long.0 it.above key.parent long.1 it.leads in
       let whole : long.0 ++ key.name ∷ [] ≡ path = ap (λ (up : Names). up ++ key.name ∷ []) same ∙ sym it.whole in
       let over : 4096 < path_bytes path = subst (λ (p : Names). 4096 < path_bytes p) whole long.2 in
       absurd (omega arith)
-
-  pub limit_refusal : (o : Option ℕ) (path : Names) (e : ℤ) → Stands s key o → IsPromised o promise → IsTree (at_in s.tree) → IsPathOfName (at_in s.tree) key.parent key.name path → path_bytes path ≤ 4096 → Forbids (world_of s) promise e → IsRefusal (world_of s) (Name key.parent key.name) e
-  limit_refusal o path e stands p tree it short (inl (is, much)) =
-      inr (inr (inl (is, not_stale path it, not_long path tree it short, (promise, promise_for o stands p, much))))
-  limit_refusal o path e stands p tree it short (inr (is, fits, crowded)) =
-      inr (inr (inr (inl (
-        is,
-        not_stale path it,
-        not_long path tree it short,
-        (λ full.
-            let same = one_promise o stands p full.0 full.1 in
-            fits (too_much full.0 same.0 same.1 full.2)),
-        crowded,
-      ))))
 
 -- ---- going on
 
@@ -151,82 +143,227 @@ adds_unroomed old mid new f same a = record {
   postings = a.postings ∙ ap (λ (x : Flying). x.postings + postings_promised f.stage) same;
 }
 
-module _ (s mid : State) (unique : ℕ) (key : Key) (o : Option ℕ) (promise : Promise) (f : Flight) (path : Names) (flights : InFlight) (law : IsTree (at_in s.tree)) (stands : Stands s key o) (promised : IsPromised o promise)
-    (it : IsPathOfName (at_in s.tree) key.parent key.name path) (made : IsFlightFor s unique key o promise f) (same : IsSameButRoom s mid) (adds : Adds (flying_of mid.flights) f (flying_of flights)) where
-  pub goes_on : GoesOn (world_of s) unique (Name key.parent key.name) (record { id = f.id; path = path }) (world_of (record mid { flights = flights }))
+-- ---- plans
+
+-- the path of a name is that of its parent, and then the name
+same_up : (path above up : Names) (name : List ℕ) → path ≡ above ++ name ∷ [] → up ≡ take (length path - 1) path → up ≡ above
+same_up path above up name whole is =
+    let n : length path ≡ length above + 1 = ap {B = ℕ} length whole ∙ length-append above (name ∷ []) in
+    let m : length path - 1 ≡ length above = omega arith in
+    is ∙ (ap (λ (k : ℕ). take k path) m ∙ (ap (λ (p : Names). take (length above) p) whole ∙ take-append_seam above (name ∷ [])))
+
+pub above_is : (path up : Names) → up ≡ take (length path - 1) path → (above : Names) (name : List ℕ) → path ≡ above ++ name ∷ [] → up ≡ above
+above_is path up is above name whole = same_up path above up name whole is
+
+module _ (s : State) (key : Key) (o : Option ℕ) (promise : Promise) (path : Names) (work : Work) (pins : Pinned) (law : IsTree (at_in s.tree)) (stands : Stands s key o) (promised : IsPromised o promise)
+    (it : IsPathOfName (at_in s.tree) key.parent key.name path) (short : path_bytes path ≤ 4096) (made : IsNameWork key path promise work)
+    (room : 0 < pins.room) (pins_are : (n : ℕ) → (pins_in pins n ≡ true) ↔ ((n ≡ key.parent) ⊎ (o ≡ Some n))) where
+  name_holds : HoldsName (at_in s.tree) key.parent key.name work.held
+  name_holds = record {
+    above = it.above;
+    leads = it.leads;
+    given = made.given it.above key.name it.whole;
+    shared = subst (λ (p : Names). AreFronts work.held.shared p) it.whole made.shared;
+    exclusive = made.exclusive;
+  }
+
+  pinned_by : (f : Flight) → f.pins ≡ pins → (n : ℕ) → (n ≡ key.parent) ⊎ (o ≡ Some n) → pins_number f n ≡ true
+  pinned_by f same n h = ap (λ (p : Pinned). pins_in p n) same ∙ (pins_are n).1 h
+
+  node_ready : (q : Option ℕ) (f : Flight) → Stands s key q → IsPromised q promise → ((n : ℕ) → q ≡ Some n → pins_number f n ≡ true) → (work.promise.nodes ≡ 1) ⊎ ((n : ℕ) × IsNamed (at_in s.tree) n key.parent key.name × (pins_number f n ≡ true))
+  node_ready None f here p pinned = inl (ap (λ (x : Promise). x.nodes) made.promise_is ∙ p.none refl)
+  node_ready (Some k) f here p pinned = inr (k, here, pinned k refl)
+
+  name_ready : (f : Flight) → f.pins ≡ pins → IsNameReady (at_in s.tree) f work key.parent key.name
+  name_ready f same = record {
+    leads = record { names = reverse it.above; climb = it.leads };
+    parent_pinned = pinned_by f same key.parent (inl refl);
+    node = node_ready o f stands promised (λ n is. pinned_by f same n (inr is));
+    postings = ap (λ (x : Promise). x.postings) made.promise_is ∙ promised.postings;
+    holds = name_holds;
+    copy = made.copy;
+    pin_room = subst (λ (p : Pinned). 0 < p.room) (sym same) room;
+    answer_room = made.answer_room;
+    unanswered = made.unanswered;
+  }
+
+  pub name_plan : IsPlan (world_of s) work.want work pins path
+  name_plan = subst (λ (want : Want). IsPlan (world_of s) want work pins path) (sym made.want) (record {
+    not_stale = not_stale s key promise path it;
+    not_long = not_long s key promise path law it short;
+    promise = subst (λ (p : Promise). IsPromiseFor (world_of s) (wants.Name key.parent key.name) p) (sym made.promise_is) (promise_for s key promise o stands promised);
+    only = λ q for_q. subst (λ (p : Promise). (q.nodes ≡ p.nodes) × (q.postings ≡ p.postings)) (sym made.promise_is) (one_promise s key promise o stands promised q for_q);
+    holds = name_holds;
+    pins_are = λ n. let a = pins_are n in let b = pin_for s key o n law stands in (λ h. b.0 (a.0 h), λ h. a.1 (b.1 h));
+    path_is = (it.above, it.leads, it.whole);
+    ready = name_ready;
+  })
+
+module _ (s : State) (key : Key) (o : Option ℕ) (path : Names) (work : Work) (pins : Pinned) (law : IsTree (at_in s.tree)) (stands : Stands s key o)
+    (it : IsPathOfName (at_in s.tree) key.parent key.name path) (short : path_bytes path ≤ 4096) (made : IsRemovalWork key path work)
+    (pins_are : (n : ℕ) → (pins_in pins n ≡ true) ↔ ((n ≡ key.parent) ⊎ (o ≡ Some n))) where
+  removal_holds : HoldsRemoved (at_in s.tree) key.parent key.name work.held
+  removal_holds = record {
+    above = it.above;
+    leads = it.leads;
+    given = made.given it.above key.name it.whole;
+    shared = made.shared it.above key.name it.whole;
+    exclusive = made.exclusive ∙ ap (λ (p : Names). p ∷ []) it.whole;
+  }
+
+  pub removal_plan : IsPlan (world_of s) work.want work pins path
+  removal_plan = subst (λ (want : Want). IsPlan (world_of s) want work pins path) (sym made.want) (record {
+    not_stale = not_stale s key work.promise path it;
+    not_long = not_long s key work.promise path law it short;
+    promise = (made.nodes, made.postings);
+    only = λ q for_q. (for_q.0 ∙ sym made.nodes, for_q.1 ∙ sym made.postings);
+    holds = removal_holds;
+    pins_are = λ n. let a = pins_are n in let b = pin_for s key o n law stands in (λ h. b.0 (a.0 h), λ h. a.1 (b.1 h));
+    path_is = (it.above, it.leads, it.whole);
+    ready = λ f same. record {
+      holds = removal_holds;
+      pinned = ap (λ (p : Pinned). pins_in p key.parent) same ∙ (pins_are key.parent).1 (inl refl);
+      unanswered = made.unanswered;
+    };
+  })
+
+module _ (s : State) (number : ℕ) (path : Names) (work : Work) (pins : Pinned) (law : IsTree (at_in s.tree)) (it : IsPathOf (at_in s.tree) number path) (short : path_bytes path ≤ 4096) (made : IsNodeWork number path work)
+    (pins_are : (n : ℕ) → (pins_in pins n ≡ true) ↔ (n ≡ number)) where
+  node_holds : HoldsNode (at_in s.tree) number work.held
+  node_holds = record { path = path; leads = it; given = made.given; shared = made.shared; exclusive = made.exclusive }
+
+  node_not_long : IsLong (world_of s) (wants.Node number) → ⊥
+  node_not_long (other, leads, long) =
+      let same : other ≡ path = path_same (at_in s.tree) law.rooted other path number leads it in
+      let over : 4096 < path_bytes path = subst (λ (p : Names). 4096 < path_bytes p) same long in
+      absurd (omega arith)
+
+  pub node_plan : IsPlan (world_of s) work.want work pins path
+  node_plan = subst (λ (want : Want). IsPlan (world_of s) want work pins path) (sym made.want) (record {
+    not_stale = λ stale. stale (record { names = reverse path; climb = it });
+    not_long = node_not_long;
+    promise = (made.nodes, made.postings);
+    only = λ q for_q. (for_q.0 ∙ sym made.nodes, for_q.1 ∙ sym made.postings);
+    holds = node_holds;
+    pins_are = pins_are;
+    path_is = it;
+    ready = λ f same. record {
+      holds = node_holds;
+      pinned = ap (λ (p : Pinned). pins_in p number) same ∙ (pins_are number).1 refl;
+      unanswered = made.unanswered;
+    };
+  })
+
+-- ---- tests of a plan
+
+module _ (s : State) (work : Work) (pins : Pinned) (path : Names) (law : IsTree (at_in s.tree)) (plan : IsPlan (world_of s) work.want work pins path) where
+  pub held_up : HoldsUp (flying_of s.flights).at work.held → IsHeldUp (world_of s) work.want
+  held_up up = (work.held, plan.holds, up)
+
+  pub not_held_up : (HoldsUp (flying_of s.flights).at work.held → ⊥) → IsHeldUp (world_of s) work.want → ⊥
+  not_held_up free (held, holds, up) = free (held_up_same (at_in s.tree) law work.want held work.held holds plan.holds (flying_of s.flights).at up)
+
+  not_too_much : Allows (world_of s) work.promise → (q : Promise) → q.nodes ≡ work.promise.nodes → q.postings ≡ work.promise.postings → IsTooMuch (world_of s) q → ⊥
+  not_too_much allows q nodes postings (inl much) = absurd (omega (arith, allows.nodes))
+  not_too_much allows q nodes postings (inr much) = absurd (omega (arith, allows.postings))
+
+  pub not_full : Allows (world_of s) work.promise → IsFull (world_of s) work.want → ⊥
+  not_full allows full =
+      let same = plan.only full.0 full.1 in
+      not_too_much allows full.0 same.0 same.1 full.2
+
+  pub not_crowded : Allows (world_of s) work.promise → IsCrowded (world_of s) → ⊥
+  not_crowded allows crowded = absurd (omega (arith, allows.flights))
+
+  too_much : (q : Promise) → q.nodes ≡ work.promise.nodes → q.postings ≡ work.promise.postings → IsTooMuch (world_of s) q → IsTooMuch (world_of s) work.promise
+  too_much q nodes postings (inl much) = inl (omega arith)
+  too_much q nodes postings (inr much) = inr (omega arith)
+
+  pub limit_refusal : (e : ℤ) → (HoldsUp (flying_of s.flights).at work.held → ⊥) → Forbids (world_of s) work.promise e → IsRefusal (world_of s) work.want e
+  limit_refusal e free (inl (is, much)) =
+      inr (inr (inl (is, plan.not_stale, plan.not_long, not_held_up free, (work.promise, plan.promise, much))))
+  limit_refusal e free (inr (is, fits, crowded)) =
+      inr (inr (inr (inl (
+        is,
+        plan.not_stale,
+        plan.not_long,
+        not_held_up free,
+        (λ full. let same = plan.only full.0 full.1 in fits (too_much full.0 same.0 same.1 full.2)),
+        crowded,
+      ))))
+
+-- ---- a plan that is recorded
+
+pins_alive : (w : World) → IsTree w.at → (want : Want) (held : Held) (n : ℕ) → HoldsFor w.at want held → IsPinFor w want n → IsAlive w.at n
+pins_alive w tree (wants.Node number) held n h e = subst (λ m. IsAlive w.at m) (sym e) (climbs_alive w.at tree.rooted (reverse h.path) number h.leads)
+pins_alive w tree (wants.Name parent name) held n h (inl e) = subst (λ m. IsAlive w.at m) (sym e) (climbs_alive w.at tree.rooted (reverse h.above) parent h.leads)
+pins_alive w tree (wants.Name parent name) held n h (inr named) = (named.0, named.1)
+pins_alive w tree (wants.Remove parent name) held n h (inl e) = subst (λ m. IsAlive w.at m) (sym e) (climbs_alive w.at tree.rooted (reverse h.above) parent h.leads)
+pins_alive w tree (wants.Remove parent name) held n h (inr named) = (named.0, named.1)
+
+module _ (s mid : State) (unique id : ℕ) (work : Work) (pins : Pinned) (path : Names) (flights : InFlight) (plan : IsPlan (world_of s) work.want work pins path) (same : IsSameButRoom s mid) (fresh : (flying_of mid.flights).at id ≡ None)
+    (adds : Adds (flying_of mid.flights) (record { id = id; unique = unique; stage = Working work; pins = pins }) (flying_of flights)) where
+  pub goes_on : GoesOn (world_of s) unique work.want (record { id = id; path = path }) (world_of (record mid { flights = flights }))
   goes_on = record {
-    flight = f;
-    work = made.work;
-    fresh = made.fresh;
+    flight = record { id = id; unique = unique; stage = Working work; pins = pins };
+    work = work;
+    fresh = ap (λ (x : Flying). x.at id) (sym same.flights) ∙ fresh;
     id = refl;
-    unique_is = made.unique_is;
-    stage = made.stage;
-    want_is = made.want;
-    promise = subst (λ (p : Promise). IsPromiseFor (world_of s) (Name key.parent key.name) p) (sym made.promise_is) (promise_for s key promise o stands promised);
-    pins = λ n. let a = made.pins n in let b = pin_for s key o n law stands in (λ h. b.0 (a.0 h), λ h. a.1 (b.1 h));
-    path = (it.above, it.leads, it.whole);
-    adds = adds_unroomed (flying_of s.flights) (flying_of mid.flights) (flying_of flights) f same.flights adds;
+    unique_is = refl;
+    stage = refl;
+    want_is = refl;
+    promise = plan.promise;
+    holds = plan.holds;
+    pins = plan.pins_are;
+    path = plan.path_is;
+    adds = adds_unroomed (flying_of s.flights) (flying_of mid.flights) (flying_of flights) (record { id = id; unique = unique; stage = Working work; pins = pins }) same.flights adds;
     rest = ap (λ (w : World). record w { flying = record (flying_of flights) { room = 0 } }) same.world;
   }
 
-  module _ (kept : IsKept mid) (flying : IsFlying (flying_of flights)) (allows : Allows (world_of s) promise) (room : IsRoomForOne mid promise) where
+  module _ (kept : IsKept mid) (flying : IsFlying (flying_of flights)) (law : IsTree (at_in s.tree)) (free : HoldsUp (flying_of s.flights).at work.held → ⊥) (allows : Allows (world_of s) work.promise) (room : IsRoomForOne mid work.promise) where
     at_is : at_in s.tree ≡ at_in mid.tree
     at_is = ap (λ (w : World). w.at) (sym same.world)
 
-    leads : Leads (at_in mid.tree) key.parent
-    leads = subst (λ (a : Lookup). Leads a key.parent) at_is (record { names = reverse it.above; climb = it.leads })
-
-    pinned_is : (n : ℕ) → (flying_of flights).pinned n ≡ ((flying_of mid.flights).pinned n || pins_number f n)
+    pinned_is : (n : ℕ) → (flying_of flights).pinned n ≡ ((flying_of mid.flights).pinned n || pins_in pins n)
     pinned_is n = ap (λ (g : ℕ → Bool). g n) adds.pinned
 
-    pin_alive : (n : ℕ) → (n ≡ key.parent) ⊎ (o ≡ Some n) → IsAlive (at_in mid.tree) n
-    pin_alive n (inl e) = subst (λ m. IsAlive (at_in mid.tree) m) (sym e) (climbs_alive (at_in mid.tree) kept.law.tree.rooted leads.names key.parent leads.climb)
-    pin_alive n (inr is) = let named = standing_named s key o n stands is in subst (λ (a : Lookup). IsAlive a n) at_is (named.0, named.1)
+    pin_alive : (n : ℕ) → pins_in pins n ≡ true → IsAlive (at_in mid.tree) n
+    pin_alive n h = subst (λ (a : Lookup). IsAlive a n) at_is (pins_alive (world_of s) law work.want work.held n plan.holds ((plan.pins_are n).0 h))
 
-    nodes_are : nodes_promised f.stage ≡ promise.nodes
-    nodes_are = ap (λ (st : Stage). nodes_promised st) made.stage ∙ ap (λ (p : Promise). p.nodes) made.promise_is
+    same_work : (other : Work) → Working work ≡ Working other → work ≡ other
+    same_work other is = cc
 
-    postings_are : postings_promised f.stage ≡ promise.postings
-    postings_are = ap (λ (st : Stage). postings_promised st) made.stage ∙ ap (λ (p : Promise). p.postings) made.promise_is
+    allows_mid : Allows (world_of mid) work.promise
+    allows_mid = subst (λ (w : World). Allows w work.promise) (sym same.world) allows
 
-    node_ready : (q : Option ℕ) → Stands s key q → IsPromised q promise → ((n : ℕ) → q ≡ Some n → pins_number f n ≡ true) → (made.work.promise.nodes ≡ 1) ⊎ ((n : ℕ) × IsNamed (at_in mid.tree) n key.parent key.name × (pins_number f n ≡ true))
-    node_ready None here p pins = inl (ap (λ (x : Promise). x.nodes) made.promise_is ∙ p.none refl)
-    node_ready (Some k) here p pins = inr (k, subst (λ (a : Lookup). IsNamed a k key.parent key.name) at_is here, pins k refl)
+    is_ready : (f : Flight) → f.pins ≡ pins → IsReadyFor (at_in mid.tree) f work work.want
+    is_ready f is = subst (λ (a : Lookup). IsReadyFor a f work work.want) at_is (plan.ready f is)
 
-    is_ready : IsReadyFor (at_in mid.tree) f made.work made.work.want
-    is_ready =
-        let ready : IsNameReady (at_in mid.tree) f made.work key.parent key.name = record {
-          leads = leads;
-          parent_pinned = (made.pins key.parent).1 (inl refl);
-          node = node_ready o stands promised (λ n is. (made.pins n).1 (inr is));
-          postings = ap (λ (x : Promise). x.postings) made.promise_is ∙ promised.postings;
-          pin_room = made.pin_room;
-          answer_room = made.answer_room;
-          unanswered = made.unanswered;
-        } in
-        subst (λ (w : Want). IsReadyFor (at_in mid.tree) f made.work w) (sym made.want) ready
+    still_ready : AreReady (at_in mid.tree) (flying_of flights).at
+    still_ready = subst (λ (a : Flights). AreReady (at_in mid.tree) a) (sym adds.at)
+        (AreReady-more (at_in mid.tree) (flying_of mid.flights).at id (record { id = id; unique = unique; stage = Working work; pins = pins })
+        (λ other is. subst (λ (w : Work). IsReadyFor (at_in mid.tree) (record { id = id; unique = unique; stage = Working work; pins = pins }) w w.want) (same_work other is) (is_ready (record { id = id; unique = unique; stage = Working work; pins = pins }) refl)) kept.ready)
 
-    same_work : (work : Work) → f.stage ≡ Working work → made.work ≡ work
-    same_work work is = let e : Working made.work ≡ Working work = sym made.stage ∙ is in cc
-
-    allows_mid : Allows (world_of mid) promise
-    allows_mid = subst (λ (w : World). Allows w promise) (sym same.world) allows
+    still_apart : AreApart (flying_of flights).at
+    still_apart = subst (λ (a : Flights). AreApart a) (sym adds.at)
+        (AreApart-more (flying_of mid.flights).at id (record { id = id; unique = unique; stage = Working work; pins = pins }) work refl
+        (λ up. free (subst (λ (x : Flights). HoldsUp x work.held) (ap (λ (x : Flying). x.at) same.flights) up)) kept.held.apart)
 
     pub begun_kept : IsKept (record mid { flights = flights })
     begun_kept = record {
       law = lawful_pins (at_in mid.tree) mid.ledger.made (flying_of mid.flights).pinned (flying_of flights).pinned kept.law
-          (λ n h. pinned_is n ∙ or_left ((flying_of mid.flights).pinned n) (pins_number f n) h)
-          (λ n h. elim (or_cases ((flying_of mid.flights).pinned n) (pins_number f n) (sym (pinned_is n) ∙ h)) [
+          (λ n h. pinned_is n ∙ or_left ((flying_of mid.flights).pinned n) (pins_in pins n) h)
+          (λ n h. elim (or_cases ((flying_of mid.flights).pinned n) (pins_in pins n) (sym (pinned_is n) ∙ h)) [
             | inl was ↦ kept.law.pins n was
-            | inr here ↦ pin_alive n ((made.pins n).0 here)
+            | inr here ↦ pin_alive n here
           ]);
       flying = flying;
-      ready = subst (λ (a : Flights). AreReady (at_in mid.tree) a) (sym adds.at)
-          (AreReady-more (at_in mid.tree) (flying_of mid.flights).at f.id f (λ work is. subst (λ (w : Work). IsReadyFor (at_in mid.tree) f w w.want) (same_work work is) is_ready) kept.ready);
-      reserved = record { nodes = omega (arith, adds.nodes, nodes_are, room.nodes); postings = omega (arith, adds.postings, postings_are, room.postings) };
+      held = held_of (at_in mid.tree) (flying_of flights).at still_apart still_ready;
+      ready = still_ready;
+      reserved = record { nodes = omega (arith, adds.nodes, room.nodes); postings = omega (arith, adds.postings, room.postings) };
       within = record {
-        nodes = omega (arith, adds.nodes, nodes_are, allows_mid.nodes);
-        postings = omega (arith, adds.postings, postings_are, allows_mid.postings);
+        nodes = omega (arith, adds.nodes, allows_mid.nodes);
+        postings = omega (arith, adds.postings, allows_mid.postings);
         flights = omega (arith, adds.many, allows_mid.flights);
       };
       counts = kept.counts;

@@ -1,20 +1,24 @@
 -- The parts of a beginning.
-use Rattle.std.specs.Prelude.{ℕ, ℤ, ◌+◌, ◌<◌, ◌≤◌, ◌≡◌, ◌↔◌, ◌⊎◌, true, [], Option, Some, None, length}
+use Rattle.std.specs.Prelude.{ℕ, ℤ, ◌+◌, ◌<◌, ◌≤◌, ◌≡◌, ◌↔◌, ◌⊎◌, ◌==◌, Bool, true, List, [], ◌∷◌, ◌++◌, Option, Some, None, length}
 use Rattle.errno.specs.declared.TheConstants.{EAGAIN, ENAMETOOLONG, ENFILE, ENOMEM, ESTALE}
 use Rattle.tree.specs.declared.nodes.Key.{Key}
 use Rattle.tree.specs.declared.nodes.TreeFault.{TreeFault}
 use Rattle.tree.specs.declared.nodes.TreeFault.TheVariants as fault
 use Rattle.tree.specs.Places.{at_in, IsNamed}
+use Rattle.std.specs.List.{list_any}
+use Rattle.paths.specs.Fronts.{Names}
+use Rattle.holds.specs.Clashes.{AreFronts}
 use Rattle.flights.specs.declared.data.Flight.{Flight}
+use Rattle.flights.specs.Roomy.{Pinned}
 use Rattle.flights.specs.declared.data.Promise.{Promise}
-use Rattle.flights.specs.declared.data.Stage.TheVariants.{Working}
-use Rattle.flights.specs.declared.data.Want.TheVariants.{Name}
+use Rattle.flights.specs.declared.data.Want.{Want}
+use Rattle.flights.specs.declared.data.Want.TheVariants.{Node, Name, Remove}
 use Rattle.flights.specs.declared.data.Work.{Work}
-use Rattle.flights.specs.Flying.{pins_number}
 use Rattle.flights.specs.Listed.{flying_of}
 use Rattle.table.specs.declared.state.State.{State}
-use Rattle.table.specs.Steps.{IsTooMuch, IsCrowded}
-use Rattle.table.specs.World.{World, world_of}
+use Rattle.table.specs.Holding.{HoldsFor}
+use Rattle.table.specs.Steps.{IsCrowded, IsLong, IsPathFor, IsPinFor, IsPromiseFor, IsStale, IsTooMuch}
+use Rattle.table.specs.World.{IsReadyFor, World, world_of}
 
 -- the error number of a path that cannot be had
 abbrev pub errno_of : TreeFault → ℤ
@@ -34,18 +38,51 @@ pub record Allows (w : World) (p : Promise) : Type 0 where
 abbrev pub Forbids : World → Promise → ℤ → Type 0
 Forbids w p e = ((e ≡ ENFILE) × IsTooMuch w p) ⊎ ((e ≡ EAGAIN) × (IsTooMuch w p → ⊥) × IsCrowded w)
 
--- a request for a name, under an id that none bears, which pins the parent and the node that stands there
-pub record IsFlightFor (s : State) (unique : ℕ) (key : Key) (standing : Option ℕ) (promise : Promise) (f : Flight) : Type 0 where
-  pub work : Work
-  pub fresh : (flying_of s.flights).at f.id ≡ None
-  pub unique_is : f.unique ≡ unique
-  pub stage : f.stage ≡ Working work
+-- what is to be done for a name of that path
+pub record IsNameWork (key : Key) (path : Names) (promise : Promise) (work : Work) : Type 0 where
   pub want : work.want ≡ Name key.parent key.name
+  pub copy : work.copy ≡ Some key.name
   pub promise_is : work.promise ≡ promise
+  pub given : (above : Names) (name : List ℕ) → path ≡ above ++ name ∷ [] → work.held.given ≡ record { number = key.parent; path = above } ∷ []
+  pub shared : AreFronts work.held.shared path
+  pub exclusive : work.held.exclusive ≡ []
   pub answer_room : 0 < work.answer.room
   pub unanswered : work.answer.items ≡ []
-  pub pin_room : 0 < f.pins.room
-  pub pins : (n : ℕ) → (pins_number f n ≡ true) ↔ ((n ≡ key.parent) ⊎ (standing ≡ Some n))
+
+-- what is to be done for a name of that path that is to be removed
+pub record IsRemovalWork (key : Key) (path : Names) (work : Work) : Type 0 where
+  pub want : work.want ≡ Remove key.parent key.name
+  pub nodes : work.promise.nodes ≡ 0
+  pub postings : work.promise.postings ≡ 0
+  pub given : (above : Names) (name : List ℕ) → path ≡ above ++ name ∷ [] → work.held.given ≡ record { number = key.parent; path = above } ∷ []
+  pub shared : (above : Names) (name : List ℕ) → path ≡ above ++ name ∷ [] → AreFronts work.held.shared above
+  pub exclusive : work.held.exclusive ≡ path ∷ []
+  pub unanswered : work.answer.items ≡ []
+
+-- what is to be done for a node of that path
+pub record IsNodeWork (number : ℕ) (path : Names) (work : Work) : Type 0 where
+  pub want : work.want ≡ Node number
+  pub nodes : work.promise.nodes ≡ 0
+  pub postings : work.promise.postings ≡ 0
+  pub given : work.held.given ≡ record { number = number; path = path } ∷ []
+  pub shared : AreFronts work.held.shared path
+  pub exclusive : work.held.exclusive ≡ []
+  pub unanswered : work.answer.items ≡ []
+
+-- whether these pin the number
+abbrev pub pins_in : Pinned → ℕ → Bool
+pins_in pins n = list_any (λ m. m == n) pins.numbers
+
+-- a request that passed the tests of its path, as it is to be recorded
+pub record IsPlan (w : World) (want : Want) (work : Work) (pins : Pinned) (path : Names) : Type 0 where
+  pub not_stale : IsStale w want → ⊥
+  pub not_long : IsLong w want → ⊥
+  pub promise : IsPromiseFor w want work.promise
+  pub only : (p : Promise) → IsPromiseFor w want p → (p.nodes ≡ work.promise.nodes) × (p.postings ≡ work.promise.postings)
+  pub holds : HoldsFor w.at want work.held
+  pub pins_are : (n : ℕ) → (pins_in pins n ≡ true) ↔ IsPinFor w want n
+  pub path_is : IsPathFor w want path
+  pub ready : (f : Flight) → f.pins ≡ pins → IsReadyFor w.at f work want
 
 -- there is room for one request more that is promised so much
 pub record IsRoomForOne (s : State) (promise : Promise) : Type 0 where

@@ -1,4 +1,5 @@
 pub mod Answers
+pub mod Holding
 pub mod World
 pub mod Steps
 pub mod Sweeping

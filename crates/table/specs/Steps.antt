@@ -5,6 +5,7 @@ use Rattle.ledger.specs.declared.postings.Posting.{Posting}
 use Rattle.ledger.specs.declared.postings.Posting.TheVariants.{Born, Entry, Back, Forget}
 use Rattle.ledger.specs.Sums.{births_of}
 use Rattle.paths.specs.Fronts.{Names, path_bytes}
+use Rattle.tree.specs.Moves.{Changes, after_cut}
 use Rattle.tree.specs.declared.nodes.Node.{Node}
 use Rattle.tree.specs.declared.nodes.Place.TheVariants.{Named}
 use Rattle.tree.specs.Places.{Lookup, with_node, IsNamed, IsFree, HasChild, Leads, IsPathOf}
@@ -13,10 +14,12 @@ use Rattle.flights.specs.declared.data.Given.{Given}
 use Rattle.flights.specs.declared.data.Promise.{Promise}
 use Rattle.flights.specs.declared.data.Stage.TheVariants.{Working, Answered}
 use Rattle.flights.specs.declared.data.Want.{Want}
-use Rattle.flights.specs.declared.data.Want.TheVariants.{Name}
+use Rattle.flights.specs.declared.data.Want.TheVariants as wants
 use Rattle.flights.specs.declared.data.Work.{Work}
-use Rattle.flights.specs.Flying.{Flying, Adds, Answers, PinsMore, Goes, HasNoneWorking, HasNoneAnswered, answered, pins_number}
+use Rattle.holds.specs.declared.held.Held.{Held}
+use Rattle.flights.specs.Flying.{HoldsUp, Flying, Adds, Answers, PinsMore, Goes, HasNoneWorking, HasNoneAnswered, answered, pins_number}
 use Rattle.table.specs.Answers.{Claim, Answer, Settlement, entries_in}
+use Rattle.table.specs.Holding.{HoldsFor}
 use Rattle.table.specs.World.{World}
 use Rattle.table.specs.declared.data.Begin.{Begin}
 use Rattle.table.specs.declared.data.Begin.TheVariants.{Go, Busy, Refused}
@@ -56,18 +59,28 @@ pub record Forgets (old : World) (number n amount : ℕ) (new : World) : Type 0 
 
 -- ---- begin
 
--- the parent is not alive, or is cut
+-- the node or the parent is not alive, or is cut
 abbrev pub IsStale : World → Want → Type 0
-IsStale w (Name parent name) = Leads w.at parent → ⊥
+IsStale w (wants.Node number) = Leads w.at number → ⊥
+IsStale w (wants.Name parent name) = Leads w.at parent → ⊥
+IsStale w (wants.Remove parent name) = Leads w.at parent → ⊥
 
 -- the path is longer than 4,096 bytes
 abbrev pub IsLong : World → Want → Type 0
-IsLong w (Name parent name) = (up : Names) × IsPathOf w.at parent up × (4096 < path_bytes (up ++ name ∷ []))
+IsLong w (wants.Node number) = (path : Names) × IsPathOf w.at number path × (4096 < path_bytes path)
+IsLong w (wants.Name parent name) = (up : Names) × IsPathOf w.at parent up × (4096 < path_bytes (up ++ name ∷ []))
+IsLong w (wants.Remove parent name) = (up : Names) × IsPathOf w.at parent up × (4096 < path_bytes (up ++ name ∷ []))
 
--- what the want may add: a node where none stands at its name, and three postings for its entry
+-- a request that is worked on holds a name that is in the way
+abbrev pub IsHeldUp : World → Want → Type 0
+IsHeldUp w want = (held : Held) × HoldsFor w.at want held × HoldsUp w.flying.at held
+
+-- what the want may add: for a name a node where none stands, and three postings for its entry
 abbrev pub IsPromiseFor : World → Want → Promise → Type 0
-IsPromiseFor w (Name parent name) p =
+IsPromiseFor w (wants.Node number) p = (p.nodes ≡ 0) × (p.postings ≡ 0)
+IsPromiseFor w (wants.Name parent name) p =
     (IsFree w.at parent name → p.nodes ≡ 1) × ((n : ℕ) → IsNamed w.at n parent name → p.nodes ≡ 0) × (p.postings ≡ 3)
+IsPromiseFor w (wants.Remove parent name) p = (p.nodes ≡ 0) × (p.postings ≡ 0)
 
 -- with what is promised, the nodes or the postings would pass their limit
 abbrev pub IsTooMuch : World → Promise → Type 0
@@ -87,17 +100,21 @@ abbrev pub IsRefusal : World → Want → ℤ → Type 0
 IsRefusal w want e =
     ((e ≡ ESTALE) × IsStale w want)
     ⊎ ((e ≡ ENAMETOOLONG) × (IsStale w want → ⊥) × IsLong w want)
-    ⊎ ((e ≡ ENFILE) × (IsStale w want → ⊥) × (IsLong w want → ⊥) × IsFull w want)
-    ⊎ ((e ≡ EAGAIN) × (IsStale w want → ⊥) × (IsLong w want → ⊥) × (IsFull w want → ⊥) × IsCrowded w)
+    ⊎ ((e ≡ ENFILE) × (IsStale w want → ⊥) × (IsLong w want → ⊥) × (IsHeldUp w want → ⊥) × IsFull w want)
+    ⊎ ((e ≡ EAGAIN) × (IsStale w want → ⊥) × (IsLong w want → ⊥) × (IsHeldUp w want → ⊥) × (IsFull w want → ⊥) × IsCrowded w)
     ⊎ ((e ≡ ENOMEM) × (IsStale w want → ⊥))
 
 -- the path that the want is about
 abbrev pub IsPathFor : World → Want → Names → Type 0
-IsPathFor w (Name parent name) path = (up : Names) × IsPathOf w.at parent up × (path ≡ up ++ name ∷ [])
+IsPathFor w (wants.Node number) path = IsPathOf w.at number path
+IsPathFor w (wants.Name parent name) path = (up : Names) × IsPathOf w.at parent up × (path ≡ up ++ name ∷ [])
+IsPathFor w (wants.Remove parent name) path = (up : Names) × IsPathOf w.at parent up × (path ≡ up ++ name ∷ [])
 
 -- the nodes that the want names, and any that stands at its path
 abbrev pub IsPinFor : World → Want → ℕ → Type 0
-IsPinFor w (Name parent name) n = (n ≡ parent) ⊎ IsNamed w.at n parent name
+IsPinFor w (wants.Node number) n = n ≡ number
+IsPinFor w (wants.Name parent name) n = (n ≡ parent) ⊎ IsNamed w.at n parent name
+IsPinFor w (wants.Remove parent name) n = (n ≡ parent) ⊎ IsNamed w.at n parent name
 
 -- one request more is in flight, under an id that none bore
 pub record GoesOn (old : World) (unique : ℕ) (want : Want) (claim : Claim) (new : World) : Type 0 where
@@ -109,6 +126,7 @@ pub record GoesOn (old : World) (unique : ℕ) (want : Want) (claim : Claim) (ne
   pub stage : flight.stage ≡ Working work
   pub want_is : work.want ≡ want
   pub promise : IsPromiseFor old want work.promise
+  pub holds : HoldsFor old.at want work.held
   pub pins : (n : ℕ) → (pins_number flight n ≡ true) ↔ IsPinFor old want n
   pub path : IsPathFor old want claim.path
   pub adds : Adds old.flying flight new.flying
@@ -116,9 +134,8 @@ pub record GoesOn (old : World) (unique : ℕ) (want : Want) (claim : Claim) (ne
 
 abbrev pub Begins : World → ℕ → Want → Begin → World → Type 0
 Begins old unique want (Go claim) new =
-    ((IsStale old want → ⊥) × (IsLong old want → ⊥) × (IsFull old want → ⊥) × (IsCrowded old → ⊥)) × GoesOn old unique want claim new
--- no request holds a name yet, so none is in the way of another
-Begins old unique want Busy new = ⊥
+    ((IsStale old want → ⊥) × (IsLong old want → ⊥) × (IsHeldUp old want → ⊥) × (IsFull old want → ⊥) × (IsCrowded old → ⊥)) × GoesOn old unique want claim new
+Begins old unique want Busy new = ((IsStale old want → ⊥) × (IsLong old want → ⊥) × IsHeldUp old want) × (new ≡ old)
 Begins old unique want (Refused e) new = IsRefusal old want e × (new ≡ old)
 
 -- ---- finish
@@ -139,6 +156,8 @@ pub record EntersAgain (at : Lookup) (ps : List Posting) (parent : ℕ) (name : 
 -- where none is named so, a node is born under a number that none bears, and entered
 pub record Bears (at : Lookup) (ps : List Posting) (parent : ℕ) (name : List ℕ) (g : Given) (at' : Lookup) (ps' : List Posting) : Type 0 where
   pub free : IsFree at parent name
+  -- the number 0 would tell the client that there is no entry
+  pub positive : 0 < g.number
   pub fresh : at g.number ≡ None
   pub generation : g.generation ≡ births_of g.number ps
   pub nodes : at' ≡ with_node at g.number (newborn g parent name)
@@ -156,31 +175,39 @@ pub record GivesEntry (old : World) (id : ℕ) (f : Flight) (parent : ℕ) (name
   pub pins : PinsMore old.flying id f given.number new.flying
   pub limits : new.limits ≡ old.limits
 
-abbrev pub Gives : World → ℕ → Flight → Want → Answer → World → Type 0
-Gives old id f (Name parent name) answer new = GivesEntry old id f parent name answer new
+-- each node at the path of the name or below is cut, and then what nothing keeps any more goes
+pub record CutsName (old : World) (parent : ℕ) (name : List ℕ) (new : World) : Type 0 where
+  pub mid : Lookup
+  pub cuts : (up : Names) → IsPathOf old.at parent up → Changes (after_cut (up ++ name ∷ [])) old.at mid
+  pub swept : IsSwept old.flying.pinned mid new.at
+  pub postings : new.postings ≡ old.postings
+  pub flying : new.flying ≡ old.flying
+  pub limits : new.limits ≡ old.limits
 
--- the work on the request ends, and it gives an entry
-pub record GivesName (old : World) (id : ℕ) (work : Work) (parent : ℕ) (name : List ℕ) (answer : Answer) (new : World) : Type 0 where
+-- the client is given nothing, and nothing else changes
+abbrev pub GivesNothing : World → ℕ → List (Option Given) → Answer → World → Type 0
+GivesNothing old id given answer new = (answer ≡ record { id = id; given = given; lost = false }) × (new ≡ old)
+
+-- what an outcome does: one that does not fit its want acts as a failure
+abbrev pub Gives : World → ℕ → Flight → Want → Outcome → Answer → World → Type 0
+Gives old id f (wants.Node number) o answer new = GivesNothing old id [] answer new
+Gives old id f (wants.Name parent name) outcome.Entry answer new = GivesEntry old id f parent name answer new
+Gives old id f (wants.Name parent name) outcome.Failed answer new = GivesNothing old id (None ∷ []) answer new
+Gives old id f (wants.Name parent name) outcome.Done answer new = GivesNothing old id (None ∷ []) answer new
+Gives old id f (wants.Remove parent name) outcome.Entry answer new = GivesNothing old id [] answer new
+Gives old id f (wants.Remove parent name) outcome.Failed answer new = GivesNothing old id [] answer new
+Gives old id f (wants.Remove parent name) outcome.Done answer new = (answer ≡ record { id = id; given = []; lost = false }) × CutsName old parent name new
+
+-- the work on a request ends, so that it holds nothing, and then its outcome comes about
+pub record Ends (old : World) (id : ℕ) (work : Work) (o : Outcome) (answer : Answer) (new : World) : Type 0 where
   pub mid : Flying
   pub ends : Answers old.flying id work mid
-  pub gives : GivesEntry (record old { flying = mid }) id (answered ends.flight) parent name answer new
-
--- the request gives nothing, and keeps its pins
-pub record Fails (old : World) (id : ℕ) (work : Work) (given : List (Option Given)) (answer : Answer) (new : World) : Type 0 where
-  pub answer_is : answer ≡ record { id = id; given = given; lost = false }
-  pub ends : Answers old.flying id work new.flying
-  pub rest : new ≡ record old { flying = new.flying }
-
--- the end of a request: an outcome that does not fit its want acts as a failure
-abbrev pub Ends : World → ℕ → Work → Want → Outcome → Answer → World → Type 0
-Ends old id work (Name parent name) outcome.Entry answer new = GivesName old id work parent name answer new
-Ends old id work (Name parent name) outcome.Failed answer new = Fails old id work (None ∷ []) answer new
-Ends old id work (Name parent name) outcome.Done answer new = Fails old id work (None ∷ []) answer new
+  pub gives : Gives (record old { flying = mid }) id (answered ends.flight) work.want o answer new
 
 pub record Finishes (old : World) (id : ℕ) (outcome : Outcome) (answer : Answer) (new : World) : Type 0 where
   -- a ticket that no request is worked on under
   pub lost : HasNoneWorking old.flying.at id → (answer ≡ record { id = id; given = []; lost = true }) × (new ≡ old)
-  pub found : (f : Flight) (work : Work) → old.flying.at id ≡ Some f → f.stage ≡ Working work → Ends old id work work.want outcome answer new
+  pub found : (f : Flight) (work : Work) → old.flying.at id ≡ Some f → f.stage ≡ Working work → Ends old id work outcome answer new
 
 -- ---- settle
 

@@ -1,5 +1,5 @@
 -- What holds while nodes that nothing keeps are dropped one by one.
-use Rattle.std.specs.Prelude.{ℕ, ◌+◌, ◌≡◌, ◌≢◌, ◌≤◌, ◌⊎◌, Bool, List, [], ◌∷◌, Option, Some, None, length}
+use Rattle.std.specs.Prelude.{ℕ, ◌+◌, ◌≡◌, ◌≢◌, ◌≤◌, ◌<◌, ◌⊎◌, Bool, List, [], ◌∷◌, Option, Some, None, length}
 use Rattle.flights.specs.declared.data.Given.{Given}
 use Rattle.paths.specs.Fronts.{Name}
 use Rattle.tree.specs.declared.nodes.Node.{Node}
@@ -25,6 +25,10 @@ pub record IsBooked (at : Lookup) (ps : List Posting) (pinned : ℕ → Bool) : 
 -- each node but the root has a reason, those that are left out aside
 abbrev pub HaveReasonsBut : Lookup → (ℕ → Bool) → List ℕ → Type 0
 HaveReasonsBut at pinned but = (n : ℕ) (x : Node) → at n ≡ Some x → n ≢ 1 → (IsAmong n but → ⊥) → HasReason at pinned n x
+
+-- each node but the root has a reason, those aside that are cut and whose number is not below that one
+pub record HaveReasonsBelow (at : Lookup) (pinned : ℕ → Bool) (bound : ℕ) : Type 0 where
+  pub reasons : (n : ℕ) (x : Node) → at n ≡ Some x → n ≢ 1 → (x.place ≡ Cut → n < bound) → HasReason at pinned n x
 
 -- the nodes are a tree in which all have a reason, those that are left out aside
 pub record IsPruned (at : Lookup) (pinned : ℕ → Bool) (but : List ℕ) : Type 0 where

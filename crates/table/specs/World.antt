@@ -4,13 +4,15 @@ use Rattle.ledger.specs.declared.postings.Posting.{Posting}
 use Rattle.tree.specs.Places.{Lookup, IsCensus, Nodes, at_in, with_node, no_nodes, root_node, IsNamed, Leads}
 use Rattle.ledger.specs.Postings.{Postings}
 use Rattle.flights.specs.Listed.{flying_of}
+use Rattle.holds.specs.declared.held.Held.{Held}
 use Rattle.flights.specs.declared.data.Flight.{Flight}
 use Rattle.flights.specs.declared.data.Promise.{Promise}
 use Rattle.flights.specs.declared.data.Stage.TheVariants.{Working, Answered}
 use Rattle.flights.specs.declared.data.Want.{Want}
-use Rattle.flights.specs.declared.data.Want.TheVariants.{Name}
+use Rattle.flights.specs.declared.data.Want.TheVariants.{Node, Name, Remove}
 use Rattle.flights.specs.declared.data.Work.{Work}
-use Rattle.flights.specs.Flying.{Flying, IsFlying, none_flying, pins_number}
+use Rattle.flights.specs.Flying.{Flying, IsFlying, none_flying, pins_number, HoldsUp}
+use Rattle.table.specs.Holding.{AreHeld, HoldsName, HoldsNode, HoldsRemoved}
 use Rattle.image.specs.Law.{IsLawful}
 use Rattle.table.specs.declared.data.Limits.{Limits}
 use Rattle.table.specs.declared.state.State.{State}
@@ -29,19 +31,35 @@ pub record World : Type 0 where
 
 -- ---- what a request that goes on may rely on
 
--- its parent leads to the root, and where it was promised no node, one stands at its name; it pins both
+-- for a name: its parent leads to the root, and where it was promised no node, one stands at its name; it pins both
 pub record IsNameReady (at : Lookup) (f : Flight) (work : Work) (parent : ℕ) (name : List ℕ) : Type 0 where
   pub leads : Leads at parent
   pub parent_pinned : pins_number f parent ≡ true
   pub node : (work.promise.nodes ≡ 1) ⊎ ((n : ℕ) × IsNamed at n parent name × (pins_number f n ≡ true))
   pub postings : work.promise.postings ≡ 3
+  pub holds : HoldsName at parent name work.held
+  pub copy : work.copy ≡ Some name
   -- its end takes no memory: there is room for one more pin and for its answer
   pub pin_room : 0 < f.pins.room
   pub answer_room : 0 < work.answer.room
   pub unanswered : work.answer.items ≡ []
 
+-- for a node: its path leads to it, and it pins it
+pub record IsNodeReady (at : Lookup) (f : Flight) (work : Work) (number : ℕ) : Type 0 where
+  pub holds : HoldsNode at number work.held
+  pub pinned : pins_number f number ≡ true
+  pub unanswered : work.answer.items ≡ []
+
+-- for a name that is to be removed: its parent leads to the root, and it pins it
+pub record IsRemovalReady (at : Lookup) (f : Flight) (work : Work) (parent : ℕ) (name : List ℕ) : Type 0 where
+  pub holds : HoldsRemoved at parent name work.held
+  pub pinned : pins_number f parent ≡ true
+  pub unanswered : work.answer.items ≡ []
+
 abbrev pub IsReadyFor : Lookup → Flight → Work → Want → Type 0
+IsReadyFor at f work (Node number) = IsNodeReady at f work number
 IsReadyFor at f work (Name parent name) = IsNameReady at f work parent name
+IsReadyFor at f work (Remove parent name) = IsRemovalReady at f work parent name
 
 abbrev pub AreReady : Lookup → (ℕ → Option Flight) → Type 0
 AreReady at flights = (id : ℕ) (f : Flight) (work : Work) → flights id ≡ Some f → f.stage ≡ Working work → IsReadyFor at f work work.want
@@ -63,6 +81,7 @@ IsCounted w = IsCensus w.at w.living w.counts
 pub record IsLawfulWorld (w : World) : Type 0 where
   pub law : IsLawful w.at w.postings w.flying.pinned
   pub flying : IsFlying w.flying
+  pub held : AreHeld w.at w.flying.at
   pub within : IsWithin w
 
 -- ---- the parts of a table
@@ -86,6 +105,7 @@ world_of s = record {
 pub record IsKept (s : State) : Type 0 where
   pub law : IsLawful (at_in s.tree) s.ledger.made (flying_of s.flights).pinned
   pub flying : IsFlying (flying_of s.flights)
+  pub held : AreHeld (at_in s.tree) (flying_of s.flights).at
   pub ready : AreReady (at_in s.tree) (flying_of s.flights).at
   pub reserved : IsReserved s.tree s.ledger (flying_of s.flights)
   pub within : IsWithin (world_of s)
@@ -108,6 +128,8 @@ pub record IsEnding (s : State) (id : ℕ) (work : Work) : Type 0 where
   pub here : (flying_of s.flights).at id ≡ Some flight
   pub answered : flight.stage ≡ Answered
   pub ready : IsReadyFor (at_in s.tree) flight work work.want
+  -- no request that is still worked on is in its way
+  pub clear : HoldsUp (flying_of s.flights).at work.held → ⊥
   pub room : IsRoomFor s work.promise
 
 -- the same of a request for a name
@@ -120,6 +142,12 @@ pub record IsNameEnding (s : State) (id parent : ℕ) (name : List ℕ) (promise
   pub node : (promise.nodes ≡ 1) ⊎ ((n : ℕ) × IsNamed (at_in s.tree) n parent name)
   pub three : promise.postings ≡ 3
   pub room : IsRoomFor s promise
+
+-- a name that no other request that is worked on has a hold in the way of, under a pinned parent
+pub record IsRemovable (s : State) (held : Held) (parent : ℕ) (name : List ℕ) : Type 0 where
+  pub holds : HoldsRemoved (at_in s.tree) parent name held
+  pub pinned : (flying_of s.flights).pinned parent ≡ true
+  pub clear : HoldsUp (flying_of s.flights).at held → ⊥
 
 -- a table of the root alone
 pub record IsOpened (limits : Limits) (w : World) : Type 0 where

@@ -20,6 +20,8 @@ pub struct Limits {
 }
 
 impl Default for Limits {
+    ghost is_default = { λ l. l ≡ record { nodes = 65536; postings = 1048576; flights = 64; files = 4096 } };
+
     fn default() -> Limits {
         Limits {
             nodes: 65_536,

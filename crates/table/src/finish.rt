@@ -1,18 +1,22 @@
 //! The end of the work on a request.
 
 ghost use Rattle.std.specs.Prelude.{◌≡◌, ◌≢◌, ◌≤◌, ◌<◌, ◌+◌, ◌^◌, ℕ, List, Some, None, false, [], ◌∷◌, length};
+ghost use Rattle.flights.specs.declared.data.Flight.{Flight};
 ghost use Rattle.flights.specs.Listed.{flying_of};
 ghost use Rattle.flights.specs.declared.data.Want.TheVariants as Want;
 ghost use Rattle.image.specs.Law.{IsLawful};
-ghost use Rattle.table.specs.Steps.{Bears, Enters, EntersAgain, Finishes, Gives, GivesEntry};
+ghost use Rattle.table.specs.Steps.{Bears, CutsName, Enters, EntersAgain, Finishes, Gives, GivesEntry};
 ghost use Rattle.table.specs.Sweeping.{IsEntered, IsOneMore, KeepsNames};
-ghost use Rattle.table.specs.World.{IsEnding, IsKept, IsNameEnding, world_of};
+ghost use Rattle.table.specs.World.{IsEnding, IsKept, IsNameEnding, IsRemovable, world_of};
 ghost use Rattle.tree.specs.Places.{at_in, IsAlive, IsFree, IsNamed, Leads};
 
 use crate::data::{Answered, Outcome, Ticket};
 use crate::state::State;
+use crate::sweep::sweep_cut;
 use flights::{Flights, Given, Givens, Promise, Want, Work};
+use holds::Held;
 use ledger::{Ledger, Posting};
+use paths::Name;
 use tree::{Key, Tree};
 
 /// Counts one more entry of the node that is named so, and posts it.
@@ -84,26 +88,17 @@ fn enter(tree: &mut Tree, ledger: &mut Ledger, flights: &Flights, key: Key, copy
 }
 
 /// The answer of a request that gives nothing for its name.
-fn give_nothing(id: u64, work: Work) -> Answered
-    requires room { 0 < work.answer.room }
-    requires unanswered { work.answer.items ≡ [] }
+fn give_none(id: u64, answer: Givens) -> Answered
+    requires room { 0 < answer.room }
+    requires unanswered { answer.items ≡ [] }
     ensures { result ≡ record { id = id; given = None ∷ []; lost = false } }
 {
-    let Work { mut answer, .. } = work;
+    let mut answer = answer;
     answer.add(None);
     Answered {
         id,
         given: answer,
         lost: false,
-    }
-}
-
-/// The name under a parent that was wanted.
-pub fn key_of(want: Want) -> Key
-    ensures { want ≡ Want.Name result.parent result.name }
-{
-    match want {
-        Want::Name { parent, name } => Key { parent, name },
     }
 }
 
@@ -136,25 +131,110 @@ impl State {
         }
     }
 
-    /// Gives an entry of what a request was begun with.
-    fn give(&mut self, id: u64, work: Work) -> Answered
+    /// What the outcome of a request for a name does.
+    fn give_for_name(
+        &mut self,
+        id: u64,
+        key: Key,
+        copy: Option<Name>,
+        promise: Promise,
+        answer: Givens,
+        outcome: Outcome,
+    ) -> Answered
+        requires kept { IsKept self.old }
+        requires ending { IsNameEnding self.old id key.parent key.name promise }
+        requires copy { copy ≡ Some key.name }
+        requires room { 0 < answer.room }
+        requires unanswered { answer.items ≡ [] }
+        ensures gives { (e : IsNameEnding self.old id key.parent key.name promise) → Gives (world_of self.old) id e.flight (Want.Name key.parent key.name) outcome result (world_of self.new) }
+        ensures kept { IsKept self.new }
+    {
+        match outcome {
+            Outcome::Entry => {
+                let Some(name) = copy else {
+                    unreachable!();
+                };
+                let copy = Key {
+                    parent: key.parent,
+                    name,
+                };
+                self.give_name(id, key, copy, promise, answer)
+            }
+            Outcome::Failed | Outcome::Done => give_none(id, answer),
+        }
+    }
+
+    /// Cuts what stands at the name, with all below it, and drops what nothing keeps any more.
+    fn cut_name(&mut self, key: &Key, _held: &Held)
+        requires kept { IsKept self.old }
+        requires removable { IsRemovable self.old _held.now key.now.parent key.now.name }
+        ensures cuts { CutsName (world_of self.old) key.now.parent key.now.name (world_of self.new) }
+        ensures kept { IsKept self.new }
+    {
+        let Some(number) = self.tree.find(key) else {
+            return;
+        };
+        let Ok(()) = self.tree.cut(number) else {
+            unreachable!();
+        };
+        sweep_cut(&mut self.tree, &self.flights);
+    }
+
+    /// What the outcome of a request that removes a name does.
+    fn give_for_removal(
+        &mut self,
+        id: u64,
+        key: &Key,
+        held: &Held,
+        answer: Givens,
+        outcome: Outcome,
+    ) -> Answered
+        requires kept { IsKept self.old }
+        requires removable { IsRemovable self.old held.now key.now.parent key.now.name }
+        requires unanswered { answer.items ≡ [] }
+        ensures gives { (f : Flight) → Gives (world_of self.old) id f (Want.Remove key.now.parent key.now.name) outcome result (world_of self.new) }
+        ensures kept { IsKept self.new }
+    {
+        match outcome {
+            Outcome::Done => self.cut_name(key, held),
+            Outcome::Failed | Outcome::Entry => {}
+        }
+        Answered {
+            id,
+            given: answer,
+            lost: false,
+        }
+    }
+
+    /// What the outcome of a request does, whose work has ended.
+    fn give(&mut self, id: u64, work: Work, outcome: Outcome) -> Answered
         requires kept { IsKept self.old }
         requires ending { IsEnding self.old id work }
-        ensures gives { (e : IsEnding self.old id work) → Gives (world_of self.old) id e.flight work.want result (world_of self.new) }
+        ensures gives { (e : IsEnding self.old id work) → Gives (world_of self.old) id e.flight work.want outcome result (world_of self.new) }
         ensures kept { IsKept self.new }
     {
         let Work {
             want,
             copy,
+            held,
             promise,
             answer,
         } = work;
-        let key = key_of(want);
-        let copy = Key {
-            parent: key.parent,
-            name: copy,
-        };
-        self.give_name(id, key, copy, promise, answer)
+        match want {
+            Want::Node { number: _ } => Answered {
+                id,
+                given: answer,
+                lost: false,
+            },
+            Want::Name { parent, name } => {
+                let key = Key { parent, name };
+                self.give_for_name(id, key, copy, promise, answer, outcome)
+            }
+            Want::Remove { parent, name } => {
+                let key = Key { parent, name };
+                self.give_for_removal(id, &key, &held, answer, outcome)
+            }
+        }
     }
 
     /// Ends the work on a request: the client is given what its want asks for, or nothing.
@@ -171,9 +251,6 @@ impl State {
                 lost: true,
             };
         };
-        match outcome {
-            Outcome::Entry => self.give(id, work),
-            Outcome::Failed | Outcome::Done => give_nothing(id, work),
-        }
+        self.give(id, work, outcome)
     }
 }

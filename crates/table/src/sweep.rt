@@ -2,10 +2,10 @@
 
 ghost use Rattle.std.specs.Prelude.{true, false, ◌≡◌, ◌≤◌, ◌<◌, ◌+◌, ◌⊎◌, ℕ, Some, None, IfNone, IfSome, MatchOption, [], ◌∷◌, ◌++◌};
 ghost use Rattle.flights.specs.Listed.{flying_of};
-ghost use Rattle.image.specs.Law.{HasReason};
+ghost use Rattle.image.specs.Law.{HasReason, HaveReasons};
 ghost use Rattle.table.specs.Steps.{IsNeedless, IsSwept};
-ghost use Rattle.table.specs.Sweeping.{IsPruned, IsSameRest, numbers_in, parent_in};
-ghost use Rattle.tree.specs.Places.{at_in};
+ghost use Rattle.table.specs.Sweeping.{HaveReasonsBelow, IsPruned, IsSameRest, numbers_in, parent_in};
+ghost use Rattle.tree.specs.Places.{at_in, IsTree};
 
 use flights::{Flights, Given};
 use tree::{Node, Place, Tree};
@@ -107,4 +107,42 @@ pub fn sweep_pins(tree: &mut Tree, flights: &Flights, pins: &[u64])
         sweep(tree, flights, *number, &[], rest);
         left = rest;
     }
+}
+
+/// Drops the node if it is cut and nothing keeps it.
+fn drop_cut(tree: &mut Tree, flights: &Flights, number: u64)
+    requires tree { IsTree (at_in tree.old) }
+    requires below { HaveReasonsBelow (at_in tree.old) (flying_of flights.now).pinned number }
+    ensures tree { IsTree (at_in tree.new) }
+    ensures below { HaveReasonsBelow (at_in tree.new) (flying_of flights.now).pinned (number + 1) }
+    ensures swept { IsSwept (flying_of flights.now).pinned (at_in tree.old) (at_in tree.new) }
+    ensures rest { IsSameRest tree.old tree.new }
+{
+    let Some(node) = tree.at(number) else {
+        return;
+    };
+    match node.place {
+        Place::Cut => {}
+        Place::Root | Place::Named(_) => return,
+    }
+    if is_needed(tree, flights, number, node) {
+        return;
+    }
+    tree.drop_node(number);
+}
+
+/// Drops each node that is cut and that nothing keeps. No node loses a child by it.
+pub fn sweep_cut(tree: &mut Tree, flights: &Flights)
+    requires tree { IsTree (at_in tree.old) }
+    requires below { HaveReasonsBelow (at_in tree.old) (flying_of flights.now).pinned 0 }
+    ensures tree { IsTree (at_in tree.new) }
+    ensures reasons { HaveReasons (at_in tree.new) (flying_of flights.now).pinned }
+    ensures swept { IsSwept (flying_of flights.now).pinned (at_in tree.old) (at_in tree.new) }
+    ensures rest { IsSameRest tree.old tree.new }
+{
+    let last = tree.last();
+    for number in 0..last {
+        drop_cut(tree, flights, number);
+    }
+    drop_cut(tree, flights, last);
 }

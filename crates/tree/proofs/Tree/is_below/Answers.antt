@@ -1,6 +1,7 @@
 use Rattle.std.proofs.Common.{◌≡◌, arith, sym, ap, ◌∙◌, subst}
 use Rattle.tree.specs.Places.{Lookup, at_in, IsTree, IsBelow}
 use Rattle.tree.specs.Listed.{node_at}
+use Rattle.tree.proofs.Census.{census_in}
 use Rattle.tree.proofs.Counting.{look}
 use Rattle.tree.proofs.LookupLemmas.{found_node}
 use Rattle.tree.proofs.Stepping.{reaches_short}
@@ -27,3 +28,6 @@ pub returns-clause-tree : goal.returns-clause-tree
 returns-clause-tree c =
     let same : node_at c.self.inside.nodes.items ≡ at_in c.args.self.now = sym (look c.self.inside.nodes.items) ∙ ap at_in c.self.view_is in
     subst IsTree same c.self.invariant.grown.tree
+
+pub returns-clause-census : goal.returns-clause-census
+returns-clause-census c = census_in c.self.inside.nodes c.args.self.now _ _ c.self.invariant.grown.distinct c.self.view_is

@@ -21,7 +21,7 @@ returns-then-is_broken-clause-drains g c =
     let same = ap (λ (t : MemTree). t.has_samples) c.loop-frame.invariant.tree in
     let serves = serves_same g.L.Link.sends _ _ _ _ _ _ _ same c.deref.ensures.value c.work_off.ensures.serves in
     let P : Option Sent → Type 0 = λ sent. Serves g.L.Link.sends c.args.self.now.tree.has_samples c.in-Ok-Some.frame.items (record { world = world_of c.loop-frame.self.table; link = c.loop-frame.link }) sent (record { world = world_of c.work_off.new.self.table; link = c.work_off.new.link }) in
-    stop_broken _ _ works.0 _ _ _ _ _ works.1 _ c.in-Ok-Some.frame.items frame.0 frame.1 (subst P broken serves)
+    stop_broken _ _ works.0 _ _ _ _ _ works.1 _ c.in-Ok-Some.frame.items frame.front frame.framed (subst P broken serves)
 
 pub loop-frame-preserved : goal.loop-frame-preserved
 loop-frame-preserved g c =
@@ -30,11 +30,11 @@ loop-frame-preserved g c =
     let same = ap (λ (t : MemTree). t.has_samples) c.loop-frame.invariant.tree in
     let serves = serves_same g.L.Link.sends _ _ _ _ _ _ _ same c.deref.ensures.value c.work_off.ensures.serves in
     record {
-      stopped = frame.2 ∙ c.loop-frame.invariant.stopped;
+      stopped = frame.stopped ∙ c.loop-frame.invariant.stopped;
       tree = c.work_off.ensures.tree ∙ c.loop-frame.invariant.tree;
       works = (
         works.0 ++ c.in-Ok-Some.frame.items ∷ [],
-        works_more _ _ works.0 c.in-Ok-Some.frame.items _ _ _ _ _ _ c.work_off.result works.1 frame.0 frame.1 serves (c.is_broken.ensures.whole c.if-is_broken.false),
+        works_more _ _ works.0 c.in-Ok-Some.frame.items _ _ _ _ _ _ c.work_off.result works.1 frame.front frame.framed serves (c.is_broken.ensures.whole c.if-is_broken.false),
       );
     }
 

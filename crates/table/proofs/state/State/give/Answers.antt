@@ -1,12 +1,21 @@
 use Rattle.std.proofs.Common.{sym, subst}
 use Rattle.flights.specs.declared.data.Want.{Want}
 use Rattle.table.specs.Steps.{Gives}
-use Rattle.table.specs.World.{IsNameEnding, world_of}
-use Rattle.table.proofs.Giving.{name_ending}
+use Rattle.table.specs.World.{world_of}
+use Rattle.table.proofs.Giving.{name_ending, removal_ending}
 use Rattle.table.proofs.state.State.give.Goals as goal
 
-pub returns-clause-gives : goal.returns-clause-gives
-returns-clause-gives c e =
-    let key = c.key_of-key.result in
-    let n : IsNameEnding c.args.self.now c.args.id key.parent key.name c.args.work.promise = name_ending c.args.self.now c.args.id c.args.work key.parent key.name c.key_of-key.ensures e in
-    subst (λ (w : Want). Gives (world_of c.args.self.now) c.args.id e.flight w c.give_name.result (world_of c.give_name.new.self)) (sym c.key_of-key.ensures) (c.give_name.ensures.gives n)
+pub give_for_name-requires-clause-ending : goal.give_for_name-requires-clause-ending
+give_for_name-requires-clause-ending c = name_ending c.args.self.now c.args.id c.args.work c.in-Name.parent c.in-Name.name c.in-Name.is c.requires.ending
+
+pub returns-in-Name-clause-gives : goal.returns-in-Name-clause-gives
+returns-in-Name-clause-gives c e =
+    let n = name_ending c.args.self.now c.args.id c.args.work c.in-Name.parent c.in-Name.name c.in-Name.is e in
+    subst (λ (w : Want). Gives (world_of c.args.self.now) c.args.id e.flight w c.args.outcome c.give_for_name.result (world_of c.give_for_name.new.self)) (sym c.in-Name.is) (c.give_for_name.ensures.gives n)
+
+pub give_for_removal-requires-clause-removable : goal.give_for_removal-requires-clause-removable
+give_for_removal-requires-clause-removable c = removal_ending c.args.self.now c.args.id c.args.work c.in-Remove.parent c.in-Remove.name c.requires.kept c.in-Remove.is c.requires.ending
+
+pub returns-in-Remove-clause-gives : goal.returns-in-Remove-clause-gives
+returns-in-Remove-clause-gives c e =
+    subst (λ (w : Want). Gives (world_of c.args.self.now) c.args.id e.flight w c.args.outcome c.give_for_removal.result (world_of c.give_for_removal.new.self)) (sym c.in-Remove.is) (c.give_for_removal.ensures.gives e.flight)

@@ -1,0 +1,21 @@
+//! The fronts of a path.
+
+ghost use Rattle.std.specs.Prelude.{◌≡◌, IfOk};
+ghost use Rattle.holds.specs.Clashes.{AreFronts};
+
+use crate::held::Paths;
+use paths::Path;
+use std::alloc::{AllocError, Global};
+
+/// Every front of the path but the empty one, the path itself last.
+pub fn fronts_of(alloc: Global, path: &Path) -> Result<Paths, AllocError>
+    ensures { IfOk result (λ ps. AreFronts ps path.now) }
+{
+    let mut front = Path::new(alloc);
+    let mut fronts = Vec::new(alloc);
+    for name in path.names() {
+        front.push(name.copy()?)?;
+        fronts.push(front.copy()?)?;
+    }
+    Ok(Paths::from_vec(fronts))
+}

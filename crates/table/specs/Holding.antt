@@ -1,0 +1,58 @@
+-- What a request holds, as its want says and the nodes stand.
+use Rattle.std.specs.Prelude.{ℕ, ◌≡◌, ◌≢◌, [], ◌∷◌, ◌++◌, Some, All}
+use Rattle.paths.specs.Fronts.{Name, Names}
+use Rattle.holds.specs.declared.held.Held.{Held}
+use Rattle.holds.specs.declared.held.Lead.{Lead}
+use Rattle.holds.specs.Clashes.{AreFronts, IsHeld, IsSomeFront}
+use Rattle.tree.specs.Places.{Lookup, IsPathOf}
+use Rattle.flights.specs.declared.data.Flight.{Flight}
+use Rattle.flights.specs.declared.data.Stage.TheVariants.{Working}
+use Rattle.flights.specs.declared.data.Want.{Want}
+use Rattle.flights.specs.declared.data.Want.TheVariants as wants
+use Rattle.flights.specs.declared.data.Work.{Work}
+use Rattle.flights.specs.Flying.{Flights, IsInTheWay}
+
+-- ---- wants
+
+-- a node: each front of its path is shared
+pub record HoldsNode (at : Lookup) (number : ℕ) (held : Held) : Type 0 where
+  pub path : Names
+  pub leads : IsPathOf at number path
+  pub given : held.given ≡ record { number = number; path = path } ∷ []
+  pub shared : AreFronts held.shared path
+  pub exclusive : held.exclusive ≡ []
+
+-- a name under a parent: each front of its path is shared, itself too
+pub record HoldsName (at : Lookup) (parent : ℕ) (name : Name) (held : Held) : Type 0 where
+  pub above : Names
+  pub leads : IsPathOf at parent above
+  pub given : held.given ≡ record { number = parent; path = above } ∷ []
+  pub shared : AreFronts held.shared (above ++ name ∷ [])
+  pub exclusive : held.exclusive ≡ []
+
+-- a name that is to be removed: it is held alone, and each front of its parent's path is shared
+pub record HoldsRemoved (at : Lookup) (parent : ℕ) (name : Name) (held : Held) : Type 0 where
+  pub above : Names
+  pub leads : IsPathOf at parent above
+  pub given : held.given ≡ record { number = parent; path = above } ∷ []
+  pub shared : AreFronts held.shared above
+  pub exclusive : held.exclusive ≡ (above ++ name ∷ []) ∷ []
+
+abbrev pub HoldsFor : Lookup → Want → Held → Type 0
+HoldsFor at (wants.Node number) held = HoldsNode at number held
+HoldsFor at (wants.Name parent name) held = HoldsName at parent name held
+HoldsFor at (wants.Remove parent name) held = HoldsRemoved at parent name held
+
+-- ---- the law
+
+-- the path given for a node leads to it, and each front of it is held
+pub record IsLead (at : Lookup) (held : Held) (lead : Lead) : Type 0 where
+  pub path : IsPathOf at lead.number lead.path
+  pub fronts : (front : Names) → IsSomeFront front lead.path → IsHeld held front
+
+-- what is held by the requests that are worked on
+pub record AreHeld (at : Lookup) (flights : Flights) : Type 0 where
+  -- no two clash
+  pub apart : (j k : ℕ) (f g : Flight) (work : Work) → flights j ≡ Some f → flights k ≡ Some g → j ≢ k → g.stage ≡ Working work → IsInTheWay f.stage work.held → ⊥
+  -- the paths given still lead to their nodes
+  pub known : (id : ℕ) (f : Flight) (work : Work) → flights id ≡ Some f → f.stage ≡ Working work → All (IsLead at work.held) work.held.given

@@ -1,0 +1,192 @@
+//! A table with two shares, and the tickets and answers that a test has not spent yet.
+
+ghost use Rattle.std.specs.Prelude.{◌≡◌, ◌≤◌};
+ghost use Rattle.ledger.specs.Shares.{AreAll};
+
+use flights::{Given, Want};
+use image::Image;
+use ledger::{Blanks, Gather, Share, Shared, Totals};
+use paths::Name;
+use std::alloc::Global;
+use std::marker::Brand;
+use std::process::Abort;
+use std::sync::ledger as tokens;
+use std::test::Fail;
+use table::{Answered, Begin, Limits, Outcome, Settled, Table, Ticket};
+
+/// The number of the root.
+pub const ROOT: u64 = 1;
+
+/// What a finish answered for the one name of its request.
+#[derive(Clone, Copy, Debug, PartialEq, Eq, Drop)]
+pub enum Gave {
+    /// An entry.
+    Entry(Given),
+    /// Nothing for the name.
+    Nothing,
+    /// The ticket was of no request that the table works on.
+    Lost,
+}
+
+impl Gave {
+    /// An entry of that node.
+    pub fn entry(number: u64, generation: u64) -> Gave {
+        Gave::Entry(Given { number, generation })
+    }
+
+    fn of(answered: &Answered) -> Option<Gave> {
+        match answered.given() {
+            [] if answered.lost() => Some(Gave::Lost),
+            [None] if !answered.lost() => Some(Gave::Nothing),
+            [Some(given)] if !answered.lost() => Some(Gave::Entry(*given)),
+            _ => None,
+        }
+    }
+}
+
+/// What the shares of a table add up to at its end.
+#[derive(Debug, PartialEq, Eq, Drop)]
+pub struct Gathered(pub Result<Totals, Gather>);
+
+/// A table at work, with two shares.
+pub struct Desk<B: Shared, E: tokens::Ledger, K: tokens::Ledger, F: tokens::Ledger> {
+    pub alloc: Global,
+    pub table: Table<B, E, K, F>,
+    pub shares: Vec<Share<B, E, K, F>>,
+    pub tickets: Vec<Ticket>,
+    pub answers: Vec<Answered>,
+}
+
+/// Puts a value after the others.
+pub fn keep<T>(rt: &impl Abort, values: &mut Vec<T>, value: T) {
+    if let Err(_refused) = values.push(value) {
+        panic!(rt; "memory is ample");
+    }
+}
+
+impl<B: Shared, E: tokens::Ledger, K: tokens::Ledger, F: tokens::Ledger> Desk<B, E, K, F> {
+    /// Begins a request for a name, and keeps its ticket as the last one.
+    pub fn begin(&mut self, rt: &impl Abort, parent: u64, name: &str) -> Result<(), i32> {
+        let name = Name::copy_of(self.alloc, name).expect(rt, "memory is ample");
+        match self.table.begin(7, Want::Name { parent, name }) {
+            Begin::Go(ticket) => {
+                keep(rt, &mut self.tickets, ticket);
+                Ok(())
+            }
+            Begin::Busy => panic!(rt; "no request holds a name"),
+            Begin::Refused(errno) => Err(errno),
+        }
+    }
+
+    /// Finishes the request of a ticket for a share, and keeps its answer as the last one.
+    pub fn finish(
+        &mut self,
+        rt: &impl Abort,
+        share: usize,
+        ticket: usize,
+        outcome: Outcome,
+    ) -> Gave {
+        assert!(rt; ticket < self.tickets.len());
+        assert!(rt; share < self.shares.len());
+        let ticket = self.tickets.remove(ticket);
+        let answered = self.table.finish(&mut self.shares[share], ticket, outcome);
+        let gave = Gave::of(&answered).expect(rt, "one name is answered, or the ticket is lost");
+        keep(rt, &mut self.answers, answered);
+        gave
+    }
+
+    /// Settles an answer for a share.
+    pub fn settle(&mut self, rt: &impl Abort, share: usize, answer: usize, taken: bool) -> Settled {
+        assert!(rt; answer < self.answers.len());
+        assert!(rt; share < self.shares.len());
+        let answered = self.answers.remove(answer);
+        self.table.settle(&mut self.shares[share], answered, taken)
+    }
+
+    /// Gives lookups of a node back for a share.
+    pub fn forget(&mut self, rt: &impl Abort, share: usize, number: u64, n: u64) -> u64 {
+        assert!(rt; share < self.shares.len());
+        self.table.forget(&mut self.shares[share], number, n)
+    }
+
+    /// A request for a name in the root, from its begin to its end.
+    pub fn look_up(&mut self, rt: &impl Abort, name: &str, taken: bool) -> Gave {
+        assert_eq!(rt; self.begin(rt, ROOT, name), Ok(()));
+        let ticket = self.tickets.len().saturating_sub(1);
+        let gave = self.finish(rt, 0, ticket, Outcome::Entry);
+        let answer = self.answers.len().saturating_sub(1);
+        let _settled = self.settle(rt, 0, answer, taken);
+        gave
+    }
+
+    /// The table as plain data. It keeps the law.
+    pub fn image(&self, rt: &impl Abort) -> Image {
+        let image = self.table.export().expect(rt, "memory is ample");
+        assert!(rt; image.lawful());
+        image
+    }
+
+    /// Spends all that is left, and gathers the shares.
+    fn end(self, rt: &impl Abort) -> Gathered
+        requires { AreAll B.shares B.parts E.parts K.parts F.parts }
+    {
+        let Desk {
+            alloc: _,
+            table,
+            shares,
+            tickets,
+            mut answers,
+        } = self;
+        assert!(rt; tickets.is_empty());
+        tickets.destroy_empty();
+        while let Some(answered) = answers.pop() {
+            answered.leave();
+        }
+        answers.destroy_empty();
+        Gathered(table.gather(shares))
+    }
+}
+
+/// What is done with a table, whatever ledgers its book stands on.
+pub trait Story {
+    fn tell<B: Shared, E: tokens::Ledger, K: tokens::Ledger, F: tokens::Ledger, R: Abort>(
+        &mut self,
+        rt: &R,
+        desk: &mut Desk<B, E, K, F>,
+    );
+}
+
+fn tell_on<S: Story, R: Abort, B: Shared, E: tokens::Ledger, K: tokens::Ledger, F: tokens::Ledger>(
+    rt: &R,
+    alloc: Global,
+    limits: Limits,
+    blanks: Blanks,
+    story: &mut S,
+) -> Result<Gathered, Fail>
+    requires root { 1 ≤ limits.nodes }
+    requires names { blanks ≡ record { born = B.name; entries = E.name; backs = K.name; forgotten = F.name; parts = 2 } }
+    requires cut { AreAll 2 B.parts E.parts K.parts F.parts }
+    requires shares { B.shares ≡ 2 }
+{
+    let (table, shares) = Table::<B, E, K, F>::open(alloc, limits, blanks, 2)?;
+    let mut desk = Desk {
+        alloc,
+        table,
+        shares,
+        tickets: Vec::new(alloc),
+        answers: Vec::new(alloc),
+    };
+    story.tell(rt, &mut desk);
+    Ok(desk.end(rt))
+}
+
+/// Opens a table with two shares, does with it what the story tells, and gathers the shares.
+pub fn tell<S: Story, R: Abort>(
+    rt: &R,
+    alloc: Global,
+    limits: Limits,
+    story: &mut S,
+) -> Result<Gathered, Fail> {
+    assert!(rt; 1 <= limits.nodes);
+    tell_on::<S, R, Brand, Brand, Brand, Brand>(rt, alloc, limits, Blanks::new(2), story)
+}
