@@ -1,5 +1,6 @@
 pub mod CommandLine
 pub mod Faults
+pub mod Found
 pub mod Links
 pub mod Running
 pub mod Samples

@@ -9,7 +9,7 @@ use Rattle.wire.specs.declared.reply.ReplyBody.TheVariants as body
 use Rattle.programs.specs.declared.faults.Fault.{Fault}
 use Rattle.programs.specs.declared.faults.Fault.TheVariants.{FrameLength, Link, Memory}
 use Rattle.programs.specs.Faults.{status_of}
-use Rattle.programs.specs.declared.samples.Stat.{Stat}
+use Rattle.programs.specs.declared.found.Stat.{Stat}
 use Rattle.programs.specs.declared.sessions.SessionEnd.{SessionEnd}
 use Rattle.programs.specs.declared.sessions.SessionEnd.TheVariants as end
 

@@ -3,6 +3,7 @@
 
 mod command;
 mod faults;
+mod found;
 mod hexadecimal;
 mod links;
 mod runs;
@@ -14,5 +15,5 @@ pub use faults::Fault;
 pub use hexadecimal::HexLink;
 pub use links::{Link, Received, Sent};
 pub use runs::{hex_run, report};
-pub use samples::{MemTree, Stat};
+pub use samples::new_tree;
 pub use sessions::{Session, SessionEnd};

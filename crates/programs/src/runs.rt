@@ -3,14 +3,15 @@
 ghost use Rattle.std.specs.Prelude.{◌≡◌};
 ghost use Rattle.std.specs.Io.KnownBytes.{Keeps};
 ghost use Rattle.ledger.specs.Shares.{AreAll};
-ghost use Rattle.programs.specs.Running.{RunsHex, ServesLink};
+ghost use Rattle.programs.specs.Running.{RunsHex, ServesHex, ServesLink};
 ghost use Rattle.programs.specs.Sessions.{exit_of, fault_of, IsEnding, IsStatus};
 
 use crate::faults::Fault;
 use crate::hexadecimal::HexLink;
 use crate::links::Link;
-use crate::samples::MemTree;
+use crate::samples::new_tree;
 use crate::sessions::{Session, SessionEnd};
+use backing::{Calls, MemTree};
 use ledger::{Blanks, Shared};
 use std::alloc::Global;
 use std::io::{BufRead, Write};
@@ -22,12 +23,14 @@ use table::{Limits, Table};
 const NODES: u64 = 65_536;
 
 /// Serves a tree over a link with a table of its own, of one share.
-fn serve<B: Shared, E: tokens::Ledger, K: tokens::Ledger, F: tokens::Ledger, L: Link>(
-    alloc: Global,
-    blanks: Blanks,
-    tree: MemTree,
-    link: &mut L,
-) -> SessionEnd
+fn serve<
+    B: Shared,
+    E: tokens::Ledger,
+    K: tokens::Ledger,
+    F: tokens::Ledger,
+    L: Link,
+    D: Calls + Drop,
+>(alloc: Global, blanks: Blanks, tree: D, link: &mut L) -> SessionEnd
     requires names { blanks ≡ record {
       born = B.name;
       entries = E.name;
@@ -37,7 +40,7 @@ fn serve<B: Shared, E: tokens::Ledger, K: tokens::Ledger, F: tokens::Ledger, L: 
     } }
     requires cut { AreAll 1 B.parts E.parts K.parts F.parts }
     requires shares { B.shares ≡ 1 }
-    ensures serves { ServesLink L.receives L.sends tree.has_samples link.old result link.new }
+    ensures serves { ServesLink L.receives L.sends D.gives tree link.old result link.new }
     ensures ending { IsEnding result }
 {
     let limits = Limits {
@@ -52,7 +55,7 @@ fn serve<B: Shared, E: tokens::Ledger, K: tokens::Ledger, F: tokens::Ledger, L: 
     shares.destroy_empty();
     let mut session = Session::new(alloc, tree, table, share);
     let end = session.run(link);
-    let (_, share) = session.end();
+    let (_, share, _) = session.end();
     share.leave();
     end
 }
@@ -81,6 +84,21 @@ pub fn report<F: Write>(faults: &mut F, fault: Option<Fault>) -> u8
     fault.status()
 }
 
+/// Serves a new tree in memory over the link.
+fn serve_new<I: BufRead + Drop, O: Write + Drop>(
+    alloc: Global,
+    sample: bool,
+    link: &mut HexLink<I, O>,
+) -> SessionEnd
+    ensures serves { ServesHex sample link.old result link.new }
+    ensures ending { IsEnding result }
+{
+    let Ok(tree) = new_tree(alloc, sample) else {
+        return SessionEnd::Memory;
+    };
+    serve::<Brand, Brand, Brand, Brand, HexLink<I, O>, MemTree>(alloc, Blanks::new(1), tree, link)
+}
+
 /// Serves a tree in memory over hexadecimal lines: the program `hex` but for its command line. Answers its exit status.
 pub fn hex_run<I: BufRead + Drop, O: Write + Drop, F: Write>(
     alloc: Global,
@@ -94,12 +112,6 @@ pub fn hex_run<I: BufRead + Drop, O: Write + Drop, F: Write>(
     ensures quiet { result ≡ 0 → Keeps (F.contents faults.old) (F.contents faults.new) }
 {
     let mut link = HexLink::new(alloc, input, output);
-    let tree = MemTree::new(sample);
-    let end = serve::<Brand, Brand, Brand, Brand, HexLink<I, O>>(
-        alloc,
-        Blanks::new(1),
-        tree,
-        &mut link,
-    );
+    let end = serve_new(alloc, sample, &mut link);
     report(faults, fault_of(end, link.cause()))
 }

@@ -8,8 +8,9 @@ ghost use Rattle.programs.specs.Running.{Drains, Runs};
 ghost use Rattle.programs.specs.Serving.{given_in, is_reserved, is_taken, outcome_of, refusal_bytes, side, GivesName, IsSilent, LooksUp, Serves};
 ghost use Rattle.programs.specs.Sessions.{ended_by, lookup_body, IsEnding};
 
+use crate::found::{Stat, found_in};
 use crate::links::{Link, Received, Sent};
-use crate::samples::{MemTree, Stat};
+use backing::{Call, Calls};
 use errno::{EAGAIN, EIO, ENOENT, ENOMEM};
 use flights::{Given, Want};
 use ledger::{Share, Shared};
@@ -130,22 +131,28 @@ fn refuse_frame<L: Link>(link: &mut L, frame: &[u8], fault: WireFault) -> Option
 
 /// A table that is served by one thread. It must be spent by `end`.
 #[must_use]
-pub struct Session<B: Shared, E: tokens::Ledger, K: tokens::Ledger, F: tokens::Ledger> {
+pub struct Session<B: Shared, E: tokens::Ledger, K: tokens::Ledger, F: tokens::Ledger, D: Calls> {
     alloc: Global,
-    tree: MemTree,
+    tree: D,
     table: Table<B, E, K, F>,
     share: Share<B, E, K, F>,
     reply: Vec<u8>,
 }
 
-impl<B: Shared, E: tokens::Ledger, K: tokens::Ledger, F: tokens::Ledger> Session<B, E, K, F> {
+impl<B: Shared, E: tokens::Ledger, K: tokens::Ledger, F: tokens::Ledger, D: Calls> Session<
+    B,
+    E,
+    K,
+    F,
+    D,
+> {
     /// Serves the tree with a table, whose postings the share counts.
     pub fn new(
         alloc: Global,
-        tree: MemTree,
+        tree: D,
         table: Table<B, E, K, F>,
         share: Share<B, E, K, F>,
-    ) -> Session<B, E, K, F>
+    ) -> Session<B, E, K, F, D>
         ensures table { result.table ≡ table }
         ensures share { result.share ≡ share }
         ensures tree { result.tree ≡ tree }
@@ -159,25 +166,26 @@ impl<B: Shared, E: tokens::Ledger, K: tokens::Ledger, F: tokens::Ledger> Session
         }
     }
 
-    /// Hands the table and the share back.
-    pub fn end(self) -> (Table<B, E, K, F>, Share<B, E, K, F>)
+    /// Hands the table, the share and the tree back.
+    pub fn end(self) -> (Table<B, E, K, F>, Share<B, E, K, F>, D)
         ensures table { result.0 ≡ self.table }
         ensures share { result.1 ≡ self.share }
+        ensures tree { result.2 ≡ self.tree }
     {
         let Session {
             alloc: _,
-            tree: _,
+            tree,
             table,
             share,
             reply: _,
         } = self;
-        (table, share)
+        (table, share, tree)
     }
 
     /// Serves the link until it ends.
     pub fn run<L: Link>(&mut self, link: &mut L) -> SessionEnd
-        ensures runs { Runs L.receives L.sends self.old.tree.has_samples
-            (side self.old.table link.old) result (side self.new.table link.new) }
+        ensures runs { Runs L.receives L.sends D.gives
+            (side self.old.table link.old self.old.tree) result (side self.new.table link.new self.new.tree) }
         ensures ending { IsEnding result }
     {
         let mut cutter = Cutter::new(self.alloc);
@@ -206,10 +214,9 @@ impl<B: Shared, E: tokens::Ledger, K: tokens::Ledger, F: tokens::Ledger> Session
 
     /// Works off the frames that are there whole. Some end says that the session is over.
     fn drain<L: Link>(&mut self, link: &mut L, cutter: &mut Cutter) -> Option<SessionEnd>
-        ensures drains { Drains L.sends self.old.tree.has_samples
-            (side self.old.table link.old) cutter.old.kept result (side self.new.table link.new) cutter.new.kept }
+        ensures drains { Drains L.sends D.gives
+            (side self.old.table link.old self.old.tree) cutter.old.kept result (side self.new.table link.new self.new.tree) cutter.new.kept }
         ensures on { IfNone result (cutter.new.stopped ≡ cutter.old.stopped) }
-        ensures tree { self.new.tree ≡ self.old.tree }
     {
         loop {
             match cutter.next() {
@@ -228,9 +235,8 @@ impl<B: Shared, E: tokens::Ledger, K: tokens::Ledger, F: tokens::Ledger> Session
     /// Answers what a frame asks for, if it is to be answered.
     fn work_off<L: Link>(&mut self, link: &mut L, frame: &[u8]) -> Option<Sent>
         requires { IsFramed frame.now }
-        ensures serves { Serves L.sends self.old.tree.has_samples frame.now
-            (side self.old.table link.old) result (side self.new.table link.new) }
-        ensures tree { self.new.tree ≡ self.old.tree }
+        ensures { Serves L.sends D.gives frame.now
+            (side self.old.table link.old self.old.tree) result (side self.new.table link.new self.new.tree) }
     {
         let request = match decode(frame) {
             Ok(request) => request,
@@ -249,9 +255,8 @@ impl<B: Shared, E: tokens::Ledger, K: tokens::Ledger, F: tokens::Ledger> Session
 
     /// Answers a LOOKUP.
     fn look_up<L: Link>(&mut self, link: &mut L, unique: u64, parent: u64, name: &str) -> Sent
-        ensures looks_up { LooksUp L.sends self.old.tree.has_samples unique parent name.now
-            (side self.old.table link.old) result (side self.new.table link.new) }
-        ensures tree { self.new.tree ≡ self.old.tree }
+        ensures { LooksUp L.sends D.gives unique parent name.now
+            (side self.old.table link.old self.old.tree) result (side self.new.table link.new self.new.tree) }
     {
         if is_reserved(name) {
             return refuse(link, unique, ENOENT);
@@ -268,11 +273,10 @@ impl<B: Shared, E: tokens::Ledger, K: tokens::Ledger, F: tokens::Ledger> Session
 
     /// Answers a LOOKUP that has begun.
     fn give_name<L: Link>(&mut self, link: &mut L, unique: u64, ticket: Ticket) -> Sent
-        ensures gives { GivesName L.sends self.old.tree.has_samples unique ticket
-            (side self.old.table link.old) result (side self.new.table link.new) }
-        ensures tree { self.new.tree ≡ self.old.tree }
+        ensures { GivesName L.sends D.gives unique ticket
+            (side self.old.table link.old self.old.tree) result (side self.new.table link.new self.new.tree) }
     {
-        let found = self.tree.stat(ticket.path());
+        let found = found_in(&self.tree.call(Call::Stat(ticket.path())));
         let outcome = outcome_of(&found);
         let answered = self.table.finish(&mut self.share, ticket, outcome);
         let body = lookup_body(found, given_in(&answered));

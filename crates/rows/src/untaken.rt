@@ -5,7 +5,7 @@ ghost use Rattle.ledger.specs.Shares.{AreAll};
 
 use crate::frames::{ENTRY_E_REBORN, LOOKUP_A, LOOKUP_E, lines_of};
 use ledger::{Blanks, Shared, Totals};
-use programs::{Link, MemTree, Received, Sent, Session, SessionEnd};
+use programs::{Link, Received, Sent, Session, SessionEnd, new_tree};
 use std::alloc::{AllocError, Global};
 use std::marker::Brand;
 use std::sync::ledger as tokens;
@@ -68,6 +68,7 @@ fn serve_choosy<B: Shared, E: tokens::Ledger, K: tokens::Ledger, F: tokens::Ledg
     requires cut { AreAll 1 B.parts E.parts K.parts F.parts }
     requires shares { B.shares ≡ 1 }
 {
+    let tree = new_tree(alloc, true)?;
     let limits = Limits {
         nodes: 4,
         ..Limits::default()
@@ -75,9 +76,9 @@ fn serve_choosy<B: Shared, E: tokens::Ledger, K: tokens::Ledger, F: tokens::Ledg
     let (table, mut shares) = Table::<B, E, K, F>::open(alloc, limits, blanks, 1)?;
     let share = shares.pop().unwrap();
     shares.destroy_empty();
-    let mut session = Session::new(alloc, MemTree::new(true), table, share);
+    let mut session = Session::new(alloc, tree, table, share);
     let end = session.run(&mut client);
-    let (_, share) = session.end();
+    let (_, share, _) = session.end();
     let totals = share.totals();
     share.leave();
     Ok(Left {

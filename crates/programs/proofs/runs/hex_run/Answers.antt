@@ -1,16 +1,15 @@
-use Rattle.std.proofs.Common.{Bool, ap, ◌∙◌, subst}
-use Rattle.programs.specs.Links.{Hexing, Receives, Sends}
-use Rattle.programs.specs.Running.{ServesLink}
+use Rattle.std.proofs.Common.{ap, ◌∙◌, subst}
+use Rattle.programs.specs.Links.{Hexing}
+use Rattle.programs.specs.Running.{ServesHex}
 use Rattle.programs.specs.Sessions.{exit_of, fault_of}
 use Rattle.programs.proofs.runs.hex_run.Goals as goal
 
 pub returns-clause-runs : goal.returns-clause-runs
 returns-clause-runs g c =
-    let P : Bool → Hexing → Type 0 = λ samples link. ServesLink Receives Sends samples link c.serve-end.result c.serve-end.new.link in
-    let sampled = subst (λ (b : Bool). P b c.new-link.result) c.new-tree.ensures c.serve-end.ensures.serves in
+    let P : Hexing → Type 0 = λ link. ServesHex c.args.sample link c.serve_new-end.result c.serve_new-end.new.link in
     record {
-      over = c.serve-end.result;
-      last = c.serve-end.new.link;
-      serves = subst (λ (link : Hexing). P c.args.sample link) c.new-link.ensures sampled;
-      status_is = c.report.ensures.status ∙ ap exit_of (c.fault_of.ensures ∙ ap (fault_of c.serve-end.result) c.cause.ensures);
+      over = c.serve_new-end.result;
+      last = c.serve_new-end.new.link;
+      serves = subst P c.new-link.ensures c.serve_new-end.ensures.serves;
+      status_is = c.report.ensures.status ∙ ap exit_of (c.fault_of.ensures ∙ ap (fault_of c.serve_new-end.result) c.cause.ensures);
     }

@@ -3,7 +3,6 @@ use Rattle.table.specs.World.{world_of}
 use Rattle.wire.specs.Stream.{Cutting}
 use Rattle.programs.specs.Serving.{Serves}
 use Rattle.programs.specs.declared.links.Sent.{Sent}
-use Rattle.programs.specs.declared.samples.MemTree.{MemTree}
 use Rattle.programs.proofs.Runnings.{serves_same, stop_none, stop_bad, stop_memory, stop_broken, works_more}
 use Rattle.programs.proofs.sessions.Session.drain.Goals as goal
 
@@ -18,20 +17,17 @@ returns-then-is_broken-clause-drains g c =
     let works = c.loop-frame.invariant.works in
     let frame = rw c.in-Ok-Some.field-0-is at c.in-Ok-Some.ensures.frame in
     let broken = c.is_broken.ensures.broken c.if-is_broken.true in
-    let same = ap (λ (t : MemTree). t.has_samples) c.loop-frame.invariant.tree in
-    let serves = serves_same g.L.Link.sends _ _ _ _ _ _ _ same c.deref.ensures.value c.work_off.ensures.serves in
-    let P : Option Sent → Type 0 = λ sent. Serves g.L.Link.sends c.args.self.now.tree.has_samples c.in-Ok-Some.frame.items (record { world = world_of c.loop-frame.self.table; link = c.loop-frame.link }) sent (record { world = world_of c.work_off.new.self.table; link = c.work_off.new.link }) in
+    let serves = serves_same g.L.Link.sends g.D.Calls.gives _ _ _ _ _ c.deref.ensures.value c.work_off.ensures in
+    let P : Option Sent → Type 0 = λ sent. Serves g.L.Link.sends g.D.Calls.gives c.in-Ok-Some.frame.items (record { world = world_of c.loop-frame.self.table; link = c.loop-frame.link; tree = c.loop-frame.self.tree }) sent (record { world = world_of c.work_off.new.self.table; link = c.work_off.new.link; tree = c.work_off.new.self.tree }) in
     stop_broken _ _ works.0 _ _ _ _ _ works.1 _ c.in-Ok-Some.frame.items frame.front frame.framed (subst P broken serves)
 
 pub loop-frame-preserved : goal.loop-frame-preserved
 loop-frame-preserved g c =
     let works = c.loop-frame.invariant.works in
     let frame = rw c.in-Ok-Some.field-0-is at c.in-Ok-Some.ensures.frame in
-    let same = ap (λ (t : MemTree). t.has_samples) c.loop-frame.invariant.tree in
-    let serves = serves_same g.L.Link.sends _ _ _ _ _ _ _ same c.deref.ensures.value c.work_off.ensures.serves in
+    let serves = serves_same g.L.Link.sends g.D.Calls.gives _ _ _ _ _ c.deref.ensures.value c.work_off.ensures in
     record {
       stopped = frame.stopped ∙ c.loop-frame.invariant.stopped;
-      tree = c.work_off.ensures.tree ∙ c.loop-frame.invariant.tree;
       works = (
         works.0 ++ c.in-Ok-Some.frame.items ∷ [],
         works_more _ _ works.0 c.in-Ok-Some.frame.items _ _ _ _ _ _ c.work_off.result works.1 frame.front frame.framed serves (c.is_broken.ensures.whole c.if-is_broken.false),

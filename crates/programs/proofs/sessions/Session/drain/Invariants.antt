@@ -7,10 +7,9 @@ use Rattle.programs.proofs.sessions.Session.drain.Given as goal
 abbrev pub invariant-loop-frame : goal.invariant-loop-frame
 invariant-loop-frame g l = record {
   stopped : l.cutter.stopped ≡ l.initial.cutter.stopped;
-  tree : l.self.tree ≡ l.initial.self.tree;
-  works : (frames : List (List ℕ)) × Works g.L.Link.sends l.initial.self.tree.has_samples frames
-      (record { world = world_of l.initial.self.table; link = l.initial.link }) l.initial.cutter.kept
-      (record { world = world_of l.self.table; link = l.link }) l.cutter.kept;
+  works : (frames : List (List ℕ)) × Works g.L.Link.sends g.D.Calls.gives frames
+      (record { world = world_of l.initial.self.table; link = l.initial.link; tree = l.initial.self.tree }) l.initial.cutter.kept
+      (record { world = world_of l.self.table; link = l.link; tree = l.self.tree }) l.cutter.kept;
 }
 
 -- each frame takes its bytes with it

@@ -1,7 +1,6 @@
 use Rattle.std.proofs.Common.{◌≡◌, ℕ, [], ◌∷◌, ◌++◌, take, Err, refl, ap, ◌∙◌, arith, length-append}
 use Rattle.table.specs.World.{world_of}
 use Rattle.wire.specs.Stream.{Cutting}
-use Rattle.programs.specs.declared.samples.MemTree.{MemTree}
 use Rattle.wire.specs.declared.cutter.CutFault.{CutFault}
 use Rattle.wire.specs.declared.cutter.CutFault.TheVariants.{BadLength, Memory}
 use Rattle.programs.proofs.Runnings.{run_closed, run_broken, run_unfed, run_long, run_over, rounds_more, takes_by, ending}
@@ -27,7 +26,7 @@ returns-in-Err-clause-runs g c =
     let inv = c.loop.invariant in
     let on = inv.on in
     let memory = is_memory c.in-Err.fault (λ len is. let was = (c.in-Err.ensures.bad len).0 (ap Err is) in cc) in
-    let runs = run_unfed g.L.Link.receives g.L.Link.sends c.args.self.now.tree.has_samples inv.rounds.0 _ _ _ inv.rounds.2 c.receive.new.self (take c.in-Bytes.count c.receive.new.room)
+    let runs = run_unfed g.L.Link.receives g.L.Link.sends g.D.Calls.gives inv.rounds.0 _ _ _ inv.rounds.2 c.receive.new.self (take c.in-Bytes.count c.receive.new.room)
     (c.in-Bytes.count, c.receive.new.room, c.in-Bytes.ensures.gives, refl) in
     rw (c.ended_by.ensures, memory) runs
 
@@ -40,28 +39,27 @@ returns-in-Err-clause-ending g c =
 pub returns-in-Some-clause-runs : goal.returns-in-Some-clause-runs
 returns-in-Some-clause-runs g c =
     let inv = c.loop.invariant in
-    let takes = takes_by g.L.Link.receives g.L.Link.sends c.args.self.now.tree.has_samples c.loop.self.tree.has_samples (record { world = world_of c.loop.self.table; link = c.loop.link }) _ c.receive.new.self c.loop.cutter.kept (take c.in-Bytes.count c.receive.new.room) c.feed.new.self.kept _ _
-    (ap (λ (t : MemTree). t.has_samples) inv.tree) (ap (λ (k : Cutting). k.kept) c.in-Ok.ensures.ok) (c.in-Bytes.count, c.receive.new.room, c.in-Bytes.ensures.gives, refl) c.in-Some.ensures.drains in
+    let takes = takes_by g.L.Link.receives g.L.Link.sends g.D.Calls.gives (record { world = world_of c.loop.self.table; link = c.loop.link; tree = c.loop.self.tree }) _ c.receive.new.self c.loop.cutter.kept (take c.in-Bytes.count c.receive.new.room) c.feed.new.self.kept _ _
+    (ap (λ (k : Cutting). k.kept) c.in-Ok.ensures.ok) (c.in-Bytes.count, c.receive.new.room, c.in-Bytes.ensures.gives, refl) c.in-Some.ensures.drains in
     run_over _ _ _ inv.rounds.0 _ _ _ inv.rounds.2 _ c.in-Some.end _ _ takes
 
 pub returns-in-Some-clause-ending : goal.returns-in-Some-clause-ending
-returns-in-Some-clause-ending g c = ending g.L.Link.sends c.loop.self.tree.has_samples _ _ _ _ c.in-Some.end c.in-Some.ensures.drains
+returns-in-Some-clause-ending g c = ending g.L.Link.sends g.D.Calls.gives _ _ _ _ c.in-Some.end c.in-Some.ensures.drains
 
 pub loop-preserved : goal.loop-preserved
 loop-preserved g c =
     let inv = c.loop.invariant in
-    let takes = takes_by g.L.Link.receives g.L.Link.sends c.args.self.now.tree.has_samples c.loop.self.tree.has_samples (record { world = world_of c.loop.self.table; link = c.loop.link }) _ c.receive.new.self c.loop.cutter.kept (take c.in-Bytes.count c.receive.new.room) c.feed.new.self.kept _ _
-    (ap (λ (t : MemTree). t.has_samples) inv.tree) (ap (λ (k : Cutting). k.kept) c.in-Ok.ensures.ok) (c.in-Bytes.count, c.receive.new.room, c.in-Bytes.ensures.gives, refl) c.in-None.ensures.drains in
+    let takes = takes_by g.L.Link.receives g.L.Link.sends g.D.Calls.gives (record { world = world_of c.loop.self.table; link = c.loop.link; tree = c.loop.self.tree }) _ c.receive.new.self c.loop.cutter.kept (take c.in-Bytes.count c.receive.new.room) c.feed.new.self.kept _ _
+    (ap (λ (k : Cutting). k.kept) c.in-Ok.ensures.ok) (c.in-Bytes.count, c.receive.new.room, c.in-Bytes.ensures.gives, refl) c.in-None.ensures.drains in
     record {
       partial = c.in-None.ensures.drains.stops.2;
       on = c.in-None.ensures.on ∙ (ap (λ (k : Cutting). k.stopped) c.in-Ok.ensures.ok ∙ inv.on);
-      tree = c.in-None.ensures.tree ∙ inv.tree;
       rounds = (
         inv.rounds.0 ++ take c.in-Bytes.count c.receive.new.room ∷ [],
         omega (arith, inv.rounds.1, length-append inv.rounds.0 (take c.in-Bytes.count c.receive.new.room ∷ [])),
-        rounds_more g.L.Link.receives g.L.Link.sends c.args.self.now.tree.has_samples inv.rounds.0 (take c.in-Bytes.count c.receive.new.room)
-            (record { world = world_of c.args.self.now.table; link = c.args.link.now }) (record { world = world_of c.loop.self.table; link = c.loop.link })
-            (record { world = world_of c.drain.new.self.table; link = c.drain.new.link }) [] c.loop.cutter.kept c.drain.new.cutter.kept inv.rounds.2 takes,
+        rounds_more g.L.Link.receives g.L.Link.sends g.D.Calls.gives inv.rounds.0 (take c.in-Bytes.count c.receive.new.room)
+            (record { world = world_of c.args.self.now.table; link = c.args.link.now; tree = c.args.self.now.tree }) (record { world = world_of c.loop.self.table; link = c.loop.link; tree = c.loop.self.tree })
+            (record { world = world_of c.drain.new.self.table; link = c.drain.new.link; tree = c.drain.new.self.tree }) [] c.loop.cutter.kept c.drain.new.cutter.kept inv.rounds.2 takes,
       );
     }
 

@@ -9,8 +9,7 @@ abbrev pub invariant-loop : goal.invariant-loop
 invariant-loop g l = record {
   partial : IsPartial l.cutter.kept;
   on : l.cutter.stopped ≡ None;
-  tree : l.self.tree ≡ l.initial.self.tree;
-  rounds : (pieces : List (List ℕ)) × (length pieces ≡ l.counter) × Rounds g.L.Link.receives g.L.Link.sends l.initial.self.tree.has_samples pieces
-      (record { world = world_of l.initial.self.table; link = l.initial.link }) []
-      (record { world = world_of l.self.table; link = l.link }) l.cutter.kept;
+  rounds : (pieces : List (List ℕ)) × (length pieces ≡ l.counter) × Rounds g.L.Link.receives g.L.Link.sends g.D.Calls.gives pieces
+      (record { world = world_of l.initial.self.table; link = l.initial.link; tree = l.initial.self.tree }) []
+      (record { world = world_of l.self.table; link = l.link; tree = l.self.tree }) l.cutter.kept;
 }

@@ -1,4 +1,4 @@
-use Rattle.programs.proofs.runs.hex_run.Given as goal
+use Rattle.programs.proofs.runs.serve_new.Given as goal
 
 -- the table's four ledgers are those of the blanks
 abbrev pub ghosts-serve-B-Ledger : goal.ghosts-serve-B-Ledger
