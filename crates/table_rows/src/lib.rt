@@ -4,6 +4,8 @@
 #[cfg(test)]
 mod desk;
 #[cfg(test)]
+mod holding_rows;
+#[cfg(test)]
 mod image_rows;
 #[cfg(test)]
 mod limit_rows;
