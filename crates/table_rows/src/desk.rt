@@ -166,7 +166,7 @@ impl<B: Shared, E: tokens::Ledger, K: tokens::Ledger, F: tokens::Ledger> Desk<B,
     }
 
     /// Spends all that is left, and gathers the shares.
-    fn end(self, rt: &impl Abort) -> Gathered
+    pub fn end(self, rt: &impl Abort) -> Gathered
         requires { AreAll B.shares B.parts E.parts K.parts F.parts }
     {
         let Desk {

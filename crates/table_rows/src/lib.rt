@@ -19,3 +19,5 @@ mod memory_rows;
 mod share_rows;
 #[cfg(test)]
 mod stranger_rows;
+#[cfg(test)]
+mod thread_rows;
