@@ -17,13 +17,26 @@ use table::{Answered, Begin, Limits, Outcome, Settled, Table, Ticket};
 /// The number of the root.
 pub const ROOT: u64 = 1;
 
-/// What a finish answered for the one name of its request.
+/// How a request was taken up.
+#[derive(Clone, Copy, Debug, PartialEq, Eq, Drop)]
+pub enum Asked {
+    /// It goes on, and its ticket is the last one.
+    Go,
+    /// Another request holds a name that it needs.
+    Busy,
+    /// It may not go on.
+    Refused(i32),
+}
+
+/// What a finish answered for the names of its request, of which there is one at most.
 #[derive(Clone, Copy, Debug, PartialEq, Eq, Drop)]
 pub enum Gave {
     /// An entry.
     Entry(Given),
     /// Nothing for the name.
     Nothing,
+    /// The request asked for no entry.
+    Empty,
     /// The ticket was of no request that the table works on.
     Lost,
 }
@@ -37,6 +50,7 @@ impl Gave {
     fn of(answered: &Answered) -> Option<Gave> {
         match answered.given() {
             [] if answered.lost() => Some(Gave::Lost),
+            [] => Some(Gave::Empty),
             [None] if !answered.lost() => Some(Gave::Nothing),
             [Some(given)] if !answered.lost() => Some(Gave::Entry(*given)),
             _ => None,
@@ -65,16 +79,41 @@ pub fn keep<T>(rt: &impl Abort, values: &mut Vec<T>, value: T) {
 }
 
 impl<B: Shared, E: tokens::Ledger, K: tokens::Ledger, F: tokens::Ledger> Desk<B, E, K, F> {
-    /// Begins a request for a name, and keeps its ticket as the last one.
-    pub fn begin(&mut self, rt: &impl Abort, parent: u64, name: &str) -> Result<(), i32> {
-        let name = Name::copy_of(self.alloc, name).expect(rt, "memory is ample");
-        match self.table.begin(7, Want::Name { parent, name }) {
+    /// Begins a request, and keeps its ticket as the last one.
+    pub fn ask(&mut self, rt: &impl Abort, unique: u64, want: Want) -> Asked {
+        match self.table.begin(unique, want) {
             Begin::Go(ticket) => {
                 keep(rt, &mut self.tickets, ticket);
-                Ok(())
+                Asked::Go
             }
-            Begin::Busy => panic!(rt; "no request holds a name"),
-            Begin::Refused(errno) => Err(errno),
+            Begin::Busy => Asked::Busy,
+            Begin::Refused(errno) => Asked::Refused(errno),
+        }
+    }
+
+    /// Begins a request for a node.
+    pub fn node(&mut self, rt: &impl Abort, number: u64) -> Asked {
+        self.ask(rt, 7, Want::Node { number })
+    }
+
+    /// Begins a request for a name.
+    pub fn name(&mut self, rt: &impl Abort, parent: u64, name: &str) -> Asked {
+        let name = Name::copy_of(self.alloc, name).expect(rt, "memory is ample");
+        self.ask(rt, 7, Want::Name { parent, name })
+    }
+
+    /// Begins a request that removes a name.
+    pub fn remove(&mut self, rt: &impl Abort, parent: u64, name: &str) -> Asked {
+        let name = Name::copy_of(self.alloc, name).expect(rt, "memory is ample");
+        self.ask(rt, 7, Want::Remove { parent, name })
+    }
+
+    /// Begins a request for a name that no other request holds.
+    pub fn begin(&mut self, rt: &impl Abort, parent: u64, name: &str) -> Result<(), i32> {
+        match self.name(rt, parent, name) {
+            Asked::Go => Ok(()),
+            Asked::Busy => panic!(rt; "another request holds the name"),
+            Asked::Refused(errno) => Err(errno),
         }
     }
 
@@ -90,7 +129,7 @@ impl<B: Shared, E: tokens::Ledger, K: tokens::Ledger, F: tokens::Ledger> Desk<B,
         assert!(rt; share < self.shares.len());
         let ticket = self.tickets.remove(ticket);
         let answered = self.table.finish(&mut self.shares[share], ticket, outcome);
-        let gave = Gave::of(&answered).expect(rt, "one name is answered, or the ticket is lost");
+        let gave = Gave::of(&answered).expect(rt, "one name is answered at most");
         keep(rt, &mut self.answers, answered);
         gave
     }
@@ -127,7 +166,7 @@ impl<B: Shared, E: tokens::Ledger, K: tokens::Ledger, F: tokens::Ledger> Desk<B,
     }
 
     /// Spends all that is left, and gathers the shares.
-    fn end(self, rt: &impl Abort) -> Gathered
+    pub fn end(self, rt: &impl Abort) -> Gathered
         requires { AreAll B.shares B.parts E.parts K.parts F.parts }
     {
         let Desk {

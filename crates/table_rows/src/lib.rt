@@ -4,6 +4,8 @@
 #[cfg(test)]
 mod desk;
 #[cfg(test)]
+mod holding_rows;
+#[cfg(test)]
 mod image_rows;
 #[cfg(test)]
 mod limit_rows;
@@ -17,3 +19,5 @@ mod memory_rows;
 mod share_rows;
 #[cfg(test)]
 mod stranger_rows;
+#[cfg(test)]
+mod thread_rows;

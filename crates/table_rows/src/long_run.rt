@@ -1,6 +1,6 @@
 //! Some thousand steps at random, after which the table keeps its law.
 
-use crate::desk::{Desk, Gathered, Gave, ROOT, Story, tell};
+use crate::desk::{Asked, Desk, Gathered, Gave, ROOT, Story, keep, tell};
 use errno::{EAGAIN, ENFILE, ESTALE};
 use image::Image;
 use ledger::{Posting, Shared, Totals};
@@ -8,8 +8,9 @@ use std::process::Abort;
 use std::sync::ledger as tokens;
 use std::test::Fail;
 use table::{Limits, Outcome};
+use tree::Place;
 
-const STEPS: u64 = 4_000;
+const STEPS: u64 = 6_000;
 
 /// Numbers at random, the same in each run.
 #[derive(Drop)]
@@ -45,6 +46,14 @@ impl Draws {
     }
 }
 
+/// What a request in flight asks for.
+#[derive(Clone, Copy, Debug, PartialEq, Eq)]
+enum Kind {
+    Node,
+    Name,
+    Remove,
+}
+
 /// How often each kind of step came.
 #[derive(Clone, Copy, Default, Debug, PartialEq, Eq)]
 struct Tally {
@@ -54,6 +63,13 @@ struct Tally {
     full: u64,
     crowded: u64,
     stale: u64,
+    stale_nodes: u64,
+    busy_nodes: u64,
+    busy_names: u64,
+    busy_removals: u64,
+    nodes: u64,
+    removals: u64,
+    cuts: u64,
     untaken: u64,
     forgotten: u64,
     partly: u64,
@@ -70,6 +86,22 @@ fn note(count: &mut u64) {
 struct LongRun {
     draws: Draws,
     tally: Tally,
+    /// Of each ticket of the desk what its request asks for.
+    kinds: Vec<Kind>,
+}
+
+/// How many nodes of the table are cut.
+fn cut_nodes<B: Shared, E: tokens::Ledger, K: tokens::Ledger, F: tokens::Ledger>(
+    rt: &impl Abort,
+    desk: &Desk<B, E, K, F>,
+) -> u64 {
+    let image = desk.table.export().expect(rt, "memory is ample");
+    image
+        .nodes
+        .as_slice()
+        .iter()
+        .filter(|node| matches!(node.place, Place::Cut))
+        .count() as u64
 }
 
 impl LongRun {
@@ -82,12 +114,25 @@ impl LongRun {
             0 => ROOT,
             _ => self.draws.among(7),
         };
-        match desk.begin(rt, parent, self.draws.name()) {
-            Ok(()) => {}
-            Err(ENFILE) => note(&mut self.tally.full),
-            Err(EAGAIN) => note(&mut self.tally.crowded),
-            Err(ESTALE) => note(&mut self.tally.stale),
-            Err(errno) => panic!(rt; "refused with {errno}"),
+        let (kind, asked) = match self.draws.among(6) {
+            0..=1 => (Kind::Node, desk.node(rt, self.draws.among(6))),
+            2 => (Kind::Remove, desk.remove(rt, parent, self.draws.name())),
+            _ => (Kind::Name, desk.name(rt, parent, self.draws.name())),
+        };
+        match asked {
+            Asked::Go => keep(rt, &mut self.kinds, kind),
+            Asked::Busy => note(match kind {
+                Kind::Node => &mut self.tally.busy_nodes,
+                Kind::Name => &mut self.tally.busy_names,
+                Kind::Remove => &mut self.tally.busy_removals,
+            }),
+            Asked::Refused(ENFILE) => note(&mut self.tally.full),
+            Asked::Refused(EAGAIN) => note(&mut self.tally.crowded),
+            Asked::Refused(ESTALE) => note(match kind {
+                Kind::Node => &mut self.tally.stale_nodes,
+                _ => &mut self.tally.stale,
+            }),
+            Asked::Refused(errno) => panic!(rt; "refused with {errno}"),
         }
     }
 
@@ -101,6 +146,58 @@ impl LongRun {
         }
         let ticket = self.draws.place(desk.tickets.len());
         let share = self.draws.place(2);
+        assert!(rt; ticket < self.kinds.len());
+        match self.kinds.remove(ticket) {
+            Kind::Node => self.finish_node(rt, desk, share, ticket),
+            Kind::Name => self.finish_name(rt, desk, share, ticket),
+            Kind::Remove => self.finish_removal(rt, desk, share, ticket),
+        }
+    }
+
+    fn finish_node<B: Shared, E: tokens::Ledger, K: tokens::Ledger, F: tokens::Ledger, R: Abort>(
+        &mut self,
+        rt: &R,
+        desk: &mut Desk<B, E, K, F>,
+        share: usize,
+        ticket: usize,
+    ) {
+        note(&mut self.tally.nodes);
+        assert_eq!(rt; desk.finish(rt, share, ticket, Outcome::Done), Gave::Empty);
+    }
+
+    fn finish_removal<B: Shared, E: tokens::Ledger, K: tokens::Ledger, F: tokens::Ledger, R: Abort>(
+        &mut self,
+        rt: &R,
+        desk: &mut Desk<B, E, K, F>,
+        share: usize,
+        ticket: usize,
+    ) {
+        let cut = cut_nodes(rt, desk);
+        let outcome = match self.draws.among(8) {
+            0 => Outcome::Failed,
+            1 => Outcome::Entry,
+            _ => Outcome::Done,
+        };
+        assert_eq!(rt; desk.finish(rt, share, ticket, outcome), Gave::Empty);
+        let cut_after = cut_nodes(rt, desk);
+        match outcome {
+            Outcome::Done => {
+                note(&mut self.tally.removals);
+                if cut < cut_after {
+                    note(&mut self.tally.cuts);
+                }
+            }
+            _ => assert_eq!(rt; cut_after, cut, "nothing was removed"),
+        }
+    }
+
+    fn finish_name<B: Shared, E: tokens::Ledger, K: tokens::Ledger, F: tokens::Ledger, R: Abort>(
+        &mut self,
+        rt: &R,
+        desk: &mut Desk<B, E, K, F>,
+        share: usize,
+        ticket: usize,
+    ) {
         match self.draws.among(8) {
             0 => {
                 note(&mut self.tally.failed);
@@ -193,7 +290,12 @@ impl LongRun {
         desk: &mut Desk<B, E, K, F>,
     ) {
         for _ticket in 0..desk.tickets.len() {
-            assert_eq!(rt; desk.finish(rt, 0, 0, Outcome::Failed), Gave::Nothing);
+            assert!(rt; !self.kinds.is_empty());
+            let gave = match self.kinds.remove(0) {
+                Kind::Name => Gave::Nothing,
+                Kind::Node | Kind::Remove => Gave::Empty,
+            };
+            assert_eq!(rt; desk.finish(rt, 0, 0, Outcome::Failed), gave);
         }
         for _answer in 0..desk.answers.len() {
             let _settled = desk.settle(rt, 1, 0, true);
@@ -234,6 +336,12 @@ fn expect_all(rt: &impl Abort, tally: &Tally) {
         tally.full,
         tally.crowded,
         tally.stale,
+        tally.stale_nodes,
+        tally.busy_names,
+        tally.busy_removals,
+        tally.nodes,
+        tally.removals,
+        tally.cuts,
         tally.untaken,
         tally.forgotten,
         tally.partly,
@@ -244,6 +352,7 @@ fn expect_all(rt: &impl Abort, tally: &Tally) {
     for count in kinds {
         assert!(rt; 20 < count, "too few of a kind in {tally:?}");
     }
+    assert!(rt; 0 < tally.busy_nodes, "no node was held in {tally:?}");
     // Some entries were forgotten before their reply was found untaken.
     assert!(rt;
         tally.backs < tally.untaken,
@@ -255,15 +364,20 @@ fn expect_all(rt: &impl Abort, tally: &Tally) {
 fn long_run(rt: HostRuntime) -> Result<(), Fail> {
     let limits = Limits {
         nodes: 5,
-        flights: 4,
+        flights: 5,
         ..Limits::default()
     };
     let mut run = LongRun {
         draws: Draws { x: 1 },
         tally: Tally::default(),
+        kinds: Vec::new(rt.alloc()),
     };
     let gathered = tell(&rt, rt.alloc(), limits, &mut run)?;
-    let LongRun { draws: _, tally } = run;
+    let LongRun {
+        draws: _,
+        tally,
+        kinds: _,
+    } = run;
     expect_all(&rt, &tally);
     let totals = Totals {
         born: tally.births,

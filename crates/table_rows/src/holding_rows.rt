@@ -1,0 +1,567 @@
+//! Requests that hold names and wait for one another, and names that are removed.
+
+use crate::desk::{Asked, Desk, Gave, ROOT, Story, tell};
+use errno::{EAGAIN, ENFILE, ESTALE};
+use image::{Image, Stage};
+use ledger::Shared;
+use std::process::Abort;
+use std::sync::ledger as tokens;
+use std::test::Fail;
+use table::{Limits, Outcome};
+use tree::{Node, Place};
+
+/// Whether the places are the same.
+fn is_same_place(one: &Place, other: &Place) -> bool {
+    match (one, other) {
+        (Place::Root, Place::Root) | (Place::Cut, Place::Cut) => true,
+        (Place::Named(one), Place::Named(other)) => {
+            one.parent == other.parent && one.name.is(&other.name)
+        }
+        _ => false,
+    }
+}
+
+/// The nodes and postings of both are the same.
+fn expect_same_nodes(rt: &impl Abort, old: &Image, new: &Image) {
+    let nodes = new.nodes.as_slice();
+    assert_eq!(rt; nodes.len(), old.nodes.as_slice().len());
+    for was in old.nodes.as_slice() {
+        let node = node_in(rt, nodes, was.number);
+        assert_eq!(rt;
+            (node.generation, node.count, node.hidden),
+            (was.generation, was.count, was.hidden)
+        );
+        assert!(rt; is_same_place(&node.place, &was.place));
+    }
+    assert_eq!(rt; new.postings.as_slice(), old.postings.as_slice());
+}
+
+/// Both are the same.
+fn expect_same(rt: &impl Abort, old: &Image, new: &Image) {
+    expect_same_nodes(rt, old, new);
+    let records = new.records.as_slice();
+    assert_eq!(rt; records.len(), old.records.as_slice().len());
+    for was in old.records.as_slice() {
+        let record = records
+            .iter()
+            .find(|record| record.id == was.id)
+            .expect(rt, "the request is in flight");
+        assert_eq!(rt; (record.unique, record.stage), (was.unique, was.stage));
+        assert_eq!(rt; record.pins.as_slice(), was.pins.as_slice());
+    }
+}
+
+/// The node that bears the number.
+fn node_in<'a>(rt: &impl Abort, nodes: &'a [Node], number: u64) -> &'a Node {
+    nodes
+        .iter()
+        .find(|node| node.number == number)
+        .expect(rt, "the node lives")
+}
+
+/// The node is alive with that count, and stands nowhere.
+fn expect_cut(rt: &impl Abort, image: &Image, number: u64, count: u64) {
+    let node = node_in(rt, image.nodes.as_slice(), number);
+    assert_eq!(rt; (node.generation, node.count), (0, count));
+    assert!(rt; matches!(node.place, Place::Cut), "node {number} is cut");
+}
+
+/// The node is alive with that count, and has a name.
+fn expect_named(rt: &impl Abort, image: &Image, number: u64, count: u64) {
+    let node = node_in(rt, image.nodes.as_slice(), number);
+    assert_eq!(rt; (node.generation, node.count), (0, count));
+    assert!(rt;
+        matches!(node.place, Place::Named(_)),
+        "node {number} is named"
+    );
+}
+
+/// So many nodes and requests.
+fn expect_many(rt: &impl Abort, image: &Image, nodes: usize, records: usize) {
+    assert_eq!(rt; image.nodes.as_slice().len(), nodes);
+    assert_eq!(rt; image.records.as_slice().len(), records);
+}
+
+/// Node 2 is the folder `d`, and node 3 is `x` in it, with an entry each.
+fn give_folder<B: Shared, E: tokens::Ledger, K: tokens::Ledger, F: tokens::Ledger>(
+    rt: &impl Abort,
+    desk: &mut Desk<B, E, K, F>,
+) {
+    assert_eq!(rt; desk.look_up(rt, "d", true), Gave::entry(2, 0));
+    assert_eq!(rt; desk.name(rt, 2, "x"), Asked::Go);
+    assert_eq!(rt; desk.finish(rt, 0, 0, Outcome::Entry), Gave::entry(3, 0));
+    let _settled = desk.settle(rt, 0, 0, true);
+    expect_many(rt, &desk.image(rt), 3, 0);
+}
+
+#[derive(Drop)]
+struct RemovedFolder;
+
+impl Story for RemovedFolder {
+    fn tell<B: Shared, E: tokens::Ledger, K: tokens::Ledger, F: tokens::Ledger, R: Abort>(
+        &mut self,
+        rt: &R,
+        desk: &mut Desk<B, E, K, F>,
+    ) {
+        give_folder(rt, desk);
+        assert_eq!(rt; desk.remove(rt, ROOT, "d"), Asked::Go);
+        let begun = desk.image(rt);
+        expect_named(rt, &begun, 2, 1);
+        expect_named(rt, &begun, 3, 1);
+        assert_eq!(rt; desk.finish(rt, 0, 0, Outcome::Done), Gave::Empty);
+        let removed = desk.image(rt);
+        expect_many(rt, &removed, 3, 1);
+        expect_cut(rt, &removed, 2, 1);
+        expect_cut(rt, &removed, 3, 1);
+        assert_eq!(rt; removed.postings.as_slice(), begun.postings.as_slice());
+        assert_eq!(rt; desk.node(rt, 3), Asked::Refused(ESTALE));
+        assert_eq!(rt; desk.node(rt, 2), Asked::Refused(ESTALE));
+        assert_eq!(rt; desk.name(rt, 2, "x"), Asked::Refused(ESTALE));
+        assert_eq!(rt; desk.remove(rt, 2, "x"), Asked::Refused(ESTALE));
+        expect_same(rt, &removed, &desk.image(rt));
+        let settled = desk.settle(rt, 0, 0, true);
+        assert_eq!(rt; settled.entries(), 0);
+        expect_many(rt, &desk.image(rt), 3, 0);
+        assert_eq!(rt; desk.forget(rt, 0, 2, 1), 1);
+        let without_folder = desk.image(rt);
+        expect_many(rt, &without_folder, 2, 0);
+        expect_cut(rt, &without_folder, 3, 1);
+        assert_eq!(rt; desk.forget(rt, 0, 3, 1), 1);
+        expect_many(rt, &desk.image(rt), 1, 0);
+    }
+}
+
+#[test]
+fn removed_folder(rt: HostRuntime) -> Result<(), Fail> {
+    assert_eq!(rt; ESTALE, 116);
+    tell(&rt, rt.alloc(), Limits::default(), &mut RemovedFolder)?;
+    Ok(())
+}
+
+#[derive(Drop)]
+struct OrderOfTests;
+
+impl Story for OrderOfTests {
+    fn tell<B: Shared, E: tokens::Ledger, K: tokens::Ledger, F: tokens::Ledger, R: Abort>(
+        &mut self,
+        rt: &R,
+        desk: &mut Desk<B, E, K, F>,
+    ) {
+        assert_eq!(rt; desk.remove(rt, ROOT, "a"), Asked::Go);
+        assert_eq!(rt; desk.name(rt, ROOT, "e"), Asked::Refused(EAGAIN));
+        assert_eq!(rt; desk.remove(rt, ROOT, "e"), Asked::Refused(EAGAIN));
+        assert_eq!(rt; desk.name(rt, 9, "e"), Asked::Refused(ESTALE));
+        assert_eq!(rt; desk.remove(rt, 9, "e"), Asked::Refused(ESTALE));
+        assert_eq!(rt; desk.node(rt, 9), Asked::Refused(ESTALE));
+        assert_eq!(rt; desk.name(rt, ROOT, "a"), Asked::Busy);
+        assert_eq!(rt; desk.remove(rt, ROOT, "a"), Asked::Busy);
+        assert_eq!(rt; desk.finish(rt, 0, 0, Outcome::Failed), Gave::Empty);
+    }
+}
+
+#[test]
+fn order_of_tests(rt: HostRuntime) -> Result<(), Fail> {
+    assert_eq!(rt; EAGAIN, 11);
+    let limits = Limits {
+        flights: 1,
+        ..Limits::default()
+    };
+    tell(&rt, rt.alloc(), limits, &mut OrderOfTests)?;
+    Ok(())
+}
+
+/// Where no node may be added, a name that is held is told of before that.
+#[derive(Drop)]
+struct BusyBeforeNodes;
+
+impl Story for BusyBeforeNodes {
+    fn tell<B: Shared, E: tokens::Ledger, K: tokens::Ledger, F: tokens::Ledger, R: Abort>(
+        &mut self,
+        rt: &R,
+        desk: &mut Desk<B, E, K, F>,
+    ) {
+        assert_eq!(rt;
+            desk.remove(rt, ROOT, "a"),
+            Asked::Go,
+            "a removal adds no node"
+        );
+        assert_eq!(rt; desk.name(rt, ROOT, "e"), Asked::Refused(ENFILE));
+        assert_eq!(rt; desk.name(rt, ROOT, "a"), Asked::Busy);
+        assert_eq!(rt; desk.finish(rt, 0, 0, Outcome::Failed), Gave::Empty);
+        assert_eq!(rt; desk.name(rt, ROOT, "a"), Asked::Refused(ENFILE));
+    }
+}
+
+#[test]
+fn busy_before_nodes(rt: HostRuntime) -> Result<(), Fail> {
+    let limits = Limits {
+        nodes: 1,
+        ..Limits::default()
+    };
+    tell(&rt, rt.alloc(), limits, &mut BusyBeforeNodes)?;
+    Ok(())
+}
+
+/// While `a` is removed, others wait for it. Three nodes may be, so a promised one shows.
+#[derive(Drop)]
+struct LookupWaits {
+    done: bool,
+}
+
+impl LookupWaits {
+    /// Node 2 is cut, and a lookup of `a` was promised the third node.
+    fn after_done<B: Shared, E: tokens::Ledger, K: tokens::Ledger, F: tokens::Ledger, R: Abort>(
+        rt: &R,
+        desk: &mut Desk<B, E, K, F>,
+    ) {
+        assert_eq!(rt; desk.finish(rt, 0, 0, Outcome::Done), Gave::Empty);
+        expect_cut(rt, &desk.image(rt), 2, 1);
+        assert_eq!(rt; desk.node(rt, 2), Asked::Refused(ESTALE));
+        assert_eq!(rt; desk.name(rt, ROOT, "a"), Asked::Go);
+        assert_eq!(rt;
+            desk.name(rt, ROOT, "e"),
+            Asked::Refused(ENFILE),
+            "the third node is promised"
+        );
+        assert_eq!(rt; desk.finish(rt, 0, 0, Outcome::Entry), Gave::entry(3, 0));
+        let image = desk.image(rt);
+        expect_many(rt, &image, 3, 2);
+        expect_cut(rt, &image, 2, 1);
+        expect_named(rt, &image, 3, 1);
+    }
+
+    /// Node 2 stands as before, and a lookup of `a` needs no other.
+    fn after_failed<B: Shared, E: tokens::Ledger, K: tokens::Ledger, F: tokens::Ledger, R: Abort>(
+        rt: &R,
+        desk: &mut Desk<B, E, K, F>,
+    ) {
+        assert_eq!(rt; desk.finish(rt, 0, 0, Outcome::Failed), Gave::Empty);
+        expect_named(rt, &desk.image(rt), 2, 1);
+        assert_eq!(rt; desk.name(rt, ROOT, "a"), Asked::Go);
+        assert_eq!(rt;
+            desk.name(rt, ROOT, "e"),
+            Asked::Go,
+            "the third node is free"
+        );
+        assert_eq!(rt; desk.finish(rt, 0, 0, Outcome::Entry), Gave::entry(2, 0));
+        assert_eq!(rt; desk.finish(rt, 0, 0, Outcome::Failed), Gave::Nothing);
+        let image = desk.image(rt);
+        expect_many(rt, &image, 2, 3);
+        expect_named(rt, &image, 2, 2);
+    }
+}
+
+impl Story for LookupWaits {
+    fn tell<B: Shared, E: tokens::Ledger, K: tokens::Ledger, F: tokens::Ledger, R: Abort>(
+        &mut self,
+        rt: &R,
+        desk: &mut Desk<B, E, K, F>,
+    ) {
+        assert_eq!(rt; desk.look_up(rt, "a", true), Gave::entry(2, 0));
+        assert_eq!(rt; desk.remove(rt, ROOT, "a"), Asked::Go);
+        let before = desk.image(rt);
+        expect_many(rt, &before, 2, 1);
+        assert_eq!(rt; desk.name(rt, ROOT, "a"), Asked::Busy);
+        assert_eq!(rt; desk.node(rt, 2), Asked::Busy);
+        assert_eq!(rt; desk.name(rt, 2, "x"), Asked::Busy);
+        assert_eq!(rt; desk.remove(rt, 2, "x"), Asked::Busy);
+        assert_eq!(rt; desk.remove(rt, ROOT, "a"), Asked::Busy);
+        expect_same(rt, &before, &desk.image(rt));
+        assert_eq!(rt; desk.tickets.len(), 1);
+        if self.done {
+            LookupWaits::after_done(rt, desk);
+        } else {
+            LookupWaits::after_failed(rt, desk);
+        }
+    }
+}
+
+#[test]
+fn lookup_waits_for_remove(rt: HostRuntime) -> Result<(), Fail> {
+    let limits = Limits {
+        nodes: 3,
+        ..Limits::default()
+    };
+    for done in [true, false] {
+        tell(&rt, rt.alloc(), limits, &mut LookupWaits { done })?;
+    }
+    Ok(())
+}
+
+#[derive(Drop)]
+struct RemoveWaits;
+
+impl Story for RemoveWaits {
+    fn tell<B: Shared, E: tokens::Ledger, K: tokens::Ledger, F: tokens::Ledger, R: Abort>(
+        &mut self,
+        rt: &R,
+        desk: &mut Desk<B, E, K, F>,
+    ) {
+        assert_eq!(rt; desk.name(rt, ROOT, "a"), Asked::Go);
+        assert_eq!(rt; desk.remove(rt, ROOT, "a"), Asked::Busy);
+        assert_eq!(rt; desk.name(rt, ROOT, "a"), Asked::Go, "lookups share a name");
+        assert_eq!(rt; desk.remove(rt, ROOT, "b"), Asked::Go, "it is another name");
+        expect_many(rt, &desk.image(rt), 1, 3);
+        assert_eq!(rt; desk.finish(rt, 0, 0, Outcome::Entry), Gave::entry(2, 0));
+        assert_eq!(rt;
+            desk.remove(rt, ROOT, "a"),
+            Asked::Busy,
+            "the second lookup is worked on"
+        );
+        assert_eq!(rt; desk.finish(rt, 0, 0, Outcome::Entry), Gave::entry(2, 0));
+        assert_eq!(rt;
+            desk.remove(rt, ROOT, "a"),
+            Asked::Go,
+            "what is not settled holds nothing"
+        );
+        expect_many(rt, &desk.image(rt), 2, 4);
+        assert_eq!(rt; desk.finish(rt, 0, 1, Outcome::Done), Gave::Empty);
+        expect_cut(rt, &desk.image(rt), 2, 2);
+        assert_eq!(rt; desk.finish(rt, 0, 0, Outcome::Done), Gave::Empty);
+        let image = desk.image(rt);
+        expect_many(rt, &image, 2, 4);
+        for record in image.records.as_slice() {
+            assert_eq!(rt; record.stage, Stage::Answered);
+        }
+    }
+}
+
+#[test]
+fn remove_waits_for_lookup(rt: HostRuntime) -> Result<(), Fail> {
+    tell(&rt, rt.alloc(), Limits::default(), &mut RemoveWaits)?;
+    Ok(())
+}
+
+/// A folder is not removed while something in it is worked on, nor its entry while the folder is removed.
+#[derive(Drop)]
+struct FolderWaits;
+
+impl Story for FolderWaits {
+    fn tell<B: Shared, E: tokens::Ledger, K: tokens::Ledger, F: tokens::Ledger, R: Abort>(
+        &mut self,
+        rt: &R,
+        desk: &mut Desk<B, E, K, F>,
+    ) {
+        give_folder(rt, desk);
+        assert_eq!(rt; desk.node(rt, 3), Asked::Go);
+        assert_eq!(rt; desk.remove(rt, ROOT, "d"), Asked::Busy);
+        assert_eq!(rt; desk.remove(rt, 2, "x"), Asked::Busy);
+        assert_eq!(rt; desk.remove(rt, 2, "y"), Asked::Go);
+        assert_eq!(rt; desk.finish(rt, 0, 0, Outcome::Done), Gave::Empty);
+        assert_eq!(rt;
+            desk.remove(rt, ROOT, "d"),
+            Asked::Busy,
+            "y in it is removed"
+        );
+        assert_eq!(rt; desk.finish(rt, 0, 0, Outcome::Done), Gave::Empty);
+        assert_eq!(rt; desk.remove(rt, ROOT, "d"), Asked::Go);
+        assert_eq!(rt; desk.node(rt, 3), Asked::Busy);
+        assert_eq!(rt; desk.name(rt, 2, "y"), Asked::Busy);
+        assert_eq!(rt;
+            desk.node(rt, ROOT),
+            Asked::Go,
+            "the root is not in the way"
+        );
+        assert_eq!(rt; desk.finish(rt, 0, 1, Outcome::Done), Gave::Empty);
+        assert_eq!(rt; desk.finish(rt, 0, 0, Outcome::Failed), Gave::Empty);
+        let image = desk.image(rt);
+        expect_many(rt, &image, 3, 4);
+        expect_named(rt, &image, 2, 1);
+        expect_named(rt, &image, 3, 1);
+    }
+}
+
+#[test]
+fn folder_waits_for_what_is_in_it(rt: HostRuntime) -> Result<(), Fail> {
+    tell(&rt, rt.alloc(), Limits::default(), &mut FolderWaits)?;
+    Ok(())
+}
+
+#[derive(Drop)]
+struct RemovalOfNothing;
+
+impl Story for RemovalOfNothing {
+    fn tell<B: Shared, E: tokens::Ledger, K: tokens::Ledger, F: tokens::Ledger, R: Abort>(
+        &mut self,
+        rt: &R,
+        desk: &mut Desk<B, E, K, F>,
+    ) {
+        give_folder(rt, desk);
+        let before = desk.image(rt);
+        assert_eq!(rt; desk.remove(rt, ROOT, "x"), Asked::Go);
+        expect_same_nodes(rt, &before, &desk.image(rt));
+        assert_eq!(rt; desk.finish(rt, 0, 0, Outcome::Done), Gave::Empty);
+        expect_same_nodes(rt, &before, &desk.image(rt));
+        let settled = desk.settle(rt, 0, 0, false);
+        assert_eq!(rt; settled.entries(), 0);
+        expect_same(rt, &before, &desk.image(rt));
+    }
+}
+
+#[test]
+fn removal_of_nothing(rt: HostRuntime) -> Result<(), Fail> {
+    tell(&rt, rt.alloc(), Limits::default(), &mut RemovalOfNothing)?;
+    Ok(())
+}
+
+/// A removal that ends with this outcome removes nothing.
+#[derive(Drop)]
+struct RemovalIgnored {
+    outcome: Outcome,
+}
+
+impl Story for RemovalIgnored {
+    fn tell<B: Shared, E: tokens::Ledger, K: tokens::Ledger, F: tokens::Ledger, R: Abort>(
+        &mut self,
+        rt: &R,
+        desk: &mut Desk<B, E, K, F>,
+    ) {
+        give_folder(rt, desk);
+        let before = desk.image(rt);
+        assert_eq!(rt; desk.remove(rt, ROOT, "d"), Asked::Go);
+        assert_eq!(rt; desk.finish(rt, 0, 0, self.outcome), Gave::Empty);
+        expect_same_nodes(rt, &before, &desk.image(rt));
+        let settled = desk.settle(rt, 0, 0, true);
+        assert_eq!(rt; settled.entries(), 0);
+        expect_same(rt, &before, &desk.image(rt));
+        assert_eq!(rt; desk.look_up(rt, "d", true), Gave::entry(2, 0));
+        assert_eq!(rt; desk.node(rt, 3), Asked::Go);
+        assert_eq!(rt; desk.finish(rt, 0, 0, self.outcome), Gave::Empty);
+    }
+}
+
+#[test]
+fn removal_failed(rt: HostRuntime) -> Result<(), Fail> {
+    let mut failed = RemovalIgnored {
+        outcome: Outcome::Failed,
+    };
+    tell(&rt, rt.alloc(), Limits::default(), &mut failed)?;
+    Ok(())
+}
+
+#[test]
+fn removal_misfit(rt: HostRuntime) -> Result<(), Fail> {
+    let mut misfit = RemovalIgnored {
+        outcome: Outcome::Entry,
+    };
+    tell(&rt, rt.alloc(), Limits::default(), &mut misfit)?;
+    Ok(())
+}
+
+/// The path of the last ticket has these names.
+fn expect_path<B: Shared, E: tokens::Ledger, K: tokens::Ledger, F: tokens::Ledger>(
+    rt: &impl Abort,
+    desk: &Desk<B, E, K, F>,
+    expected: &[&str],
+) {
+    let ticket = desk.tickets.last().expect(rt, "a request was begun");
+    let names = ticket.path().names();
+    assert_eq!(rt; names.len(), expected.len());
+    for (name, spelt) in names.iter().zip(expected) {
+        assert_eq!(rt; name.as_str(), *spelt);
+    }
+}
+
+#[derive(Drop)]
+struct PathOfNode;
+
+impl Story for PathOfNode {
+    fn tell<B: Shared, E: tokens::Ledger, K: tokens::Ledger, F: tokens::Ledger, R: Abort>(
+        &mut self,
+        rt: &R,
+        desk: &mut Desk<B, E, K, F>,
+    ) {
+        give_folder(rt, desk);
+        assert_eq!(rt; desk.node(rt, ROOT), Asked::Go);
+        expect_path(rt, desk, &[]);
+        assert_eq!(rt; desk.node(rt, 2), Asked::Go);
+        expect_path(rt, desk, &["d"]);
+        assert_eq!(rt; desk.node(rt, 3), Asked::Go);
+        expect_path(rt, desk, &["d", "x"]);
+        assert_eq!(rt; desk.name(rt, 3, "e"), Asked::Go);
+        expect_path(rt, desk, &["d", "x", "e"]);
+        assert_eq!(rt; desk.remove(rt, 2, "y"), Asked::Go);
+        expect_path(rt, desk, &["d", "y"]);
+        for _request in 0..5 {
+            let _gave = desk.finish(rt, 0, 0, Outcome::Failed);
+        }
+    }
+}
+
+#[test]
+fn path_of_node(rt: HostRuntime) -> Result<(), Fail> {
+    tell(&rt, rt.alloc(), Limits::default(), &mut PathOfNode)?;
+    Ok(())
+}
+
+/// The removal that cuts node 2 keeps it until it is settled.
+#[derive(Drop)]
+struct PinnedByRemoval;
+
+impl Story for PinnedByRemoval {
+    fn tell<B: Shared, E: tokens::Ledger, K: tokens::Ledger, F: tokens::Ledger, R: Abort>(
+        &mut self,
+        rt: &R,
+        desk: &mut Desk<B, E, K, F>,
+    ) {
+        assert_eq!(rt; desk.look_up(rt, "a", true), Gave::entry(2, 0));
+        assert_eq!(rt; desk.remove(rt, ROOT, "a"), Asked::Go);
+        assert_eq!(rt; desk.forget(rt, 0, 2, 1), 1);
+        expect_named(rt, &desk.image(rt), 2, 0);
+        assert_eq!(rt; desk.finish(rt, 0, 0, Outcome::Done), Gave::Empty);
+        expect_cut(rt, &desk.image(rt), 2, 0);
+        let _settled = desk.settle(rt, 0, 0, true);
+        expect_many(rt, &desk.image(rt), 1, 0);
+    }
+}
+
+/// Its count keeps node 2 when its removal is settled.
+#[derive(Drop)]
+struct KeptByCount;
+
+impl Story for KeptByCount {
+    fn tell<B: Shared, E: tokens::Ledger, K: tokens::Ledger, F: tokens::Ledger, R: Abort>(
+        &mut self,
+        rt: &R,
+        desk: &mut Desk<B, E, K, F>,
+    ) {
+        assert_eq!(rt; desk.look_up(rt, "a", true), Gave::entry(2, 0));
+        assert_eq!(rt; desk.remove(rt, ROOT, "a"), Asked::Go);
+        assert_eq!(rt; desk.finish(rt, 0, 0, Outcome::Done), Gave::Empty);
+        let _settled = desk.settle(rt, 0, 0, true);
+        expect_cut(rt, &desk.image(rt), 2, 1);
+        assert_eq!(rt; desk.forget(rt, 0, 2, 1), 1);
+        expect_many(rt, &desk.image(rt), 1, 0);
+    }
+}
+
+/// A request for node 2 keeps it when it was cut and forgotten, and its removal settled.
+#[derive(Drop)]
+struct PinnedByNode;
+
+impl Story for PinnedByNode {
+    fn tell<B: Shared, E: tokens::Ledger, K: tokens::Ledger, F: tokens::Ledger, R: Abort>(
+        &mut self,
+        rt: &R,
+        desk: &mut Desk<B, E, K, F>,
+    ) {
+        assert_eq!(rt; desk.look_up(rt, "a", true), Gave::entry(2, 0));
+        assert_eq!(rt; desk.node(rt, 2), Asked::Go);
+        assert_eq!(rt; desk.finish(rt, 0, 0, Outcome::Done), Gave::Empty);
+        assert_eq!(rt; desk.remove(rt, ROOT, "a"), Asked::Go);
+        assert_eq!(rt; desk.finish(rt, 0, 0, Outcome::Done), Gave::Empty);
+        let _removal = desk.settle(rt, 0, 1, true);
+        assert_eq!(rt; desk.forget(rt, 0, 2, 1), 1);
+        expect_cut(rt, &desk.image(rt), 2, 0);
+        let _node = desk.settle(rt, 0, 0, true);
+        expect_many(rt, &desk.image(rt), 1, 0);
+    }
+}
+
+#[test]
+fn pinned_until_settled(rt: HostRuntime) -> Result<(), Fail> {
+    tell(&rt, rt.alloc(), Limits::default(), &mut PinnedByRemoval)?;
+    tell(&rt, rt.alloc(), Limits::default(), &mut KeptByCount)?;
+    tell(&rt, rt.alloc(), Limits::default(), &mut PinnedByNode)?;
+    Ok(())
+}
