@@ -17,6 +17,13 @@ pub enum Want {
     Name { parent: u64, name: Name },
     /// A name to be removed, whatever stands there (UNLINK, RMDIR).
     Remove { parent: u64, name: Name },
+    /// A name to be moved to another, whatever stands at either (RENAME).
+    Move {
+        parent: u64,
+        name: Name,
+        new_parent: u64,
+        new_name: Name,
+    },
 }
 
 /// What a request may still add, kept free for it from its begin to its finish.
@@ -151,7 +158,7 @@ impl Pins {
 #[derive(Drop)]
 pub struct Work {
     pub want: Want,
-    /// The want's name once more, if it has one: a node that is born is put into the tree under two keys.
+    /// The name that the want may give to a node, once more: a node is put into the tree under two keys.
     pub copy: Option<Name>,
     /// The names that others have to wait for.
     pub held: Held,

@@ -3,10 +3,12 @@ use Rattle.std.specs.Prelude.{ℕ, Bool, List, Option, count_by, is_some}
 use Rattle.flights.specs.declared.data.Given.{Given}
 use Rattle.paths.specs.Fronts.{Names}
 
--- a request that goes on: its id, and its path when it began
+-- a request that goes on: its id, and its path when it began; of a move the new path too, and whether it is the same
 pub record Claim : Type 0 where
   pub id : ℕ
   pub path : Names
+  pub target : Option Names
+  pub same : Bool
 
 -- what a finished request gives: a node or none for each of its names
 pub record Answer : Type 0 where

@@ -12,12 +12,12 @@ use Rattle.flights.specs.declared.data.Flight.{Flight}
 use Rattle.flights.specs.Roomy.{Pinned}
 use Rattle.flights.specs.declared.data.Promise.{Promise}
 use Rattle.flights.specs.declared.data.Want.{Want}
-use Rattle.flights.specs.declared.data.Want.TheVariants.{Node, Name, Remove}
+use Rattle.flights.specs.declared.data.Want.TheVariants.{Node, Name, Remove, Move}
 use Rattle.flights.specs.declared.data.Work.{Work}
 use Rattle.flights.specs.Listed.{flying_of}
 use Rattle.table.specs.declared.state.State.{State}
-use Rattle.table.specs.Holding.{HoldsFor}
-use Rattle.table.specs.Steps.{IsCrowded, IsLong, IsPathFor, IsPinFor, IsPromiseFor, IsStale, IsTooMuch}
+use Rattle.table.specs.Holding.{AreFrontsOfBoth, AreJust, HoldsFor}
+use Rattle.table.specs.Steps.{IsCrowded, IsPathFor, IsPinFor, IsPromiseFor, IsSound, IsTargetFor, IsTooMuch}
 use Rattle.table.specs.World.{IsReadyFor, World, world_of}
 
 -- the error number of a path that cannot be had
@@ -59,6 +59,17 @@ pub record IsRemovalWork (key : Key) (path : Names) (work : Work) : Type 0 where
   pub exclusive : work.held.exclusive ≡ path ∷ []
   pub unanswered : work.answer.items ≡ []
 
+-- what is to be done for a name of that path that is to be moved to the other
+pub record IsMoveWork (key target : Key) (path new_path : Names) (work : Work) : Type 0 where
+  pub want : work.want ≡ Move key.parent key.name target.parent target.name
+  pub copy : work.copy ≡ Some target.name
+  pub nodes : work.promise.nodes ≡ 0
+  pub postings : work.promise.postings ≡ 0
+  pub given : (above new_above : Names) (name new_name : List ℕ) → path ≡ above ++ name ∷ [] → new_path ≡ new_above ++ new_name ∷ [] → work.held.given ≡ record { number = key.parent; path = above } ∷ record { number = target.parent; path = new_above } ∷ []
+  pub shared : (above new_above : Names) (name new_name : List ℕ) → path ≡ above ++ name ∷ [] → new_path ≡ new_above ++ new_name ∷ [] → AreFrontsOfBoth work.held.shared above new_above
+  pub exclusive : AreJust work.held.exclusive path new_path
+  pub unanswered : work.answer.items ≡ []
+
 -- what is to be done for a node of that path
 pub record IsNodeWork (number : ℕ) (path : Names) (work : Work) : Type 0 where
   pub want : work.want ≡ Node number
@@ -73,15 +84,15 @@ pub record IsNodeWork (number : ℕ) (path : Names) (work : Work) : Type 0 where
 abbrev pub pins_in : Pinned → ℕ → Bool
 pins_in pins n = list_any (λ m. m == n) pins.numbers
 
--- a request that passed the tests of its path, as it is to be recorded
-pub record IsPlan (w : World) (want : Want) (work : Work) (pins : Pinned) (path : Names) : Type 0 where
-  pub not_stale : IsStale w want → ⊥
-  pub not_long : IsLong w want → ⊥
+-- a request that passed the tests of its paths, as it is to be recorded
+pub record IsPlan (w : World) (want : Want) (work : Work) (pins : Pinned) (path : Names) (target : Option Names) : Type 0 where
+  pub sound : IsSound w want
   pub promise : IsPromiseFor w want work.promise
   pub only : (p : Promise) → IsPromiseFor w want p → (p.nodes ≡ work.promise.nodes) × (p.postings ≡ work.promise.postings)
   pub holds : HoldsFor w.at want work.held
   pub pins_are : (n : ℕ) → (pins_in pins n ≡ true) ↔ IsPinFor w want n
   pub path_is : IsPathFor w want path
+  pub target_is : IsTargetFor w want target
   pub ready : (f : Flight) → f.pins ≡ pins → IsReadyFor w.at f work want
 
 -- there is room for one request more that is promised so much

@@ -1,5 +1,5 @@
 -- What a request holds, as its want says and the nodes stand.
-use Rattle.std.specs.Prelude.{ℕ, ◌≡◌, ◌≢◌, [], ◌∷◌, ◌++◌, Some, All}
+use Rattle.std.specs.Prelude.{ℕ, ◌≡◌, ◌≢◌, ◌⊎◌, List, [], ◌∷◌, ◌++◌, Some, All, Contains}
 use Rattle.paths.specs.Fronts.{Name, Names}
 use Rattle.holds.specs.declared.held.Held.{Held}
 use Rattle.holds.specs.declared.held.Lead.{Lead}
@@ -38,10 +38,32 @@ pub record HoldsRemoved (at : Lookup) (parent : ℕ) (name : Name) (held : Held)
   pub shared : AreFronts held.shared above
   pub exclusive : held.exclusive ≡ (above ++ name ∷ []) ∷ []
 
+-- these are the fronts of the one path and those of the other
+pub record AreFrontsOfBoth (names : List Names) (p q : Names) : Type 0 where
+  pub all : (front : Names) → IsSomeFront front p ⊎ IsSomeFront front q → Contains names front
+  pub only : (front : Names) → Contains names front → IsSomeFront front p ⊎ IsSomeFront front q
+
+-- these are the two paths, or the one where they are equal
+pub record AreJust (names : List Names) (p q : Names) : Type 0 where
+  pub first : Contains names p
+  pub second : Contains names q
+  pub only : (path : Names) → Contains names path → (path ≡ p) ⊎ (path ≡ q)
+
+-- a name that is to be moved to another: both are held alone, and each front of either parent's path is shared
+pub record HoldsMoved (at : Lookup) (parent : ℕ) (name : Name) (new_parent : ℕ) (new_name : Name) (held : Held) : Type 0 where
+  pub above : Names
+  pub leads : IsPathOf at parent above
+  pub new_above : Names
+  pub new_leads : IsPathOf at new_parent new_above
+  pub given : held.given ≡ record { number = parent; path = above } ∷ record { number = new_parent; path = new_above } ∷ []
+  pub shared : AreFrontsOfBoth held.shared above new_above
+  pub exclusive : AreJust held.exclusive (above ++ name ∷ []) (new_above ++ new_name ∷ [])
+
 abbrev pub HoldsFor : Lookup → Want → Held → Type 0
 HoldsFor at (wants.Node number) held = HoldsNode at number held
 HoldsFor at (wants.Name parent name) held = HoldsName at parent name held
 HoldsFor at (wants.Remove parent name) held = HoldsRemoved at parent name held
+HoldsFor at (wants.Move parent name new_parent new_name) held = HoldsMoved at parent name new_parent new_name held
 
 -- ---- the law
 

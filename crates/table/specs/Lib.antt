@@ -1,5 +1,6 @@
 pub mod Answers
 pub mod Holding
+pub mod Moving
 pub mod World
 pub mod Steps
 pub mod Sweeping

@@ -5,7 +5,7 @@ use Rattle.ledger.specs.declared.postings.Posting.{Posting}
 use Rattle.ledger.specs.declared.postings.Posting.TheVariants.{Born, Entry, Back, Forget}
 use Rattle.ledger.specs.Sums.{births_of}
 use Rattle.paths.specs.Fronts.{Names, path_bytes}
-use Rattle.tree.specs.Moves.{Changes, after_cut}
+use Rattle.tree.specs.Moves.{Changes, after_cut, after_move}
 use Rattle.tree.specs.declared.nodes.Node.{Node}
 use Rattle.tree.specs.declared.nodes.Place.TheVariants.{Named}
 use Rattle.tree.specs.Places.{Lookup, with_node, IsNamed, IsFree, HasChild, Leads, IsPathOf}
@@ -20,6 +20,7 @@ use Rattle.holds.specs.declared.held.Held.{Held}
 use Rattle.flights.specs.Flying.{HoldsUp, Flying, Adds, Answers, PinsMore, Goes, HasNoneWorking, HasNoneAnswered, answered, pins_number}
 use Rattle.table.specs.Answers.{Claim, Answer, Settlement, entries_in}
 use Rattle.table.specs.Holding.{HoldsFor}
+use Rattle.table.specs.Moving.{IsAstray}
 use Rattle.table.specs.World.{World}
 use Rattle.table.specs.declared.data.Begin.{Begin}
 use Rattle.table.specs.declared.data.Begin.TheVariants.{Go, Busy, Refused}
@@ -59,17 +60,36 @@ pub record Forgets (old : World) (number n amount : ℕ) (new : World) : Type 0 
 
 -- ---- begin
 
--- the node or the parent is not alive, or is cut
+-- the node or a parent is not alive, or is cut
 abbrev pub IsStale : World → Want → Type 0
 IsStale w (wants.Node number) = Leads w.at number → ⊥
 IsStale w (wants.Name parent name) = Leads w.at parent → ⊥
 IsStale w (wants.Remove parent name) = Leads w.at parent → ⊥
+IsStale w (wants.Move parent name new_parent new_name) = (Leads w.at parent → ⊥) ⊎ (Leads w.at new_parent → ⊥)
 
--- the path is longer than 4,096 bytes
+-- a path is longer than 4,096 bytes
+abbrev pub IsNameLong : Lookup → ℕ → List ℕ → Type 0
+IsNameLong at parent name = (up : Names) × IsPathOf at parent up × (4096 < path_bytes (up ++ name ∷ []))
+
 abbrev pub IsLong : World → Want → Type 0
 IsLong w (wants.Node number) = (path : Names) × IsPathOf w.at number path × (4096 < path_bytes path)
-IsLong w (wants.Name parent name) = (up : Names) × IsPathOf w.at parent up × (4096 < path_bytes (up ++ name ∷ []))
-IsLong w (wants.Remove parent name) = (up : Names) × IsPathOf w.at parent up × (4096 < path_bytes (up ++ name ∷ []))
+IsLong w (wants.Name parent name) = IsNameLong w.at parent name
+IsLong w (wants.Remove parent name) = IsNameLong w.at parent name
+IsLong w (wants.Move parent name new_parent new_name) = IsNameLong w.at parent name ⊎ IsNameLong w.at new_parent new_name
+
+-- the move would lead astray
+abbrev pub IsMisplaced : World → Want → ℤ → Type 0
+IsMisplaced w (wants.Node number) e = ⊥
+IsMisplaced w (wants.Name parent name) e = ⊥
+IsMisplaced w (wants.Remove parent name) e = ⊥
+IsMisplaced w (wants.Move parent name new_parent new_name) e =
+    (up new_up : Names) × IsPathOf w.at parent up × IsPathOf w.at new_parent new_up × IsAstray (up ++ name ∷ []) (new_up ++ new_name ∷ []) e
+
+-- no test of the paths alone refuses the want
+pub record IsSound (w : World) (want : Want) : Type 0 where
+  pub not_stale : IsStale w want → ⊥
+  pub not_long : IsLong w want → ⊥
+  pub not_misplaced : (e : ℤ) → IsMisplaced w want e → ⊥
 
 -- a request that is worked on holds a name that is in the way
 abbrev pub IsHeldUp : World → Want → Type 0
@@ -81,6 +101,7 @@ IsPromiseFor w (wants.Node number) p = (p.nodes ≡ 0) × (p.postings ≡ 0)
 IsPromiseFor w (wants.Name parent name) p =
     (IsFree w.at parent name → p.nodes ≡ 1) × ((n : ℕ) → IsNamed w.at n parent name → p.nodes ≡ 0) × (p.postings ≡ 3)
 IsPromiseFor w (wants.Remove parent name) p = (p.nodes ≡ 0) × (p.postings ≡ 0)
+IsPromiseFor w (wants.Move parent name new_parent new_name) p = (p.nodes ≡ 0) × (p.postings ≡ 0)
 
 -- with what is promised, the nodes or the postings would pass their limit
 abbrev pub IsTooMuch : World → Promise → Type 0
@@ -100,21 +121,35 @@ abbrev pub IsRefusal : World → Want → ℤ → Type 0
 IsRefusal w want e =
     ((e ≡ ESTALE) × IsStale w want)
     ⊎ ((e ≡ ENAMETOOLONG) × (IsStale w want → ⊥) × IsLong w want)
-    ⊎ ((e ≡ ENFILE) × (IsStale w want → ⊥) × (IsLong w want → ⊥) × (IsHeldUp w want → ⊥) × IsFull w want)
-    ⊎ ((e ≡ EAGAIN) × (IsStale w want → ⊥) × (IsLong w want → ⊥) × (IsHeldUp w want → ⊥) × (IsFull w want → ⊥) × IsCrowded w)
+    ⊎ ((IsStale w want → ⊥) × (IsLong w want → ⊥) × IsMisplaced w want e)
+    ⊎ ((e ≡ ENFILE) × IsSound w want × (IsHeldUp w want → ⊥) × IsFull w want)
+    ⊎ ((e ≡ EAGAIN) × IsSound w want × (IsHeldUp w want → ⊥) × (IsFull w want → ⊥) × IsCrowded w)
     ⊎ ((e ≡ ENOMEM) × (IsStale w want → ⊥))
+
+-- the path of the name under the parent
+abbrev pub IsPathOfKey : Lookup → ℕ → List ℕ → Names → Type 0
+IsPathOfKey at parent name path = (up : Names) × IsPathOf at parent up × (path ≡ up ++ name ∷ [])
 
 -- the path that the want is about
 abbrev pub IsPathFor : World → Want → Names → Type 0
 IsPathFor w (wants.Node number) path = IsPathOf w.at number path
-IsPathFor w (wants.Name parent name) path = (up : Names) × IsPathOf w.at parent up × (path ≡ up ++ name ∷ [])
-IsPathFor w (wants.Remove parent name) path = (up : Names) × IsPathOf w.at parent up × (path ≡ up ++ name ∷ [])
+IsPathFor w (wants.Name parent name) path = IsPathOfKey w.at parent name path
+IsPathFor w (wants.Remove parent name) path = IsPathOfKey w.at parent name path
+IsPathFor w (wants.Move parent name new_parent new_name) path = IsPathOfKey w.at parent name path
 
--- the nodes that the want names, and any that stands at its path
+-- and of a move the path that it leads to
+abbrev pub IsTargetFor : World → Want → Option Names → Type 0
+IsTargetFor w (wants.Node number) target = target ≡ None
+IsTargetFor w (wants.Name parent name) target = target ≡ None
+IsTargetFor w (wants.Remove parent name) target = target ≡ None
+IsTargetFor w (wants.Move parent name new_parent new_name) target = (path : Names) × IsPathOfKey w.at new_parent new_name path × (target ≡ Some path)
+
+-- the nodes that the want names, and any that stands at a path of it
 abbrev pub IsPinFor : World → Want → ℕ → Type 0
 IsPinFor w (wants.Node number) n = n ≡ number
 IsPinFor w (wants.Name parent name) n = (n ≡ parent) ⊎ IsNamed w.at n parent name
 IsPinFor w (wants.Remove parent name) n = (n ≡ parent) ⊎ IsNamed w.at n parent name
+IsPinFor w (wants.Move parent name new_parent new_name) n = ((n ≡ parent) ⊎ IsNamed w.at n parent name) ⊎ ((n ≡ new_parent) ⊎ IsNamed w.at n new_parent new_name)
 
 -- one request more is in flight, under an id that none bore
 pub record GoesOn (old : World) (unique : ℕ) (want : Want) (claim : Claim) (new : World) : Type 0 where
@@ -129,13 +164,15 @@ pub record GoesOn (old : World) (unique : ℕ) (want : Want) (claim : Claim) (ne
   pub holds : HoldsFor old.at want work.held
   pub pins : (n : ℕ) → (pins_number flight n ≡ true) ↔ IsPinFor old want n
   pub path : IsPathFor old want claim.path
+  pub target : IsTargetFor old want claim.target
+  pub same : (claim.same ≡ true) ↔ (claim.target ≡ Some claim.path)
   pub adds : Adds old.flying flight new.flying
   pub rest : new ≡ record old { flying = new.flying }
 
 abbrev pub Begins : World → ℕ → Want → Begin → World → Type 0
 Begins old unique want (Go claim) new =
-    ((IsStale old want → ⊥) × (IsLong old want → ⊥) × (IsHeldUp old want → ⊥) × (IsFull old want → ⊥) × (IsCrowded old → ⊥)) × GoesOn old unique want claim new
-Begins old unique want Busy new = ((IsStale old want → ⊥) × (IsLong old want → ⊥) × IsHeldUp old want) × (new ≡ old)
+    (IsSound old want × (IsHeldUp old want → ⊥) × (IsFull old want → ⊥) × (IsCrowded old → ⊥)) × GoesOn old unique want claim new
+Begins old unique want Busy new = (IsSound old want × IsHeldUp old want) × (new ≡ old)
 Begins old unique want (Refused e) new = IsRefusal old want e × (new ≡ old)
 
 -- ---- finish
@@ -184,6 +221,15 @@ pub record CutsName (old : World) (parent : ℕ) (name : List ℕ) (new : World)
   pub flying : new.flying ≡ old.flying
   pub limits : new.limits ≡ old.limits
 
+-- each node at the first name or below is moved to the second, where what stood is cut, and then what nothing keeps any more goes
+pub record MovesName (old : World) (parent : ℕ) (name : List ℕ) (new_parent : ℕ) (new_name : List ℕ) (new : World) : Type 0 where
+  pub mid : Lookup
+  pub moves : (up new_up : Names) → IsPathOf old.at parent up → IsPathOf old.at new_parent new_up → Changes (after_move (up ++ name ∷ []) (new_up ++ new_name ∷ [])) old.at mid
+  pub swept : IsSwept old.flying.pinned mid new.at
+  pub postings : new.postings ≡ old.postings
+  pub flying : new.flying ≡ old.flying
+  pub limits : new.limits ≡ old.limits
+
 -- the client is given nothing, and nothing else changes
 abbrev pub GivesNothing : World → ℕ → List (Option Given) → Answer → World → Type 0
 GivesNothing old id given answer new = (answer ≡ record { id = id; given = given; lost = false }) × (new ≡ old)
@@ -197,6 +243,9 @@ Gives old id f (wants.Name parent name) outcome.Done answer new = GivesNothing o
 Gives old id f (wants.Remove parent name) outcome.Entry answer new = GivesNothing old id [] answer new
 Gives old id f (wants.Remove parent name) outcome.Failed answer new = GivesNothing old id [] answer new
 Gives old id f (wants.Remove parent name) outcome.Done answer new = (answer ≡ record { id = id; given = []; lost = false }) × CutsName old parent name new
+Gives old id f (wants.Move parent name new_parent new_name) outcome.Entry answer new = GivesNothing old id [] answer new
+Gives old id f (wants.Move parent name new_parent new_name) outcome.Failed answer new = GivesNothing old id [] answer new
+Gives old id f (wants.Move parent name new_parent new_name) outcome.Done answer new = (answer ≡ record { id = id; given = []; lost = false }) × MovesName old parent name new_parent new_name new
 
 -- the work on a request ends, so that it holds nothing, and then its outcome comes about
 pub record Ends (old : World) (id : ℕ) (work : Work) (o : Outcome) (answer : Answer) (new : World) : Type 0 where

@@ -1,5 +1,5 @@
 -- All that a table keeps, and the law of it.
-use Rattle.std.specs.Prelude.{ℕ, ◌+◌, ◌^◌, ◌<◌, ◌≤◌, ◌≡◌, ◌⊎◌, true, false, List, [], Option, Some, length}
+use Rattle.std.specs.Prelude.{ℕ, ℤ, ◌+◌, ◌^◌, ◌<◌, ◌≤◌, ◌≡◌, ◌⊎◌, true, false, List, [], ◌∷◌, ◌++◌, Option, Some, length}
 use Rattle.ledger.specs.declared.postings.Posting.{Posting}
 use Rattle.tree.specs.Places.{Lookup, IsCensus, Nodes, at_in, with_node, no_nodes, root_node, IsNamed, Leads}
 use Rattle.ledger.specs.Postings.{Postings}
@@ -9,10 +9,11 @@ use Rattle.flights.specs.declared.data.Flight.{Flight}
 use Rattle.flights.specs.declared.data.Promise.{Promise}
 use Rattle.flights.specs.declared.data.Stage.TheVariants.{Working, Answered}
 use Rattle.flights.specs.declared.data.Want.{Want}
-use Rattle.flights.specs.declared.data.Want.TheVariants.{Node, Name, Remove}
+use Rattle.flights.specs.declared.data.Want.TheVariants.{Node, Name, Remove, Move}
 use Rattle.flights.specs.declared.data.Work.{Work}
 use Rattle.flights.specs.Flying.{Flying, IsFlying, none_flying, pins_number, HoldsUp}
-use Rattle.table.specs.Holding.{AreHeld, HoldsName, HoldsNode, HoldsRemoved}
+use Rattle.table.specs.Holding.{AreHeld, HoldsMoved, HoldsName, HoldsNode, HoldsRemoved}
+use Rattle.table.specs.Moving.{IsAstray}
 use Rattle.image.specs.Law.{IsLawful}
 use Rattle.table.specs.declared.data.Limits.{Limits}
 use Rattle.table.specs.declared.state.State.{State}
@@ -56,10 +57,20 @@ pub record IsRemovalReady (at : Lookup) (f : Flight) (work : Work) (parent : ℕ
   pub pinned : pins_number f parent ≡ true
   pub unanswered : work.answer.items ≡ []
 
+-- for a name that is to be moved: its parents lead to the root, and it pins them
+pub record IsMoveReady (at : Lookup) (f : Flight) (work : Work) (parent : ℕ) (name : List ℕ) (new_parent : ℕ) (new_name : List ℕ) : Type 0 where
+  pub holds : HoldsMoved at parent name new_parent new_name work.held
+  pub not_astray : (e : ℤ) → IsAstray (holds.above ++ name ∷ []) (holds.new_above ++ new_name ∷ []) e → ⊥
+  pub pinned : pins_number f parent ≡ true
+  pub new_pinned : pins_number f new_parent ≡ true
+  pub copy : work.copy ≡ Some new_name
+  pub unanswered : work.answer.items ≡ []
+
 abbrev pub IsReadyFor : Lookup → Flight → Work → Want → Type 0
 IsReadyFor at f work (Node number) = IsNodeReady at f work number
 IsReadyFor at f work (Name parent name) = IsNameReady at f work parent name
 IsReadyFor at f work (Remove parent name) = IsRemovalReady at f work parent name
+IsReadyFor at f work (Move parent name new_parent new_name) = IsMoveReady at f work parent name new_parent new_name
 
 abbrev pub AreReady : Lookup → (ℕ → Option Flight) → Type 0
 AreReady at flights = (id : ℕ) (f : Flight) (work : Work) → flights id ≡ Some f → f.stage ≡ Working work → IsReadyFor at f work work.want
@@ -147,6 +158,14 @@ pub record IsNameEnding (s : State) (id parent : ℕ) (name : List ℕ) (promise
 pub record IsRemovable (s : State) (held : Held) (parent : ℕ) (name : List ℕ) : Type 0 where
   pub holds : HoldsRemoved (at_in s.tree) parent name held
   pub pinned : (flying_of s.flights).pinned parent ≡ true
+  pub clear : HoldsUp (flying_of s.flights).at held → ⊥
+
+-- two names that no other request that is worked on has a hold in the way of, under pinned parents
+pub record MayMove (s : State) (held : Held) (parent : ℕ) (name : List ℕ) (new_parent : ℕ) (new_name : List ℕ) : Type 0 where
+  pub holds : HoldsMoved (at_in s.tree) parent name new_parent new_name held
+  pub not_astray : (e : ℤ) → IsAstray (holds.above ++ name ∷ []) (holds.new_above ++ new_name ∷ []) e → ⊥
+  pub pinned : (flying_of s.flights).pinned parent ≡ true
+  pub new_pinned : (flying_of s.flights).pinned new_parent ≡ true
   pub clear : HoldsUp (flying_of s.flights).at held → ⊥
 
 -- a table of the root alone

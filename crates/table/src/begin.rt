@@ -1,23 +1,25 @@
 //! The beginning of a request.
 
-ghost use Rattle.std.specs.Prelude.{◌≡◌, ◌≤◌, ◌<◌, ◌+◌, ◌↔◌, ◌⊎◌, ◌++◌, ◌∷◌, [], true, ℕ, Some, IfOk, IfErr, OnOk};
+ghost use Rattle.std.specs.Prelude.{◌≡◌, ◌≤◌, ◌<◌, ◌+◌, ◌↔◌, true, ℤ, ℕ, Some, IfOk, IfErr, IfNone, IfSome, OnOk, IsTrue};
 ghost use Rattle.flights.specs.declared.data.Want.TheVariants as Want;
-ghost use Rattle.paths.specs.Fronts.{Name, Names};
-ghost use Rattle.table.specs.Beginning.{Allows, Forbids, IsNameWork, IsNodeWork, IsPlan, IsPromised, IsRemovalWork, IsRoomForOne, IsSameButRoom, errno_of, pins_in};
-ghost use Rattle.table.specs.Steps.{Begins};
+ghost use Rattle.table.specs.Beginning.{Allows, Forbids, IsPlan, IsRoomForOne, IsSameButRoom, errno_of};
+ghost use Rattle.table.specs.Moving.{IsAstray};
+ghost use Rattle.table.specs.Steps.{Begins, IsRefusal};
 ghost use Rattle.table.specs.World.{IsCounted, IsKept, world_of};
+ghost use Rattle.tree.specs.Moves.{IsPathOfName};
+ghost use Rattle.tree.specs.Places.{at_in, Leads};
+ghost use Rattle.paths.specs.Fronts.{path_bytes};
 
 use crate::data::{Begin, Ticket};
 use crate::state::State;
-use errno::{EAGAIN, ENAMETOOLONG, ENFILE, ENOMEM, ESTALE};
-use flights::{Flight, Givens, Pins, Promise, Stage, Want, Work};
-use holds::{Held, Lead, Leads, Paths, fronts_of};
+use crate::work::{
+    move_work, name_work, node_work, pin, pins_for, pins_for_move, promise_for, removal_work,
+};
+use errno::{EAGAIN, EINVAL, ENAMETOOLONG, ENFILE, ENOMEM, ENOTEMPTY, ESTALE};
+use flights::{Flight, Pins, Promise, Stage, Want, Work};
 use paths::Path;
-use std::alloc::{AllocError, Global};
+use std::alloc::AllocError;
 use tree::{Key, TreeFault};
-
-/// The postings that an entry may make: a birth, the entry itself, and that by which it is taken back.
-const ENTRY_POSTINGS: u64 = 3;
 
 /// The error number of a path that cannot be had.
 fn path_errno(fault: TreeFault) -> i32
@@ -31,121 +33,31 @@ fn path_errno(fault: TreeFault) -> i32
     }
 }
 
-/// What a name is promised: a node if none stands there, and the postings of its entry.
-fn promise_for(standing: &Option<u64>) -> Promise
-    ensures { IsPromised standing.now result }
+/// Tests that the path may be moved to the other.
+fn expect_not_astray(path: &Path, target: &Path) -> Result<(), i32>
+    ensures ok { OnOk result ((e : ℤ) → IsAstray path.now target.now e → ⊥) }
+    ensures err { IfErr result (IsAstray path.now target.now) }
 {
-    let nodes = match standing {
-        Some(_) => 0,
-        None => 1,
-    };
-    Promise {
-        nodes,
-        postings: ENTRY_POSTINGS,
+    if path.is(target) {
+        return Ok(());
     }
-}
-
-/// The path of the parent of the name with that path.
-fn above(path: &Path) -> Result<Path, AllocError>
-    ensures { IfOk result (λ up. (above : Names) (name : Name) → path.now ≡ above ++ name ∷ [] → up ≡ above) }
-{
-    let mut names = path.copy()?.into_names();
-    let _last = names.pop();
-    Ok(Path::from_names(names))
-}
-
-/// The node alone, with that path.
-fn lead(alloc: Global, number: u64, path: Path) -> Result<Leads, AllocError>
-    ensures { IfOk result (λ leads. leads ≡ record { number = number; path = path } ∷ []) }
-{
-    let mut leads = Vec::new(alloc);
-    leads.push(Lead { number, path })?;
-    Ok(Leads::from_vec(leads))
-}
-
-/// What a request for a name is to do, and holds meanwhile.
-fn name_work(alloc: Global, key: Key, path: &Path, promise: Promise) -> Result<Work, AllocError>
-    ensures { IfOk result (IsNameWork key path.now promise) }
-{
-    let held = Held {
-        given: lead(alloc, key.parent, above(path)?)?,
-        shared: fronts_of(alloc, path)?,
-        exclusive: Paths::from_vec(Vec::new(alloc)),
-    };
-    let copy = key.name.copy()?;
-    let answer = Givens::with_capacity(alloc, 1)?;
-    let Key { parent, name } = key;
-    Ok(Work {
-        want: Want::Name { parent, name },
-        copy: Some(copy),
-        held,
-        promise,
-        answer,
-    })
-}
-
-/// What a request for a node is to do, and holds meanwhile.
-fn node_work(alloc: Global, number: u64, path: &Path) -> Result<Work, AllocError>
-    ensures { IfOk result (IsNodeWork number path.now) }
-{
-    let held = Held {
-        given: lead(alloc, number, path.copy()?)?,
-        shared: fronts_of(alloc, path)?,
-        exclusive: Paths::from_vec(Vec::new(alloc)),
-    };
-    Ok(Work {
-        want: Want::Node { number },
-        copy: None,
-        held,
-        promise: Promise::NONE,
-        answer: Givens::new(alloc),
-    })
-}
-
-/// What a request that removes a name is to do, and holds meanwhile.
-fn removal_work(alloc: Global, key: Key, path: &Path) -> Result<Work, AllocError>
-    ensures { IfOk result (IsRemovalWork key path.now) }
-{
-    let up = above(path)?;
-    let shared = fronts_of(alloc, &up)?;
-    let mut exclusive = Vec::new(alloc);
-    exclusive.push(path.copy()?)?;
-    let held = Held {
-        given: lead(alloc, key.parent, up)?,
-        shared,
-        exclusive: Paths::from_vec(exclusive),
-    };
-    let Key { parent, name } = key;
-    Ok(Work {
-        want: Want::Remove { parent, name },
-        copy: None,
-        held,
-        promise: Promise::NONE,
-        answer: Givens::new(alloc),
-    })
-}
-
-/// The pins of a request for a node.
-fn pin(alloc: Global, number: u64) -> Result<Pins, AllocError>
-    ensures { IfOk result (λ p. (n : ℕ) → (pins_in p n ≡ true) ↔ (n ≡ number)) }
-{
-    let mut pins = Pins::with_capacity(alloc, 1)?;
-    pins.add(number);
-    Ok(pins)
-}
-
-/// The pins of a request for a name: its parent and the node that stands there, with room for one more.
-fn pins_for(alloc: Global, parent: u64, standing: Option<u64>) -> Result<Pins, AllocError>
-    ensures room { IfOk result (λ p. 0 < p.room) }
-    ensures pins { IfOk result (λ p. (n : ℕ) → (pins_in p n ≡ true) ↔ ((n ≡ parent) ⊎ (standing ≡ Some n))) }
-{
-    let mut pins = Pins::with_capacity(alloc, 3)?;
-    pins.add(parent);
-    match standing {
-        Some(number) => pins.add(number),
-        None => {}
+    if path.is_front_of(target) {
+        return Err(EINVAL);
     }
-    Ok(pins)
+    if target.is_front_of(path) {
+        return Err(ENOTEMPTY);
+    }
+    Ok(())
+}
+
+/// Whether a move would lead to the path itself.
+fn is_same(path: &Path, target: &Option<Path>) -> bool
+    ensures { (result ≡ true) ↔ (target.now ≡ Some path.now) }
+{
+    match target {
+        Some(target) => target.is(path),
+        None => false,
+    }
 }
 
 impl State {
@@ -160,6 +72,18 @@ impl State {
             Want::Node { number } => self.begin_node(unique, number),
             Want::Name { parent, name } => self.begin_name(unique, Key { parent, name }),
             Want::Remove { parent, name } => self.begin_removal(unique, Key { parent, name }),
+            Want::Move {
+                parent,
+                name,
+                new_parent,
+                new_name,
+            } => {
+                let target = Key {
+                    parent: new_parent,
+                    name: new_name,
+                };
+                self.begin_move(unique, Key { parent, name }, target)
+            }
         }
     }
 
@@ -185,7 +109,7 @@ impl State {
             Ok(pins) => pins,
             Err(_) => return Begin::Refused(ENOMEM),
         };
-        self.admit(unique, work, pins, path)
+        self.admit(unique, work, pins, path, None)
     }
 
     /// The same for a name under a parent.
@@ -209,7 +133,7 @@ impl State {
             Ok(work) => work,
             Err(_) => return Begin::Refused(ENOMEM),
         };
-        self.admit(unique, work, pins, path)
+        self.admit(unique, work, pins, path, None)
     }
 
     /// The same for a name that is to be removed.
@@ -232,13 +156,73 @@ impl State {
             Ok(work) => work,
             Err(_) => return Begin::Refused(ENOMEM),
         };
-        self.admit(unique, work, pins, path)
+        self.admit(unique, work, pins, path, None)
     }
 
-    /// Records a request that passed the tests of its path, if none is in its way and the limits allow it.
-    fn admit(&mut self, unique: u64, work: Work, pins: Pins, path: Path) -> Begin
+    /// The paths of a name and of the one to which it is to be moved, if it may be.
+    fn paths_of_move(&self, key: &Key, target: &Key) -> Result<(Path, Path), i32>
+        requires kept { IsKept self.now }
+        requires leads { Leads (at_in self.now.tree) key.now.parent }
+        requires target_leads { Leads (at_in self.now.tree) target.now.parent }
+        ensures old { IfOk result (λ (path, _). IsPathOfName (at_in self.now.tree) key.now.parent key.now.name path × (path_bytes path ≤ 4096)) }
+        ensures new { IfOk result (λ (_, path). IsPathOfName (at_in self.now.tree) target.now.parent target.now.name path × (path_bytes path ≤ 4096)) }
+        ensures not_astray { IfOk result (λ (old, new). (e : ℤ) → IsAstray old new e → ⊥) }
+        ensures err { IfErr result (IsRefusal (world_of self.now) (Want.Move key.now.parent key.now.name target.now.parent target.now.name)) }
+    {
+        let path = match self.tree.path_of_name(self.alloc, key) {
+            Ok(path) => path,
+            Err(fault) => return Err(path_errno(fault)),
+        };
+        let new_path = match self.tree.path_of_name(self.alloc, target) {
+            Ok(path) => path,
+            Err(fault) => return Err(path_errno(fault)),
+        };
+        expect_not_astray(&path, &new_path)?;
+        Ok((path, new_path))
+    }
+
+    /// The same for a name that is to be moved to another.
+    fn begin_move(&mut self, unique: u64, key: Key, target: Key) -> Begin
+        requires { IsKept self.old }
+        ensures begins { Begins (world_of self.old) unique (Want.Move key.parent key.name target.parent target.name) result (world_of self.new) }
+        ensures census { IsCounted (world_of self.old) }
+        ensures kept { IsKept self.new }
+    {
+        if !self.tree.is_below(key.parent, 1) {
+            return Begin::Refused(ESTALE);
+        }
+        if !self.tree.is_below(target.parent, 1) {
+            return Begin::Refused(ESTALE);
+        }
+        let (path, new_path) = match self.paths_of_move(&key, &target) {
+            Ok(paths) => paths,
+            Err(errno) => return Begin::Refused(errno),
+        };
+        let standing = self.tree.find(&key);
+        let new_standing = self.tree.find(&target);
+        let pins =
+            match pins_for_move(self.alloc, key.parent, standing, target.parent, new_standing) {
+                Ok(pins) => pins,
+                Err(_) => return Begin::Refused(ENOMEM),
+            };
+        let work = match move_work(self.alloc, key, target, &path, &new_path) {
+            Ok(work) => work,
+            Err(_) => return Begin::Refused(ENOMEM),
+        };
+        self.admit(unique, work, pins, path, Some(new_path))
+    }
+
+    /// Records a request that passed the tests of its paths, if none is in its way and the limits allow it.
+    fn admit(
+        &mut self,
+        unique: u64,
+        work: Work,
+        pins: Pins,
+        path: Path,
+        target: Option<Path>,
+    ) -> Begin
         requires kept { IsKept self.old }
-        requires plan { IsPlan (world_of self.old) work.want work pins path }
+        requires plan { IsPlan (world_of self.old) work.want work pins path target }
         ensures begins { Begins (world_of self.old) unique work.want result (world_of self.new) }
         ensures kept { IsKept self.new }
     {
@@ -261,7 +245,13 @@ impl State {
             stage: Stage::Working(work),
             pins,
         });
-        Begin::Go(Ticket { id, path })
+        let same = is_same(&path, &target);
+        Begin::Go(Ticket {
+            id,
+            path,
+            target,
+            same,
+        })
     }
 
     /// Tests that the limits allow one request more that is promised so much.

@@ -1,6 +1,6 @@
 //! What callers hand in and get back.
 
-ghost use Rattle.std.specs.Prelude.{◌≡◌};
+ghost use Rattle.std.specs.Prelude.{◌≡◌, option_copied};
 
 use flights::{Given, Givens};
 use paths::Path;
@@ -37,6 +37,8 @@ impl Default for Limits {
 pub struct Ticket {
     pub(crate) id: u64,
     pub(crate) path: Path,
+    pub(crate) target: Option<Path>,
+    pub(crate) same: bool,
 }
 
 impl Model for Ticket {
@@ -44,7 +46,7 @@ impl Model for Ticket {
 
     ghost Value = { Claim };
 
-    ghost view = { λ t. record { id = t.id; path = t.path } };
+    ghost view = { λ t. record { id = t.id; path = t.path; target = t.target; same = t.same } };
 }
 
 impl Ticket {
@@ -55,11 +57,25 @@ impl Ticket {
         self.id
     }
 
-    /// The path that the request is about, as it was when the request began.
+    /// The path that the request is about, as it was when the request began. Of a move it is the old one.
     pub fn path(&self) -> &Path
         ensures { result.now ≡ self.now.path }
     {
         &self.path
+    }
+
+    /// Of a move the new path.
+    pub fn target(&self) -> Option<&Path>
+        ensures { option_copied result ≡ self.now.target }
+    {
+        self.target.as_ref()
+    }
+
+    /// Whether it is a move of a path to itself, which changes nothing.
+    pub fn same(&self) -> bool
+        ensures { result ≡ self.now.same }
+    {
+        self.same
     }
 }
 

@@ -5,12 +5,13 @@ ghost use Rattle.flights.specs.declared.data.Flight.{Flight};
 ghost use Rattle.flights.specs.Listed.{flying_of};
 ghost use Rattle.flights.specs.declared.data.Want.TheVariants as Want;
 ghost use Rattle.image.specs.Law.{IsLawful};
-ghost use Rattle.table.specs.Steps.{Bears, CutsName, Enters, EntersAgain, Finishes, Gives, GivesEntry};
+ghost use Rattle.table.specs.Steps.{Bears, CutsName, Enters, EntersAgain, Finishes, Gives, GivesEntry, MovesName};
 ghost use Rattle.table.specs.Sweeping.{IsEntered, IsOneMore, KeepsNames};
-ghost use Rattle.table.specs.World.{IsEnding, IsKept, IsNameEnding, IsRemovable, world_of};
+ghost use Rattle.table.specs.World.{IsEnding, IsKept, IsNameEnding, IsRemovable, MayMove, world_of};
 ghost use Rattle.tree.specs.Places.{at_in, IsAlive, IsFree, IsNamed, Leads};
 
 use crate::data::{Answered, Outcome, Ticket};
+use crate::places::{cut_at, move_at};
 use crate::state::State;
 use crate::sweep::sweep_cut;
 use flights::{Flights, Given, Givens, Promise, Want, Work};
@@ -171,12 +172,7 @@ impl State {
         ensures cuts { CutsName (world_of self.old) key.now.parent key.now.name (world_of self.new) }
         ensures kept { IsKept self.new }
     {
-        let Some(number) = self.tree.find(key) else {
-            return;
-        };
-        let Ok(()) = self.tree.cut(number) else {
-            unreachable!();
-        };
+        cut_at(&mut self.tree, key);
         sweep_cut(&mut self.tree, &self.flights);
     }
 
@@ -197,6 +193,55 @@ impl State {
     {
         match outcome {
             Outcome::Done => self.cut_name(key, held),
+            Outcome::Failed | Outcome::Entry => {}
+        }
+        Answered {
+            id,
+            given: answer,
+            lost: false,
+        }
+    }
+
+    /// Moves what stands at the name to the other, where what stood is cut, and drops what nothing keeps any more.
+    fn move_name(&mut self, key: &Key, target: Key, copy: Key, _held: &Held)
+        requires kept { IsKept self.old }
+        requires may { MayMove self.old _held.now key.now.parent key.now.name target.parent target.name }
+        ensures moves { MovesName (world_of self.old) key.now.parent key.now.name target.parent target.name (world_of self.new) }
+        ensures kept { IsKept self.new }
+    {
+        move_at(&mut self.tree, key, target, copy);
+        sweep_cut(&mut self.tree, &self.flights);
+    }
+
+    /// What the outcome of a request that moves a name does.
+    fn give_for_move(
+        &mut self,
+        id: u64,
+        key: &Key,
+        target: Key,
+        copy: Option<Name>,
+        held: &Held,
+        answer: Givens,
+        outcome: Outcome,
+    ) -> Answered
+        requires kept { IsKept self.old }
+        requires may { MayMove self.old held.now key.now.parent key.now.name target.parent target.name }
+        requires copy { copy ≡ Some target.name }
+        requires unanswered { answer.items ≡ [] }
+        ensures gives { (f : Flight) → Gives (world_of self.old) id f (Want.Move key.now.parent key.now.name target.parent target.name) outcome result (world_of self.new) }
+        ensures kept { IsKept self.new }
+    {
+        match outcome {
+            Outcome::Done => {
+                let Some(name) = copy else {
+                    unreachable!();
+                };
+                let copy = Key {
+                    parent: target.parent,
+                    name,
+                };
+                self.move_name(key, target, copy, held);
+            }
             Outcome::Failed | Outcome::Entry => {}
         }
         Answered {
@@ -234,6 +279,19 @@ impl State {
                 let key = Key { parent, name };
                 self.give_for_removal(id, &key, &held, answer, outcome)
             }
+            Want::Move {
+                parent,
+                name,
+                new_parent,
+                new_name,
+            } => {
+                let key = Key { parent, name };
+                let target = Key {
+                    parent: new_parent,
+                    name: new_name,
+                };
+                self.give_for_move(id, &key, target, copy, &held, answer, outcome)
+            }
         }
     }
 
@@ -243,7 +301,12 @@ impl State {
         ensures finishes { Finishes (world_of self.old) ticket.id outcome result (world_of self.new) }
         ensures kept { IsKept self.new }
     {
-        let Ticket { id, path: _ } = ticket;
+        let Ticket {
+            id,
+            path: _,
+            target: _,
+            same: _,
+        } = ticket;
         let Some(work) = self.flights.answer(id) else {
             return Answered {
                 id,

@@ -8,10 +8,12 @@ mod data;
 mod export;
 mod finish;
 mod forget;
+mod places;
 mod settle;
 mod state;
 mod sweep;
 mod table;
+mod work;
 
 pub use data::{Answered, Begin, Limits, Outcome, Settled, Ticket};
 pub use flights::{Given, Want};
