@@ -10,9 +10,9 @@ use Rattle.image.specs.Law.{IsLawful}
 use Rattle.table.specs.declared.state.State.{State}
 use Rattle.table.specs.Sweeping.{IsEntered, KeepsNames}
 use Rattle.flights.specs.declared.data.Want.{Want}
-use Rattle.flights.specs.declared.data.Want.TheVariants.{Name, Remove}
+use Rattle.flights.specs.declared.data.Want.TheVariants.{Name, Remove, Move}
 use Rattle.flights.specs.declared.data.Work.{Work}
-use Rattle.table.specs.World.{AreReady, IsRemovable, IsRemovalReady, IsKept, IsEnding, IsNameEnding, IsNameReady, IsReadyFor}
+use Rattle.table.specs.World.{AreReady, IsKept, IsEnding, IsMoveReady, IsNameEnding, IsNameReady, IsReadyFor, IsRemovable, IsRemovalReady, MayMove}
 use Rattle.table.proofs.Laws.{lawful_pins}
 use Rattle.table.proofs.Ready.{AreReady-same, AreReady-idle}
 use Rattle.table.proofs.Apart.{AreApart, AreApart-idle, held_of}
@@ -89,5 +89,17 @@ removal_ending s id work parent name kept want e =
     record {
       holds = ready.holds;
       pinned = (kept.flying.pins parent).1 (id, e.flight, e.here, ready.pinned);
+      clear = e.clear;
+    }
+
+-- a request that was begun to move a name may move it
+pub move_ending : (s : State) (id : ℕ) (work : Work) (parent : ℕ) (name : List ℕ) (new_parent : ℕ) (new_name : List ℕ) → IsKept s → work.want ≡ Move parent name new_parent new_name → IsEnding s id work → MayMove s work.held parent name new_parent new_name
+move_ending s id work parent name new_parent new_name kept want e =
+    let ready : IsMoveReady (at_in s.tree) e.flight work parent name new_parent new_name = subst (λ (w : Want). IsReadyFor (at_in s.tree) e.flight work w) want e.ready in
+    record {
+      holds = ready.holds;
+      not_astray = ready.not_astray;
+      pinned = (kept.flying.pins parent).1 (id, e.flight, e.here, ready.pinned);
+      new_pinned = (kept.flying.pins new_parent).1 (id, e.flight, e.here, ready.new_pinned);
       clear = e.clear;
     }

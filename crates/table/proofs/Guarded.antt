@@ -11,7 +11,7 @@ use Rattle.flights.specs.declared.data.Flight.{Flight}
 use Rattle.flights.specs.declared.data.Stage.{Stage}
 use Rattle.flights.specs.declared.data.Stage.TheVariants.{Working}
 use Rattle.flights.specs.declared.data.Want.{Want}
-use Rattle.flights.specs.declared.data.Want.TheVariants.{Node, Name, Remove}
+use Rattle.flights.specs.declared.data.Want.TheVariants.{Node, Name, Remove, Move}
 use Rattle.flights.specs.declared.data.Work.{Work}
 use Rattle.flights.specs.Flying.{Flights, HoldsUp, IsInTheWay}
 use Rattle.table.specs.World.{IsReadyFor}
@@ -67,5 +67,23 @@ ready_kept old new tree f work (Remove parent name) keeps ready =
     record {
       holds = record { above = h.above; leads = keeps h.above (λ front some. inl (h.shared.all front some)) parent h.leads; given = h.given; shared = h.shared; exclusive = h.exclusive };
       pinned = ready.pinned;
+      unanswered = ready.unanswered;
+    }
+ready_kept old new tree f work (Move parent name new_parent new_name) keeps ready =
+    let h = ready.holds in
+    record {
+      holds = record {
+        above = h.above;
+        leads = keeps h.above (λ front some. inl (h.shared.all front (inl some))) parent h.leads;
+        new_above = h.new_above;
+        new_leads = keeps h.new_above (λ front some. inl (h.shared.all front (inr some))) new_parent h.new_leads;
+        given = h.given;
+        shared = h.shared;
+        exclusive = h.exclusive;
+      };
+      not_astray = ready.not_astray;
+      pinned = ready.pinned;
+      new_pinned = ready.new_pinned;
+      copy = ready.copy;
       unanswered = ready.unanswered;
     }

@@ -14,5 +14,6 @@ pub mod Counting
 pub mod Longer
 pub mod Starting
 pub mod Exporting
+pub mod Placing
 pub mod Guarded
-pub mod Removing
+pub mod Changing
