@@ -1,5 +1,5 @@
 -- What is held stays apart, whatever else is done, and the paths given stay known.
-use Rattle.std.proofs.Common.{ℕ, ◌≡◌, ◌≢◌, suc, zero, List, [], ◌∷◌, ◌++◌, Some, All, Contains, sym, ap, ◌∙◌, subst, inl, inr, arith}
+use Rattle.std.proofs.Common.{ℕ, ◌≡◌, ◌≢◌, ◌⊎◌, suc, zero, List, [], ◌∷◌, ◌++◌, Some, All, Contains, sym, ap, ◌∙◌, subst, inl, inr, arith}
 use Rattle.paths.specs.Fronts.{Names}
 use Rattle.paths.proofs.FrontLemmas.{is_front-append, is_front-trans}
 use Rattle.holds.specs.declared.held.Held.{Held}

@@ -77,7 +77,7 @@ holds_node_on old new number held still h = record { path = h.path; leads = stil
 holds_removed_on : (old new : Lookup) (parent : ℕ) (name : List ℕ) (held : Held) → ((up : List (List ℕ)) → Reaches old 1 parent up → Reaches new 1 parent up) → HoldsRemoved old parent name held → HoldsRemoved new parent name held
 holds_removed_on old new parent name held still h = record { above = h.above; leads = still (reverse h.above) h.leads; given = h.given; shared = h.shared; exclusive = h.exclusive }
 
-holds_moved_on : (old new : Lookup) (parent : ℕ) (name : List ℕ) (new_parent : ℕ) (new_name : List ℕ) (held : Held) → ((up : List (List ℕ)) → Reaches old 1 parent up → Reaches new 1 parent up) → ((up : List (List ℕ)) → Reaches old 1 new_parent up → Reaches new 1 new_parent up)
+abbrev holds_moved_on : (old new : Lookup) (parent : ℕ) (name : List ℕ) (new_parent : ℕ) (new_name : List ℕ) (held : Held) → ((up : List (List ℕ)) → Reaches old 1 parent up → Reaches new 1 parent up) → ((up : List (List ℕ)) → Reaches old 1 new_parent up → Reaches new 1 new_parent up)
     → HoldsMoved old parent name new_parent new_name held → HoldsMoved new parent name new_parent new_name held
 holds_moved_on old new parent name new_parent new_name held still still' h = record {
   above = h.above;
