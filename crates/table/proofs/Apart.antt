@@ -1,5 +1,5 @@
 -- What is held stays apart, whatever else is done, and the paths given stay known.
-use Rattle.std.proofs.Common.{ℕ, ◌≡◌, ◌≢◌, suc, zero, List, [], ◌∷◌, ◌++◌, Some, All, Contains, sym, ap, ◌∙◌, subst, inl, inr, arith}
+use Rattle.std.proofs.Common.{ℕ, ◌≡◌, ◌≢◌, ◌⊎◌, suc, zero, List, [], ◌∷◌, ◌++◌, Some, All, Contains, sym, ap, ◌∙◌, subst, inl, inr, arith}
 use Rattle.paths.specs.Fronts.{Names}
 use Rattle.paths.proofs.FrontLemmas.{is_front-append, is_front-trans}
 use Rattle.holds.specs.declared.held.Held.{Held}
@@ -11,10 +11,10 @@ use Rattle.flights.specs.declared.data.Flight.{Flight}
 use Rattle.flights.specs.declared.data.Stage.{Stage}
 use Rattle.flights.specs.declared.data.Stage.TheVariants.{Working, Answered}
 use Rattle.flights.specs.declared.data.Want.{Want}
-use Rattle.flights.specs.declared.data.Want.TheVariants.{Node, Name, Remove}
+use Rattle.flights.specs.declared.data.Want.TheVariants.{Node, Name, Remove, Move}
 use Rattle.flights.specs.declared.data.Work.{Work}
 use Rattle.flights.specs.Flying.{Flights, HoldsUp, IsInTheWay, with_flight, without_flight}
-use Rattle.table.specs.Holding.{AreHeld, HoldsFor, IsLead}
+use Rattle.table.specs.Holding.{AreFrontsOfBoth, AreHeld, AreJust, HoldsFor, IsLead}
 use Rattle.table.specs.World.{AreReady, IsReadyFor}
 use Rattle.table.proofs.Ready.{flight_some, left_some}
 
@@ -57,6 +57,19 @@ held_up_more flights h k more up = record { id = up.id; flight = up.flight; here
 fronts_same : (ps qs : List Names) (p q : Names) → p ≡ q → AreFronts ps p → AreFronts qs q → (r : Names) → Contains ps r → Contains qs r
 fronts_same ps qs p q e a b r h = b.all r (subst (λ (t : Names). IsSomeFront r t) e (a.only r h))
 
+either_front : (r p q s t : Names) → p ≡ s → q ≡ t → IsSomeFront r p ⊎ IsSomeFront r q → IsSomeFront r s ⊎ IsSomeFront r t
+either_front r p q s t e e' (inl h) = inl (subst (λ (x : Names). IsSomeFront r x) e h)
+either_front r p q s t e e' (inr h) = inr (subst (λ (x : Names). IsSomeFront r x) e' h)
+
+both_fronts_same : (ps qs : List Names) (p q s t : Names) → p ≡ s → q ≡ t → AreFrontsOfBoth ps p q → AreFrontsOfBoth qs s t → (r : Names) → Contains ps r → Contains qs r
+both_fronts_same ps qs p q s t e e' a b r h = b.all r (either_front r p q s t e e' (a.only r h))
+
+just_same : (ps qs : List Names) (p q s t : Names) → p ≡ s → q ≡ t → AreJust ps p q → AreJust qs s t → (r : Names) → Contains ps r → Contains qs r
+just_same ps qs p q s t e e' a b r h = elim (a.only r h) [
+  | inl is ↦ subst (λ (x : Names). Contains qs x) (sym (is ∙ e)) b.first
+  | inr is ↦ subst (λ (x : Names). Contains qs x) (sym (is ∙ e')) b.second
+]
+
 -- two that hold what the same want says hold the same
 same_names : (at : Lookup) → IsTree at → (want : Want) (h k : Held) → HoldsFor at want h → HoldsFor at want k → HoldsNoMore h k
 same_names at tree (Node number) h k a b =
@@ -76,6 +89,15 @@ same_names at tree (Remove parent name) h k a b =
     record {
       shared = fronts_same h.shared k.shared a.above b.above e a.shared b.shared;
       exclusive = λ q c. subst (λ (ps : List Names). Contains ps q) (a.exclusive ∙ (ap (λ (p : Names). (p ++ name ∷ []) ∷ []) e ∙ sym b.exclusive)) c;
+    }
+
+same_names at tree (Move parent name new_parent new_name) h k a b =
+    let e : a.above ≡ b.above = path_same at tree.rooted a.above b.above parent a.leads b.leads in
+    let e' : a.new_above ≡ b.new_above = path_same at tree.rooted a.new_above b.new_above new_parent a.new_leads b.new_leads in
+    record {
+      shared = both_fronts_same h.shared k.shared a.above a.new_above b.above b.new_above e e' a.shared b.shared;
+      exclusive = just_same h.exclusive k.exclusive (a.above ++ name ∷ []) (a.new_above ++ new_name ∷ []) (b.above ++ name ∷ []) (b.new_above ++ new_name ∷ [])
+          (ap (λ (p : Names). p ++ name ∷ []) e) (ap (λ (p : Names). p ++ new_name ∷ []) e') a.exclusive b.exclusive;
     }
 
 pub held_up_same : (at : Lookup) → IsTree at → (want : Want) (h k : Held) → HoldsFor at want h → HoldsFor at want k → (flights : Flights) → HoldsUp flights h → HoldsUp flights k
@@ -137,6 +159,11 @@ one_lead : (at : Lookup) (held : Held) (lead : Lead) → IsLead at held lead →
 one_lead at held lead h zero d within = h
 one_lead at held lead h (suc k) d within = absurd (omega arith)
 
+two_leads : (at : Lookup) (held : Held) (lead other : Lead) → IsLead at held lead → IsLead at held other → All (IsLead at held) (lead ∷ other ∷ [])
+two_leads at held lead other h k zero d within = h
+two_leads at held lead other h k (suc zero) d within = k
+two_leads at held lead other h k (suc (suc i)) d within = absurd (omega arith)
+
 known_of : (at : Lookup) (f : Flight) (work : Work) (want : Want) → IsReadyFor at f work want → All (IsLead at work.held) work.held.given
 known_of at f work (Node number) r =
     let h = r.holds in
@@ -156,6 +183,14 @@ known_of at f work (Remove parent name) r =
     let lead : Lead = record { number = parent; path = h.above } in
     let it : IsLead at work.held lead = record { path = h.leads; fronts = λ front some. inl (h.shared.all front some) } in
     subst (λ (g : List Lead). All (IsLead at work.held) g) (sym h.given) (one_lead at work.held lead it)
+
+known_of at f work (Move parent name new_parent new_name) r =
+    let h = r.holds in
+    let lead : Lead = record { number = parent; path = h.above } in
+    let other : Lead = record { number = new_parent; path = h.new_above } in
+    let it : IsLead at work.held lead = record { path = h.leads; fronts = λ front some. inl (h.shared.all front (inl some)) } in
+    let that : IsLead at work.held other = record { path = h.new_leads; fronts = λ front some. inl (h.shared.all front (inr some)) } in
+    subst (λ (g : List Lead). All (IsLead at work.held) g) (sym h.given) (two_leads at work.held lead other it that)
 
 pub held_of : (at : Lookup) (flights : Flights) → AreApart flights → AreReady at flights → AreHeld at flights
 held_of at flights apart ready = record { apart = apart; known = λ id f work h stage. known_of at f work work.want (ready id f work h stage) }

@@ -6,7 +6,7 @@ use Rattle.tree.specs.Places.{at_in}
 use Rattle.flights.specs.declared.data.Flight.{Flight}
 use Rattle.flights.specs.declared.data.Stage.TheVariants.{Working}
 use Rattle.flights.specs.declared.data.Want.{Want}
-use Rattle.flights.specs.declared.data.Want.TheVariants.{Node, Name, Remove}
+use Rattle.flights.specs.declared.data.Want.TheVariants.{Node, Name, Remove, Move}
 use Rattle.flights.specs.declared.data.Work.{Work}
 use Rattle.flights.specs.Flying.{Flights, Flying, IsFlying, Answers, HasNoneWorking, HoldsUp, answered, is_working}
 use Rattle.flights.specs.Listed.{InFlight, flying_of}
@@ -69,6 +69,7 @@ module _ (s : State) (kept : IsKept s) (flights : InFlight) (id : ℕ) (work : W
   pub idle_ready : (want : Want) → IsReadyFor (at_in s.tree) a.flight work want → IsReadyFor (at_in s.tree) (answered a.flight) work want
   idle_ready (Node number) r = record { holds = r.holds; pinned = r.pinned; unanswered = r.unanswered }
   idle_ready (Remove parent name) r = record { holds = r.holds; pinned = r.pinned; unanswered = r.unanswered }
+  idle_ready (Move parent name new_parent new_name) r = record { holds = r.holds; not_astray = r.not_astray; pinned = r.pinned; new_pinned = r.new_pinned; copy = r.copy; unanswered = r.unanswered }
   idle_ready (Name parent name) r = record {
     leads = r.leads;
     parent_pinned = r.parent_pinned;

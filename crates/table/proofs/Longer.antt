@@ -14,7 +14,7 @@ use Rattle.flights.specs.declared.data.Given.{Given}
 use Rattle.flights.specs.declared.data.Stage.{Stage}
 use Rattle.flights.specs.declared.data.Stage.TheVariants.{Working, Answered}
 use Rattle.flights.specs.declared.data.Want.{Want}
-use Rattle.flights.specs.declared.data.Want.TheVariants.{Node, Name, Remove}
+use Rattle.flights.specs.declared.data.Want.TheVariants.{Node, Name, Remove, Move}
 use Rattle.flights.specs.declared.data.Work.{Work}
 use Rattle.flights.specs.Flying.{answered, is_working}
 use Rattle.table.specs.declared.data.Outcome.{Outcome}
@@ -62,6 +62,9 @@ longer_gives old id f (Name p name) outcome.Done answer new e = longer_same old.
 longer_gives old id f (Remove p name) outcome.Entry answer new e = longer_same old.postings new.postings (ap (λ (w : World). w.postings) e.1)
 longer_gives old id f (Remove p name) outcome.Failed answer new e = longer_same old.postings new.postings (ap (λ (w : World). w.postings) e.1)
 longer_gives old id f (Remove p name) outcome.Done answer new e = longer_same old.postings new.postings e.1.postings
+longer_gives old id f (Move p name q called) outcome.Entry answer new e = longer_same old.postings new.postings (ap (λ (w : World). w.postings) e.1)
+longer_gives old id f (Move p name q called) outcome.Failed answer new e = longer_same old.postings new.postings (ap (λ (w : World). w.postings) e.1)
+longer_gives old id f (Move p name q called) outcome.Done answer new e = longer_same old.postings new.postings e.1.postings
 
 longer_ends : (old : World) (id : ℕ) (work : Work) (o : Outcome) (answer : Answer) (new : World) → Ends old id work o answer new → IsLonger old.postings new.postings
 longer_ends old id work o answer new e = longer_gives (record old { flying = e.mid }) id (answered e.ends.flight) work.want o answer new e.gives

@@ -13,7 +13,7 @@ use Rattle.flights.specs.declared.data.Work.{Work}
 use Rattle.flights.specs.Flying.{Flights, with_flight, without_flight, pins_number, Flying, IsFlying}
 use Rattle.table.specs.Steps.{IsSwept}
 use Rattle.holds.specs.declared.held.Held.{Held}
-use Rattle.table.specs.Holding.{HoldsName, HoldsNode, HoldsRemoved}
+use Rattle.table.specs.Holding.{HoldsMoved, HoldsName, HoldsNode, HoldsRemoved}
 use Rattle.table.specs.World.{IsReadyFor, AreReady}
 use Rattle.table.proofs.Reasons.{stays_pinned}
 
@@ -77,6 +77,18 @@ holds_node_on old new number held still h = record { path = h.path; leads = stil
 holds_removed_on : (old new : Lookup) (parent : ℕ) (name : List ℕ) (held : Held) → ((up : List (List ℕ)) → Reaches old 1 parent up → Reaches new 1 parent up) → HoldsRemoved old parent name held → HoldsRemoved new parent name held
 holds_removed_on old new parent name held still h = record { above = h.above; leads = still (reverse h.above) h.leads; given = h.given; shared = h.shared; exclusive = h.exclusive }
 
+abbrev holds_moved_on : (old new : Lookup) (parent : ℕ) (name : List ℕ) (new_parent : ℕ) (new_name : List ℕ) (held : Held) → ((up : List (List ℕ)) → Reaches old 1 parent up → Reaches new 1 parent up) → ((up : List (List ℕ)) → Reaches old 1 new_parent up → Reaches new 1 new_parent up)
+    → HoldsMoved old parent name new_parent new_name held → HoldsMoved new parent name new_parent new_name held
+holds_moved_on old new parent name new_parent new_name held still still' h = record {
+  above = h.above;
+  leads = still (reverse h.above) h.leads;
+  new_above = h.new_above;
+  new_leads = still' (reverse h.new_above) h.new_leads;
+  given = h.given;
+  shared = h.shared;
+  exclusive = h.exclusive;
+}
+
 ready_same : (old new : Lookup) (f : Flight) (work : Work) (want : Want) → ((n p : ℕ) (name : List ℕ) → IsNamed old n p name → IsNamed new n p name) → IsReadyFor old f work want → IsReadyFor new f work want
 ready_same old new f work (wants.Node number) named ready = record {
   holds = holds_node_on old new number work.held (reaches_same old new named 1 number) ready.holds;
@@ -97,6 +109,15 @@ ready_same old new f work (wants.Name parent name) named ready = record {
 ready_same old new f work (wants.Remove parent name) named ready = record {
   holds = holds_removed_on old new parent name work.held (reaches_same old new named 1 parent) ready.holds;
   pinned = ready.pinned;
+  unanswered = ready.unanswered;
+}
+
+ready_same old new f work (wants.Move parent name new_parent new_name) named ready = record {
+  holds = holds_moved_on old new parent name new_parent new_name work.held (reaches_same old new named 1 parent) (reaches_same old new named 1 new_parent) ready.holds;
+  not_astray = ready.not_astray;
+  pinned = ready.pinned;
+  new_pinned = ready.new_pinned;
+  copy = ready.copy;
   unanswered = ready.unanswered;
 }
 
@@ -132,6 +153,17 @@ ready_swept pinned old new f work (wants.Remove parent name) swept pins ready =
     record {
       holds = holds_removed_on old new parent name work.held still ready.holds;
       pinned = ready.pinned;
+      unanswered = ready.unanswered;
+    }
+
+ready_swept pinned old new f work (wants.Move parent name new_parent new_name) swept pins ready =
+    let still : (number : ℕ) → pins_number f number ≡ true → (up : List (List ℕ)) → Reaches old 1 number up → Reaches new 1 number up = λ number pin up h. reaches_swept pinned old new swept 1 number up (λ x was none. none-some x (sym none ∙ stays_pinned pinned old new number x swept was (pins number pin))) h in
+    record {
+      holds = holds_moved_on old new parent name new_parent new_name work.held (still parent ready.pinned) (still new_parent ready.new_pinned) ready.holds;
+      not_astray = ready.not_astray;
+      pinned = ready.pinned;
+      new_pinned = ready.new_pinned;
+      copy = ready.copy;
       unanswered = ready.unanswered;
     }
 

@@ -20,11 +20,12 @@ use Rattle.flights.specs.declared.data.Work.{Work}
 use Rattle.flights.specs.Flying.{HoldsUp, Adds, Flights, Flying, IsFlying, with_flight, nodes_promised, pins_number, postings_promised}
 use Rattle.flights.specs.Listed.{InFlight, flying_of}
 use Rattle.table.specs.declared.state.State.{State}
-use Rattle.table.specs.Beginning.{Allows, Forbids, IsNameWork, IsNodeWork, IsPlan, IsPromised, IsRemovalWork, IsRoomForOne, IsSameButRoom, Stands, errno_of, pins_in}
-use Rattle.table.specs.Steps.{GoesOn, IsCrowded, IsFull, IsHeldUp, IsLong, IsPinFor, IsPromiseFor, IsRefusal, IsStale, IsTooMuch}
+use Rattle.table.specs.Beginning.{Allows, Forbids, IsNameWork, IsNodeWork, IsPlan, IsMoveWork, IsPromised, IsRemovalWork, IsRoomForOne, IsSameButRoom, Stands, errno_of, pins_in}
+use Rattle.table.specs.Moving.{IsAstray}
+use Rattle.table.specs.Steps.{GoesOn, IsCrowded, IsFull, IsHeldUp, IsLong, IsMisplaced, IsNameLong, IsPinFor, IsPromiseFor, IsRefusal, IsSound, IsStale, IsTooMuch}
 use Rattle.table.specs.World.{AreReady, IsKept, IsNameReady, IsReadyFor, World, world_of}
 use Rattle.table.proofs.Laws.{lawful_pins}
-use Rattle.table.specs.Holding.{HoldsFor, HoldsName, HoldsNode, HoldsRemoved}
+use Rattle.table.specs.Holding.{AreJust, HoldsFor, HoldsMoved, HoldsName, HoldsNode, HoldsRemoved}
 use Rattle.holds.specs.declared.held.Held.{Held}
 use Rattle.holds.specs.Clashes.{AreFronts}
 use Rattle.flights.specs.Roomy.{Pinned}
@@ -35,12 +36,24 @@ use Rattle.table.proofs.Ready.{AreReady-more}
 -- ---- refusals
 
 -- an error number is written and read as it is
+astray_bits : (p q : Names) (e : ℤ) → IsAstray p q e → IsAstray p q (to_z w32 (of_z w32 e))
+astray_bits p q e (inl (is, front)) = inl (ap (λ z. to_z w32 (of_z w32 z)) is, front)
+astray_bits p q e (inr (is, front)) = inr (ap (λ z. to_z w32 (of_z w32 z)) is, front)
+
+misplaced_bits : (w : World) (want : Want) (e : ℤ) → IsMisplaced w want e → IsMisplaced w want (to_z w32 (of_z w32 e))
+misplaced_bits w (wants.Node number) e bad = bad
+misplaced_bits w (wants.Name parent name) e bad = bad
+misplaced_bits w (wants.Remove parent name) e bad = bad
+misplaced_bits w (wants.Move parent name new_parent new_name) e (up, new_up, leads, new_leads, astray) =
+    (up, new_up, leads, new_leads, astray_bits (up ++ name ∷ []) (new_up ++ new_name ∷ []) e astray)
+
 pub refusal_bits : (w : World) (want : Want) (e : ℤ) → IsRefusal w want e → IsRefusal w want (to_z w32 (of_z w32 e))
 refusal_bits w want e (inl (is, stale)) = inl (ap (λ z. to_z w32 (of_z w32 z)) is, stale)
 refusal_bits w want e (inr (inl (is, a, long))) = inr (inl (ap (λ z. to_z w32 (of_z w32 z)) is, a, long))
-refusal_bits w want e (inr (inr (inl (is, a, b, c, full)))) = inr (inr (inl (ap (λ z. to_z w32 (of_z w32 z)) is, a, b, c, full)))
-refusal_bits w want e (inr (inr (inr (inl (is, a, b, c, d, crowded))))) = inr (inr (inr (inl (ap (λ z. to_z w32 (of_z w32 z)) is, a, b, c, d, crowded))))
-refusal_bits w want e (inr (inr (inr (inr (is, a))))) = inr (inr (inr (inr (ap (λ z. to_z w32 (of_z w32 z)) is, a))))
+refusal_bits w want e (inr (inr (inl (a, b, misplaced)))) = inr (inr (inl (a, b, misplaced_bits w want e misplaced)))
+refusal_bits w want e (inr (inr (inr (inl (is, a, b, full))))) = inr (inr (inr (inl (ap (λ z. to_z w32 (of_z w32 z)) is, a, b, full))))
+refusal_bits w want e (inr (inr (inr (inr (inl (is, a, b, c, crowded)))))) = inr (inr (inr (inr (inl (ap (λ z. to_z w32 (of_z w32 z)) is, a, b, c, crowded)))))
+refusal_bits w want e (inr (inr (inr (inr (inr (is, a)))))) = inr (inr (inr (inr (inr (ap (λ z. to_z w32 (of_z w32 z)) is, a)))))
 
 -- a path and a cut exclude each other, and so do a path and no node
 way_or_cut : (at : Lookup) (n : ℕ) → IsTree at → (names : Names) → Reaches at 1 n names → (x : Node) → at n ≡ Some x → x.place ≡ place.Cut → ⊥
@@ -59,7 +72,7 @@ pub path_refusal : (w : World) (parent : ℕ) (name : List ℕ) (e : TreeFault) 
 path_refusal w parent name fault.Unknown tree bad = inl (refl, λ leads. let it = (no_way w.at parent tree leads).0 in none-some it.0 (sym bad ∙ it.1))
 path_refusal w parent name fault.Cut tree bad = inl (refl, λ leads. (no_way w.at parent tree leads).1 bad.0 bad.1 bad.2)
 path_refusal w parent name fault.Full tree bad = absurd bad
-path_refusal w parent name fault.Memory tree bad = inr (inr (inr (inr (refl, λ stale. stale bad))))
+path_refusal w parent name fault.Memory tree bad = inr (inr (inr (inr (inr (refl, λ stale. stale bad)))))
 path_refusal w parent name fault.PathLong tree (path, it, long) =
     inr (inl (refl, λ stale. stale (record { names = reverse it.above; climb = it.leads }), (it.above, it.leads, subst (λ (p : Names). 4096 < path_bytes p) it.whole long)))
 
@@ -68,7 +81,7 @@ pub removal_refusal : (w : World) (parent : ℕ) (name : List ℕ) (e : TreeFaul
 removal_refusal w parent name fault.Unknown tree bad = inl (refl, λ leads. let it = (no_way w.at parent tree leads).0 in none-some it.0 (sym bad ∙ it.1))
 removal_refusal w parent name fault.Cut tree bad = inl (refl, λ leads. (no_way w.at parent tree leads).1 bad.0 bad.1 bad.2)
 removal_refusal w parent name fault.Full tree bad = absurd bad
-removal_refusal w parent name fault.Memory tree bad = inr (inr (inr (inr (refl, λ stale. stale bad))))
+removal_refusal w parent name fault.Memory tree bad = inr (inr (inr (inr (inr (refl, λ stale. stale bad)))))
 removal_refusal w parent name fault.PathLong tree (path, it, long) =
     inr (inl (refl, λ stale. stale (record { names = reverse it.above; climb = it.leads }), (it.above, it.leads, subst (λ (p : Names). 4096 < path_bytes p) it.whole long)))
 
@@ -77,8 +90,60 @@ pub node_refusal : (w : World) (number : ℕ) (e : TreeFault) → IsTree w.at �
 node_refusal w number fault.Unknown tree leads bad = let it = (no_way w.at number tree leads).0 in absurd (none-some it.0 (sym bad ∙ it.1))
 node_refusal w number fault.Cut tree leads bad = absurd ((no_way w.at number tree leads).1 bad.0 bad.1 bad.2)
 node_refusal w number fault.Full tree leads bad = absurd bad
-node_refusal w number fault.Memory tree leads bad = inr (inr (inr (inr (refl, λ stale. stale leads))))
+node_refusal w number fault.Memory tree leads bad = inr (inr (inr (inr (inr (refl, λ stale. stale leads)))))
 node_refusal w number fault.PathLong tree leads (path, it, long) = inr (inl (refl, λ stale. stale leads, (path, it, long)))
+
+-- the same where one of the two paths of a move was asked for
+module _ (w : World) (tree : IsTree w.at) (parent : ℕ) (name : List ℕ) (new_parent : ℕ) (new_name : List ℕ) (leads : Leads w.at parent) (new_leads : Leads w.at new_parent) where
+  move_not_stale : IsStale w (wants.Move parent name new_parent new_name) → ⊥
+  move_not_stale (inl stale) = stale leads
+  move_not_stale (inr stale) = stale new_leads
+
+  key_refusal : (number : ℕ) (called : List ℕ) (e : TreeFault) → Leads w.at number → (IsNameLong w.at number called → IsLong w (wants.Move parent name new_parent new_name)) → IsNameFault w.at number called e
+      → IsRefusal w (wants.Move parent name new_parent new_name) (errno_of e)
+  key_refusal number called fault.Unknown way long bad = let it = (no_way w.at number tree way).0 in absurd (none-some it.0 (sym bad ∙ it.1))
+  key_refusal number called fault.Cut way long bad = absurd ((no_way w.at number tree way).1 bad.0 bad.1 bad.2)
+  key_refusal number called fault.Full way long bad = absurd bad
+  key_refusal number called fault.Memory way long bad = inr (inr (inr (inr (inr (refl, move_not_stale)))))
+  key_refusal number called fault.PathLong way long (path, it, over) =
+      inr (inl (refl, move_not_stale, long (it.above, it.leads, subst (λ (p : Names). 4096 < path_bytes p) it.whole over)))
+
+  pub source_refusal : (e : TreeFault) → IsNameFault w.at parent name e → IsRefusal w (wants.Move parent name new_parent new_name) (errno_of e)
+  source_refusal e bad = key_refusal parent name e leads (λ long. inl long) bad
+
+  pub target_refusal : (e : TreeFault) → IsNameFault w.at new_parent new_name e → IsRefusal w (wants.Move parent name new_parent new_name) (errno_of e)
+  target_refusal e bad = key_refusal new_parent new_name e new_leads (λ long. inr long) bad
+
+  module _ (path new_path : Names) (it : IsPathOfName w.at parent name path) (that : IsPathOfName w.at new_parent new_name new_path) where
+    short_enough : (number : ℕ) (called : List ℕ) (whole : Names) → IsPathOfName w.at number called whole → path_bytes whole ≤ 4096 → IsNameLong w.at number called → ⊥
+    short_enough number called whole is short long =
+        let same : long.0 ≡ is.above = path_same w.at tree.rooted long.0 is.above number long.1 is.leads in
+        let spelt : long.0 ++ called ∷ [] ≡ whole = ap (λ (up : Names). up ++ called ∷ []) same ∙ sym is.whole in
+        let over : 4096 < path_bytes whole = subst (λ (p : Names). 4096 < path_bytes p) spelt long.2 in
+        absurd (omega arith)
+
+    move_not_long : path_bytes path ≤ 4096 → path_bytes new_path ≤ 4096 → IsLong w (wants.Move parent name new_parent new_name) → ⊥
+    move_not_long short new_short (inl long) = short_enough parent name path it short long
+    move_not_long short new_short (inr long) = short_enough new_parent new_name new_path that new_short long
+
+    pub astray_refusal : path_bytes path ≤ 4096 → path_bytes new_path ≤ 4096 → (e : ℤ) → IsAstray path new_path e → IsRefusal w (wants.Move parent name new_parent new_name) e
+    astray_refusal short new_short e astray = inr (inr (inl (
+      move_not_stale,
+      move_not_long short new_short,
+      (it.above, that.above, it.leads, that.leads, subst (λ (p : Names). IsAstray p (that.above ++ new_name ∷ []) e) it.whole (subst (λ (p : Names). IsAstray path p e) that.whole astray)),
+    )))
+
+    -- the names of both paths, for any paths of the parents
+    not_misplaced : ((e : ℤ) → IsAstray path new_path e → ⊥) → (e : ℤ) → IsMisplaced w (wants.Move parent name new_parent new_name) e → ⊥
+    not_misplaced free e (up, new_up, way, new_way, astray) =
+        let same : up ≡ it.above = path_same w.at tree.rooted up it.above parent way it.leads in
+        let new_same : new_up ≡ that.above = path_same w.at tree.rooted new_up that.above new_parent new_way that.leads in
+        let spelt : up ++ name ∷ [] ≡ path = ap (λ (p : Names). p ++ name ∷ []) same ∙ sym it.whole in
+        let new_spelt : new_up ++ new_name ∷ [] ≡ new_path = ap (λ (p : Names). p ++ new_name ∷ []) new_same ∙ sym that.whole in
+        free e (subst (λ (p : Names). IsAstray p new_path e) spelt (subst (λ (p : Names). IsAstray (up ++ name ∷ []) p e) new_spelt astray))
+
+    pub move_sound : path_bytes path ≤ 4096 → path_bytes new_path ≤ 4096 → ((e : ℤ) → IsAstray path new_path e → ⊥) → IsSound w (wants.Move parent name new_parent new_name)
+    move_sound short new_short free = record { not_stale = move_not_stale; not_long = move_not_long short new_short; not_misplaced = not_misplaced free }
 
 -- an error number is written and read as it is, for each fault
 pub errno_bits : (e : TreeFault) → to_z w32 (of_z w32 (errno_of e)) ≡ errno_of e
@@ -187,15 +252,15 @@ module _ (s : State) (key : Key) (o : Option ℕ) (promise : Promise) (path : Na
     unanswered = made.unanswered;
   }
 
-  pub name_plan : IsPlan (world_of s) work.want work pins path
-  name_plan = subst (λ (want : Want). IsPlan (world_of s) want work pins path) (sym made.want) (record {
-    not_stale = not_stale s key promise path it;
-    not_long = not_long s key promise path law it short;
+  pub name_plan : IsPlan (world_of s) work.want work pins path None
+  name_plan = subst (λ (want : Want). IsPlan (world_of s) want work pins path None) (sym made.want) (record {
+    sound = record { not_stale = not_stale s key promise path it; not_long = not_long s key promise path law it short; not_misplaced = λ e bad. bad };
     promise = subst (λ (p : Promise). IsPromiseFor (world_of s) (wants.Name key.parent key.name) p) (sym made.promise_is) (promise_for s key promise o stands promised);
     only = λ q for_q. subst (λ (p : Promise). (q.nodes ≡ p.nodes) × (q.postings ≡ p.postings)) (sym made.promise_is) (one_promise s key promise o stands promised q for_q);
     holds = name_holds;
     pins_are = λ n. let a = pins_are n in let b = pin_for s key o n law stands in (λ h. b.0 (a.0 h), λ h. a.1 (b.1 h));
     path_is = (it.above, it.leads, it.whole);
+    target_is = refl;
     ready = name_ready;
   })
 
@@ -211,15 +276,15 @@ module _ (s : State) (key : Key) (o : Option ℕ) (path : Names) (work : Work) (
     exclusive = made.exclusive ∙ ap (λ (p : Names). p ∷ []) it.whole;
   }
 
-  pub removal_plan : IsPlan (world_of s) work.want work pins path
-  removal_plan = subst (λ (want : Want). IsPlan (world_of s) want work pins path) (sym made.want) (record {
-    not_stale = not_stale s key work.promise path it;
-    not_long = not_long s key work.promise path law it short;
+  pub removal_plan : IsPlan (world_of s) work.want work pins path None
+  removal_plan = subst (λ (want : Want). IsPlan (world_of s) want work pins path None) (sym made.want) (record {
+    sound = record { not_stale = not_stale s key work.promise path it; not_long = not_long s key work.promise path law it short; not_misplaced = λ e bad. bad };
     promise = (made.nodes, made.postings);
     only = λ q for_q. (for_q.0 ∙ sym made.nodes, for_q.1 ∙ sym made.postings);
     holds = removal_holds;
     pins_are = λ n. let a = pins_are n in let b = pin_for s key o n law stands in (λ h. b.0 (a.0 h), λ h. a.1 (b.1 h));
     path_is = (it.above, it.leads, it.whole);
+    target_is = refl;
     ready = λ f same. record {
       holds = removal_holds;
       pinned = ap (λ (p : Pinned). pins_in p key.parent) same ∙ (pins_are key.parent).1 (inl refl);
@@ -238,15 +303,15 @@ module _ (s : State) (number : ℕ) (path : Names) (work : Work) (pins : Pinned)
       let over : 4096 < path_bytes path = subst (λ (p : Names). 4096 < path_bytes p) same long in
       absurd (omega arith)
 
-  pub node_plan : IsPlan (world_of s) work.want work pins path
-  node_plan = subst (λ (want : Want). IsPlan (world_of s) want work pins path) (sym made.want) (record {
-    not_stale = λ stale. stale (record { names = reverse path; climb = it });
-    not_long = node_not_long;
+  pub node_plan : IsPlan (world_of s) work.want work pins path None
+  node_plan = subst (λ (want : Want). IsPlan (world_of s) want work pins path None) (sym made.want) (record {
+    sound = record { not_stale = λ stale. stale (record { names = reverse path; climb = it }); not_long = node_not_long; not_misplaced = λ e bad. bad };
     promise = (made.nodes, made.postings);
     only = λ q for_q. (for_q.0 ∙ sym made.nodes, for_q.1 ∙ sym made.postings);
     holds = node_holds;
     pins_are = pins_are;
     path_is = it;
+    target_is = refl;
     ready = λ f same. record {
       holds = node_holds;
       pinned = ap (λ (p : Pinned). pins_in p number) same ∙ (pins_are number).1 refl;
@@ -254,9 +319,55 @@ module _ (s : State) (number : ℕ) (path : Names) (work : Work) (pins : Pinned)
     };
   })
 
+module _ (s : State) (key target : Key) (o q : Option ℕ) (path new_path : Names) (work : Work) (pins : Pinned) (law : IsTree (at_in s.tree)) (stands : Stands s key o) (new_stands : Stands s target q)
+    (it : IsPathOfName (at_in s.tree) key.parent key.name path) (that : IsPathOfName (at_in s.tree) target.parent target.name new_path) (made : IsMoveWork key target path new_path work)
+    (sound : IsSound (world_of s) (wants.Move key.parent key.name target.parent target.name)) (free : (e : ℤ) → IsAstray path new_path e → ⊥)
+    (pins_are : (n : ℕ) → (pins_in pins n ≡ true) ↔ (((n ≡ key.parent) ⊎ (o ≡ Some n)) ⊎ ((n ≡ target.parent) ⊎ (q ≡ Some n)))) where
+  abbrev move_holds : HoldsMoved (at_in s.tree) key.parent key.name target.parent target.name work.held
+  move_holds = record {
+    above = it.above;
+    leads = it.leads;
+    new_above = that.above;
+    new_leads = that.leads;
+    given = made.given it.above that.above key.name target.name it.whole that.whole;
+    shared = made.shared it.above that.above key.name target.name it.whole that.whole;
+    exclusive = subst (λ (p : Names). AreJust work.held.exclusive p (that.above ++ target.name ∷ [])) it.whole (subst (λ (p : Names). AreJust work.held.exclusive path p) that.whole made.exclusive);
+  }
+
+  still_free : (e : ℤ) → IsAstray (it.above ++ key.name ∷ []) (that.above ++ target.name ∷ []) e → ⊥
+  still_free e astray = free e (subst (λ (p : Names). IsAstray p new_path e) (sym it.whole) (subst (λ (p : Names). IsAstray (it.above ++ key.name ∷ []) p e) (sym that.whole) astray))
+
+  move_pins : (n : ℕ) → (pins_in pins n ≡ true) ↔ IsPinFor (world_of s) (wants.Move key.parent key.name target.parent target.name) n
+  move_pins n =
+      let a = pins_are n in
+      let b = pin_for s key o n law stands in
+      let d = pin_for s target q n law new_stands in (
+        λ h. elim (a.0 h) [ inl here ↦ inl (b.0 here) | inr there ↦ inr (d.0 there) ],
+        λ h. elim h [ inl here ↦ a.1 (inl (b.1 here)) | inr there ↦ a.1 (inr (d.1 there)) ],
+      )
+
+  pub move_plan : IsPlan (world_of s) work.want work pins path (Some new_path)
+  move_plan = subst (λ (want : Want). IsPlan (world_of s) want work pins path (Some new_path)) (sym made.want) (record {
+    sound = sound;
+    promise = (made.nodes, made.postings);
+    only = λ p for_p. (for_p.0 ∙ sym made.nodes, for_p.1 ∙ sym made.postings);
+    holds = move_holds;
+    pins_are = move_pins;
+    path_is = (it.above, it.leads, it.whole);
+    target_is = (new_path, (that.above, that.leads, that.whole), refl);
+    ready = λ f same. record {
+      holds = move_holds;
+      not_astray = still_free;
+      pinned = ap (λ (p : Pinned). pins_in p key.parent) same ∙ (pins_are key.parent).1 (inl (inl refl));
+      new_pinned = ap (λ (p : Pinned). pins_in p target.parent) same ∙ (pins_are target.parent).1 (inr (inl refl));
+      copy = made.copy;
+      unanswered = made.unanswered;
+    };
+  })
+
 -- ---- tests of a plan
 
-module _ (s : State) (work : Work) (pins : Pinned) (path : Names) (law : IsTree (at_in s.tree)) (plan : IsPlan (world_of s) work.want work pins path) where
+module _ (s : State) (work : Work) (pins : Pinned) (path : Names) (target : Option Names) (law : IsTree (at_in s.tree)) (plan : IsPlan (world_of s) work.want work pins path target) where
   pub held_up : HoldsUp (flying_of s.flights).at work.held → IsHeldUp (world_of s) work.want
   held_up up = (work.held, plan.holds, up)
 
@@ -281,16 +392,15 @@ module _ (s : State) (work : Work) (pins : Pinned) (path : Names) (law : IsTree 
 
   pub limit_refusal : (e : ℤ) → (HoldsUp (flying_of s.flights).at work.held → ⊥) → Forbids (world_of s) work.promise e → IsRefusal (world_of s) work.want e
   limit_refusal e free (inl (is, much)) =
-      inr (inr (inl (is, plan.not_stale, plan.not_long, not_held_up free, (work.promise, plan.promise, much))))
+      inr (inr (inr (inl (is, plan.sound, not_held_up free, (work.promise, plan.promise, much)))))
   limit_refusal e free (inr (is, fits, crowded)) =
-      inr (inr (inr (inl (
+      inr (inr (inr (inr (inl (
         is,
-        plan.not_stale,
-        plan.not_long,
+        plan.sound,
         not_held_up free,
         (λ full. let same = plan.only full.0 full.1 in fits (too_much full.0 same.0 same.1 full.2)),
         crowded,
-      ))))
+      )))))
 
 -- ---- a plan that is recorded
 
@@ -300,11 +410,15 @@ pins_alive w tree (wants.Name parent name) held n h (inl e) = subst (λ m. IsAli
 pins_alive w tree (wants.Name parent name) held n h (inr named) = (named.0, named.1)
 pins_alive w tree (wants.Remove parent name) held n h (inl e) = subst (λ m. IsAlive w.at m) (sym e) (climbs_alive w.at tree.rooted (reverse h.above) parent h.leads)
 pins_alive w tree (wants.Remove parent name) held n h (inr named) = (named.0, named.1)
+pins_alive w tree (wants.Move parent name new_parent new_name) held n h (inl (inl e)) = subst (λ m. IsAlive w.at m) (sym e) (climbs_alive w.at tree.rooted (reverse h.above) parent h.leads)
+pins_alive w tree (wants.Move parent name new_parent new_name) held n h (inl (inr named)) = (named.0, named.1)
+pins_alive w tree (wants.Move parent name new_parent new_name) held n h (inr (inl e)) = subst (λ m. IsAlive w.at m) (sym e) (climbs_alive w.at tree.rooted (reverse h.new_above) new_parent h.new_leads)
+pins_alive w tree (wants.Move parent name new_parent new_name) held n h (inr (inr named)) = (named.0, named.1)
 
-module _ (s mid : State) (unique id : ℕ) (work : Work) (pins : Pinned) (path : Names) (flights : InFlight) (plan : IsPlan (world_of s) work.want work pins path) (same : IsSameButRoom s mid) (fresh : (flying_of mid.flights).at id ≡ None)
+module _ (s mid : State) (unique id : ℕ) (work : Work) (pins : Pinned) (path : Names) (target : Option Names) (same_path : Bool) (flights : InFlight) (plan : IsPlan (world_of s) work.want work pins path target) (same : IsSameButRoom s mid) (fresh : (flying_of mid.flights).at id ≡ None)
     (adds : Adds (flying_of mid.flights) (record { id = id; unique = unique; stage = Working work; pins = pins }) (flying_of flights)) where
-  pub goes_on : GoesOn (world_of s) unique work.want (record { id = id; path = path }) (world_of (record mid { flights = flights }))
-  goes_on = record {
+  pub goes_on : ((same_path ≡ true) ↔ (target ≡ Some path)) → GoesOn (world_of s) unique work.want (record { id = id; path = path; target = target; same = same_path }) (world_of (record mid { flights = flights }))
+  goes_on same_is = record {
     flight = record { id = id; unique = unique; stage = Working work; pins = pins };
     work = work;
     fresh = ap (λ (x : Flying). x.at id) (sym same.flights) ∙ fresh;
@@ -316,6 +430,8 @@ module _ (s mid : State) (unique id : ℕ) (work : Work) (pins : Pinned) (path :
     holds = plan.holds;
     pins = plan.pins_are;
     path = plan.path_is;
+    target = plan.target_is;
+    same = same_is;
     adds = adds_unroomed (flying_of s.flights) (flying_of mid.flights) (flying_of flights) (record { id = id; unique = unique; stage = Working work; pins = pins }) same.flights adds;
     rest = ap (λ (w : World). record w { flying = record (flying_of flights) { room = 0 } }) same.world;
   }

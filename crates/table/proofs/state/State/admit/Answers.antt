@@ -7,7 +7,7 @@ use Rattle.table.proofs.state.State.admit.Goals as goal
 pub returns-in-Err-clause-begins : goal.returns-in-Err-clause-begins
 returns-in-Err-clause-begins c =
     let s = c.args.self.now in (
-      refusal_bits (world_of s) c.args.work.want c.in-Err.errno (limit_refusal s c.args.work c.args.pins c.args.path c.requires.kept.law.tree c.requires.plan c.in-Err.errno
+      refusal_bits (world_of s) c.args.work.want c.in-Err.errno (limit_refusal s c.args.work c.args.pins c.args.path c.args.target c.requires.kept.law.tree c.requires.plan c.in-Err.errno
           (λ up. false≢true (sym c.if-holds_up.false ∙ c.holds_up.ensures.held.1 up)) c.in-Err.ensures.err),
       refl,
     )
@@ -19,17 +19,16 @@ returns-clause-begins c =
     let plan = c.requires.plan in
     let allows = c.in-Ok.ensures.ok in (
       (
-        plan.not_stale,
-        plan.not_long,
-        not_held_up s c.args.work c.args.pins c.args.path law plan (λ up. false≢true (sym c.if-holds_up.false ∙ c.holds_up.ensures.held.1 up)),
-        not_full s c.args.work c.args.pins c.args.path law plan allows,
-        not_crowded s c.args.work c.args.pins c.args.path law plan allows,
+        plan.sound,
+        not_held_up s c.args.work c.args.pins c.args.path c.args.target law plan (λ up. false≢true (sym c.if-holds_up.false ∙ c.holds_up.ensures.held.1 up)),
+        not_full s c.args.work c.args.pins c.args.path c.args.target law plan allows,
+        not_crowded s c.args.work c.args.pins c.args.path c.args.target law plan allows,
       ),
-      goes_on s c.reserve.new.self c.args.unique c.free_id-id.result c.args.work c.args.pins c.args.path c.add.new.self plan c.reserve.ensures.same c.free_id-id.ensures.free c.add.ensures.adds,
+      goes_on s c.reserve.new.self c.args.unique c.free_id-id.result c.args.work c.args.pins c.args.path c.args.target c.is_same-same.result c.add.new.self plan c.reserve.ensures.same c.free_id-id.ensures.free c.add.ensures.adds c.is_same-same.ensures,
     )
 
 pub returns-clause-kept : goal.returns-clause-kept
 returns-clause-kept c =
     let s = c.args.self.now in
-    begun_kept s c.reserve.new.self c.args.unique c.free_id-id.result c.args.work c.args.pins c.args.path c.add.new.self c.requires.plan c.reserve.ensures.same c.free_id-id.ensures.free c.add.ensures.adds
+    begun_kept s c.reserve.new.self c.args.unique c.free_id-id.result c.args.work c.args.pins c.args.path c.args.target c.is_same-same.result c.add.new.self c.requires.plan c.reserve.ensures.same c.free_id-id.ensures.free c.add.ensures.adds
     c.reserve.ensures.kept c.add.ensures.law c.requires.kept.law.tree (λ up. false≢true (sym c.if-holds_up.false ∙ c.holds_up.ensures.held.1 up)) c.in-Ok.ensures.ok c.in-Ok-reserve.ensures.ok
