@@ -1,6 +1,7 @@
 -- What the beginning of a request leaves.
 use Rattle.std.proofs.Common.{ℕ, ℤ, ◌+◌, ◌<◌, ◌≤◌, ◌≡◌, ◌||◌, ◌↔◌, ◌++◌, ◌-◌, length, take, length-append, Bool, true, List, [], ◌∷◌, reverse, Option, Some, None, IfNone, IfSome, refl, sym, ap, ◌∙◌, subst, ◌⊎◌, inl, inr, arith, to_z, of_z, w32}
 use Rattle.std.proofs.lemmas.Bool.{or_cases, or_left}
+use Rattle.std.proofs.lemmas.List.Elements.{Contains-append_cases, Contains-append_left, Contains-append_right}
 use Rattle.std.proofs.lemmas.Option.{none-some, same_Some}
 use Rattle.paths.specs.Fronts.{Names, path_bytes}
 use Rattle.tree.specs.declared.nodes.Key.{Key}
@@ -25,7 +26,7 @@ use Rattle.table.specs.Moving.{IsAstray}
 use Rattle.table.specs.Steps.{GoesOn, IsCrowded, IsFull, IsHeldUp, IsLong, IsMisplaced, IsNameLong, IsPinFor, IsPromiseFor, IsRefusal, IsSound, IsStale, IsTooMuch}
 use Rattle.table.specs.World.{AreReady, IsKept, IsNameReady, IsReadyFor, World, world_of}
 use Rattle.table.proofs.Laws.{lawful_pins}
-use Rattle.table.specs.Holding.{AreJust, HoldsFor, HoldsMoved, HoldsName, HoldsNode, HoldsRemoved}
+use Rattle.table.specs.Holding.{AreFrontsOfBoth, AreJust, HoldsFor, HoldsMoved, HoldsName, HoldsNode, HoldsRemoved}
 use Rattle.holds.specs.declared.held.Held.{Held}
 use Rattle.holds.specs.Clashes.{AreFronts}
 use Rattle.flights.specs.Roomy.{Pinned}
@@ -206,6 +207,15 @@ adds_unroomed old mid new f same a = record {
   many = a.many ∙ ap (λ (x : Flying). x.many + 1) same;
   nodes = a.nodes ∙ ap (λ (x : Flying). x.nodes + nodes_promised f.stage) same;
   postings = a.postings ∙ ap (λ (x : Flying). x.postings + postings_promised f.stage) same;
+}
+
+-- ---- what is held
+
+-- the fronts of one path and then those of another
+pub AreFrontsOfBoth-append : (ps qs : List Names) (p q : Names) → AreFronts ps p → AreFronts qs q → AreFrontsOfBoth (ps ++ qs) p q
+AreFrontsOfBoth-append ps qs p q a b = record {
+  all = λ front h. elim h [ inl here ↦ Contains-append_left ps qs front (a.all front here) | inr there ↦ Contains-append_right ps qs front (b.all front there) ];
+  only = λ front c. elim (Contains-append_cases ps qs front c) [ inl here ↦ inl (a.only front here) | inr there ↦ inr (b.only front there) ];
 }
 
 -- ---- plans

@@ -177,8 +177,10 @@ impl State {
             Ok(path) => path,
             Err(fault) => return Err(path_errno(fault)),
         };
-        expect_not_astray(&path, &new_path)?;
-        Ok((path, new_path))
+        match expect_not_astray(&path, &new_path) {
+            Ok(()) => Ok((path, new_path)),
+            Err(errno) => Err(errno),
+        }
     }
 
     /// The same for a name that is to be moved to another.
