@@ -12,11 +12,19 @@ use std::marker::Model;
 #[derive(Drop)]
 pub enum Want {
     /// A node (GETATTR).
-    Node { number: u64 },
+    Node {
+        number: u64,
+    },
     /// A name under a parent (LOOKUP).
-    Name { parent: u64, name: Name },
+    Name {
+        parent: u64,
+        name: Name,
+    },
     /// A name to be removed, whatever stands there (UNLINK, RMDIR).
-    Remove { parent: u64, name: Name },
+    Remove {
+        parent: u64,
+        name: Name,
+    },
     /// A name to be moved to another, whatever stands at either (RENAME).
     Move {
         parent: u64,

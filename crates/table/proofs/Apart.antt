@@ -90,7 +90,6 @@ same_names at tree (Remove parent name) h k a b =
       shared = fronts_same h.shared k.shared a.above b.above e a.shared b.shared;
       exclusive = λ q c. subst (λ (ps : List Names). Contains ps q) (a.exclusive ∙ (ap (λ (p : Names). (p ++ name ∷ []) ∷ []) e ∙ sym b.exclusive)) c;
     }
-
 same_names at tree (Move parent name new_parent new_name) h k a b =
     let e : a.above ≡ b.above = path_same at tree.rooted a.above b.above parent a.leads b.leads in
     let e' : a.new_above ≡ b.new_above = path_same at tree.rooted a.new_above b.new_above new_parent a.new_leads b.new_leads in
@@ -183,7 +182,6 @@ known_of at f work (Remove parent name) r =
     let lead : Lead = record { number = parent; path = h.above } in
     let it : IsLead at work.held lead = record { path = h.leads; fronts = λ front some. inl (h.shared.all front some) } in
     subst (λ (g : List Lead). All (IsLead at work.held) g) (sym h.given) (one_lead at work.held lead it)
-
 known_of at f work (Move parent name new_parent new_name) r =
     let h = r.holds in
     let lead : Lead = record { number = parent; path = h.above } in

@@ -111,7 +111,6 @@ ready_same old new f work (wants.Remove parent name) named ready = record {
   pinned = ready.pinned;
   unanswered = ready.unanswered;
 }
-
 ready_same old new f work (wants.Move parent name new_parent new_name) named ready = record {
   holds = holds_moved_on old new parent name new_parent new_name work.held (reaches_same old new named 1 parent) (reaches_same old new named 1 new_parent) ready.holds;
   not_astray = ready.not_astray;
@@ -155,7 +154,6 @@ ready_swept pinned old new f work (wants.Remove parent name) swept pins ready =
       pinned = ready.pinned;
       unanswered = ready.unanswered;
     }
-
 ready_swept pinned old new f work (wants.Move parent name new_parent new_name) swept pins ready =
     let still : (number : ℕ) → pins_number f number ≡ true → (up : List (List ℕ)) → Reaches old 1 number up → Reaches new 1 number up = λ number pin up h. reaches_swept pinned old new swept 1 number up (λ x was none. none-some x (sym none ∙ stays_pinned pinned old new number x swept was (pins number pin))) h in
     record {

@@ -202,11 +202,16 @@ impl State {
         };
         let standing = self.tree.find(&key);
         let new_standing = self.tree.find(&target);
-        let pins =
-            match pins_for_move(self.alloc, key.parent, standing, target.parent, new_standing) {
-                Ok(pins) => pins,
-                Err(_) => return Begin::Refused(ENOMEM),
-            };
+        let pins = match pins_for_move(
+            self.alloc,
+            key.parent,
+            standing,
+            target.parent,
+            new_standing,
+        ) {
+            Ok(pins) => pins,
+            Err(_) => return Begin::Refused(ENOMEM),
+        };
         let work = match move_work(self.alloc, key, target, &path, &new_path) {
             Ok(work) => work,
             Err(_) => return Begin::Refused(ENOMEM),

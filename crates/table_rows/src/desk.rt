@@ -108,6 +108,26 @@ impl<B: Shared, E: tokens::Ledger, K: tokens::Ledger, F: tokens::Ledger> Desk<B,
         self.ask(rt, 7, Want::Remove { parent, name })
     }
 
+    /// Begins a request that moves a name to another.
+    pub fn rename(
+        &mut self,
+        rt: &impl Abort,
+        parent: u64,
+        name: &str,
+        new_parent: u64,
+        new_name: &str,
+    ) -> Asked {
+        let name = Name::copy_of(self.alloc, name).expect(rt, "memory is ample");
+        let new_name = Name::copy_of(self.alloc, new_name).expect(rt, "memory is ample");
+        let want = Want::Move {
+            parent,
+            name,
+            new_parent,
+            new_name,
+        };
+        self.ask(rt, 7, want)
+    }
+
     /// Begins a request for a name that no other request holds.
     pub fn begin(&mut self, rt: &impl Abort, parent: u64, name: &str) -> Result<(), i32> {
         match self.name(rt, parent, name) {

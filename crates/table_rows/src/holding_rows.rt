@@ -1,98 +1,16 @@
 //! Requests that hold names and wait for one another, and names that are removed.
 
 use crate::desk::{Asked, Desk, Gave, ROOT, Story, tell};
+use crate::expects::{
+    expect_cut, expect_many, expect_named, expect_path, expect_same, expect_same_nodes, give_folder,
+};
 use errno::{EAGAIN, ENFILE, ESTALE};
-use image::{Image, Stage};
+use image::Stage;
 use ledger::Shared;
 use std::process::Abort;
 use std::sync::ledger as tokens;
 use std::test::Fail;
 use table::{Limits, Outcome};
-use tree::{Node, Place};
-
-/// Whether the places are the same.
-fn is_same_place(one: &Place, other: &Place) -> bool {
-    match (one, other) {
-        (Place::Root, Place::Root) | (Place::Cut, Place::Cut) => true,
-        (Place::Named(one), Place::Named(other)) => {
-            one.parent == other.parent && one.name.is(&other.name)
-        }
-        _ => false,
-    }
-}
-
-/// The nodes and postings of both are the same.
-fn expect_same_nodes(rt: &impl Abort, old: &Image, new: &Image) {
-    let nodes = new.nodes.as_slice();
-    assert_eq!(rt; nodes.len(), old.nodes.as_slice().len());
-    for was in old.nodes.as_slice() {
-        let node = node_in(rt, nodes, was.number);
-        assert_eq!(rt;
-            (node.generation, node.count, node.hidden),
-            (was.generation, was.count, was.hidden)
-        );
-        assert!(rt; is_same_place(&node.place, &was.place));
-    }
-    assert_eq!(rt; new.postings.as_slice(), old.postings.as_slice());
-}
-
-/// Both are the same.
-fn expect_same(rt: &impl Abort, old: &Image, new: &Image) {
-    expect_same_nodes(rt, old, new);
-    let records = new.records.as_slice();
-    assert_eq!(rt; records.len(), old.records.as_slice().len());
-    for was in old.records.as_slice() {
-        let record = records
-            .iter()
-            .find(|record| record.id == was.id)
-            .expect(rt, "the request is in flight");
-        assert_eq!(rt; (record.unique, record.stage), (was.unique, was.stage));
-        assert_eq!(rt; record.pins.as_slice(), was.pins.as_slice());
-    }
-}
-
-/// The node that bears the number.
-fn node_in<'a>(rt: &impl Abort, nodes: &'a [Node], number: u64) -> &'a Node {
-    nodes
-        .iter()
-        .find(|node| node.number == number)
-        .expect(rt, "the node lives")
-}
-
-/// The node is alive with that count, and stands nowhere.
-fn expect_cut(rt: &impl Abort, image: &Image, number: u64, count: u64) {
-    let node = node_in(rt, image.nodes.as_slice(), number);
-    assert_eq!(rt; (node.generation, node.count), (0, count));
-    assert!(rt; matches!(node.place, Place::Cut), "node {number} is cut");
-}
-
-/// The node is alive with that count, and has a name.
-fn expect_named(rt: &impl Abort, image: &Image, number: u64, count: u64) {
-    let node = node_in(rt, image.nodes.as_slice(), number);
-    assert_eq!(rt; (node.generation, node.count), (0, count));
-    assert!(rt;
-        matches!(node.place, Place::Named(_)),
-        "node {number} is named"
-    );
-}
-
-/// So many nodes and requests.
-fn expect_many(rt: &impl Abort, image: &Image, nodes: usize, records: usize) {
-    assert_eq!(rt; image.nodes.as_slice().len(), nodes);
-    assert_eq!(rt; image.records.as_slice().len(), records);
-}
-
-/// Node 2 is the folder `d`, and node 3 is `x` in it, with an entry each.
-fn give_folder<B: Shared, E: tokens::Ledger, K: tokens::Ledger, F: tokens::Ledger>(
-    rt: &impl Abort,
-    desk: &mut Desk<B, E, K, F>,
-) {
-    assert_eq!(rt; desk.look_up(rt, "d", true), Gave::entry(2, 0));
-    assert_eq!(rt; desk.name(rt, 2, "x"), Asked::Go);
-    assert_eq!(rt; desk.finish(rt, 0, 0, Outcome::Entry), Gave::entry(3, 0));
-    let _settled = desk.settle(rt, 0, 0, true);
-    expect_many(rt, &desk.image(rt), 3, 0);
-}
 
 #[derive(Drop)]
 struct RemovedFolder;
@@ -446,20 +364,6 @@ fn removal_misfit(rt: HostRuntime) -> Result<(), Fail> {
     };
     tell(&rt, rt.alloc(), Limits::default(), &mut misfit)?;
     Ok(())
-}
-
-/// The path of the last ticket has these names.
-fn expect_path<B: Shared, E: tokens::Ledger, K: tokens::Ledger, F: tokens::Ledger>(
-    rt: &impl Abort,
-    desk: &Desk<B, E, K, F>,
-    expected: &[&str],
-) {
-    let ticket = desk.tickets.last().expect(rt, "a request was begun");
-    let names = ticket.path().names();
-    assert_eq!(rt; names.len(), expected.len());
-    for (name, spelt) in names.iter().zip(expected) {
-        assert_eq!(rt; name.as_str(), *spelt);
-    }
 }
 
 #[derive(Drop)]

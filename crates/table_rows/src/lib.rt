@@ -4,6 +4,10 @@
 #[cfg(test)]
 mod desk;
 #[cfg(test)]
+mod draws;
+#[cfg(test)]
+mod expects;
+#[cfg(test)]
 mod holding_rows;
 #[cfg(test)]
 mod image_rows;
@@ -16,8 +20,12 @@ mod lookup_rows;
 #[cfg(test)]
 mod memory_rows;
 #[cfg(test)]
+mod moving_rows;
+#[cfg(test)]
 mod share_rows;
 #[cfg(test)]
 mod stranger_rows;
+#[cfg(test)]
+mod tally;
 #[cfg(test)]
 mod thread_rows;

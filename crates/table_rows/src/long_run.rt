@@ -1,50 +1,19 @@
 //! Some thousand steps at random, after which the table keeps its law.
 
 use crate::desk::{Asked, Desk, Gathered, Gave, ROOT, Story, keep, tell};
-use errno::{EAGAIN, ENFILE, ESTALE};
+use crate::draws::Draws;
+use crate::tally::{Tally, expect_all, note};
+use errno::{EAGAIN, EINVAL, ENFILE, ENOTEMPTY, ESTALE};
 use image::Image;
 use ledger::{Posting, Shared, Totals};
+use std::alloc::Global;
 use std::process::Abort;
 use std::sync::ledger as tokens;
 use std::test::Fail;
 use table::{Limits, Outcome};
-use tree::Place;
+use tree::{Key, Place};
 
-const STEPS: u64 = 6_000;
-
-/// Numbers at random, the same in each run.
-#[derive(Drop)]
-struct Draws {
-    x: u64,
-}
-
-impl Draws {
-    fn next(&mut self) -> u64 {
-        self.x = self
-            .x
-            .wrapping_mul(6_364_136_223_846_793_005)
-            .wrapping_add(1_442_695_040_888_963_407);
-        self.x >> 32
-    }
-
-    /// A choice among so many, or 0 among none.
-    fn among(&mut self, n: u64) -> u64 {
-        let draw = self.next();
-        if n == 0 { 0 } else { draw % n }
-    }
-
-    fn place(&mut self, len: usize) -> usize {
-        self.among(len as u64) as usize
-    }
-
-    fn name(&mut self) -> &'static str {
-        match self.among(3) {
-            0 => "a",
-            1 => "b",
-            _ => "c",
-        }
-    }
-}
+const STEPS: u64 = 10_000;
 
 /// What a request in flight asks for.
 #[derive(Clone, Copy, Debug, PartialEq, Eq)]
@@ -52,34 +21,7 @@ enum Kind {
     Node,
     Name,
     Remove,
-}
-
-/// How often each kind of step came.
-#[derive(Clone, Copy, Default, Debug, PartialEq, Eq)]
-struct Tally {
-    entries: u64,
-    failed: u64,
-    misfit: u64,
-    full: u64,
-    crowded: u64,
-    stale: u64,
-    stale_nodes: u64,
-    busy_nodes: u64,
-    busy_names: u64,
-    busy_removals: u64,
-    nodes: u64,
-    removals: u64,
-    cuts: u64,
-    untaken: u64,
-    forgotten: u64,
-    partly: u64,
-    births: u64,
-    rebirths: u64,
-    backs: u64,
-}
-
-fn note(count: &mut u64) {
-    *count = count.saturating_add(1);
+    Move,
 }
 
 #[derive(Drop)]
@@ -88,6 +30,31 @@ struct LongRun {
     tally: Tally,
     /// Of each ticket of the desk what its request asks for.
     kinds: Vec<Kind>,
+}
+
+/// How many nodes are named otherwise than before.
+fn moved_nodes(before: &Image, after: &Image) -> u64 {
+    let mut moved = 0;
+    for was in before.nodes.as_slice() {
+        let Place::Named(old) = &was.place else {
+            continue;
+        };
+        if is_named_otherwise(after, was.number, old) {
+            note(&mut moved);
+        }
+    }
+    moved
+}
+
+/// Whether a node bears the number, and has another name than that.
+fn is_named_otherwise(image: &Image, number: u64, old: &Key) -> bool {
+    image.nodes.as_slice().iter().any(|node| {
+        node.number == number
+            && match &node.place {
+                Place::Named(new) => new.parent != old.parent || !new.name.is(&old.name),
+                _ => false,
+            }
+    })
 }
 
 /// How many nodes of the table are cut.
@@ -114,9 +81,10 @@ impl LongRun {
             0 => ROOT,
             _ => self.draws.among(7),
         };
-        let (kind, asked) = match self.draws.among(6) {
+        let (kind, asked) = match self.draws.among(8) {
             0..=1 => (Kind::Node, desk.node(rt, self.draws.among(6))),
             2 => (Kind::Remove, desk.remove(rt, parent, self.draws.name())),
+            3..=4 => (Kind::Move, self.rename(rt, desk, parent)),
             _ => (Kind::Name, desk.name(rt, parent, self.draws.name())),
         };
         match asked {
@@ -125,7 +93,9 @@ impl LongRun {
                 Kind::Node => &mut self.tally.busy_nodes,
                 Kind::Name => &mut self.tally.busy_names,
                 Kind::Remove => &mut self.tally.busy_removals,
+                Kind::Move => &mut self.tally.busy_moves,
             }),
+            Asked::Refused(EINVAL) | Asked::Refused(ENOTEMPTY) => note(&mut self.tally.astray),
             Asked::Refused(ENFILE) => note(&mut self.tally.full),
             Asked::Refused(EAGAIN) => note(&mut self.tally.crowded),
             Asked::Refused(ESTALE) => note(match kind {
@@ -134,6 +104,21 @@ impl LongRun {
             }),
             Asked::Refused(errno) => panic!(rt; "refused with {errno}"),
         }
+    }
+
+    /// Begins a request that moves a name to another.
+    fn rename<B: Shared, E: tokens::Ledger, K: tokens::Ledger, F: tokens::Ledger, R: Abort>(
+        &mut self,
+        rt: &R,
+        desk: &mut Desk<B, E, K, F>,
+        parent: u64,
+    ) -> Asked {
+        let new_parent = match self.draws.among(2) {
+            0 => ROOT,
+            _ => self.draws.among(6),
+        };
+        let name = self.draws.name();
+        desk.rename(rt, parent, name, new_parent, self.draws.name())
     }
 
     fn finish<B: Shared, E: tokens::Ledger, K: tokens::Ledger, F: tokens::Ledger, R: Abort>(
@@ -151,6 +136,7 @@ impl LongRun {
             Kind::Node => self.finish_node(rt, desk, share, ticket),
             Kind::Name => self.finish_name(rt, desk, share, ticket),
             Kind::Remove => self.finish_removal(rt, desk, share, ticket),
+            Kind::Move => self.finish_move(rt, desk, share, ticket),
         }
     }
 
@@ -188,6 +174,36 @@ impl LongRun {
                 }
             }
             _ => assert_eq!(rt; cut_after, cut, "nothing was removed"),
+        }
+    }
+
+    fn finish_move<B: Shared, E: tokens::Ledger, K: tokens::Ledger, F: tokens::Ledger, R: Abort>(
+        &mut self,
+        rt: &R,
+        desk: &mut Desk<B, E, K, F>,
+        share: usize,
+        ticket: usize,
+    ) {
+        assert!(rt; ticket < desk.tickets.len());
+        let same = desk.tickets[ticket].same();
+        let before = desk.table.export().expect(rt, "memory is ample");
+        let outcome = match self.draws.among(8) {
+            0 => Outcome::Failed,
+            1 => Outcome::Entry,
+            _ => Outcome::Done,
+        };
+        assert_eq!(rt; desk.finish(rt, share, ticket, outcome), Gave::Empty);
+        let after = desk.table.export().expect(rt, "memory is ample");
+        let moved = moved_nodes(&before, &after);
+        assert!(rt; moved <= 1, "what is below keeps its parent");
+        self.tally.moved = self.tally.moved.saturating_add(moved);
+        match outcome {
+            Outcome::Done => note(&mut self.tally.moves),
+            _ => assert_eq!(rt; moved, 0, "nothing was moved"),
+        }
+        if same {
+            note(&mut self.tally.same);
+            assert_eq!(rt; moved, 0, "it was moved to itself");
         }
     }
 
@@ -293,7 +309,7 @@ impl LongRun {
             assert!(rt; !self.kinds.is_empty());
             let gave = match self.kinds.remove(0) {
                 Kind::Name => Gave::Nothing,
-                Kind::Node | Kind::Remove => Gave::Empty,
+                Kind::Node | Kind::Remove | Kind::Move => Gave::Empty,
             };
             assert_eq!(rt; desk.finish(rt, 0, 0, Outcome::Failed), gave);
         }
@@ -327,58 +343,25 @@ impl Story for LongRun {
     }
 }
 
-/// Each kind of step came.
-fn expect_all(rt: &impl Abort, tally: &Tally) {
-    let kinds = [
-        tally.entries,
-        tally.failed,
-        tally.misfit,
-        tally.full,
-        tally.crowded,
-        tally.stale,
-        tally.stale_nodes,
-        tally.busy_names,
-        tally.busy_removals,
-        tally.nodes,
-        tally.removals,
-        tally.cuts,
-        tally.untaken,
-        tally.forgotten,
-        tally.partly,
-        tally.births,
-        tally.rebirths,
-        tally.backs,
-    ];
-    for count in kinds {
-        assert!(rt; 20 < count, "too few of a kind in {tally:?}");
-    }
-    assert!(rt; 0 < tally.busy_nodes, "no node was held in {tally:?}");
-    // Some entries were forgotten before their reply was found untaken.
-    assert!(rt;
-        tally.backs < tally.untaken,
-        "none was forgotten first in {tally:?}"
-    );
-}
-
-#[test]
-fn long_run(rt: HostRuntime) -> Result<(), Fail> {
+/// A run from those draws, after which all is wound up.
+fn run_from<R: Abort>(rt: &R, alloc: Global, x: u64) -> Result<(), Fail> {
     let limits = Limits {
         nodes: 5,
         flights: 5,
         ..Limits::default()
     };
     let mut run = LongRun {
-        draws: Draws { x: 1 },
+        draws: Draws { x },
         tally: Tally::default(),
-        kinds: Vec::new(rt.alloc()),
+        kinds: Vec::new(alloc),
     };
-    let gathered = tell(&rt, rt.alloc(), limits, &mut run)?;
+    let gathered = tell(rt, alloc, limits, &mut run)?;
     let LongRun {
         draws: _,
         tally,
         kinds: _,
     } = run;
-    expect_all(&rt, &tally);
+    expect_all(rt, &tally);
     let totals = Totals {
         born: tally.births,
         entries: tally.entries,
@@ -392,4 +375,14 @@ fn long_run(rt: HostRuntime) -> Result<(), Fail> {
         "all came back"
     );
     Ok(())
+}
+
+#[test]
+fn long_run(rt: HostRuntime) -> Result<(), Fail> {
+    run_from(&rt, rt.alloc(), 1)
+}
+
+#[test]
+fn another_long_run(rt: HostRuntime) -> Result<(), Fail> {
+    run_from(&rt, rt.alloc(), 2)
 }

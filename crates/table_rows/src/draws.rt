@@ -1,0 +1,35 @@
+//! Numbers at random.
+
+/// Numbers at random, the same in each run.
+#[derive(Drop)]
+pub struct Draws {
+    pub x: u64,
+}
+
+impl Draws {
+    fn next(&mut self) -> u64 {
+        self.x = self
+            .x
+            .wrapping_mul(6_364_136_223_846_793_005)
+            .wrapping_add(1_442_695_040_888_963_407);
+        self.x >> 32
+    }
+
+    /// A choice among so many, or 0 among none.
+    pub fn among(&mut self, n: u64) -> u64 {
+        let draw = self.next();
+        if n == 0 { 0 } else { draw % n }
+    }
+
+    pub fn place(&mut self, len: usize) -> usize {
+        self.among(len as u64) as usize
+    }
+
+    pub fn name(&mut self) -> &'static str {
+        match self.among(3) {
+            0 => "a",
+            1 => "b",
+            _ => "c",
+        }
+    }
+}
