@@ -12,6 +12,8 @@ pub mod Giving
 pub mod Finishing
 pub mod Counting
 pub mod Longer
+pub mod Refusing
+pub mod Planning
 pub mod Starting
 pub mod Exporting
 pub mod Placing

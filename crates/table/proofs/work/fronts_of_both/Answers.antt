@@ -2,7 +2,7 @@ use Rattle.std.proofs.Common.{List, sym, subst, ◌∙◌}
 use Rattle.paths.specs.Fronts.{Names}
 use Rattle.holds.specs.Clashes.{AreFronts}
 use Rattle.table.specs.Holding.{AreFrontsOfBoth}
-use Rattle.table.proofs.Starting.{AreFrontsOfBoth-append}
+use Rattle.table.proofs.Planning.{AreFrontsOfBoth-append}
 use Rattle.table.proofs.work.fronts_of_both.Goals as goal
 
 pub returns : goal.returns

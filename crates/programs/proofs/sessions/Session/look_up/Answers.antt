@@ -1,6 +1,6 @@
 use Rattle.std.proofs.Common.{ℕ, List, inr, refl, subst, to_z, of_z, w32}
 use Rattle.flights.specs.declared.data.Want.TheVariants.{Name}
-use Rattle.table.proofs.Starting.{refusal_bits}
+use Rattle.table.proofs.Refusing.{refusal_bits}
 use Rattle.table.specs.Steps.{Begins}
 use Rattle.table.specs.World.{world_of}
 use Rattle.table.specs.declared.data.Begin.TheVariants.{Go, Busy, Refused}

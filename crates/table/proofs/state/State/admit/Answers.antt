@@ -1,7 +1,8 @@
 use Rattle.std.proofs.Common.{refl, sym, ◌∙◌}
 use Rattle.std.proofs.lemmas.Bool.{false≢true}
 use Rattle.table.specs.World.{world_of}
-use Rattle.table.proofs.Starting.{refusal_bits, not_held_up, not_full, not_crowded, limit_refusal, goes_on, begun_kept}
+use Rattle.table.proofs.Refusing.{refusal_bits}
+use Rattle.table.proofs.Starting.{not_held_up, not_full, not_crowded, limit_refusal, goes_on, begun_kept}
 use Rattle.table.proofs.state.State.admit.Goals as goal
 
 pub returns-in-Err-clause-begins : goal.returns-in-Err-clause-begins

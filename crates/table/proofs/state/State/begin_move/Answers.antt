@@ -1,5 +1,6 @@
 use Rattle.table.specs.World.{world_of}
-use Rattle.table.proofs.Starting.{move_plan, move_sound, stands_of}
+use Rattle.table.proofs.Planning.{move_plan, stands_of}
+use Rattle.table.proofs.Refusing.{move_sound}
 use Rattle.table.proofs.state.State.begin_move.Goals as goal
 
 pub admit-requires-clause-plan : goal.admit-requires-clause-plan

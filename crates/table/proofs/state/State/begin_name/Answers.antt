@@ -2,7 +2,8 @@ use Rattle.std.proofs.Common.{ℤ, sym, subst, refl}
 use Rattle.flights.specs.declared.data.Want.TheVariants.{Name}
 use Rattle.table.specs.Steps.{IsRefusal}
 use Rattle.table.specs.World.{world_of}
-use Rattle.table.proofs.Starting.{refusal_bits, path_refusal, stands_of, name_plan}
+use Rattle.table.proofs.Planning.{stands_of, name_plan}
+use Rattle.table.proofs.Refusing.{refusal_bits, path_refusal}
 use Rattle.table.proofs.state.State.begin_name.Goals as goal
 
 pub returns-in-Err-clause-begins : goal.returns-in-Err-clause-begins

@@ -2,7 +2,8 @@ use Rattle.std.proofs.Common.{ℤ, sym, subst, refl}
 use Rattle.flights.specs.declared.data.Want.TheVariants.{Node}
 use Rattle.table.specs.Steps.{IsRefusal}
 use Rattle.table.specs.World.{world_of}
-use Rattle.table.proofs.Starting.{refusal_bits, node_refusal, node_plan}
+use Rattle.table.proofs.Planning.{node_plan}
+use Rattle.table.proofs.Refusing.{refusal_bits, node_refusal}
 use Rattle.table.proofs.state.State.begin_node.Goals as goal
 
 pub returns-in-Err-clause-begins : goal.returns-in-Err-clause-begins

@@ -2,7 +2,8 @@ use Rattle.std.proofs.Common.{ℤ, sym, subst, refl}
 use Rattle.flights.specs.declared.data.Want.TheVariants.{Remove}
 use Rattle.table.specs.Steps.{IsRefusal}
 use Rattle.table.specs.World.{world_of}
-use Rattle.table.proofs.Starting.{refusal_bits, removal_refusal, stands_of, removal_plan}
+use Rattle.table.proofs.Planning.{stands_of, removal_plan}
+use Rattle.table.proofs.Refusing.{refusal_bits, removal_refusal}
 use Rattle.table.proofs.state.State.begin_removal.Goals as goal
 
 pub returns-in-Err-clause-begins : goal.returns-in-Err-clause-begins

@@ -2,7 +2,7 @@ use Rattle.std.proofs.Common.{ℤ, sym, subst}
 use Rattle.flights.specs.declared.data.Want.TheVariants.{Move}
 use Rattle.table.specs.Steps.{IsRefusal}
 use Rattle.table.specs.World.{world_of}
-use Rattle.table.proofs.Starting.{astray_refusal, refusal_bits, source_refusal, target_refusal}
+use Rattle.table.proofs.Refusing.{astray_refusal, refusal_bits, source_refusal, target_refusal}
 use Rattle.table.proofs.state.State.paths_of_move.Goals as goal
 
 pub returns-in-Err-clause-err : goal.returns-in-Err-clause-err
