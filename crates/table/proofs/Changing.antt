@@ -9,13 +9,13 @@ use Rattle.ledger.specs.Sums.{entries_of, given_of}
 use Rattle.tree.specs.declared.nodes.Key.{Key}
 use Rattle.tree.specs.declared.nodes.Node.{Node}
 use Rattle.tree.specs.declared.nodes.Place.TheVariants as place
-use Rattle.tree.specs.Places.{Lookup, Nodes, at_in, HasChild, IsPathOf, IsTree}
+use Rattle.tree.specs.Places.{Lookup, Nodes, at_in, IsPathOf, IsTree}
 use Rattle.tree.specs.Moves.{Changes, IsChanged, Where, after_cut, after_move, is_cut, is_moved, stays}
 use Rattle.tree.proofs.Transfers.{changed_count, changed_generation, changed_mark, changes_alive, changes_back, path_after_cut, path_after_move}
 use Rattle.flights.specs.declared.data.Flight.{Flight}
 use Rattle.flights.specs.declared.data.Stage.TheVariants.{Working}
 use Rattle.flights.specs.declared.data.Work.{Work}
-use Rattle.flights.specs.Flying.{Flights, HoldsUp}
+use Rattle.flights.specs.Flying.{Flights}
 use Rattle.flights.specs.Listed.{flying_of}
 use Rattle.image.specs.Law.{HasReason, HaveReasons}
 use Rattle.table.specs.declared.state.State.{State}

@@ -1,5 +1,5 @@
 -- What a cut and a move at a name make of a tree.
-use Rattle.std.proofs.Common.{ℕ, ◌&&◌, ◌≡◌, ◌≢◌, true, false, List, [], ◌∷◌, ◌++◌, reverse, refl, sym, ap, ◌∙◌, subst, ◌⊎◌, inl, inr}
+use Rattle.std.proofs.Common.{ℕ, ◌&&◌, ◌≡◌, ◌≢◌, true, false, [], ◌∷◌, ◌++◌, reverse, refl, sym, ap, ◌∙◌, subst, ◌⊎◌, inl, inr}
 use Rattle.std.proofs.lemmas.Bool.{cases_Bool, true≢false, and_parts}
 use Rattle.std.proofs.lemmas.List.{reverse-append}
 use Rattle.paths.specs.Fronts.{Name, Names, is_front}
@@ -8,7 +8,7 @@ use Rattle.tree.specs.Places.{Lookup, HasChild, IsAlive, IsFree, IsNamed, IsPath
 use Rattle.tree.specs.Moves.{CanRelink, Changes, CutsBelow, Moves, Stands, Where, after_cut, after_move, at_path, cut, cut_node}
 use Rattle.tree.proofs.Climbing.{climbs_alive, named_at, named_same, path_under, reaches_split, root_unnamed}
 use Rattle.tree.proofs.Transfers.{can_relink, child_after_cut, child_after_relink}
-use Rattle.table.specs.Moving.{CanMove, IsAstray, IsProperFront, KeepsChildren}
+use Rattle.table.specs.Moving.{CanMove, KeepsChildren}
 use Rattle.table.proofs.Laws.{named_not_root}
 
 -- a node with a named child is alive
