@@ -13,6 +13,7 @@ pub mod Finishing
 pub mod Counting
 pub mod Longer
 pub mod Starting
+pub mod Holders
 pub mod Exporting
 pub mod Guarded
 pub mod Removing
