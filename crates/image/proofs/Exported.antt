@@ -1,9 +1,11 @@
 -- That what is exported of a lawful table is a lawful image.
 use Rattle.std.proofs.Common.{ℕ, zero, suc, ◌+◌, ◌<◌, ◌≤◌, ◌≡◌, ◌≢◌, ◌==◌, ◌||◌, Bool, true, false, List, [], ◌∷◌, ◌++◌, Some, None, length, get_or, refl, sym, ap, ◌∙◌, subst, inl, inr, arith}
-use Rattle.std.specs.Prelude.{AllPairs}
+use Rattle.std.specs.Prelude.{All, AllPairs}
 use Rattle.std.specs.List.{AllZip}
 use Rattle.std.specs.List.{list_any}
 use Rattle.std.proofs.lemmas.Bool.{cases_eq, cases_lt}
+use Rattle.std.proofs.lemmas.List.{get_or_append_left, length-append}
+use Rattle.std.proofs.lemmas.List.Elements.{All-push, Contains-push}
 use Rattle.std.proofs.lemmas.List.Folds.{list_any-append}
 use Rattle.std.proofs.lemmas.List.Quantifiers.{all_pairs_push}
 use mathlib.Core.Path.{fun_ext}
@@ -12,9 +14,12 @@ use Rattle.tree.specs.declared.nodes.Node.{Node}
 use Rattle.tree.specs.Places.{Lookup, IsAlive}
 use Rattle.tree.specs.Listed.{node_at, IsDistinct}
 use Rattle.tree.proofs.LookupLemmas.{with_same, with_other, node_at-push, IsDistinct-push, cases_option}
+use Rattle.paths.specs.Fronts.{Names}
+use Rattle.image.specs.declared.data.Hold.{Hold}
 use Rattle.image.specs.declared.data.Image.{Image}
 use Rattle.image.specs.declared.data.Record.{Record}
-use Rattle.image.specs.Law.{IsLawful, IsLawfulImage, is_pinned}
+use Rattle.image.specs.Law.{AreApart, AreHoldsCounted, AreKnown, IsCountOf, IsLawful, IsLawfulImage, is_pinned}
+use Rattle.image.specs.Parts.{IsStored}
 
 -- ---- the law, from what is said of each number
 
@@ -25,13 +30,16 @@ IsLawful-same old new ps p q nodes pins law =
     let pinned : p ≡ q = fun_ext (λ n. sym (pins n)) in
     subst (λ (r : ℕ → Bool). IsLawful new ps r) pinned (subst (λ (l : Lookup). IsLawful l ps p) at law)
 
--- an image shows nodes, a ledger and pins that keep the law
+-- an image shows nodes, a ledger, pins and holds that keep the law
 pub record Shows (image : Image) (at : Lookup) (ps : List Posting) (pinned : ℕ → Bool) : Type 0 where
   pub distinct : IsDistinct image.nodes
   pub nodes : (n : ℕ) → node_at image.nodes n ≡ at n
   pub postings : image.postings ≡ ps
   pub ids : AllPairs (λ r s. r.id ≢ s.id) image.records
   pub pins : (n : ℕ) → is_pinned image.records n ≡ pinned n
+  pub counted : AreHoldsCounted image.holds image.records
+  pub apart : AreApart image.records
+  pub known : AreKnown at image.records
 
 -- so it is lawful
 pub IsLawfulImage-shows : (image : Image) (at : Lookup) (ps : List Posting) (pinned : ℕ → Bool) → Shows image at ps pinned → IsLawful at ps pinned → IsLawfulImage image
@@ -41,6 +49,9 @@ IsLawfulImage-shows image at ps pinned shows law = record {
   law =
       let here = IsLawful-same at (node_at image.nodes) ps pinned (is_pinned image.records) shows.nodes shows.pins law in
       subst (λ (qs : List Posting). IsLawful (node_at image.nodes) qs (is_pinned image.records)) (sym shows.postings) here;
+  counted = shows.counted;
+  apart = shows.apart;
+  known = subst (λ (l : Lookup). AreKnown l image.records) (fun_ext (λ n. sym (shows.nodes n))) shows.known;
 }
 
 -- ---- nodes listed by rising numbers
@@ -142,3 +153,66 @@ ids-mirrors id pins (f ∷ fs) rs mirrors apart i j d before within same =
     let one = mirrors_id id pins (f ∷ fs) rs i f d mirrors (omega arith) in
     let two = mirrors_id id pins (f ∷ fs) rs j f d mirrors within in
     apart i j f before (omega arith) (sym one ∙ (same ∙ two))
+
+-- ---- held paths listed one after another
+
+-- some request shares the path or holds it alone
+pub record IsHeldBySome (sharers owners : Names → ℕ) (path : Names) : Type 0 where
+  pub some : 0 < sharers path + owners path
+
+-- paths that are held, each at most once, with its two numbers
+pub record ListsHeld (sharers owners : Names → ℕ) (holds : List Hold) : Type 0 where
+  pub once : AllPairs (λ h k. h.path ≢ k.path) holds
+  pub each : All (IsCountOf sharers owners) holds
+
+-- what was stored still is, and so are these paths
+pub record Stores (old new : List Hold) (paths : List Names) : Type 0 where
+  pub kept : (path : Names) → IsStored old path → IsStored new path
+  pub stored : All (IsStored new) paths
+
+pub ListsHeld-none : (sharers owners : Names → ℕ) → ListsHeld sharers owners []
+ListsHeld-none sharers owners = record { once = λ i j d before within. absurd (omega arith); each = λ k d within. absurd (omega arith) }
+
+-- a path more
+pub ListsHeld-push : (sharers owners : Names → ℕ) (hs : List Hold) (h : Hold) → All (λ (k : Hold). k.path ≢ h.path) hs → IsCountOf sharers owners h → ListsHeld sharers owners hs → ListsHeld sharers owners (hs ++ h ∷ [])
+ListsHeld-push sharers owners hs h fresh counts lists = record {
+  once = all_pairs_push (λ (a b : Hold). a.path ≢ b.path) hs h lists.once fresh;
+  each = All-push (IsCountOf sharers owners) hs h lists.each counts;
+}
+
+stored_more : (hs : List Hold) (h : Hold) (path : Names) → IsStored hs path → IsStored (hs ++ h ∷ []) path
+unfolding IsStored
+stored_more hs h path it = (it.0, it.1, omega (arith, it.2, length-append hs (h ∷ [])), get_or_append_left hs (h ∷ []) it.1 it.0 it.2 ∙ it.3, it.4)
+
+stored_last : (hs : List Hold) (h : Hold) → IsStored (hs ++ h ∷ []) h.path
+unfolding IsStored
+stored_last hs h = let last = Contains-push hs h in (last.0, h, last.1, last.2, refl)
+
+one_stored : (hs : List Hold) (path : Names) → IsStored hs path → All (IsStored hs) (path ∷ [])
+one_stored hs path it = All-push (IsStored hs) [] path (λ k d within. absurd (omega arith)) it
+
+pub Stores-push : (hs : List Hold) (h : Hold) → Stores hs (hs ++ h ∷ []) (h.path ∷ [])
+Stores-push hs h = record { kept = stored_more hs h; stored = one_stored (hs ++ h ∷ []) h.path (stored_last hs h) }
+
+pub Stores-same : (hs : List Hold) (path : Names) → IsStored hs path → Stores hs hs (path ∷ [])
+Stores-same hs path it = record { kept = λ p is. is; stored = one_stored hs path it }
+
+pub Stores-none : (hs : List Hold) → Stores hs hs []
+Stores-none hs = record { kept = λ p is. is; stored = λ k d within. absurd (omega arith) }
+
+all_kept : (old new : List Hold) (ps : List Names) → ((path : Names) → IsStored old path → IsStored new path) → All (IsStored old) ps → All (IsStored new) ps
+all_kept old new ps kept all k d within = kept (get_or ps k d) (all k d within)
+
+-- a path more was stored
+pub Stores-more : (old now new : List Hold) (ps : List Names) (p : Names) → Stores old now ps → Stores now new (p ∷ []) → Stores old new (ps ++ p ∷ [])
+Stores-more old now new ps p first second = record {
+  kept = λ path is. second.kept path (first.kept path is);
+  stored = All-push (IsStored new) ps p (all_kept now new ps second.kept first.stored) (second.stored 0 p (omega arith));
+}
+
+-- what was stored first is still stored after the second step, and the other way round
+pub Stores-then : (old now new : List Hold) (ps qs : List Names) → Stores old now ps → Stores now new qs → Stores old new ps × Stores old new qs
+Stores-then old now new ps qs first second = (
+  record { kept = λ path is. second.kept path (first.kept path is); stored = all_kept now new ps second.kept first.stored },
+  record { kept = λ path is. second.kept path (first.kept path is); stored = second.stored },
+)

@@ -1,17 +1,24 @@
--- The law of a table. It is said of three things: where each number leads (`at`), the ledger, and which numbers
--- the records pin.
-use Rattle.std.specs.Prelude.{ℕ, ◌+◌, ◌<◌, ◌≡◌, ◌≢◌, ◌==◌, ◌⊎◌, Bool, true, false, List, Some, All, AllPairs, Contains, take, length, slice_index_or}
+-- The law of a table. It is said of where each number leads (`at`), the ledger, which numbers the records pin,
+-- and what they hold.
+use Rattle.std.specs.Prelude.{ℕ, ◌+◌, ◌<◌, ◌≡◌, ◌≢◌, ◌==◌, ◌&&◌, ◌⊎◌, Bool, true, false, List, Some, All, AllPairs, Contains, take, length, slice_index_or, count_by}
 use Rattle.std.specs.List.{list_any}
+use Rattle.paths.specs.Fronts.{Names}
+use Rattle.holds.specs.declared.held.Held.{Held}
+use Rattle.holds.specs.declared.held.Lead.{Lead}
+use Rattle.holds.specs.Clashes.{Clash, IsHeld, IsSomeFront, is_among}
 use Rattle.ledger.specs.declared.postings.Posting.{Posting}
 use Rattle.ledger.specs.declared.postings.Posting.TheVariants.{Born, Entry, Back, Forget}
 use Rattle.ledger.specs.Sums.{number_of, births_of, entries_of, given_of, IsNeverNegative}
 use Rattle.tree.specs.declared.nodes.Key.{Key}
 use Rattle.tree.specs.declared.nodes.Node.{Node}
 use Rattle.tree.specs.declared.nodes.Place.TheVariants.{Named}
-use Rattle.tree.specs.Places.{Lookup, IsAlive, IsTree, HasChild}
+use Rattle.tree.specs.Places.{Lookup, IsAlive, IsPathOf, IsTree, HasChild}
 use Rattle.tree.specs.Listed.{node_at, IsDistinct}
+use Rattle.image.specs.declared.data.Hold.{Hold}
 use Rattle.image.specs.declared.data.Image.{Image}
 use Rattle.image.specs.declared.data.Record.{Record}
+use Rattle.image.specs.declared.data.Stage.{Stage}
+use Rattle.image.specs.declared.data.Stage.TheVariants.{Working, Answered}
 
 -- ---- the ledger
 
@@ -68,6 +75,64 @@ HasReason at pinned n x = (0 < x.count) ⊎ (x.hidden ≡ true) ⊎ (pinned n �
 abbrev pub HaveReasons : Lookup → (ℕ → Bool) → Type 0
 HaveReasons at pinned = (n : ℕ) (x : Node) → at n ≡ Some x → n ≢ 1 → HasReason at pinned n x
 
+-- ---- what requests hold
+
+abbrev pub is_working : Stage → Bool
+is_working Working = true
+is_working Answered = false
+
+-- whether the request is worked on and has the path among its shared names
+abbrev pub shares : Record → Names → Bool
+shares r path = is_working r.stage && is_among r.held.shared path
+
+-- whether the request is worked on and has the path among its exclusive names
+abbrev pub owns : Record → Names → Bool
+owns r path = is_working r.stage && is_among r.held.exclusive path
+
+-- how many of the requests share the path
+abbrev pub sharers_of : List Record → Names → ℕ
+sharers_of records path = count_by (λ (r : Record). shares r path) records
+
+-- how many of them hold it alone
+abbrev pub owners_of : List Record → Names → ℕ
+owners_of records path = count_by (λ (r : Record). owns r path) records
+
+-- the path's two numbers, which are not both 0
+pub record IsCountOf (sharers owners : Names → ℕ) (h : Hold) : Type 0 where
+  pub sharing : h.shared ≡ sharers h.path
+  pub owning : h.exclusive ≡ owners h.path
+  pub held : 0 < h.shared + h.exclusive
+
+-- each path stands at most once, with its two numbers; a path that is absent counts 0 and 0
+pub record AreCounts (sharers owners : Names → ℕ) (holds : List Hold) : Type 0 where
+  pub once : AllPairs (λ h k. h.path ≢ k.path) holds
+  pub each : All (IsCountOf sharers owners) holds
+  pub absent : (path : Names) → All (λ h. h.path ≢ path) holds → (sharers path ≡ 0) × (owners path ≡ 0)
+
+-- the holds tell how many of the requests that are worked on share a path, and how many hold it alone
+abbrev pub AreHoldsCounted : List Hold → List Record → Type 0
+AreHoldsCounted holds records = AreCounts (sharers_of records) (owners_of records) holds
+
+-- they are not both worked on, or what they hold does not clash
+pub record AreClear (r s : Record) : Type 0 where
+  pub clear : r.stage ≡ Working → s.stage ≡ Working → Clash r.held s.held → ⊥
+
+-- no two requests that are worked on clash
+abbrev pub AreApart : List Record → Type 0
+AreApart records = AllPairs AreClear records
+
+-- the path given for a node leads to it, and each front of it is held
+pub record IsLead (at : Lookup) (held : Held) (lead : Lead) : Type 0 where
+  pub path : IsPathOf at lead.number lead.path
+  pub fronts : (front : Names) → IsSomeFront front lead.path → IsHeld held front
+
+-- while the request is worked on, the paths given for its nodes lead to them, and their fronts are held
+pub record IsKnown (at : Lookup) (r : Record) : Type 0 where
+  pub leads : r.stage ≡ Working → All (IsLead at r.held) r.held.given
+
+abbrev pub AreKnown : Lookup → List Record → Type 0
+AreKnown at records = All (IsKnown at) records
+
 -- ---- the law
 
 pub record IsLawful (at : Lookup) (ps : List Posting) (pinned : ℕ → Bool) : Type 0 where
@@ -89,3 +154,9 @@ pub record IsLawfulImage (image : Image) : Type 0 where
   pub numbers : IsDistinct image.nodes
   pub ids : AllPairs (λ r s. r.id ≢ s.id) image.records
   pub law : IsLawful (node_at image.nodes) image.postings (is_pinned image.records)
+  -- the holds are those of the requests that are worked on
+  pub counted : AreHoldsCounted image.holds image.records
+  -- no two of these clash
+  pub apart : AreApart image.records
+  -- the paths given to them still lead to their nodes
+  pub known : AreKnown (node_at image.nodes) image.records

@@ -1,14 +1,18 @@
 -- The parts of the law that one test decides, each said of a single node, posting or record.
-use Rattle.std.specs.Prelude.{ℕ, ◌+◌, ◌≡◌, ◌≢◌, Bool, true, false, List, Some, All, sum_by}
-use Rattle.paths.specs.Fronts.{Name}
+use Rattle.std.specs.Prelude.{ℕ, ◌+◌, ◌≡◌, ◌≢◌, Bool, true, false, List, Some, All, Any, sum_by}
+use Rattle.paths.specs.Fronts.{Name, Names}
+use Rattle.holds.specs.declared.held.Held.{Held}
+use Rattle.holds.specs.Clashes.{IsHeld, IsSomeFront}
 use Rattle.ledger.specs.declared.postings.Posting.{Posting}
 use Rattle.ledger.specs.Sums.{births_of, entries_of, given_of, totals_of}
 use Rattle.tree.specs.declared.nodes.Key.{Key}
 use Rattle.tree.specs.declared.nodes.Node.{Node}
 use Rattle.tree.specs.declared.nodes.Place.TheVariants.{Root, Named}
 use Rattle.tree.specs.Places.{Lookup, IsAlive, IsNamed, Leads}
+use Rattle.image.specs.declared.data.Hold.{Hold}
 use Rattle.image.specs.declared.data.Record.{Record}
-use Rattle.image.specs.Law.{IsUnborne, HasReason}
+use Rattle.image.specs.declared.data.Stage.TheVariants.{Working}
+use Rattle.image.specs.Law.{IsUnborne, HasReason, IsCountOf, sharers_of, owners_of}
 
 -- ---- the tree
 
@@ -98,3 +102,26 @@ IsChildOf parent x = (name : Name) × (x.place ≡ Named (record { parent = pare
 -- the node is the root, or has a reason to live
 pub record IsReasoned (at : Lookup) (pinned : ℕ → Bool) (x : Node) : Type 0 where
   pub reason : x.number ≢ 1 → HasReason at pinned x.number x
+
+-- ---- what requests hold
+
+-- the path's numbers are those of the requests, and not both 0
+unfoldable pub IsCounted : List Record → Hold → Type 0
+IsCounted records h = IsCountOf (sharers_of records) (owners_of records) h
+
+-- the two are of two paths
+abbrev pub HaveOtherPaths : Hold → Hold → Type 0
+HaveOtherPaths h k = h.path ≢ k.path
+
+-- the path is one of the stored
+unfoldable pub IsStored : List Hold → Names → Type 0
+IsStored holds path = Any (λ h. h.path ≡ path) holds
+
+-- each path that the request holds while it is worked on is one of the stored
+pub record AreStored (holds : List Hold) (r : Record) : Type 0 where
+  pub shared : r.stage ≡ Working → All (IsStored holds) r.held.shared
+  pub exclusive : r.stage ≡ Working → All (IsStored holds) r.held.exclusive
+
+-- each front of the path is held, but the empty one
+unfoldable pub AreFrontsHeld : Held → Names → Type 0
+AreFrontsHeld held path = (front : Names) → IsSomeFront front path → IsHeld held front

@@ -3,7 +3,9 @@
 ghost use Rattle.std.specs.Prelude.{◌≡◌, ◌==◌, ◌++◌, [], ◌∷◌, IfOk, OnOk, OnErr};
 ghost use Rattle.std.specs.List.{list_any};
 
+use holds::Held;
 use ledger::Posting;
+use paths::Path;
 use std::alloc::{AllocError, Global};
 use std::marker::Model;
 use tree::Node;
@@ -96,6 +98,8 @@ pub struct Record {
     pub stage: Stage,
     /// The nodes that may not go before it is settled.
     pub pins: Numbers,
+    /// What it holds, for as long as its work goes on.
+    pub held: Held,
 }
 
 /// The nodes of a table, in any order.
@@ -215,10 +219,60 @@ impl From<Vec<Record>> for Records {
     }
 }
 
-/// A table as plain data: any nodes, postings and records, lawful or not.
+/// How many of the requests that are worked on hold a path.
+#[derive(Drop)]
+pub struct Hold {
+    pub path: Path,
+    /// Those that share it.
+    pub shared: u64,
+    /// Those that hold it alone.
+    pub exclusive: u64,
+}
+
+/// The paths that are held in a table, in any order.
+#[derive(Drop)]
+pub struct Holds {
+    holds: Vec<Hold>,
+}
+
+impl Model for Holds {
+    ghost use Rattle.std.specs.Prelude.{List};
+    ghost use Rattle.image.specs.declared.data.Hold.{Hold};
+
+    ghost Value = { List Hold };
+
+    ghost view = { λ h. h.holds.items };
+}
+
+impl Holds {
+    pub fn as_slice(&self) -> &[Hold]
+        ensures { result.now ≡ self.now }
+    {
+        self.holds.as_slice()
+    }
+
+    /// The held paths, without taking memory.
+    pub fn into_vec(self) -> Vec<Hold>
+        ensures { result.items ≡ self }
+    {
+        let Holds { holds } = self;
+        holds
+    }
+}
+
+impl From<Vec<Hold>> for Holds {
+    ghost from_gives = { λ holds h. h ≡ holds.items };
+
+    fn from(holds: Vec<Hold>) -> Holds {
+        Holds { holds }
+    }
+}
+
+/// A table as plain data: any nodes, postings, records and holds, lawful or not.
 #[derive(Drop)]
 pub struct Image {
     pub nodes: Nodes,
     pub postings: Postings,
     pub records: Records,
+    pub holds: Holds,
 }

@@ -5,12 +5,16 @@ ghost use Rattle.tree.specs.Listed.{node_at, IsDistinct};
 ghost use Rattle.image.specs.Law.{IsLawful, is_pinned};
 
 mod counts;
+mod held;
+mod leads;
 mod nodes;
 mod postings;
 mod records;
 
 use crate::data::{Image, Record};
 use counts::{are_born_in_order, are_counted, has_plain_root};
+use held::{are_apart, are_holds_counted};
+use leads::are_known;
 use ledger::Posting;
 use nodes::{are_distinct, are_marks_named, is_tree};
 use records::{are_ids_distinct, are_pins_alive, have_reasons};
@@ -42,6 +46,9 @@ impl Image {
         are_distinct(nodes)
             && are_ids_distinct(records)
             && keep_law(nodes, self.postings.as_slice(), records)
+            && are_holds_counted(self.holds.as_slice(), records)
+            && are_apart(records)
+            && are_known(nodes, records)
     }
 }
 

@@ -6,4 +6,4 @@
 mod data;
 mod lawful;
 
-pub use data::{Image, Nodes, Numbers, Postings, Record, Records, Stage};
+pub use data::{Hold, Holds, Image, Nodes, Numbers, Postings, Record, Records, Stage};

@@ -14,7 +14,8 @@ use Rattle.flights.specs.declared.data.Want.{Want}
 use Rattle.flights.specs.declared.data.Want.TheVariants.{Node, Name, Remove, Move}
 use Rattle.flights.specs.declared.data.Work.{Work}
 use Rattle.flights.specs.Flying.{Flights, HoldsUp, IsInTheWay, with_flight, without_flight}
-use Rattle.table.specs.Holding.{AreFrontsOfBoth, AreHeld, AreJust, HoldsFor, IsLead}
+use Rattle.image.specs.Law.{IsLead}
+use Rattle.table.specs.Holding.{AreFrontsOfBoth, AreHeld, AreJust, HoldsFor}
 use Rattle.table.specs.World.{AreReady, IsReadyFor}
 use Rattle.table.proofs.Ready.{flight_some, left_some}
 

@@ -1,20 +1,31 @@
 -- What is exported of a table shows it, and is lawful.
-use Rattle.std.proofs.Common.{ℕ, ◌+◌, ◌<◌, ◌≤◌, ◌≡◌, ◌≢◌, ◌==◌, Bool, true, false, cond, List, [], ◌∷◌, ◌++◌, Some, None, MatchOption, AllPairs, length, get_or, take, refl, sym, ap, ◌∙◌, subst, arith}
+use Rattle.std.proofs.Common.{ℕ, suc, zero, All, ◌+◌, ◌<◌, ◌≤◌, ◌≡◌, ◌≢◌, ◌==◌, Bool, true, false, cond, List, [], ◌∷◌, ◌++◌, Some, None, MatchOption, AllPairs, length, get_or, take, refl, sym, ap, ◌∙◌, subst, arith}
 use Rattle.std.specs.List.{AllZip}
 use Rattle.std.proofs.lemmas.List.{take_more}
 use mathlib.Core.Path.{fun_ext}
 use Rattle.ledger.specs.declared.postings.Posting.{Posting}
+use Rattle.paths.specs.Fronts.{Names}
+use Rattle.holds.specs.declared.held.Held.{Held}
+use Rattle.holds.specs.Clashes.{Clash}
 use Rattle.tree.specs.declared.nodes.Node.{Node}
 use Rattle.tree.specs.Listed.{node_at, IsDistinct}
 use Rattle.tree.specs.Places.{Lookup, Nodes, at_in, IsAlive}
 use Rattle.flights.specs.declared.data.Flight.{Flight}
-use Rattle.flights.specs.Flying.{Flights}
+use Rattle.flights.specs.declared.data.Stage as flight
+use Rattle.flights.specs.declared.data.Stage.TheVariants as flight_stage
+use Rattle.flights.specs.declared.data.Work.{Work}
+use Rattle.flights.specs.Flying.{Flights, IsInTheWay, has_exclusive, has_shared}
 use Rattle.flights.specs.Listed.{flight_in, flying_of, pinned_in}
+use Rattle.flights.proofs.Lookups.{flight_in_found}
+use Rattle.image.specs.declared.data.Hold.{Hold}
 use Rattle.image.specs.declared.data.Record.{Record}
-use Rattle.image.specs.Law.{IsLawfulImage}
+use Rattle.image.specs.declared.data.Stage.TheVariants.{Working, Answered}
+use Rattle.image.specs.Law.{AreApart, AreCounts, AreHoldsCounted, AreKnown, IsLawfulImage, IsLead, owners_of, sharers_of}
 use Rattle.image.proofs.Exported.{ListsBelow, ListsBelow-all, IsLawfulImage-shows, Mirrors, is_pinned-mirrors, ids-mirrors}
 use Rattle.table.specs.declared.state.State.{State}
-use Rattle.table.specs.Exports.{Exports, IsRecordOf, record_in}
+use Rattle.table.specs.Exports.{Exports, IsRecordOf, held_by, owners_in, record_in, sharers_in, stage_of}
+use Rattle.table.specs.Holding.{AreHeld}
+use Rattle.table.proofs.Holders.{counts_same, owners_same, sharers_same}
 use Rattle.table.specs.World.{IsKept, world_of}
 
 -- a record more
@@ -55,25 +66,97 @@ records_found (f ∷ fs) (r ∷ rs) id h =
 pub nodes_listed : (tree : Nodes) (last : ℕ) (xs : List Node) → ((n : ℕ) → IsAlive (at_in tree) n → n ≤ last) → ListsBelow (at_in tree) (last + 1) xs → node_at xs ≡ at_in tree
 nodes_listed tree last xs all lists = fun_ext (ListsBelow-all (at_in tree) (last + 1) xs (λ n alive. let le = all n alive in omega arith) lists)
 
+-- a record at a place of the list, and the request that it shows
+shown_at : (fs : List Flight) (rs : List Record) (i : ℕ) (d : Record) → AllZip IsRecordOf fs rs → i < length rs
+    → (f : Flight) × (i < length fs) × ((e : Flight) → get_or fs i e ≡ f) × IsRecordOf f (get_or rs i d)
+shown_at [] [] i d zip within = absurd (omega arith)
+shown_at [] (r ∷ rs) i d zip within = absurd zip
+shown_at (f ∷ fs) [] i d zip within = absurd zip
+shown_at (f ∷ fs) (r ∷ rs) zero d zip within = (f, omega arith, λ e. refl, zip.0)
+shown_at (f ∷ fs) (r ∷ rs) (suc i) d zip within = let it = shown_at fs rs i d zip.1 (omega arith) in (it.0, omega (arith, it.1), it.2, it.3)
+
+-- who shows a working request has its work
+working_of : (s : flight.Stage) → stage_of s ≡ Working → (work : Work) × (s ≡ flight_stage.Working work)
+working_of (flight_stage.Working work) is = (work, refl)
+working_of flight_stage.Answered is = let never : Answered ≡ Working = is in cc
+
+-- the request that a record at a place shows while it is worked on
+record IsShown (flights : Flights) (fs : List Flight) (i : ℕ) (r : Record) : Type 0 where
+  flight : Flight
+  work : Work
+  place : (e : Flight) → get_or fs i e ≡ flight
+  there : flights flight.id ≡ Some flight
+  stage : flight.stage ≡ flight_stage.Working work
+  held : r.held ≡ work.held
+  within : i < length fs
+
+module _ (flights : Flights) (fs : List Flight) (rs : List Record) (at : flight_in fs ≡ flights) (own : AllPairs (λ (f g : Flight). f.id ≢ g.id) fs) (zip : AllZip IsRecordOf fs rs) where
+  shown : (i : ℕ) (d : Record) → i < length rs → (get_or rs i d).stage ≡ Working → IsShown flights fs i (get_or rs i d)
+  shown i d within is =
+      let it = shown_at fs rs i d zip within in
+      let f = it.0 in
+      let found : flight_in fs f.id ≡ Some f = subst (λ (g : Flight). flight_in fs g.id ≡ Some g) (it.2 f) (flight_in_found fs i f own it.1) in
+      let w = working_of f.stage (sym it.3.stage ∙ is) in
+      record {
+        flight = f;
+        work = w.0;
+        place = it.2;
+        there = sym (ap (λ (l : Flights). l f.id) at) ∙ found;
+        stage = w.1;
+        held = it.3.held ∙ ap held_by w.1;
+        within = it.1;
+      }
+
+  -- requests that do not clash show records that do not
+  pub records_apart : (l : Lookup) → AreHeld l flights → AreApart rs
+  records_apart l held i j d before within = record {
+    clear = λ one two clash.
+        let a = shown i d (omega arith) one in
+        let b = shown j d within two in
+        let other : a.flight.id ≢ b.flight.id = λ e. own i j a.flight before b.within (ap (λ (f : Flight). f.id) (a.place a.flight) ∙ (e ∙ sym (ap (λ (f : Flight). f.id) (b.place a.flight)))) in
+        let both : Clash a.work.held b.work.held = subst (λ (h : Held). Clash a.work.held h) b.held (subst (λ (h : Held). Clash h (get_or rs j d).held) a.held clash) in
+        let way : IsInTheWay a.flight.stage b.work.held = subst (λ (s : flight.Stage). IsInTheWay s b.work.held) (sym a.stage) both in
+        held.apart a.flight.id b.flight.id a.flight b.flight b.work a.there b.there other b.stage way;
+  }
+
+  -- the paths that they were given are those of the requests
+  pub records_known : (l : Lookup) → AreHeld l flights → AreKnown l rs
+  records_known l held i d within = record {
+    leads = λ is.
+        let a = shown i d within is in
+        subst (λ (h : Held). All (IsLead l h) h.given) (sym a.held) (held.known a.flight.id a.flight a.work a.there a.stage);
+  }
+
 module _ (s : State) (kept : IsKept s) (xs : List Node) (ps : List Posting) (rs : List Record) (fs : List Flight) (distinct : IsDistinct xs) (nodes : node_at xs ≡ at_in s.tree) (postings : ps ≡ s.ledger.made)
-    (at : flight_in fs ≡ (flying_of s.flights).at) (pinned : pinned_in fs ≡ (flying_of s.flights).pinned) (apart : AllPairs (λ (f g : Flight). f.id ≢ g.id) fs) (zip : AllZip IsRecordOf fs rs) where
+    (at : flight_in fs ≡ (flying_of s.flights).at) (pinned : pinned_in fs ≡ (flying_of s.flights).pinned) (many : length fs ≡ (flying_of s.flights).many) (apart : AllPairs (λ (f g : Flight). f.id ≢ g.id) fs) (zip : AllZip IsRecordOf fs rs)
+    (hs : List Hold) (counts : AreCounts (sharers_in s.flights.flights) (owners_in s.flights.flights) hs) where
   ids : AllPairs (λ (r t : Record). r.id ≢ t.id) rs
   ids = ids-mirrors (λ (f : Flight). f.id) (λ (f : Flight). f.pins.numbers) fs rs (mirrors fs rs zip) apart
 
-  pub exports : Exports (world_of s) (record { nodes = xs; postings = ps; records = rs })
+  counted : AreHoldsCounted hs rs
+  counted =
+      let sharing : sharers_of rs ≡ sharers_in s.flights.flights = sharers_same fs rs zip ∙ fun_ext (λ path. counts_same (λ (f : Flight). has_shared f.stage path) fs s.flights apart at many) in
+      let owning : owners_of rs ≡ owners_in s.flights.flights = owners_same fs rs zip ∙ fun_ext (λ path. counts_same (λ (f : Flight). has_exclusive f.stage path) fs s.flights apart at many) in
+      subst (λ (S : Names → ℕ). AreCounts S (owners_of rs) hs) (sym sharing) (subst (λ (O : Names → ℕ). AreCounts (sharers_in s.flights.flights) O hs) (sym owning) counts)
+
+  pub exports : Exports (world_of s) (record { nodes = xs; postings = ps; records = rs; holds = hs })
   exports = record {
     distinct = distinct;
     nodes = nodes;
     postings = postings;
     ids = ids;
     records = λ id. subst (λ (a : Flights). MatchOption (a id) (record_in rs id ≡ None) (λ f. (r : Record) × (record_in rs id ≡ Some r) × IsRecordOf f r)) at (records_found fs rs id zip);
+    holds = counted;
   }
 
-  pub exports_lawful : IsLawfulImage (record { nodes = xs; postings = ps; records = rs })
-  exports_lawful = IsLawfulImage-shows (record { nodes = xs; postings = ps; records = rs }) (at_in s.tree) s.ledger.made (flying_of s.flights).pinned (record {
+  pub exports_lawful : IsLawfulImage (record { nodes = xs; postings = ps; records = rs; holds = hs })
+  exports_lawful = IsLawfulImage-shows (record { nodes = xs; postings = ps; records = rs; holds = hs }) (at_in s.tree) s.ledger.made (flying_of s.flights).pinned (record {
     distinct = distinct;
     nodes = λ n. ap (λ (a : Lookup). a n) nodes;
     postings = postings;
     ids = ids;
     pins = λ n. is_pinned-mirrors (λ (f : Flight). f.id) (λ (f : Flight). f.pins.numbers) fs rs (mirrors fs rs zip) n ∙ ap (λ (p : ℕ → Bool). p n) pinned;
+    counted = counted;
+    apart = records_apart (flying_of s.flights).at fs rs at apart zip (at_in s.tree) kept.held;
+    known = records_known (flying_of s.flights).at fs rs at apart zip (at_in s.tree) kept.held;
   }) kept.law

@@ -15,6 +15,7 @@ pub mod Longer
 pub mod Refusing
 pub mod Planning
 pub mod Starting
+pub mod Holders
 pub mod Exporting
 pub mod Placing
 pub mod Guarded

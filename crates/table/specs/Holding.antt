@@ -2,8 +2,7 @@
 use Rattle.std.specs.Prelude.{ℕ, ◌≡◌, ◌≢◌, ◌⊎◌, List, [], ◌∷◌, ◌++◌, Some, All, Contains}
 use Rattle.paths.specs.Fronts.{Name, Names}
 use Rattle.holds.specs.declared.held.Held.{Held}
-use Rattle.holds.specs.declared.held.Lead.{Lead}
-use Rattle.holds.specs.Clashes.{AreFronts, IsHeld, IsSomeFront}
+use Rattle.holds.specs.Clashes.{AreFronts}
 use Rattle.tree.specs.Places.{Lookup, IsPathOf}
 use Rattle.flights.specs.declared.data.Flight.{Flight}
 use Rattle.flights.specs.declared.data.Stage.TheVariants.{Working}
@@ -11,6 +10,7 @@ use Rattle.flights.specs.declared.data.Want.{Want}
 use Rattle.flights.specs.declared.data.Want.TheVariants as wants
 use Rattle.flights.specs.declared.data.Work.{Work}
 use Rattle.flights.specs.Flying.{Flights, IsInTheWay}
+use Rattle.image.specs.Law.{IsLead}
 
 -- ---- wants
 
@@ -66,11 +66,6 @@ HoldsFor at (wants.Remove parent name) held = HoldsRemoved at parent name held
 HoldsFor at (wants.Move parent name new_parent new_name) held = HoldsMoved at parent name new_parent new_name held
 
 -- ---- the law
-
--- the path given for a node leads to it, and each front of it is held
-pub record IsLead (at : Lookup) (held : Held) (lead : Lead) : Type 0 where
-  pub path : IsPathOf at lead.number lead.path
-  pub fronts : (front : Names) → IsSomeFront front lead.path → IsHeld held front
 
 -- what is held by the requests that are worked on
 pub record AreHeld (at : Lookup) (flights : Flights) : Type 0 where

@@ -1,17 +1,20 @@
 //! The table as plain data.
 
-ghost use Rattle.std.specs.Prelude.{◌≡◌, ◌+◌, IfOk, OnOk};
+ghost use Rattle.std.specs.Prelude.{◌≡◌, ◌+◌, ◌↔◌, [], ◌∷◌, All, IfOk, IsTrue, OnOk};
 ghost use Rattle.std.specs.List.{AllZip};
-ghost use Rattle.image.proofs.Exported.{ListsBelow};
-ghost use Rattle.image.specs.Law.{IsLawfulImage};
-ghost use Rattle.table.specs.Exports.{Exports, IsRecordOf, stage_of};
+ghost use Rattle.image.proofs.Exported.{IsHeldBySome, ListsBelow, ListsHeld, Stores};
+ghost use Rattle.image.specs.Law.{AreCounts, IsLawfulImage};
+ghost use Rattle.image.specs.Parts.{IsStored};
+ghost use Rattle.table.specs.Exports.{Exports, IsRecordOf, held_by, owners_in, sharers_in, stage_of};
 ghost use Rattle.table.specs.World.{IsKept, world_of};
 ghost use Rattle.tree.specs.Listed.{node_at, IsDistinct};
 ghost use Rattle.tree.specs.Places.{at_in};
 
 use crate::state::State;
-use flights::Flight;
-use image::{Image, Nodes, Numbers, Postings, Record, Records, Stage};
+use flights::{Flight, Flights};
+use holds::{Held, Lead, Leads, Paths};
+use image::{Hold, Holds, Image, Nodes, Numbers, Postings, Record, Records, Stage};
+use paths::Path;
 use std::alloc::{AllocError, Global};
 use tree::{Key, Node, Place, Tree};
 
@@ -73,16 +76,86 @@ fn copy_nodes(alloc: Global, tree: &Tree) -> Result<Vec<Node>, AllocError>
     Ok(nodes)
 }
 
+/// The same paths once more.
+fn copy_paths(alloc: Global, paths: &[Path]) -> Result<Paths, AllocError>
+    ensures { IfOk result (λ ps. ps ≡ paths.now) }
+{
+    let mut copies = Vec::new(alloc);
+    for path in paths {
+        copies.push(path.copy()?)?;
+    }
+    Ok(Paths::from_vec(copies))
+}
+
+/// The same node with the same path once more.
+fn copy_lead(lead: &Lead) -> Result<Lead, AllocError>
+    ensures { IfOk result (λ l. l ≡ lead.now) }
+{
+    let path = lead.path.copy()?;
+    Ok(Lead {
+        number: lead.number,
+        path,
+    })
+}
+
+/// The same nodes with the same paths once more.
+fn copy_leads(alloc: Global, leads: &[Lead]) -> Result<Leads, AllocError>
+    ensures { IfOk result (λ ls. ls ≡ leads.now) }
+{
+    let mut copies = Vec::new(alloc);
+    for lead in leads {
+        copies.push(copy_lead(lead)?)?;
+    }
+    Ok(Leads::from_vec(copies))
+}
+
+/// The same names once more.
+fn copy_held(alloc: Global, held: &Held) -> Result<Held, AllocError>
+    ensures { IfOk result (λ h. h ≡ held.now) }
+{
+    let given = copy_leads(alloc, held.given.as_slice())?;
+    let shared = copy_paths(alloc, held.shared.as_slice())?;
+    let exclusive = copy_paths(alloc, held.exclusive.as_slice())?;
+    Ok(Held {
+        given,
+        shared,
+        exclusive,
+    })
+}
+
+/// No node and no name.
+fn nothing_held(alloc: Global) -> Held
+    ensures { result ≡ record { given = []; shared = []; exclusive = [] } }
+{
+    Held {
+        given: Leads::from_vec(Vec::new(alloc)),
+        shared: Paths::from_vec(Vec::new(alloc)),
+        exclusive: Paths::from_vec(Vec::new(alloc)),
+    }
+}
+
+/// What a request holds: nothing once its work has ended.
+fn held_by(alloc: Global, stage: &flights::Stage) -> Result<Held, AllocError>
+    ensures { IfOk result (λ h. h ≡ held_by stage.now) }
+{
+    match stage {
+        flights::Stage::Working(work) => copy_held(alloc, &work.held),
+        flights::Stage::Answered => Ok(nothing_held(alloc)),
+    }
+}
+
 /// What a request in flight shows of itself.
 fn copy_record(alloc: Global, flight: &Flight) -> Result<Record, AllocError>
     ensures { IfOk result (IsRecordOf flight.now) }
 {
     let pins = Vec::from_slice(alloc, flight.pins.as_slice())?;
+    let held = held_by(alloc, &flight.stage)?;
     Ok(Record {
         id: flight.id,
         unique: flight.unique,
         stage: stage(flight),
         pins: Numbers::from(pins),
+        held,
     })
 }
 
@@ -108,6 +181,78 @@ fn copy_records(alloc: Global, flights: &[Flight]) -> Result<Vec<Record>, AllocE
     Ok(records)
 }
 
+/// Whether the path is one of those.
+fn is_stored(holds: &[Hold], path: &Path) -> bool
+    ensures { IsTrue result ↔ IsStored holds.now path.now }
+{
+    holds.iter().any(|hold| hold.path.is(path))
+}
+
+/// Adds a path that is held, with its two numbers, if it is not there yet.
+fn add_hold(holds: &mut Vec<Hold>, flights: &Flights, path: &Path) -> Result<(), AllocError>
+    requires lists { ListsHeld (sharers_in flights.now.flights) (owners_in flights.now.flights) holds.old.items }
+    requires held { IsHeldBySome (sharers_in flights.now.flights) (owners_in flights.now.flights) path.now }
+    ensures lists { OnOk result (ListsHeld (sharers_in flights.now.flights) (owners_in flights.now.flights) holds.new.items) }
+    ensures stores { OnOk result (Stores holds.old.items holds.new.items (path.now ∷ [])) }
+{
+    if is_stored(holds.as_slice(), path) {
+        return Ok(());
+    }
+    let copy = path.copy()?;
+    holds.push(Hold {
+        path: copy,
+        shared: flights.shared_on(path),
+        exclusive: flights.exclusive_on(path),
+    })?;
+    Ok(())
+}
+
+/// Adds the paths, each of which is held, as far as they are not there yet.
+fn add_paths(holds: &mut Vec<Hold>, flights: &Flights, paths: &[Path]) -> Result<(), AllocError>
+    requires lists { ListsHeld (sharers_in flights.now.flights) (owners_in flights.now.flights) holds.old.items }
+    requires held { All (IsHeldBySome (sharers_in flights.now.flights) (owners_in flights.now.flights)) paths.now }
+    ensures lists { OnOk result (ListsHeld (sharers_in flights.now.flights) (owners_in flights.now.flights) holds.new.items) }
+    ensures stores { OnOk result (Stores holds.old.items holds.new.items paths.now) }
+{
+    for path in paths {
+        add_hold(holds, flights, path)?;
+    }
+    Ok(())
+}
+
+/// Adds the paths that the request holds, as far as they are not there yet.
+fn add_held(
+    holds: &mut Vec<Hold>,
+    flights: &Flights,
+    stage: &flights::Stage,
+) -> Result<(), AllocError>
+    requires lists { ListsHeld (sharers_in flights.now.flights) (owners_in flights.now.flights) holds.old.items }
+    requires shared { All (IsHeldBySome (sharers_in flights.now.flights) (owners_in flights.now.flights)) (held_by stage.now).shared }
+    requires exclusive { All (IsHeldBySome (sharers_in flights.now.flights) (owners_in flights.now.flights)) (held_by stage.now).exclusive }
+    ensures lists { OnOk result (ListsHeld (sharers_in flights.now.flights) (owners_in flights.now.flights) holds.new.items) }
+    ensures shared { OnOk result (Stores holds.old.items holds.new.items (held_by stage.now).shared) }
+    ensures exclusive { OnOk result (Stores holds.old.items holds.new.items (held_by stage.now).exclusive) }
+{
+    match stage {
+        flights::Stage::Working(work) => {
+            add_paths(holds, flights, work.held.shared.as_slice())?;
+            add_paths(holds, flights, work.held.exclusive.as_slice())
+        }
+        flights::Stage::Answered => Ok(()),
+    }
+}
+
+/// The paths that are held, each once, with how many share it and how many hold it alone.
+fn copy_holds(alloc: Global, flights: &Flights) -> Result<Vec<Hold>, AllocError>
+    ensures { IfOk result (λ hs. AreCounts (sharers_in flights.now.flights) (owners_in flights.now.flights) hs.items) }
+{
+    let mut holds = Vec::new(alloc);
+    for flight in flights.as_slice() {
+        add_held(&mut holds, flights, &flight.stage)?;
+    }
+    Ok(holds)
+}
+
 impl State {
     /// All that the table keeps, as plain data.
     pub fn export(&self) -> Result<Image, AllocError>
@@ -118,10 +263,12 @@ impl State {
         let nodes = copy_nodes(self.alloc, &self.tree)?;
         let postings = Vec::from_slice(self.alloc, self.ledger.postings())?;
         let records = copy_records(self.alloc, self.flights.as_slice())?;
+        let holds = copy_holds(self.alloc, &self.flights)?;
         Ok(Image {
             nodes: Nodes::from(nodes),
             postings: Postings::from(postings),
             records: Records::from(records),
+            holds: Holds::from(holds),
         })
     }
 }

@@ -12,6 +12,8 @@ mod holding_rows;
 #[cfg(test)]
 mod image_rows;
 #[cfg(test)]
+mod law_rows;
+#[cfg(test)]
 mod limit_rows;
 #[cfg(test)]
 mod long_run;

@@ -1,6 +1,7 @@
 //! Images made by hand, lawful and not.
 
-use crate::data::{Image, Nodes, Numbers, Postings, Record, Records, Stage};
+use crate::data::{Holds, Image, Nodes, Numbers, Postings, Record, Records, Stage};
+use holds::{Held, Leads, Paths};
 use ledger::Posting;
 use paths::Name;
 use std::alloc::{AllocError, Global};
@@ -37,14 +38,21 @@ fn pinning(alloc: Global, id: u64, number: u64) -> Result<Record, AllocError> {
         unique: 9,
         stage: Stage::Working,
         pins,
+        held: Held {
+            given: Leads::from_vec(Vec::new(alloc)),
+            shared: Paths::from_vec(Vec::new(alloc)),
+            exclusive: Paths::from_vec(Vec::new(alloc)),
+        },
     })
 }
 
-fn image(nodes: Vec<Node>, postings: Vec<Posting>, records: Vec<Record>) -> Image {
+/// The image of a table in which no name is held.
+fn image(alloc: Global, nodes: Vec<Node>, postings: Vec<Posting>, records: Vec<Record>) -> Image {
     Image {
         nodes: Nodes::from(nodes),
         postings: Postings::from(postings),
         records: Records::from(records),
+        holds: Holds::from(Vec::new(alloc)),
     }
 }
 
@@ -72,7 +80,12 @@ const FORGET_ALL: Posting = Posting::Forget {
 #[test]
 fn root_alone_is_lawful(rt: HostRuntime) -> Result<(), Fail> {
     let alloc = rt.alloc();
-    let table = image(vec![in alloc; root()]?, Vec::new(alloc), Vec::new(alloc));
+    let table = image(
+        alloc,
+        vec![in alloc; root()]?,
+        Vec::new(alloc),
+        Vec::new(alloc),
+    );
     assert!(rt; table.lawful());
     Ok(())
 }
@@ -80,7 +93,7 @@ fn root_alone_is_lawful(rt: HostRuntime) -> Result<(), Fail> {
 #[test]
 fn nothing_at_all_is_not(rt: HostRuntime) -> Result<(), Fail> {
     let alloc = rt.alloc();
-    let table = image(Vec::new(alloc), Vec::new(alloc), Vec::new(alloc));
+    let table = image(alloc, Vec::new(alloc), Vec::new(alloc), Vec::new(alloc));
     assert!(rt; !table.lawful());
     Ok(())
 }
@@ -91,7 +104,7 @@ fn counted_node_is_lawful(rt: HostRuntime) -> Result<(), Fail> {
     let mut known = node(2, 0, under(alloc, 1, "a")?);
     known.count = 1;
     let nodes = vec![in alloc; root(), known]?;
-    let table = image(nodes, vec![in alloc; BORN, ENTRY]?, Vec::new(alloc));
+    let table = image(alloc, nodes, vec![in alloc; BORN, ENTRY]?, Vec::new(alloc));
     assert!(rt; table.lawful());
     Ok(())
 }
@@ -102,7 +115,12 @@ fn node_that_was_entered_once_more_is_not(rt: HostRuntime) -> Result<(), Fail> {
     let mut known = node(2, 0, under(alloc, 1, "a")?);
     known.count = 1;
     let nodes = vec![in alloc; root(), known]?;
-    let table = image(nodes, vec![in alloc; BORN, ENTRY, ENTRY]?, Vec::new(alloc));
+    let table = image(
+        alloc,
+        nodes,
+        vec![in alloc; BORN, ENTRY, ENTRY]?,
+        Vec::new(alloc),
+    );
     assert!(rt; !table.lawful());
     Ok(())
 }
@@ -112,7 +130,7 @@ fn cut_node_lives_by_a_pin(rt: HostRuntime) -> Result<(), Fail> {
     let alloc = rt.alloc();
     let nodes = vec![in alloc; root(), node(2, 0, Place::Cut)]?;
     let records = vec![in alloc; pinning(alloc, 5, 2)?]?;
-    let table = image(nodes, vec![in alloc; BORN, ENTRY, BACK]?, records);
+    let table = image(alloc, nodes, vec![in alloc; BORN, ENTRY, BACK]?, records);
     assert!(rt; table.lawful());
     Ok(())
 }
@@ -121,7 +139,12 @@ fn cut_node_lives_by_a_pin(rt: HostRuntime) -> Result<(), Fail> {
 fn cut_node_does_not_live_alone(rt: HostRuntime) -> Result<(), Fail> {
     let alloc = rt.alloc();
     let nodes = vec![in alloc; root(), node(2, 0, Place::Cut)]?;
-    let table = image(nodes, vec![in alloc; BORN, ENTRY, BACK]?, Vec::new(alloc));
+    let table = image(
+        alloc,
+        nodes,
+        vec![in alloc; BORN, ENTRY, BACK]?,
+        Vec::new(alloc),
+    );
     assert!(rt; !table.lawful());
     Ok(())
 }
@@ -130,7 +153,7 @@ fn cut_node_does_not_live_alone(rt: HostRuntime) -> Result<(), Fail> {
 fn two_requests_with_one_id_are_not_lawful(rt: HostRuntime) -> Result<(), Fail> {
     let alloc = rt.alloc();
     let records = vec![in alloc; pinning(alloc, 5, 1)?, pinning(alloc, 5, 1)?]?;
-    let table = image(vec![in alloc; root()]?, Vec::new(alloc), records);
+    let table = image(alloc, vec![in alloc; root()]?, Vec::new(alloc), records);
     assert!(rt; !table.lawful());
     Ok(())
 }
@@ -145,6 +168,7 @@ fn parents_in_a_circle_are_not_lawful(rt: HostRuntime) -> Result<(), Fail> {
         generation: 0,
     };
     let table = image(
+        alloc,
         vec![in alloc; root(), one, two]?,
         vec![in alloc; BORN, other]?,
         Vec::new(alloc),
@@ -157,7 +181,7 @@ fn parents_in_a_circle_are_not_lawful(rt: HostRuntime) -> Result<(), Fail> {
 fn forgets_whose_sum_has_65_bits_are_not_lawful(rt: HostRuntime) -> Result<(), Fail> {
     let alloc = rt.alloc();
     let postings = vec![in alloc; BORN, ENTRY, FORGET_ALL, FORGET_ALL]?;
-    let table = image(vec![in alloc; root()]?, postings, Vec::new(alloc));
+    let table = image(alloc, vec![in alloc; root()]?, postings, Vec::new(alloc));
     assert!(rt; !table.lawful());
     Ok(())
 }
@@ -176,7 +200,12 @@ fn number_may_be_born_again(rt: HostRuntime) -> Result<(), Fail> {
     let mut known = node(2, 1, under(alloc, 1, "b")?);
     known.count = 1;
     let postings = vec![in alloc; BORN, ENTRY, BACK, again, entry]?;
-    let table = image(vec![in alloc; known, root()]?, postings, Vec::new(alloc));
+    let table = image(
+        alloc,
+        vec![in alloc; known, root()]?,
+        postings,
+        Vec::new(alloc),
+    );
     assert!(rt; table.lawful());
     Ok(())
 }
