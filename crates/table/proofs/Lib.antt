@@ -16,3 +16,4 @@ pub mod Starting
 pub mod Exporting
 pub mod Guarded
 pub mod Removing
+pub mod Running

@@ -8,6 +8,8 @@ mod data;
 mod export;
 mod finish;
 mod forget;
+mod hand;
+mod run;
 mod settle;
 mod state;
 mod sweep;
@@ -15,4 +17,6 @@ mod table;
 
 pub use data::{Answered, Begin, Limits, Outcome, Settled, Ticket};
 pub use flights::{Given, Want};
+pub use hand::{Begun, Hand};
+pub use run::{Call, Told};
 pub use table::Table;

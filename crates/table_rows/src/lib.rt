@@ -16,6 +16,8 @@ mod lookup_rows;
 #[cfg(test)]
 mod memory_rows;
 #[cfg(test)]
+mod run_rows;
+#[cfg(test)]
 mod share_rows;
 #[cfg(test)]
 mod stranger_rows;
