@@ -20,3 +20,4 @@ pub mod Exporting
 pub mod Placing
 pub mod Guarded
 pub mod Changing
+pub mod Running

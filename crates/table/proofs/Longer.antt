@@ -33,11 +33,11 @@ longer_same old new e = record { more = []; is = e ∙ sym (append-nil old) }
 longer_trans : (a b c : List Posting) → IsLonger a b → IsLonger b c → IsLonger a c
 longer_trans a b c first then = record { more = first.more ++ then.more; is = then.is ∙ (ap (λ (x : List Posting). x ++ then.more) first.is ∙ append_assoc a first.more then.more) }
 
-cases_flight : (o : Option Flight) → (o ≡ None) ⊎ ((f : Flight) × (o ≡ Some f))
+pub cases_flight : (o : Option Flight) → (o ≡ None) ⊎ ((f : Flight) × (o ≡ Some f))
 cases_flight None = inl refl
 cases_flight (Some f) = inr (f, refl)
 
-cases_stage : (s : Stage) → (s ≡ Answered) ⊎ ((work : Work) × (s ≡ Working work))
+pub cases_stage : (s : Stage) → (s ≡ Answered) ⊎ ((work : Work) × (s ≡ Working work))
 cases_stage Answered = inl refl
 cases_stage (Working work) = inr (work, refl)
 

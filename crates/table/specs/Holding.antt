@@ -2,7 +2,7 @@
 use Rattle.std.specs.Prelude.{ℕ, ◌≡◌, ◌≢◌, ◌⊎◌, List, [], ◌∷◌, ◌++◌, Some, All, Contains}
 use Rattle.paths.specs.Fronts.{Name, Names}
 use Rattle.holds.specs.declared.held.Held.{Held}
-use Rattle.holds.specs.Clashes.{AreFronts}
+use Rattle.holds.specs.Clashes.{AreFronts, IsSomeFront}
 use Rattle.tree.specs.Places.{Lookup, IsPathOf}
 use Rattle.flights.specs.declared.data.Flight.{Flight}
 use Rattle.flights.specs.declared.data.Stage.TheVariants.{Working}

@@ -6,3 +6,5 @@ pub mod Steps
 pub mod Sweeping
 pub mod Beginning
 pub mod Exports
+pub mod Hands
+pub mod Runs

@@ -8,7 +8,9 @@ mod data;
 mod export;
 mod finish;
 mod forget;
+mod hand;
 mod places;
+mod run;
 mod settle;
 mod state;
 mod sweep;
@@ -17,4 +19,6 @@ mod work;
 
 pub use data::{Answered, Begin, Limits, Outcome, Settled, Ticket};
 pub use flights::{Given, Want};
+pub use hand::{Begun, Hand};
+pub use run::{Call, Told};
 pub use table::Table;

@@ -7,7 +7,7 @@ ghost use Rattle.ledger.specs.Sums.{totals_of};
 ghost use Rattle.image.specs.Law.{IsLawfulImage};
 ghost use Rattle.table.specs.Exports.{Exports};
 ghost use Rattle.table.specs.Steps.{Begins, Finishes, Forgets, Settles, gained};
-ghost use Rattle.table.specs.World.{IsCounted, IsLawfulWorld, IsOpened, world_of};
+ghost use Rattle.table.specs.World.{AreReady, IsCounted, IsLawfulWorld, IsOpened, world_of};
 
 use crate::data::{Answered, Begin, Limits, Outcome, Settled, Ticket};
 use crate::state::State;
@@ -83,6 +83,14 @@ impl<B: Shared, E: tokens::Ledger, K: tokens::Ledger, F: tokens::Ledger> Table<B
         let state = State::open(alloc, limits)?;
         let (book, shares) = Book::open(alloc, blanks, workers)?;
         Ok((Table { state, book }, shares))
+    }
+
+    /// Between any two calls the law holds, and each request that is worked on has what it relies on.
+    pub(crate) fn attest(&self)
+        ensures lawful { IsLawfulWorld (world_of self.now) }
+        ensures ready { AreReady (world_of self.now).at (world_of self.now).flying.at }
+    {
+        let _limits = &self.state.limits;
     }
 
     /// Takes up a request. Busy and a refusal change nothing.
