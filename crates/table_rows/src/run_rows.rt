@@ -1,7 +1,6 @@
 //! Runs of calls with a hand.
 
 use crate::desk::{Desk, ROOT, Story, tell};
-use errno::ESTALE;
 use ledger::Shared;
 use paths::Name;
 use std::alloc::Global;
@@ -53,6 +52,17 @@ fn first_calls(rt: &impl Abort, alloc: Global) -> Vec<Call> {
     .expect(rt, "memory is ample")
 }
 
+/// Gives up the answers of a hand without tickets.
+fn give_up(rt: &impl Abort, hand: Hand) {
+    let (tickets, mut answers) = hand.into_parts();
+    assert!(rt; tickets.is_empty());
+    tickets.destroy_empty();
+    while let Some(answered) = answers.pop() {
+        answered.leave();
+    }
+    answers.destroy_empty();
+}
+
 #[derive(Drop)]
 struct RunStory;
 
@@ -85,14 +95,27 @@ impl Story for RunStory {
         expect_in_hand(rt, &hand, 0, 3);
         let image = desk.image(rt);
         assert_eq!(rt; image.nodes.as_slice().len(), 3, "the root, `b` and `a`");
-        assert_eq!(rt; image.postings.as_slice().len(), 4, "2 births and 2 entries");
+        assert_eq!(rt;
+            image.postings.as_slice().len(),
+            4,
+            "2 births and 2 entries"
+        );
         assert_eq!(rt; image.records.as_slice().len(), 3);
         let told = RunStory::call(rt, desk, &mut hand, finish(0, Outcome::Entry));
         assert!(rt; matches!(&told, Told::Nothing));
-        let told = RunStory::call(rt, desk, &mut hand, Call::Settle { place: 3, taken: false });
+        let told = RunStory::call(
+            rt,
+            desk,
+            &mut hand,
+            Call::Settle {
+                place: 3,
+                taken: false,
+            },
+        );
         assert!(rt; matches!(&told, Told::Nothing));
         expect_in_hand(rt, &hand, 0, 3);
         assert_eq!(rt; desk.image(rt).records.as_slice().len(), 3);
+        give_up(rt, hand);
     }
 }
 
