@@ -3,6 +3,8 @@
 use crate::desk::{Asked, Desk, Gave};
 use image::Image;
 use ledger::Shared;
+use paths::{Name, Path};
+use std::alloc::{AllocError, Global};
 use std::process::Abort;
 use std::sync::ledger as tokens;
 use table::Outcome;
@@ -104,4 +106,32 @@ pub fn expect_path<B: Shared, E: tokens::Ledger, K: tokens::Ledger, F: tokens::L
     for (name, spelt) in names.iter().zip(expected) {
         assert_eq!(rt; name.as_str(), *spelt);
     }
+}
+
+/// The path of these names, with a `/` between them.
+pub fn path(alloc: Global, text: &str) -> Result<Path, AllocError> {
+    let mut path = Path::new(alloc);
+    for name in text.split('/') {
+        path.push(Name::copy_of(alloc, name)?)?;
+    }
+    Ok(path)
+}
+
+/// So many share the path, and so many hold it alone.
+pub fn expect_hold(
+    rt: &impl Abort,
+    alloc: Global,
+    image: &Image,
+    text: &str,
+    shared: u64,
+    exclusive: u64,
+) {
+    let path = path(alloc, text).expect(rt, "memory is ample");
+    let hold = image
+        .holds
+        .as_slice()
+        .iter()
+        .find(|hold| hold.path.is(&path))
+        .expect(rt, "the path is held");
+    assert_eq!(rt; (hold.shared, hold.exclusive), (shared, exclusive));
 }

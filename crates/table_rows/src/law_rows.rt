@@ -1,25 +1,17 @@
 //! The law of what requests hold: images made by hand, and what a table shows.
 
 use crate::desk::{Desk, Gave, ROOT, Story, tell};
+use crate::expects::{expect_hold, path};
 use holds::{Held, Lead, Leads, Paths};
 use image::{Hold, Holds, Image, Nodes, Numbers, Postings, Record, Records, Stage};
 use ledger::{Posting, Shared};
-use paths::{Name, Path};
+use paths::Name;
 use std::alloc::{AllocError, Global};
 use std::process::Abort;
 use std::sync::ledger as tokens;
 use std::test::Fail;
 use table::{Limits, Outcome};
 use tree::{Key, Node, Place};
-
-/// The path of these names, with a `/` between them.
-fn path(alloc: Global, text: &str) -> Result<Path, AllocError> {
-    let mut path = Path::new(alloc);
-    for name in text.split('/') {
-        path.push(Name::copy_of(alloc, name)?)?;
-    }
-    Ok(path)
-}
 
 fn paths(alloc: Global, texts: &[&str]) -> Result<Paths, AllocError> {
     let mut paths = Vec::new(alloc);
@@ -225,25 +217,6 @@ impl Story for Holding {
         assert_eq!(rt; image.records.as_slice().len(), 3);
         assert_eq!(rt; image.holds.as_slice().len(), 0);
     }
-}
-
-/// So many share the path, and so many hold it alone.
-fn expect_hold(
-    rt: &impl Abort,
-    alloc: Global,
-    image: &Image,
-    text: &str,
-    shared: u64,
-    exclusive: u64,
-) {
-    let path = path(alloc, text).expect(rt, "memory is ample");
-    let hold = image
-        .holds
-        .as_slice()
-        .iter()
-        .find(|hold| hold.path.is(&path))
-        .expect(rt, "the path is held");
-    assert_eq!(rt; (hold.shared, hold.exclusive), (shared, exclusive));
 }
 
 #[test]

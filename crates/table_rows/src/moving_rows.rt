@@ -2,7 +2,7 @@
 
 use crate::desk::{Asked, Desk, Gave, ROOT, Story, tell};
 use crate::expects::{
-    expect_cut, expect_many, expect_named, expect_path, expect_same, expect_same_nodes, give_folder,
+    expect_cut, expect_hold, expect_many, expect_named, expect_path, expect_same, expect_same_nodes, give_folder,
 };
 use errno::{EINVAL, ENAMETOOLONG, ENFILE, ENOTEMPTY, ESTALE};
 use ledger::Shared;
@@ -48,6 +48,10 @@ impl Story for MovedFolder {
         expect_path(rt, desk, &["d"]);
         expect_target(rt, desk, &["f"]);
         assert!(rt; !is_same(rt, desk));
+        let begun = desk.image(rt);
+        assert_eq!(rt; begun.holds.as_slice().len(), 2);
+        expect_hold(rt, desk.alloc, &begun, "d", 0, 1);
+        expect_hold(rt, desk.alloc, &begun, "f", 0, 1);
         assert_eq!(rt; desk.node(rt, 3), Asked::Busy);
         assert_eq!(rt; desk.name(rt, ROOT, "f"), Asked::Busy, "none stands there");
         assert_eq!(rt; desk.name(rt, ROOT, "e"), Asked::Go);
