@@ -1,12 +1,14 @@
-use Rattle.std.proofs.Common.{◌≡◌, ◌<◌, [], ◌∷◌, ◌++◌, length, take, sym, ap, ◌∙◌}
+use Rattle.std.proofs.Common.{◌≡◌, ◌<◌, List, [], ◌∷◌, ◌++◌, length, take, refl, sym, ap, ◌∙◌}
 use Rattle.std.proofs.lemmas.List.{take_more}
-use Rattle.paths.specs.Fronts.{Name, Names}
+use Rattle.paths.specs.Fronts.{Name, Names, fronts}
+use Rattle.paths.proofs.FrontLemmas.{fronts-push}
 use Rattle.holds.proofs.Fronting.{fronts_none, fronts_more}
 use Rattle.holds.proofs.fronts.fronts_of.Goals as goal
 
 pub loop-name-init : goal.loop-name-init
 loop-name-init c = record {
   front = c.new-front.ensures;
+  whole = rw (c.new-fronts.ensures.items, c.new-front.ensures) refl;
   fronts = rw (c.new-fronts.ensures.items, c.new-front.ensures) fronts_none;
 }
 
@@ -22,5 +24,7 @@ loop-name-preserved c =
     record {
       front = more ∙ (ap (λ (p : Names). p ++ name ∷ []) c.loop-name.invariant.front
           ∙ (ap (λ (n : Name). take i names ++ n ∷ []) (c.in_ok-copy.ensures ∙ c.name-item.is) ∙ sym (take_more names i x within)));
+      whole = items ∙ (ap (λ (ps : List Names). ps ++ c.push.new.self ∷ []) c.loop-name.invariant.whole
+          ∙ (ap (λ (p : Names). fronts c.loop-name.front ++ p ∷ []) more ∙ (sym (fronts-push c.loop-name.front name) ∙ ap fronts (sym more))));
       fronts = rw (items, more) (fronts_more c.loop-name.fronts.items c.loop-name.front name c.loop-name.invariant.fronts);
     }

@@ -2,7 +2,7 @@ use Rattle.std.proofs.Common.{ℕ, ◌≡◌, sym, ap, ◌∙◌, subst, []}
 use Rattle.paths.specs.Fronts.{Names}
 use Rattle.tree.specs.declared.nodes.TreeFault.{TreeFault}
 use Rattle.tree.specs.declared.nodes.TreeFault.TheVariants as fault
-use Rattle.tree.specs.Places.{Lookup, at_in, IsTree, IsPathOf}
+use Rattle.tree.specs.Places.{Lookup, at_in, IsTree, IsPathOf, Leads}
 use Rattle.tree.specs.Listed.{node_at, IsClimbFault}
 use Rattle.tree.specs.Moves.{IsFault, IsPathFault}
 use Rattle.tree.proofs.Counting.{look}
@@ -11,12 +11,12 @@ use Rattle.std.proofs.lemmas.List.{append-nil}
 use Rattle.tree.proofs.Tree.path.Goals as goal
 
 -- with no names below, a climb gives the path
-path_fault : (at : Lookup) (n : ℕ) (e : TreeFault) → IsClimbFault at n [] e → IsPathFault at n e
-path_fault at n fault.Unknown bad = absurd bad
-path_fault at n fault.Cut bad = absurd bad
-path_fault at n fault.Full bad = bad
-path_fault at n fault.Memory bad = bad
-path_fault at n fault.PathLong bad =
+path_fault : (at : Lookup) (n : ℕ) → Leads at n → (e : TreeFault) → IsClimbFault at n [] e → IsPathFault at n e
+path_fault at n leads fault.Unknown bad = absurd bad
+path_fault at n leads fault.Cut bad = absurd bad
+path_fault at n leads fault.Full bad = bad
+path_fault at n leads fault.Memory bad = leads
+path_fault at n leads fault.PathLong bad =
     let climbed = bad.1 in
     let whole : bad.0 ≡ climbed.path = climbed.whole ∙ append-nil climbed.path in
     (bad.0, subst (λ (p : Names). IsPathOf at n p) (sym whole) climbed.leads, bad.2)
@@ -39,7 +39,8 @@ returns-in_err-names-clause-err c =
     let same : node_at c.self.inside.nodes.items ≡ at_in c.args.self.now = sym (look c.self.inside.nodes.items) ∙ ap at_in c.self.view_is in
     let p = err_from_is_err_and c.from_residual-in_err-names.result c.from_residual-in_err-names.ensures.1 in
     let bad = rw (c.as_slice-2.ensures.value, c.new.ensures.items) at c.in_err-names.ensures.err in
-    rw (p.1, p.2) (path_fault (at_in c.args.self.now) c.args.number c.in_err-names.field-0.0 (subst (λ (at : Lookup). IsClimbFault at c.args.number [] c.in_err-names.field-0.0) same bad))
+    let leads = subst (λ (at : Lookup). Leads at c.args.number) same (rw c.as_slice.ensures.value at c.in_ok-expect_path.ensures.ok) in
+    rw (p.1, p.2) (path_fault (at_in c.args.self.now) c.args.number leads c.in_err-names.field-0.0 (subst (λ (at : Lookup). IsClimbFault at c.args.number [] c.in_err-names.field-0.0) same bad))
 
 pub returns-clause-ok : goal.returns-clause-ok
 returns-clause-ok c =
