@@ -9,5 +9,5 @@ pub returns : goal.returns
 returns c =
     subst (λ (ps : List Names). AreFrontsOfBoth ps c.args.path.now c.args.other.now) (sym (c.from_vec.ensures ∙ c.in_ok-append.ensures.items))
     (AreFrontsOfBoth-append c.into_vec-fronts.result.items c.into_vec-more.result.items c.args.path.now c.args.other.now
-    (subst (λ (ps : List Names). AreFronts ps c.args.path.now) (sym c.into_vec-fronts.ensures) c.in_ok-fronts_of.ensures)
-    (subst (λ (ps : List Names). AreFronts ps c.args.other.now) (sym c.into_vec-more.ensures) c.in_ok-fronts_of-2.ensures))
+    (subst (λ (ps : List Names). AreFronts ps c.args.path.now) (sym c.into_vec-fronts.ensures) c.in_ok-fronts_of.ensures.set)
+    (subst (λ (ps : List Names). AreFronts ps c.args.other.now) (sym c.into_vec-more.ensures) c.in_ok-fronts_of-2.ensures.set))
