@@ -30,9 +30,13 @@ impl Model for Hand {
 }
 
 impl Hand {
-    /// An empty hand.
+    ghost use Rattle.table.specs.Runs.{AreClaimed};
+    ghost use Rattle.table.specs.World.{World};
+
+    /// An empty hand. On any table, each of its tickets is of a request, since it has none.
     pub fn new(alloc: Global) -> Hand
-        ensures { result ≡ record { tickets = []; answers = [] } }
+        ensures empty { result ≡ record { tickets = []; answers = [] } }
+        ensures claims { (w : World) → AreClaimed w result }
     {
         Hand {
             tickets: Vec::new(alloc),
