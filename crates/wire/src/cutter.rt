@@ -1,6 +1,7 @@
 //! A stream of bytes, cut into frames.
 
 ghost use Rattle.std.specs.Prelude.{◌≡◌, ℕ, List, ◌+◌, ◌-◌, ◌≤◌, ◌↔◌, ◌++◌, [], length, drop, OnOk, OnErr, IfOk, IfSome, IfNone, Some, None, Err};
+ghost use Rattle.wire.specs.Standing.{IsWhole};
 ghost use Rattle.wire.specs.Stream.{HandsOut, BeginsBadly, IsPartial, Splits};
 ghost use Rattle.wire.specs.declared.cutter.CutFault.TheVariants.{Memory};
 
@@ -103,6 +104,9 @@ impl Cutter {
         ensures bad { (len : ℕ) → (result ≡ Err (CutFault.BadLength len)) ↔ BeginsBadly self.old.kept len }
         ensures for_good { (len : ℕ) → result ≡ Err (CutFault.BadLength len) → self.new ≡ record self.old { stopped = Some len } }
         ensures memory { result ≡ Err CutFault.Memory → self.new ≡ self.old }
+
+        // Memory is asked for only where a whole frame stands next.
+        ensures asked { result ≡ Err CutFault.Memory → (len : ℕ) × IsWhole self.old.kept len }
     {
         if let Some(len) = self.stopped {
             return Err(CutFault::BadLength { len });
