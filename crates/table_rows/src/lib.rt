@@ -24,6 +24,8 @@ mod memory_rows;
 #[cfg(test)]
 mod moving_rows;
 #[cfg(test)]
+mod removal_rows;
+#[cfg(test)]
 mod run_rows;
 #[cfg(test)]
 mod share_rows;

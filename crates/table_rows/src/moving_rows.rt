@@ -2,7 +2,8 @@
 
 use crate::desk::{Asked, Desk, Gave, ROOT, Story, tell};
 use crate::expects::{
-    expect_cut, expect_hold, expect_many, expect_named, expect_path, expect_same, expect_same_nodes, give_folder,
+    expect_cut, expect_hold, expect_many, expect_named, expect_path, expect_same,
+    expect_same_nodes, give_folder,
 };
 use errno::{EINVAL, ENAMETOOLONG, ENFILE, ENOTEMPTY, ESTALE};
 use ledger::Shared;
