@@ -1,0 +1,39 @@
+-- What is proved of rows.
+use Rattle.std.specs.Prelude.{ℕ, ◌≡◌, ◌⊎◌, List, Any, Contains, length}
+use Rattle.flights.specs.declared.data.Want.{Want}
+use Rattle.tree.specs.declared.nodes.Key.{Key}
+use Rattle.tree.specs.Places.{Lookup, IsTree}
+use Rattle.wants.specs.Asked.{IsCase, IsDemand}
+use Rattle.wants.specs.Rows.{Case, Change, Demand, Location, AtName, AtNode, cuts, moves, row_of, stays}
+
+-- the node that a location is that of, or is under
+abbrev pub base_of : Location → ℕ
+base_of (AtNode number) = number
+base_of (AtName parent name) = parent
+
+-- the names that change are held alone
+abbrev pub AreOwn : List Location → Change → Type 0
+AreOwn alone stays = Unit {0}
+AreOwn alone (cuts l) = Contains alone l
+AreOwn alone (moves source target) = Contains alone source × Contains alone target
+
+-- what all that is proved of rows rests on
+pub record IsRow (d : Demand) : Type 0 where
+  -- each location is that of a node that is given, or is under one
+  pub shared : (l : Location) → Contains d.shared l → Contains d.given (base_of l)
+  pub alone : (l : Location) → Contains d.alone l → Contains d.given (base_of l)
+  pub paths : (l : Location) → Contains d.paths l → Contains d.given (base_of l)
+  -- the path of each node that is given is held, or leads to a path that is
+  pub covered : (n : ℕ) → Contains d.given n → Any (λ l. base_of l ≡ n) d.shared ⊎ Any (λ l. base_of l ≡ n) d.alone
+  -- a birth is promised for each name, or each name is shared
+  pub entered : (d.births ≡ length d.entries) ⊎ ((key : Key) → Contains d.entries key → Contains d.shared (AtName key.parent key.name))
+  -- the names that change are held alone
+  pub own : AreOwn d.alone d.done
+
+-- the law of rows: whatever the want and the case
+abbrev pub AreRows : Type 0
+AreRows = (want : Want) (case : Case) → IsRow (row_of want case)
+
+-- a want asks for one row
+abbrev pub AreDemandsFixed : Type 0
+AreDemandsFixed = (at : Lookup) (want : Want) (d e : Demand) → IsTree at → IsDemand at want d → IsDemand at want e → d ≡ e

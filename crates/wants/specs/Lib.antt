@@ -1,0 +1,4 @@
+pub mod Rows
+pub mod Asked
+pub mod Laws
+pub mod Plans

@@ -1,0 +1,46 @@
+-- What a request is recorded with.
+use Rattle.std.specs.Prelude.{ℕ, ℤ, ◌≡◌, ◌≤◌, ◌↔◌, [], Option, Some, None, Contains, length}
+use Rattle.paths.specs.Fronts.{Name}
+use Rattle.flights.specs.declared.data.Want.{Want}
+use Rattle.flights.specs.declared.data.Want.TheVariants as wants
+use Rattle.flights.specs.declared.data.Work.{Work}
+use Rattle.flights.specs.Roomy.{Pinned}
+use Rattle.tree.specs.Places.{Lookup}
+use Rattle.wants.specs.declared.data.Plan.{Plan}
+use Rattle.wants.specs.Asked.{ArePaths, Holds, IsCase, IsDemand, IsPin, IsSound, IsUnsound, promise_of}
+use Rattle.wants.specs.Rows.{Case, Demand, case_in, row_of}
+
+-- the row of a request that is worked on
+abbrev pub row_in : Work → Demand
+row_in work = row_of work.want (case_in work.promise)
+
+-- the name that the want may give to a node, which is put into the tree under a key and a copy of it
+abbrev pub copied : Want → Option Name
+copied (wants.Node number) = None
+copied (wants.Name parent name) = Some name
+copied (wants.Remove parent name) = None
+copied (wants.Move parent name new_parent new_name) = Some new_name
+
+-- its end takes no memory: there is room for what it may pin and answer
+pub record IsProvided (work : Work) (pins : Pinned) : Type 0 where
+  pub promise : work.promise ≡ promise_of (row_in work)
+  pub copy : work.copy ≡ copied work.want
+  pub pin_room : length (row_in work).entries ≤ pins.room
+  pub answer_room : length (row_in work).entries ≤ work.answer.room
+  pub unanswered : work.answer.items ≡ []
+
+-- the tests of the nodes allow the want: what it holds, pins and is promised, and the paths of its ticket
+pub record IsPlan (at : Lookup) (want : Want) (p : Plan) : Type 0 where
+  pub want_is : p.work.want ≡ want
+  pub fits : IsCase at want (case_in p.work.promise)
+  pub sound : IsSound at (row_in p.work)
+  pub holds : Holds at (row_in p.work) p.work.held
+  pub pins : (n : ℕ) → Contains p.pins.numbers n ↔ IsPin at (row_in p.work) n
+  pub paths : ArePaths at (row_in p.work).paths p.paths
+  pub provided : IsProvided p.work p.pins
+
+-- they refuse it, or memory was refused
+pub record IsRefusedPlan (at : Lookup) (want : Want) (e : ℤ) : Type 0 where
+  pub demand : Demand
+  pub demanded : IsDemand at want demand
+  pub unsound : IsUnsound at demand e

@@ -1,0 +1,110 @@
+-- What a want asks of a table: one row for each want. What a beginning tests, holds, pins and promises, and what an
+-- outcome does, follow from the row alone.
+use Rattle.std.specs.Prelude.{ℕ, ◌==◌, ◌&&◌, Bool, true, false, if◌then◌else◌, List, [], ◌∷◌}
+use Rattle.paths.specs.Fronts.{Name, is_name}
+use Rattle.tree.specs.declared.nodes.Key.{Key}
+use Rattle.flights.specs.declared.data.Promise.{Promise}
+use Rattle.flights.specs.declared.data.Want.{Want}
+use Rattle.flights.specs.declared.data.Want.TheVariants as wants
+
+-- ---- rows
+
+-- where a node may stand, whether or not one does
+pub data Location : Type 0 where
+  -- that of the node
+  AtNode : ℕ → Location
+  -- that of a name under the node
+  AtName : ℕ → Name → Location
+
+-- what becomes of names
+pub data Change : Type 0 where
+  stays : Change
+  -- what stands there is cut
+  cuts : Location → Change
+  -- what stands at the first is moved to the second, where what stood is cut
+  moves : Location → Location → Change
+
+pub record Demand : Type 0 where
+  -- the nodes that it names: each must have a path, and is pinned
+  pub given : List ℕ
+  -- the paths of its ticket: what stands at one of them is pinned
+  pub paths : List Location
+  -- each nonempty prefix of these paths is shared
+  pub shared : List Location
+  -- these paths are held alone, and each nonempty proper prefix of them is shared
+  pub alone : List Location
+  -- the names for which an entry may be given, and how many nodes may be born for them
+  pub entries : List Key
+  pub births : ℕ
+  -- what becomes of the names once the work is done
+  pub done : Change
+
+abbrev pub no_demand : Demand
+no_demand = record { given = []; paths = []; shared = []; alone = []; entries = []; births = 0; done = stays }
+
+-- ---- cases
+
+-- all that a row takes from the table besides the want
+pub data Case : Type 0 where
+  plain : Case
+  -- no node stands at the name
+  absent : Case
+
+-- where no node stands at its name, one may be born
+abbrev pub births_in : Case → ℕ
+births_in plain = 0
+births_in absent = 1
+
+-- ---- one row for each want
+
+abbrev pub node_row : ℕ → Demand
+node_row number = record no_demand { given = number ∷ []; paths = AtNode number ∷ []; shared = AtNode number ∷ [] }
+
+abbrev pub name_row : ℕ → Name → Case → Demand
+name_row parent name c = record no_demand {
+  given = parent ∷ [];
+  paths = AtName parent name ∷ [];
+  shared = AtName parent name ∷ [];
+  entries = record { parent = parent; name = name } ∷ [];
+  births = births_in c;
+}
+
+abbrev pub removal_row : ℕ → Name → Demand
+removal_row parent name = record no_demand {
+  given = parent ∷ [];
+  paths = AtName parent name ∷ [];
+  alone = AtName parent name ∷ [];
+  done = cuts (AtName parent name);
+}
+
+abbrev pub move_row : ℕ → Name → ℕ → Name → Demand
+move_row parent name new_parent new_name = record no_demand {
+  given = parent ∷ new_parent ∷ [];
+  paths = AtName parent name ∷ AtName new_parent new_name ∷ [];
+  alone = AtName parent name ∷ AtName new_parent new_name ∷ [];
+  done = moves (AtName parent name) (AtName new_parent new_name);
+}
+
+abbrev pub row_of : Want → Case → Demand
+row_of (wants.Node number) c = node_row number
+row_of (wants.Name parent name) c = name_row parent name c
+row_of (wants.Remove parent name) c = removal_row parent name
+row_of (wants.Move parent name new_parent new_name) c = move_row parent name new_parent new_name
+
+-- the case of a request that was promised so much: a node is promised where none stood at its name
+abbrev pub case_in : Promise → Case
+case_in p = if p.nodes == 0 then plain else absent
+
+-- ---- what a ticket tells of its row
+
+abbrev pub are_same : Location → Location → Bool
+are_same (AtName p a) (AtName q b) = (p == q) && is_name a b
+are_same (AtName p a) (AtNode m) = false
+are_same (AtNode n) (AtName q b) = false
+are_same (AtNode n) (AtNode m) = n == m
+
+-- whether a name would be moved to itself
+abbrev pub is_same : Change → Bool
+is_same stays = false
+is_same (cuts l) = false
+is_same (moves source target) = are_same source target
