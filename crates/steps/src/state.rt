@@ -1,7 +1,8 @@
 //! The parts of a table.
 
-ghost use Rattle.std.specs.Prelude.{◌≤◌, IfOk};
-ghost use Rattle.table.specs.World.{IsKept, IsOpened, world_of};
+ghost use Rattle.std.specs.Prelude.{◌≡◌, ◌≤◌, IfOk};
+ghost use Rattle.steps.specs.Kept.{IsKept, world_of};
+ghost use Rattle.steps.specs.World.{IsLawfulWorld, opened_world};
 
 use crate::data::Limits;
 use flights::Flights;
@@ -25,7 +26,7 @@ impl State {
     /// The root alone.
     pub fn open(alloc: Global, limits: Limits) -> Result<State, AllocError>
         requires { 1 ≤ limits.nodes }
-        ensures opened { IfOk result (λ s. IsOpened limits (world_of s)) }
+        ensures opened { IfOk result (λ s. world_of s ≡ opened_world limits) }
         ensures kept { IfOk result IsKept }
     {
         let tree = Tree::new(alloc, limits.nodes)?;
@@ -37,5 +38,13 @@ impl State {
             limits,
             counts: 0,
         })
+    }
+
+    /// Between any two calls the law holds.
+    pub fn attest(&self)
+        requires { IsKept self.now }
+        ensures { IsLawfulWorld (world_of self.now) }
+    {
+        let _limits = &self.limits;
     }
 }

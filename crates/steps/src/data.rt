@@ -1,8 +1,9 @@
 //! What callers hand in and get back.
 
-ghost use Rattle.std.specs.Prelude.{◌≡◌, option_copied};
+ghost use Rattle.std.specs.Prelude.{◌≡◌};
 
 use flights::{Given, Givens};
+use holds::Paths;
 use paths::Path;
 use std::marker::Model;
 
@@ -32,21 +33,20 @@ impl Default for Limits {
     }
 }
 
-/// The right and the duty to finish a request that was begun. It must be spent by `Table::finish`.
+/// The right and the duty to finish a request that was begun. It must be spent by `finish`.
 #[must_use]
 pub struct Ticket {
     pub(crate) id: u64,
-    pub(crate) path: Path,
-    pub(crate) target: Option<Path>,
+    pub(crate) paths: Paths,
     pub(crate) same: bool,
 }
 
 impl Model for Ticket {
-    ghost use Rattle.table.specs.Answers.{Claim};
+    ghost use Rattle.steps.specs.Answers.{Claim};
 
     ghost Value = { Claim };
 
-    ghost view = { λ t. record { id = t.id; path = t.path; target = t.target; same = t.same } };
+    ghost view = { λ t. record { id = t.id; paths = t.paths; same = t.same } };
 }
 
 impl Ticket {
@@ -57,18 +57,11 @@ impl Ticket {
         self.id
     }
 
-    /// The path that the request is about, as it was when the request began. Of a move it is the old one.
-    pub fn path(&self) -> &Path
-        ensures { result.now ≡ self.now.path }
+    /// The paths that the request is about, as they were when it began: of a move the old one and then the new one.
+    pub fn paths(&self) -> &[Path]
+        ensures { result.now ≡ self.now.paths }
     {
-        &self.path
-    }
-
-    /// Of a move the new path.
-    pub fn target(&self) -> Option<&Path>
-        ensures { option_copied result ≡ self.now.target }
-    {
-        self.target.as_ref()
+        self.paths.as_slice()
     }
 
     /// Whether it is a move of a path to itself, which changes nothing.
@@ -109,7 +102,7 @@ pub struct Answered {
 }
 
 impl Model for Answered {
-    ghost use Rattle.table.specs.Answers.{Answer};
+    ghost use Rattle.steps.specs.Answers.{Answer};
 
     ghost Value = { Answer };
 
@@ -157,7 +150,7 @@ pub struct Settled {
 }
 
 impl Model for Settled {
-    ghost use Rattle.table.specs.Answers.{Settlement};
+    ghost use Rattle.steps.specs.Answers.{Settlement};
 
     ghost Value = { Settlement };
 

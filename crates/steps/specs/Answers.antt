@@ -1,0 +1,26 @@
+-- What contracts see of tickets and answers.
+use Rattle.std.specs.Prelude.{ℕ, Bool, List, Option, count_by, is_some}
+use Rattle.flights.specs.declared.data.Given.{Given}
+use Rattle.paths.specs.Fronts.{Names}
+
+-- a request that goes on: its id, its paths when it began, and whether a name is moved to itself
+pub record Claim : Type 0 where
+  pub id : ℕ
+  pub paths : List Names
+  pub same : Bool
+
+-- what a finished request gives: a node or none for each of its names
+pub record Answer : Type 0 where
+  pub id : ℕ
+  pub given : List (Option Given)
+  pub lost : Bool
+
+-- what a settle did
+pub record Settlement : Type 0 where
+  pub id : ℕ
+  pub entries : ℕ
+  pub taken : Bool
+
+-- how many nodes were given
+abbrev pub entries_in : List (Option Given) → ℕ
+entries_in gs = count_by (λ g. is_some g) gs

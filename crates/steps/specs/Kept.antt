@@ -1,0 +1,77 @@
+-- The parts of a table as a world, and what holds of the parts.
+use Rattle.std.specs.Prelude.{ℕ, ◌+◌, ◌^◌, ◌<◌, ◌≤◌, ◌≡◌, List, Option, Some, length, option_map}
+use Rattle.flights.specs.declared.data.Flight.{Flight as Recorded}
+use Rattle.flights.specs.declared.data.Promise.{Promise}
+use Rattle.flights.specs.declared.data.Stage.{Stage as Recording}
+use Rattle.flights.specs.declared.data.Stage.TheVariants as recorded
+use Rattle.flights.specs.declared.data.Work.{Work as RecordedWork}
+use Rattle.flights.specs.Flying.{Flying, IsFlying}
+use Rattle.flights.specs.Listed.{flying_of}
+use Rattle.image.specs.Law.{IsLawful}
+use Rattle.ledger.specs.Postings.{Postings}
+use Rattle.tree.specs.Places.{Nodes, at_in}
+use Rattle.wants.specs.Plans.{IsProvided, row_in}
+use Rattle.steps.specs.declared.state.State.{State}
+use Rattle.steps.specs.World.{AreHeld, AreReady, Answered, Flight, Flights, Stage, Work, Working, World}
+
+-- ---- the parts as a world
+
+abbrev pub work_of : RecordedWork → Work
+work_of work = record { want = work.want; row = row_in work; held = work.held }
+
+abbrev pub stage_of : Recording → Stage
+stage_of (recorded.Working work) = Working (work_of work)
+stage_of recorded.Answered = Answered
+
+abbrev pub flight_of : Recorded → Flight
+flight_of f = record { unique = f.unique; stage = stage_of f.stage; pins = f.pins.numbers }
+
+abbrev pub flights_in : Flying → Flights
+flights_in all = λ id. option_map flight_of (all.at id)
+
+abbrev pub world_of : State → World
+world_of s = record {
+  at = at_in s.tree;
+  postings = s.ledger.made;
+  flights = flights_in (flying_of s.flights);
+  limits = s.limits;
+}
+
+-- ---- what holds of the parts
+
+-- the end of each request that is worked on takes no memory
+abbrev pub AreProvided : Flying → Type 0
+AreProvided all = (id : ℕ) (f : Recorded) (work : RecordedWork) → all.at id ≡ Some f → f.stage ≡ recorded.Working work → IsProvided work f.pins
+
+-- there is room for all that may still come, so that only a begin takes memory
+pub record IsReserved (tree : Nodes) (ledger : Postings) (flying : Flying) : Type 0 where
+  pub nodes : flying.nodes ≤ tree.room
+  pub postings : tree.counts + flying.postings ≤ ledger.room
+
+-- what stands and what is promised keeps within the limits
+pub record IsLimited (s : State) : Type 0 where
+  pub nodes : s.tree.living + (flying_of s.flights).nodes ≤ s.limits.nodes
+  pub postings : length s.ledger.made + s.tree.counts + (flying_of s.flights).postings ≤ s.limits.postings
+  pub flights : (flying_of s.flights).many ≤ s.limits.flights
+  -- each part knows its limit, and the limits fit their type
+  pub node_limit : s.tree.limit ≡ s.limits.nodes
+  pub posting_limit : s.ledger.limit ≡ s.limits.postings
+  pub short : (s.limits.nodes < 2 ^ 64) × (s.limits.postings < 2 ^ 64)
+
+-- the parts fit each other
+pub record IsKept (s : State) : Type 0 where
+  pub law : IsLawful (at_in s.tree) s.ledger.made (flying_of s.flights).pinned
+  pub flying : IsFlying (flying_of s.flights)
+  pub held : AreHeld (at_in s.tree) (flights_in (flying_of s.flights))
+  pub ready : AreReady (at_in s.tree) (flights_in (flying_of s.flights))
+  pub provided : AreProvided (flying_of s.flights)
+  pub reserved : IsReserved s.tree s.ledger (flying_of s.flights)
+  pub limited : IsLimited s
+  pub counts : s.counts ≡ s.tree.counts
+
+-- beside what is promised to others there is room for this promise
+pub record IsRoomFor (s : State) (promise : Promise) : Type 0 where
+  pub nodes : (flying_of s.flights).nodes + promise.nodes ≤ s.tree.room
+  pub postings : s.tree.counts + (flying_of s.flights).postings + promise.postings ≤ s.ledger.room
+  pub nodes_within : s.tree.living + (flying_of s.flights).nodes + promise.nodes ≤ s.limits.nodes
+  pub postings_within : length s.ledger.made + s.tree.counts + (flying_of s.flights).postings + promise.postings ≤ s.limits.postings

@@ -1,0 +1,233 @@
+-- The steps of a table. Each says the whole new world.
+use Rattle.std.specs.Prelude.{ℕ, ℤ, ◌+◌, ◌-◌, ◌<◌, ◌≡◌, ◌==◌, ◌↔◌, if◌then◌else◌, Bool, true, false, List, [], ◌∷◌, ◌++◌, Option, Some, None, Contains, length, drop, map, min}
+use Rattle.errno.specs.declared.TheConstants.{EAGAIN, ENFILE}
+use Rattle.flights.specs.declared.data.Given.{Given}
+use Rattle.flights.specs.declared.data.Want.{Want}
+use Rattle.holds.specs.declared.held.Held.{Held}
+use Rattle.holds.specs.Clashes.{Clash}
+use Rattle.ledger.specs.declared.postings.Posting.{Posting}
+use Rattle.ledger.specs.declared.postings.Posting.TheVariants as posting
+use Rattle.paths.specs.Fronts.{Names}
+use Rattle.tree.specs.declared.nodes.Key.{Key}
+use Rattle.tree.specs.declared.nodes.Node.{Node}
+use Rattle.tree.specs.Moves.{Changes, IsPathOfName, after_cut, after_move}
+use Rattle.tree.specs.Places.{Lookup, with_node}
+use Rattle.wants.specs.Asked.{ArePaths, HasPath, Holds, IsDemand, IsPin, IsSound, IsUnsound, promise_of}
+use Rattle.wants.specs.Rows.{Change, Demand, Location, cuts, is_same, moves, stays}
+use Rattle.steps.specs.declared.data.Begin.{Begin}
+use Rattle.steps.specs.declared.data.Begin.TheVariants.{Go, Busy, Refused}
+use Rattle.steps.specs.declared.data.Outcome.{Outcome}
+use Rattle.steps.specs.declared.data.Outcome.TheVariants.{Done, Entry, Failed}
+use Rattle.steps.specs.Answers.{Answer, Claim, Settlement, entries_in}
+use Rattle.steps.specs.Entries.{Enters, TakesAllBack, untaken_of}
+use Rattle.steps.specs.Swept.{IsSwept}
+use Rattle.steps.specs.World.{AreKept, Answered, Flight, Flights, HasRoom, IsAtWork, IsTally, Tally, Work, Working, World, with_entry}
+
+-- what the ledger gained by a step
+abbrev pub gained : World → World → List Posting
+gained old new = drop (length old.postings) new.postings
+
+-- the new nodes are these, less those that no request keeps any more
+pub record Sweeps (mid : Lookup) (new : World) : Type 0 where
+  pub kept : ℕ → Bool
+  pub keeps : AreKept new.flights kept
+  pub swept : IsSwept kept mid new.at
+
+-- ---- forget
+
+-- so much is taken from the node's count
+pub record Takes (old : World) (number amount : ℕ) (x : Node) (new : World) : Type 0 where
+  pub sweeps : Sweeps (with_node old.at number (record x { count = x.count - amount })) new
+  pub new_is : new ≡ record old { at = new.at; postings = old.postings ++ posting.Forget number x.generation amount ∷ [] }
+
+-- the smaller of n and the node's count is taken and posted, and what nothing keeps any more goes
+pub record Forgets (old : World) (number n amount : ℕ) (new : World) : Type 0 where
+  pub unknown : old.at number ≡ None → amount ≡ 0
+  pub smaller : (x : Node) → old.at number ≡ Some x → amount ≡ min n x.count
+  pub nothing : amount ≡ 0 → new ≡ old
+  pub something : (x : Node) → old.at number ≡ Some x → 0 < amount → Takes old number amount x new
+
+-- ---- begin: its tests, in order
+
+-- a request that is worked on holds a path in the way of these
+pub record HoldsUp (flights : Flights) (wanted : Held) : Type 0 where
+  pub id : ℕ
+  pub flight : Flight
+  pub work : Work
+  pub here : IsAtWork flights id flight work
+  pub clash : Clash work.held wanted
+
+pub record IsHeldUp (w : World) (d : Demand) : Type 0 where
+  pub held : Held
+  pub holds : Holds w.at d held
+  pub up : HoldsUp w.flights held
+
+-- with what is promised, the nodes or the postings would pass their limit
+pub record IsFull (w : World) (d : Demand) : Type 0 where
+  pub tally : Tally
+  pub tallied : IsTally w tally
+  pub none : HasRoom w tally (promise_of d) → ⊥
+
+-- one request more would pass the limit
+pub record IsCrowded (w : World) : Type 0 where
+  pub tally : Tally
+  pub tallied : IsTally w tally
+  pub over : w.limits.flights < tally.flights + 1
+
+-- no test refuses the row, and none is in its way
+pub record MayBegin (w : World) (d : Demand) : Type 0 where
+  pub sound : IsSound w.at d
+  pub clear : IsHeldUp w d → ⊥
+  pub room : IsFull w d → ⊥
+  pub uncrowded : IsCrowded w → ⊥
+
+-- the refusals in the order of their tests: those of the nodes alone, and want of memory, come first
+pub data IsRefusal (w : World) (d : Demand) (e : ℤ) : Type 0 where
+  unsound : IsUnsound w.at d e → IsRefusal w d e
+  full : e ≡ ENFILE → IsSound w.at d → (IsHeldUp w d → ⊥) → IsFull w d → IsRefusal w d e
+  crowded : e ≡ EAGAIN → IsSound w.at d → (IsHeldUp w d → ⊥) → (IsFull w d → ⊥) → IsCrowded w → IsRefusal w d e
+
+-- ---- begin
+
+-- the ticket tells the paths, and whether a name is moved to itself
+pub record IsTicket (at : Lookup) (d : Demand) (ticket : Claim) : Type 0 where
+  pub paths : ArePaths at d.paths ticket.paths
+  pub same : ticket.same ≡ is_same d.done
+
+-- one request more is in flight, under an id that none bore
+pub record GoesOn (old : World) (unique : ℕ) (want : Want) (d : Demand) (ticket : Claim) (new : World) : Type 0 where
+  pub fresh : old.flights ticket.id ≡ None
+  pub ticket_is : IsTicket old.at d ticket
+  pub held : Held
+  pub holds : Holds old.at d held
+  pub pins : List ℕ
+  pub pinned : (n : ℕ) → Contains pins n ↔ IsPin old.at d n
+  pub new_is : new ≡ record old {
+    flights = with_entry old.flights ticket.id (Some (record { unique = unique; stage = Working (record { want = want; row = d; held = held }); pins = pins }));
+  }
+
+abbrev pub BeginsAs : World → ℕ → Want → Demand → Begin → World → Type 0
+BeginsAs old unique want d (Go ticket) new = MayBegin old d × GoesOn old unique want d ticket new
+BeginsAs old unique want d Busy new = IsSound old.at d × IsHeldUp old d × (new ≡ old)
+BeginsAs old unique want d (Refused e) new = IsRefusal old d e × (new ≡ old)
+
+pub record Begins (old : World) (unique : ℕ) (want : Want) (answer : Begin) (new : World) : Type 0 where
+  pub demand : Demand
+  pub demanded : IsDemand old.at want demand
+  pub begins : BeginsAs old unique want demand answer new
+
+-- ---- finish: what an outcome comes to
+
+-- which names are to be given, and what becomes of names
+pub record Act : Type 0 where
+  pub found : List Bool
+  pub change : Change
+
+-- nothing is done
+abbrev pub failure : Demand → Act
+failure d = record { found = map (λ key. false) d.entries; change = stays }
+
+-- an outcome that does not fit the row acts as a failure
+abbrev pub act_of : Demand → Outcome → Act
+act_of d Failed = failure d
+act_of d Done = record (failure d) { change = d.done }
+act_of d Entry = record (failure d) { found = map (λ key. true) d.entries }
+
+-- ---- finish: entries
+
+-- a request that is worked on holds the path of the name alone
+pub record IsOwned (at : Lookup) (flights : Flights) (key : Key) : Type 0 where
+  pub path : Names
+  pub leads : IsPathOfName at key.parent key.name path
+  pub id : ℕ
+  pub flight : Flight
+  pub work : Work
+  pub here : IsAtWork flights id flight work
+  pub alone : Contains work.held.exclusive path
+
+-- each name in turn: an entry of it is given, with a birth where no node stands, if it was found and no request holds it alone
+abbrev pub EntersAll : Flights → Lookup → List Posting → List Key → List Bool → List (Option Given) → Lookup → List Posting → Type 0
+EntersAll flights at ps (key ∷ keys) (true ∷ found) (Some g ∷ given) at' ps' =
+    (IsOwned at flights key → ⊥) × ((mid : Lookup) × (qs : List Posting) × Enters at ps key.parent key.name g mid qs × EntersAll flights mid qs keys found given at' ps')
+EntersAll flights at ps (key ∷ keys) (true ∷ found) (None ∷ given) at' ps' = IsOwned at flights key × EntersAll flights at ps keys found given at' ps'
+EntersAll flights at ps (key ∷ keys) (false ∷ found) (None ∷ given) at' ps' = EntersAll flights at ps keys found given at' ps'
+EntersAll flights at ps [] [] [] at' ps' = (at' ≡ at) × (ps' ≡ ps)
+EntersAll flights at ps keys found given at' ps' = ⊥
+
+-- ---- finish: names
+
+-- what stands at the location or below is cut
+pub record Cuts (old : Lookup) (l : Location) (new : Lookup) : Type 0 where
+  pub path : Names
+  pub leads : HasPath old l path
+  pub changes : Changes (after_cut path) old new
+
+-- what stands at the source or below is moved to the target, where what stood is cut
+pub record Moves (old : Lookup) (source target : Location) (new : Lookup) : Type 0 where
+  pub path : Names
+  pub leads : HasPath old source path
+  pub new_path : Names
+  pub new_leads : HasPath old target new_path
+  pub changes : Changes (after_move path new_path) old new
+
+abbrev pub Alters : Lookup → Change → Lookup → Type 0
+Alters old stays new = new ≡ old
+Alters old (cuts l) new = Cuts old l new
+Alters old (moves source target) new = Moves old source target new
+
+-- ---- finish
+
+-- the numbers of the nodes given
+abbrev pub numbers_of : List (Option Given) → List ℕ
+numbers_of [] = []
+numbers_of (None ∷ given) = numbers_of given
+numbers_of (Some g ∷ given) = g.number ∷ numbers_of given
+
+-- the same request, answered: it holds nothing, keeps its pins, and pins what it gave
+abbrev pub answered : Flight → List (Option Given) → Flight
+answered f given = record f { stage = Answered; pins = f.pins ++ numbers_of given }
+
+-- the act comes about: entries, and then changes of names; what nothing keeps any more goes
+pub record Ends (old : World) (id : ℕ) (f : Flight) (act : Act) (entries : List Key) (answer : Answer) (new : World) : Type 0 where
+  pub answer_id : answer.id ≡ id
+  pub not_lost : answer.lost ≡ false
+  pub entered : Lookup
+  pub enters : EntersAll (with_entry old.flights id (Some (answered f []))) old.at old.postings entries act.found answer.given entered new.postings
+  pub altered : Lookup
+  pub alters : Alters entered act.change altered
+  pub sweeps : Sweeps altered new
+  pub new_is : new ≡ record old {
+    at = new.at;
+    postings = new.postings;
+    flights = with_entry old.flights id (Some (answered f answer.given));
+  }
+
+pub record Finishes (old : World) (id : ℕ) (outcome : Outcome) (answer : Answer) (new : World) : Type 0 where
+  -- a ticket that no request is worked on under
+  pub lost : ((f : Flight) (work : Work) → IsAtWork old.flights id f work → ⊥) → (answer ≡ record { id = id; given = []; lost = true }) × (new ≡ old)
+  pub found : (f : Flight) (work : Work) → IsAtWork old.flights id f work → Ends old id f (act_of work.row outcome) work.row.entries answer new
+
+-- ---- settle
+
+-- the request goes with its pins; what was not taken goes back, entries in order
+pub record EndsFor (old : World) (answer : Answer) (taken : Bool) (new : World) : Type 0 where
+  pub mid : Lookup
+  pub back : TakesAllBack old.at old.postings (untaken_of taken answer.given) mid new.postings
+  pub sweeps : Sweeps mid new
+  pub new_is : new ≡ record old {
+    at = new.at;
+    postings = new.postings;
+    flights = with_entry old.flights answer.id None;
+  }
+
+-- a request whose work has ended is in flight under the id
+pub record IsAnswered (flights : Flights) (id : ℕ) : Type 0 where
+  pub flight : Flight
+  pub here : flights id ≡ Some flight
+  pub ended : flight.stage ≡ Answered
+
+pub record Settles (old : World) (answer : Answer) (taken : Bool) (settled : Settlement) (new : World) : Type 0 where
+  pub settled_is : settled ≡ record { id = answer.id; entries = entries_in answer.given; taken = taken }
+  pub lost : answer.lost ≡ true → new ≡ old
+  pub unknown : (IsAnswered old.flights answer.id → ⊥) → new ≡ old
+  pub found : answer.lost ≡ false → IsAnswered old.flights answer.id → EndsFor old answer taken new

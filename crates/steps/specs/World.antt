@@ -1,0 +1,159 @@
+-- All that a table keeps, and the law of it. No number stands here that the rest already fixes: what the limits are judged
+-- by is added up over what stands.
+use Rattle.std.specs.Prelude.{ℕ, ℤ, ◌+◌, ◌≤◌, ◌≡◌, ◌≢◌, ◌==◌, ◌↔◌, ◌⊎◌, Bool, true, if◌then◌else◌, List, [], Option, Some, None, All, AllPairs, Contains, IsSome, length, sum_by, option_map, unwrap_or}
+use Rattle.holds.specs.declared.held.Held.{Held}
+use Rattle.holds.specs.Clashes.{Clash}
+use Rattle.ledger.specs.declared.postings.Posting.{Posting}
+use Rattle.flights.specs.declared.data.Promise.{Promise}
+use Rattle.flights.specs.declared.data.Want.{Want}
+use Rattle.tree.specs.declared.nodes.Key.{Key}
+use Rattle.tree.specs.Places.{Lookup, IsNamed, no_nodes, root_node, with_node}
+use Rattle.image.specs.Law.{IsLawful, IsLead}
+use Rattle.steps.specs.declared.data.Limits.{Limits}
+use Rattle.wants.specs.Asked.{Holds, IsMisplaced, promise_of}
+use Rattle.wants.specs.Rows.{Case, Demand, row_of}
+
+-- ---- what a table keeps
+
+-- what is still to do for a request: its row is that of its want when it began
+pub record Work : Type 0 where
+  pub want : Want
+  pub row : Demand
+  pub held : Held
+
+pub data Stage : Type 0 where
+  Working : Work → Stage
+  Answered : Stage
+
+pub record Flight : Type 0 where
+  -- the number that the client gave the request
+  pub unique : ℕ
+  pub stage : Stage
+  pub pins : List ℕ
+
+-- requests by their ids
+abbrev pub Flights : Type 0
+Flights = ℕ → Option Flight
+
+pub record World : Type 0 where
+  -- nodes by their numbers, with their lookup counts and hidden marks
+  pub at : Lookup
+  -- the ledger: all postings, the oldest first
+  pub postings : List Posting
+  pub flights : Flights
+  pub limits : Limits
+
+-- the same look-up, but that the key leads to x, or to none
+abbrev pub with_entry : {X : Type 0} → (ℕ → Option X) → ℕ → Option X → ℕ → Option X
+with_entry at key x = λ k. if key == k then x else at k
+
+abbrev pub no_flights : Flights
+no_flights id = None
+
+-- ---- what keeps a node alive besides the tree
+
+-- a request pins the number
+pub record IsPinned (flights : Flights) (n : ℕ) : Type 0 where
+  pub id : ℕ
+  pub flight : Flight
+  pub here : flights id ≡ Some flight
+  pub pin : Contains flight.pins n
+
+-- the numbers that are pinned
+abbrev pub AreKept : Flights → (ℕ → Bool) → Type 0
+AreKept flights kept = (n : ℕ) → (kept n ≡ true) ↔ IsPinned flights n
+
+-- ---- what stands, added up
+
+-- what all that a look-up finds weighs together: each key counts once
+pub record IsSum {X : Type 0} (at : ℕ → Option X) (weight : X → ℕ) (total : ℕ) : Type 0 where
+  pub keys : List ℕ
+  pub apart : AllPairs (λ j k. j ≢ k) keys
+  pub exact : (k : ℕ) → Contains keys k ↔ IsSome (at k)
+  pub total_is : total ≡ sum_by (λ k. unwrap_or (option_map weight (at k)) 0) keys
+
+-- what is promised to a request that is worked on
+abbrev pub promised_to : Stage → Promise
+promised_to (Working work) = promise_of work.row
+promised_to Answered = record { nodes = 0; postings = 0 }
+
+pub record Tally : Type 0 where
+  -- living nodes with the root, and their lookup counts
+  pub living : ℕ
+  pub counts : ℕ
+  -- requests in flight, and what is promised to them
+  pub flights : ℕ
+  pub promised : Promise
+
+pub record IsTally (w : World) (t : Tally) : Type 0 where
+  pub living : IsSum w.at (λ x. 1) t.living
+  pub counts : IsSum w.at (λ x. x.count) t.counts
+  pub flights : IsSum w.flights (λ f. 1) t.flights
+  pub nodes : IsSum w.flights (λ f. (promised_to f.stage).nodes) t.promised.nodes
+  pub postings : IsSum w.flights (λ f. (promised_to f.stage).postings) t.promised.postings
+
+-- beside what stands and what is promised there is room for this: each lookup count may be forgotten one by one
+pub record HasRoom (w : World) (t : Tally) (p : Promise) : Type 0 where
+  pub nodes : t.living + t.promised.nodes + p.nodes ≤ w.limits.nodes
+  pub postings : length w.postings + t.counts + t.promised.postings + p.postings ≤ w.limits.postings
+
+-- what stands and what is promised keeps within the limits
+pub record IsWithin (w : World) : Type 0 where
+  pub tally : Tally
+  pub tallied : IsTally w tally
+  pub room : HasRoom w tally (record { nodes = 0; postings = 0 })
+  pub flights : tally.flights ≤ w.limits.flights
+
+-- ---- what a request that is worked on may rely on
+
+-- the request is worked on under the id
+pub record IsAtWork (flights : Flights) (id : ℕ) (f : Flight) (work : Work) : Type 0 where
+  pub here : flights id ≡ Some f
+  pub working : f.stage ≡ Working work
+
+-- the node that stands at the name is pinned
+pub record IsStanding (at : Lookup) (f : Flight) (key : Key) : Type 0 where
+  pub number : ℕ
+  pub named : IsNamed at number key.parent key.name
+  pub pin : Contains f.pins number
+
+pub record IsReady (at : Lookup) (f : Flight) (work : Work) : Type 0 where
+  -- its row is one of its want
+  pub case : Case
+  pub row : work.row ≡ row_of work.want case
+  -- what it holds is what its row says, as the nodes stand
+  pub holds : Holds at work.row work.held
+  pub pinned : (n : ℕ) → Contains work.row.given n → Contains f.pins n
+  -- a birth was promised for each of its names, or a node stands there
+  pub names : (work.row.births ≡ length work.row.entries) ⊎ All (IsStanding at f) work.row.entries
+  pub placed : (e : ℤ) → IsMisplaced at work.row.done e → ⊥
+
+-- ---- the law
+
+pub record AreHeld (at : Lookup) (flights : Flights) : Type 0 where
+  -- no two that are worked on clash
+  pub apart : (j k : ℕ) (f g : Flight) (v work : Work) → IsAtWork flights j f v → IsAtWork flights k g work → j ≢ k → Clash v.held work.held → ⊥
+  -- the paths given still lead to their nodes, and each nonempty prefix of them is held
+  pub known : (id : ℕ) (f : Flight) (work : Work) → IsAtWork flights id f work → All (IsLead at work.held) work.held.given
+
+-- each request that is worked on has what it relies on, by its want
+abbrev pub AreReady : Lookup → Flights → Type 0
+AreReady at flights = (id : ℕ) (f : Flight) (work : Work) → IsAtWork flights id f work → IsReady at f work
+
+pub record IsLawfulWorld (w : World) : Type 0 where
+  pub kept : ℕ → Bool
+  pub keeps : AreKept w.flights kept
+  pub law : IsLawful w.at w.postings kept
+  pub held : AreHeld w.at w.flights
+  pub ready : AreReady w.at w.flights
+  pub within : IsWithin w
+
+-- ---- a table of the root alone
+
+abbrev pub opened_world : Limits → World
+opened_world limits = record {
+  at = with_node no_nodes 1 root_node;
+  postings = [];
+  flights = no_flights;
+  limits = limits;
+}
