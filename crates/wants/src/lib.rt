@@ -5,7 +5,7 @@ mod data;
 
 ghost use Rattle.std.specs.Prelude.{IfOk, IfErr};
 ghost use Rattle.tree.specs.Places.{at_in};
-ghost use Rattle.wants.specs.Laws.{AreDemandsFixed};
+ghost use Rattle.wants.specs.Laws.{AreDemandsFixed, AreRows};
 ghost use Rattle.wants.specs.Plans.{IsPlan, IsRefusedPlan};
 
 pub use data::Plan;
@@ -16,6 +16,11 @@ use tree::Tree;
 /// A want asks for one row, as the nodes stand.
 pub fn demands_are_fixed()
     ensures { AreDemandsFixed }
+{}
+
+/// Each row has its locations at or under the nodes that it names, covers their paths, and holds alone the names that change.
+pub fn rows_are_grounded()
+    ensures { AreRows }
 {}
 
 /// What a request with that want is to be recorded with, if the tests of the nodes alone allow it: that each node it names has a path,
