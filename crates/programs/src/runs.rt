@@ -2,7 +2,6 @@
 
 ghost use Rattle.std.specs.Prelude.{◌≡◌};
 ghost use Rattle.std.specs.Io.KnownBytes.{Keeps};
-ghost use Rattle.ledger.specs.Shares.{AreAll};
 ghost use Rattle.programs.specs.Running.{RunsHex, ServesHex, ServesLink};
 ghost use Rattle.programs.specs.Sessions.{exit_of, fault_of, IsEnding, IsStatus};
 
@@ -12,34 +11,24 @@ use crate::links::Link;
 use crate::samples::new_tree;
 use crate::sessions::{Session, SessionEnd};
 use backing::{Calls, MemTree};
-use ledger::{Blanks, Shared};
+use ledger::{Blanks, Ledgers};
 use std::alloc::Global;
 use std::io::{BufRead, Write};
 use std::marker::Brand;
-use std::sync::ledger as tokens;
 use table::{Limits, Table};
 
 /// How many nodes may live at once, with the root (own).
 const NODES: u64 = 65_536;
 
 /// Serves a tree over a link with a table of its own, of one share.
-fn serve<
-    B: Shared,
-    E: tokens::Ledger,
-    K: tokens::Ledger,
-    F: tokens::Ledger,
-    L: Link,
-    D: Calls + Drop,
->(alloc: Global, blanks: Blanks, tree: D, link: &mut L) -> SessionEnd
-    requires names { blanks ≡ record {
-      born = B.name;
-      entries = E.name;
-      backs = K.name;
-      forgotten = F.name;
-      parts = 1;
-    } }
-    requires cut { AreAll 1 B.parts E.parts K.parts F.parts }
-    requires shares { B.shares ≡ 1 }
+fn serve<T: Ledgers, L: Link, D: Calls + Drop>(
+    alloc: Global,
+    blanks: Blanks,
+    tree: D,
+    link: &mut L,
+) -> SessionEnd
+    requires names { blanks ≡ T.names }
+    requires shares { T.names.parts ≡ 1 }
     ensures serves { ServesLink L.receives L.sends D.gives tree link.old result link.new }
     ensures ending { IsEnding result }
 {
@@ -47,7 +36,7 @@ fn serve<
         nodes: NODES,
         ..Limits::default()
     };
-    let opened = Table::<B, E, K, F>::open(alloc, limits, blanks, 1);
+    let opened = Table::<T>::open(alloc, limits, blanks, 1);
     let Ok((table, mut shares)) = opened else {
         return SessionEnd::Memory;
     };
@@ -96,7 +85,7 @@ fn serve_new<I: BufRead + Drop, O: Write + Drop>(
     let Ok(tree) = new_tree(alloc, sample) else {
         return SessionEnd::Memory;
     };
-    serve::<Brand, Brand, Brand, Brand, HexLink<I, O>, MemTree>(alloc, Blanks::new(1), tree, link)
+    serve::<Brand, HexLink<I, O>, MemTree>(alloc, Blanks::new(1), tree, link)
 }
 
 /// Serves a tree in memory over hexadecimal lines: the program `hex` but for its command line. Answers its exit status.

@@ -13,10 +13,9 @@ use crate::links::{Link, Received, Sent};
 use backing::{Call, Calls};
 use errno::{EAGAIN, EIO, ENOENT, ENOMEM};
 use flights::{Given, Want};
-use ledger::{Share, Shared};
+use ledger::{Ledgers, Share};
 use paths::Name;
 use std::alloc::Global;
-use std::sync::ledger as tokens;
 use table::{Answered, Begin, Outcome, Table, Ticket};
 use wire::{
     Attributes, CutFault, Cutter, Entry, HEADER_LEN, Operation, Reply, ReplyBody, WireFault,
@@ -131,28 +130,17 @@ fn refuse_frame<L: Link>(link: &mut L, frame: &[u8], fault: WireFault) -> Option
 
 /// A table that is served by one thread. It must be spent by `end`.
 #[must_use]
-pub struct Session<B: Shared, E: tokens::Ledger, K: tokens::Ledger, F: tokens::Ledger, D: Calls> {
+pub struct Session<T: Ledgers, D: Calls> {
     alloc: Global,
     tree: D,
-    table: Table<B, E, K, F>,
-    share: Share<B, E, K, F>,
+    table: Table<T>,
+    share: Share<T>,
     reply: Vec<u8>,
 }
 
-impl<B: Shared, E: tokens::Ledger, K: tokens::Ledger, F: tokens::Ledger, D: Calls> Session<
-    B,
-    E,
-    K,
-    F,
-    D,
-> {
+impl<T: Ledgers, D: Calls> Session<T, D> {
     /// Serves the tree with a table, whose postings the share counts.
-    pub fn new(
-        alloc: Global,
-        tree: D,
-        table: Table<B, E, K, F>,
-        share: Share<B, E, K, F>,
-    ) -> Session<B, E, K, F, D>
+    pub fn new(alloc: Global, tree: D, table: Table<T>, share: Share<T>) -> Session<T, D>
         ensures table { result.table ≡ table }
         ensures share { result.share ≡ share }
         ensures tree { result.tree ≡ tree }
@@ -167,7 +155,7 @@ impl<B: Shared, E: tokens::Ledger, K: tokens::Ledger, F: tokens::Ledger, D: Call
     }
 
     /// Hands the table, the share and the tree back.
-    pub fn end(self) -> (Table<B, E, K, F>, Share<B, E, K, F>, D)
+    pub fn end(self) -> (Table<T>, Share<T>, D)
         ensures table { result.0 ≡ self.table }
         ensures share { result.1 ≡ self.share }
         ensures tree { result.2 ≡ self.tree }

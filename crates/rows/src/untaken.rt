@@ -1,14 +1,12 @@
 //! A client that does not take its first reply.
 
 ghost use Rattle.std.specs.Prelude.{◌≡◌};
-ghost use Rattle.ledger.specs.Shares.{AreAll};
 
 use crate::frames::{ENTRY_E_REBORN, LOOKUP_A, LOOKUP_E, lines_of};
-use ledger::{Blanks, Shared, Totals};
+use ledger::{Blanks, Ledgers, Totals};
 use programs::{Link, Received, Sent, Session, SessionEnd, new_tree};
 use std::alloc::{AllocError, Global};
 use std::marker::Brand;
-use std::sync::ledger as tokens;
 use std::test::Fail;
 use table::{Limits, Table};
 
@@ -59,21 +57,20 @@ struct Left {
 }
 
 // Serves the sample names to a client that is choosy.
-fn serve_choosy<B: Shared, E: tokens::Ledger, K: tokens::Ledger, F: tokens::Ledger>(
+fn serve_choosy<L: Ledgers>(
     alloc: Global,
     blanks: Blanks,
     mut client: Choosy,
 ) -> Result<Left, AllocError>
-    requires names { blanks ≡ record { born = B.name; entries = E.name; backs = K.name; forgotten = F.name; parts = 1 } }
-    requires cut { AreAll 1 B.parts E.parts K.parts F.parts }
-    requires shares { B.shares ≡ 1 }
+    requires names { blanks ≡ L.names }
+    requires shares { L.names.parts ≡ 1 }
 {
     let tree = new_tree(alloc, true)?;
     let limits = Limits {
         nodes: 4,
         ..Limits::default()
     };
-    let (table, mut shares) = Table::<B, E, K, F>::open(alloc, limits, blanks, 1)?;
+    let (table, mut shares) = Table::<L>::open(alloc, limits, blanks, 1)?;
     let share = shares.pop().unwrap();
     shares.destroy_empty();
     let mut session = Session::new(alloc, tree, table, share);
@@ -105,7 +102,7 @@ fn untaken_lookup(rt: HostRuntime) -> Result<(), Fail> {
         sends: 0,
         taken: Vec::new(alloc),
     };
-    let left = serve_choosy::<Brand, Brand, Brand, Brand>(alloc, Blanks::new(1), client)?;
+    let left = serve_choosy::<Brand>(alloc, Blanks::new(1), client)?;
     let totals = Totals {
         born: 2,
         entries: 2,

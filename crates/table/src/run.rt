@@ -13,9 +13,8 @@ use crate::data::{Answered, Begin, Outcome, Settled};
 use crate::hand::{Begun, Hand, copy_of};
 use crate::table::Table;
 use flights::Want;
-use ledger::{Share, Shared};
+use ledger::{Ledgers, Share};
 use std::alloc::AllocError;
-use std::sync::ledger as tokens;
 
 /// One call. A ticket and an answer are named by their place in the hand.
 #[derive(Drop)]
@@ -49,7 +48,7 @@ pub enum Told {
     Forgot(u64),
 }
 
-impl<B: Shared, E: tokens::Ledger, K: tokens::Ledger, F: tokens::Ledger> Table<B, E, K, F> {
+impl<L: Ledgers> Table<L> {
     /// Takes up a request, with room for its ticket.
     fn begin_into(
         &mut self,
@@ -76,7 +75,7 @@ impl<B: Shared, E: tokens::Ledger, K: tokens::Ledger, F: tokens::Ledger> Table<B
     /// Ends the work on the request of the ticket at that place, with room for its answer.
     fn finish_at(
         &mut self,
-        share: &mut Share<B, E, K, F>,
+        share: &mut Share<L>,
         tickets: &mut Vec<Begun>,
         answers: &mut Vec<Answered>,
         place: usize,
@@ -100,7 +99,7 @@ impl<B: Shared, E: tokens::Ledger, K: tokens::Ledger, F: tokens::Ledger> Table<B
     /// Ends the request of the answer at that place.
     fn settle_at(
         &mut self,
-        share: &mut Share<B, E, K, F>,
+        share: &mut Share<L>,
         answers: &mut Vec<Answered>,
         place: usize,
         taken: bool,
@@ -119,7 +118,7 @@ impl<B: Shared, E: tokens::Ledger, K: tokens::Ledger, F: tokens::Ledger> Table<B
     /// Makes one call.
     fn make(
         &mut self,
-        share: &mut Share<B, E, K, F>,
+        share: &mut Share<L>,
         hand: &mut Hand,
         call: Call,
     ) -> Result<Told, AllocError>
@@ -147,7 +146,7 @@ impl<B: Shared, E: tokens::Ledger, K: tokens::Ledger, F: tokens::Ledger> Table<B
     /// Makes one call on what is in hand. A refused growth changes nothing.
     pub fn call(
         &mut self,
-        share: &mut Share<B, E, K, F>,
+        share: &mut Share<L>,
         hand: &mut Hand,
         call: Call,
     ) -> Result<Told, AllocError>
@@ -167,7 +166,7 @@ impl<B: Shared, E: tokens::Ledger, K: tokens::Ledger, F: tokens::Ledger> Table<B
     /// Makes all calls in order. Where a growth is refused, the calls before it stand.
     pub fn run(
         &mut self,
-        share: &mut Share<B, E, K, F>,
+        share: &mut Share<L>,
         hand: &mut Hand,
         calls: Vec<Call>,
     ) -> Result<(), AllocError>

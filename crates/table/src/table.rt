@@ -2,7 +2,7 @@
 
 ghost use Rattle.std.specs.Prelude.{◌≡◌, ◌≤◌, ◌<◌, ◌↔◌, ◌++◌, ◌^◌, ℕ, IfOk, IsErr, map, vec_len, length, take, drop};
 ghost use Rattle.std.specs.List.{range_with_len};
-ghost use Rattle.ledger.specs.Shares.{AreAll, nothing, plus, sum_of};
+ghost use Rattle.ledger.specs.Shares.{nothing, plus, sum_of};
 ghost use Rattle.ledger.specs.Sums.{totals_of};
 ghost use Rattle.image.specs.Law.{IsLawfulImage};
 ghost use Rattle.table.specs.Exports.{Exports};
@@ -13,20 +13,18 @@ use crate::data::{Answered, Begin, Limits, Outcome, Settled, Ticket};
 use crate::state::State;
 use flights::Want;
 use image::Image;
-use ledger::{Blanks, Book, Gather, Ledger, Share, Shared, Totals};
+use ledger::{Blanks, Book, Gather, Ledger, Ledgers, Share, Totals};
 use std::alloc::{AllocError, Global};
 use std::marker::Model;
-use std::sync::ledger as tokens;
 
-/// The state that all workers share, under one lock. Its type parameters name the four ledgers of its book.
+/// The state that all workers share, under one lock. Its type parameter names the four ledgers of its book.
 #[derive(Drop)]
-pub struct Table<B: Shared, E: tokens::Ledger, K: tokens::Ledger, F: tokens::Ledger> {
+pub struct Table<L: Ledgers> {
     state: State,
-    book: Book<B, E, K, F>,
+    book: Book<L>,
 }
 
-impl<B: Shared, E: tokens::Ledger, K: tokens::Ledger, F: tokens::Ledger> Model
-    for Table<B, E, K, F> {
+impl<L: Ledgers> Model for Table<L> {
     ghost use Rattle.std.specs.Prelude.{◌≡◌};
     ghost use Rattle.ledger.specs.Sums.{totals_of};
     ghost use Rattle.table.specs.declared.state.State.{State};
@@ -46,12 +44,7 @@ impl<B: Shared, E: tokens::Ledger, K: tokens::Ledger, F: tokens::Ledger> Model
 }
 
 /// Counts the postings from a place on for the worker that has the share.
-fn post_since<B: Shared, E: tokens::Ledger, K: tokens::Ledger, F: tokens::Ledger>(
-    ledger: &Ledger,
-    book: &mut Book<B, E, K, F>,
-    share: &mut Share<B, E, K, F>,
-    made: usize,
-)
+fn post_since<L: Ledgers>(ledger: &Ledger, book: &mut Book<L>, share: &mut Share<L>, made: usize)
     requires within { made ≤ length ledger.now.made }
     requires short { length ledger.now.made < 2 ^ 64 }
     requires so_far { book.old ≡ totals_of (take made ledger.now.made) }
@@ -64,17 +57,16 @@ fn post_since<B: Shared, E: tokens::Ledger, K: tokens::Ledger, F: tokens::Ledger
     }
 }
 
-impl<B: Shared, E: tokens::Ledger, K: tokens::Ledger, F: tokens::Ledger> Table<B, E, K, F> {
+impl<L: Ledgers> Table<L> {
     /// A table of the root alone, and a share for each of its workers. A refused growth gives nothing.
     pub fn open(
         alloc: Global,
         limits: Limits,
         blanks: Blanks,
         workers: usize,
-    ) -> Result<(Table<B, E, K, F>, Vec<Share<B, E, K, F>>), AllocError>
-        requires names { blanks ≡ record { born = B.name; entries = E.name; backs = K.name; forgotten = F.name; parts = workers } }
-        requires cut { AreAll workers B.parts E.parts K.parts F.parts }
-        requires shares { workers ≡ B.shares }
+    ) -> Result<(Table<L>, Vec<Share<L>>), AllocError>
+        requires names { blanks ≡ L.names }
+        requires shares { workers ≡ L.names.parts }
         requires root { 1 ≤ limits.nodes }
         ensures opened { IfOk result (λ (table, _). IsOpened limits (world_of table)) }
         ensures lawful { IfOk result (λ (table, _). IsLawfulWorld (world_of table)) }
@@ -103,12 +95,7 @@ impl<B: Shared, E: tokens::Ledger, K: tokens::Ledger, F: tokens::Ledger> Table<B
     }
 
     /// Ends the work on a request. It takes no memory.
-    pub fn finish(
-        &mut self,
-        share: &mut Share<B, E, K, F>,
-        ticket: Ticket,
-        outcome: Outcome,
-    ) -> Answered
+    pub fn finish(&mut self, share: &mut Share<L>, ticket: Ticket, outcome: Outcome) -> Answered
         ensures finishes { Finishes (world_of self.old) ticket.id outcome result (world_of self.new) }
         ensures lawful { IsLawfulWorld (world_of self.new) }
         ensures grows { (world_of self.new).postings ≡ (world_of self.old).postings ++ gained (world_of self.old) (world_of self.new) }
@@ -121,12 +108,7 @@ impl<B: Shared, E: tokens::Ledger, K: tokens::Ledger, F: tokens::Ledger> Table<B
     }
 
     /// Ends a request whose reply was taken, or was not. It takes no memory.
-    pub fn settle(
-        &mut self,
-        share: &mut Share<B, E, K, F>,
-        answered: Answered,
-        taken: bool,
-    ) -> Settled
+    pub fn settle(&mut self, share: &mut Share<L>, answered: Answered, taken: bool) -> Settled
         ensures settles { Settles (world_of self.old) answered taken result (world_of self.new) }
         ensures lawful { IsLawfulWorld (world_of self.new) }
         ensures grows { (world_of self.new).postings ≡ (world_of self.old).postings ++ gained (world_of self.old) (world_of self.new) }
@@ -139,7 +121,7 @@ impl<B: Shared, E: tokens::Ledger, K: tokens::Ledger, F: tokens::Ledger> Table<B
     }
 
     /// The client gives `n` lookups of a node back: the smaller of `n` and its count is taken, and told. It takes no memory.
-    pub fn forget(&mut self, share: &mut Share<B, E, K, F>, number: u64, n: u64) -> u64
+    pub fn forget(&mut self, share: &mut Share<L>, number: u64, n: u64) -> u64
         ensures forgets { Forgets (world_of self.old) number n result (world_of self.new) }
         ensures lawful { IsLawfulWorld (world_of self.new) }
         ensures grows { (world_of self.new).postings ≡ (world_of self.old).postings ++ gained (world_of self.old) (world_of self.new) }
@@ -160,9 +142,8 @@ impl<B: Shared, E: tokens::Ledger, K: tokens::Ledger, F: tokens::Ledger> Table<B
     }
 
     /// Adds up the shares. Where none is missing, their sum is what the ledger holds. The table and the shares are used up.
-    pub fn gather(self, shares: Vec<Share<B, E, K, F>>) -> Result<Totals, Gather>
-        requires { AreAll B.shares B.parts E.parts K.parts F.parts }
-        ensures missing { IsErr result ↔ (vec_len shares < B.shares) }
+    pub fn gather(self, shares: Vec<Share<L>>) -> Result<Totals, Gather>
+        ensures missing { IsErr result ↔ (vec_len shares < L.names.parts) }
         ensures sums { IfOk result (λ totals. totals ≡ sum_of shares.items) }
         ensures ledger { IfOk result (λ totals. totals ≡ totals_of (world_of self).postings) }
     {

@@ -1,16 +1,14 @@
 //! A table with two shares, and the tickets and answers that a test has not spent yet.
 
 ghost use Rattle.std.specs.Prelude.{◌≡◌, ◌≤◌};
-ghost use Rattle.ledger.specs.Shares.{AreAll};
 
 use flights::{Given, Want};
 use image::Image;
-use ledger::{Blanks, Gather, Share, Shared, Totals};
+use ledger::{Blanks, Gather, Ledgers, Share, Totals};
 use paths::Name;
 use std::alloc::Global;
 use std::marker::Brand;
 use std::process::Abort;
-use std::sync::ledger as tokens;
 use std::test::Fail;
 use table::{Answered, Begin, Limits, Outcome, Settled, Table, Ticket};
 
@@ -63,10 +61,10 @@ impl Gave {
 pub struct Gathered(pub Result<Totals, Gather>);
 
 /// A table at work, with two shares.
-pub struct Desk<B: Shared, E: tokens::Ledger, K: tokens::Ledger, F: tokens::Ledger> {
+pub struct Desk<L: Ledgers> {
     pub alloc: Global,
-    pub table: Table<B, E, K, F>,
-    pub shares: Vec<Share<B, E, K, F>>,
+    pub table: Table<L>,
+    pub shares: Vec<Share<L>>,
     pub tickets: Vec<Ticket>,
     pub answers: Vec<Answered>,
 }
@@ -78,7 +76,7 @@ pub fn keep<T>(rt: &impl Abort, values: &mut Vec<T>, value: T) {
     }
 }
 
-impl<B: Shared, E: tokens::Ledger, K: tokens::Ledger, F: tokens::Ledger> Desk<B, E, K, F> {
+impl<L: Ledgers> Desk<L> {
     /// Begins a request, and keeps its ticket as the last one.
     pub fn ask(&mut self, rt: &impl Abort, unique: u64, want: Want) -> Asked {
         match self.table.begin(unique, want) {
@@ -186,9 +184,7 @@ impl<B: Shared, E: tokens::Ledger, K: tokens::Ledger, F: tokens::Ledger> Desk<B,
     }
 
     /// Spends all that is left, and gathers the shares.
-    pub fn end(self, rt: &impl Abort) -> Gathered
-        requires { AreAll B.shares B.parts E.parts K.parts F.parts }
-    {
+    pub fn end(self, rt: &impl Abort) -> Gathered {
         let Desk {
             alloc: _,
             table,
@@ -208,14 +204,10 @@ impl<B: Shared, E: tokens::Ledger, K: tokens::Ledger, F: tokens::Ledger> Desk<B,
 
 /// What is done with a table, whatever ledgers its book stands on.
 pub trait Story {
-    fn tell<B: Shared, E: tokens::Ledger, K: tokens::Ledger, F: tokens::Ledger, R: Abort>(
-        &mut self,
-        rt: &R,
-        desk: &mut Desk<B, E, K, F>,
-    );
+    fn tell<L: Ledgers, R: Abort>(&mut self, rt: &R, desk: &mut Desk<L>);
 }
 
-fn tell_on<S: Story, R: Abort, B: Shared, E: tokens::Ledger, K: tokens::Ledger, F: tokens::Ledger>(
+fn tell_on<S: Story, R: Abort, L: Ledgers>(
     rt: &R,
     alloc: Global,
     limits: Limits,
@@ -223,11 +215,10 @@ fn tell_on<S: Story, R: Abort, B: Shared, E: tokens::Ledger, K: tokens::Ledger, 
     story: &mut S,
 ) -> Result<Gathered, Fail>
     requires root { 1 ≤ limits.nodes }
-    requires names { blanks ≡ record { born = B.name; entries = E.name; backs = K.name; forgotten = F.name; parts = 2 } }
-    requires cut { AreAll 2 B.parts E.parts K.parts F.parts }
-    requires shares { B.shares ≡ 2 }
+    requires names { blanks ≡ L.names }
+    requires shares { L.names.parts ≡ 2 }
 {
-    let (table, shares) = Table::<B, E, K, F>::open(alloc, limits, blanks, 2)?;
+    let (table, shares) = Table::<L>::open(alloc, limits, blanks, 2)?;
     let mut desk = Desk {
         alloc,
         table,
@@ -247,5 +238,5 @@ pub fn tell<S: Story, R: Abort>(
     story: &mut S,
 ) -> Result<Gathered, Fail> {
     assert!(rt; 1 <= limits.nodes);
-    tell_on::<S, R, Brand, Brand, Brand, Brand>(rt, alloc, limits, Blanks::new(2), story)
+    tell_on::<S, R, Brand>(rt, alloc, limits, Blanks::new(2), story)
 }

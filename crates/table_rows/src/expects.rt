@@ -2,11 +2,10 @@
 
 use crate::desk::{Asked, Desk, Gave};
 use image::Image;
-use ledger::Shared;
+use ledger::Ledgers;
 use paths::{Name, Path};
 use std::alloc::{AllocError, Global};
 use std::process::Abort;
-use std::sync::ledger as tokens;
 use table::Outcome;
 use tree::{Node, Place};
 
@@ -83,10 +82,7 @@ pub fn expect_many(rt: &impl Abort, image: &Image, nodes: usize, records: usize)
 }
 
 /// Node 2 is the folder `d`, and node 3 is `x` in it, with an entry each.
-pub fn give_folder<B: Shared, E: tokens::Ledger, K: tokens::Ledger, F: tokens::Ledger>(
-    rt: &impl Abort,
-    desk: &mut Desk<B, E, K, F>,
-) {
+pub fn give_folder<L: Ledgers>(rt: &impl Abort, desk: &mut Desk<L>) {
     assert_eq!(rt; desk.look_up(rt, "d", true), Gave::entry(2, 0));
     assert_eq!(rt; desk.name(rt, 2, "x"), Asked::Go);
     assert_eq!(rt; desk.finish(rt, 0, 0, Outcome::Entry), Gave::entry(3, 0));
@@ -95,11 +91,7 @@ pub fn give_folder<B: Shared, E: tokens::Ledger, K: tokens::Ledger, F: tokens::L
 }
 
 /// The path of the last ticket has these names.
-pub fn expect_path<B: Shared, E: tokens::Ledger, K: tokens::Ledger, F: tokens::Ledger>(
-    rt: &impl Abort,
-    desk: &Desk<B, E, K, F>,
-    expected: &[&str],
-) {
+pub fn expect_path<L: Ledgers>(rt: &impl Abort, desk: &Desk<L>, expected: &[&str]) {
     let ticket = desk.tickets.last().expect(rt, "a request was begun");
     let names = ticket.path().names();
     assert_eq!(rt; names.len(), expected.len());

@@ -6,9 +6,8 @@ use crate::expects::{
 };
 use errno::{EAGAIN, ENFILE, ESTALE};
 use image::Stage;
-use ledger::Shared;
+use ledger::Ledgers;
 use std::process::Abort;
-use std::sync::ledger as tokens;
 use std::test::Fail;
 use table::{Limits, Outcome};
 
@@ -16,11 +15,7 @@ use table::{Limits, Outcome};
 struct OrderOfTests;
 
 impl Story for OrderOfTests {
-    fn tell<B: Shared, E: tokens::Ledger, K: tokens::Ledger, F: tokens::Ledger, R: Abort>(
-        &mut self,
-        rt: &R,
-        desk: &mut Desk<B, E, K, F>,
-    ) {
+    fn tell<L: Ledgers, R: Abort>(&mut self, rt: &R, desk: &mut Desk<L>) {
         assert_eq!(rt; desk.remove(rt, ROOT, "a"), Asked::Go);
         assert_eq!(rt; desk.name(rt, ROOT, "e"), Asked::Refused(EAGAIN));
         assert_eq!(rt; desk.remove(rt, ROOT, "e"), Asked::Refused(EAGAIN));
@@ -49,11 +44,7 @@ fn order_of_tests(rt: HostRuntime) -> Result<(), Fail> {
 struct BusyBeforeNodes;
 
 impl Story for BusyBeforeNodes {
-    fn tell<B: Shared, E: tokens::Ledger, K: tokens::Ledger, F: tokens::Ledger, R: Abort>(
-        &mut self,
-        rt: &R,
-        desk: &mut Desk<B, E, K, F>,
-    ) {
+    fn tell<L: Ledgers, R: Abort>(&mut self, rt: &R, desk: &mut Desk<L>) {
         assert_eq!(rt;
             desk.remove(rt, ROOT, "a"),
             Asked::Go,
@@ -84,10 +75,7 @@ struct LookupWaits {
 
 impl LookupWaits {
     /// Node 2 is cut, and a lookup of `a` was promised the third node.
-    fn after_done<B: Shared, E: tokens::Ledger, K: tokens::Ledger, F: tokens::Ledger, R: Abort>(
-        rt: &R,
-        desk: &mut Desk<B, E, K, F>,
-    ) {
+    fn after_done<L: Ledgers, R: Abort>(rt: &R, desk: &mut Desk<L>) {
         assert_eq!(rt; desk.finish(rt, 0, 0, Outcome::Done), Gave::Empty);
         expect_cut(rt, &desk.image(rt), 2, 1);
         assert_eq!(rt; desk.node(rt, 2), Asked::Refused(ESTALE));
@@ -105,10 +93,7 @@ impl LookupWaits {
     }
 
     /// Node 2 stands as before, and a lookup of `a` needs no other.
-    fn after_failed<B: Shared, E: tokens::Ledger, K: tokens::Ledger, F: tokens::Ledger, R: Abort>(
-        rt: &R,
-        desk: &mut Desk<B, E, K, F>,
-    ) {
+    fn after_failed<L: Ledgers, R: Abort>(rt: &R, desk: &mut Desk<L>) {
         assert_eq!(rt; desk.finish(rt, 0, 0, Outcome::Failed), Gave::Empty);
         expect_named(rt, &desk.image(rt), 2, 1);
         assert_eq!(rt; desk.name(rt, ROOT, "a"), Asked::Go);
@@ -126,11 +111,7 @@ impl LookupWaits {
 }
 
 impl Story for LookupWaits {
-    fn tell<B: Shared, E: tokens::Ledger, K: tokens::Ledger, F: tokens::Ledger, R: Abort>(
-        &mut self,
-        rt: &R,
-        desk: &mut Desk<B, E, K, F>,
-    ) {
+    fn tell<L: Ledgers, R: Abort>(&mut self, rt: &R, desk: &mut Desk<L>) {
         assert_eq!(rt; desk.look_up(rt, "a", true), Gave::entry(2, 0));
         assert_eq!(rt; desk.remove(rt, ROOT, "a"), Asked::Go);
         let before = desk.image(rt);
@@ -166,11 +147,7 @@ fn lookup_waits_for_remove(rt: HostRuntime) -> Result<(), Fail> {
 struct RemoveWaits;
 
 impl Story for RemoveWaits {
-    fn tell<B: Shared, E: tokens::Ledger, K: tokens::Ledger, F: tokens::Ledger, R: Abort>(
-        &mut self,
-        rt: &R,
-        desk: &mut Desk<B, E, K, F>,
-    ) {
+    fn tell<L: Ledgers, R: Abort>(&mut self, rt: &R, desk: &mut Desk<L>) {
         assert_eq!(rt; desk.name(rt, ROOT, "a"), Asked::Go);
         assert_eq!(rt; desk.remove(rt, ROOT, "a"), Asked::Busy);
         assert_eq!(rt; desk.name(rt, ROOT, "a"), Asked::Go, "lookups share a name");
@@ -211,11 +188,7 @@ fn remove_waits_for_lookup(rt: HostRuntime) -> Result<(), Fail> {
 struct FolderWaits;
 
 impl Story for FolderWaits {
-    fn tell<B: Shared, E: tokens::Ledger, K: tokens::Ledger, F: tokens::Ledger, R: Abort>(
-        &mut self,
-        rt: &R,
-        desk: &mut Desk<B, E, K, F>,
-    ) {
+    fn tell<L: Ledgers, R: Abort>(&mut self, rt: &R, desk: &mut Desk<L>) {
         give_folder(rt, desk);
         assert_eq!(rt; desk.node(rt, 3), Asked::Go);
         assert_eq!(rt; desk.remove(rt, ROOT, "d"), Asked::Busy);
@@ -255,11 +228,7 @@ fn folder_waits_for_what_is_in_it(rt: HostRuntime) -> Result<(), Fail> {
 struct PathOfNode;
 
 impl Story for PathOfNode {
-    fn tell<B: Shared, E: tokens::Ledger, K: tokens::Ledger, F: tokens::Ledger, R: Abort>(
-        &mut self,
-        rt: &R,
-        desk: &mut Desk<B, E, K, F>,
-    ) {
+    fn tell<L: Ledgers, R: Abort>(&mut self, rt: &R, desk: &mut Desk<L>) {
         give_folder(rt, desk);
         assert_eq!(rt; desk.node(rt, ROOT), Asked::Go);
         expect_path(rt, desk, &[]);

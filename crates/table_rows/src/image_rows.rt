@@ -3,9 +3,8 @@
 use crate::desk::{Desk, Gave, ROOT, Story, tell};
 use crate::lookup_rows::{BORN, ENTRY, forgotten};
 use image::{Image, Stage};
-use ledger::{Posting, Shared};
+use ledger::{Ledgers, Posting};
 use std::process::Abort;
-use std::sync::ledger as tokens;
 use std::test::Fail;
 use table::{Limits, Outcome};
 use tree::{Node, Place};
@@ -14,11 +13,7 @@ use tree::{Node, Place};
 struct OpenedTable;
 
 impl Story for OpenedTable {
-    fn tell<B: Shared, E: tokens::Ledger, K: tokens::Ledger, F: tokens::Ledger, R: Abort>(
-        &mut self,
-        rt: &R,
-        desk: &mut Desk<B, E, K, F>,
-    ) {
+    fn tell<L: Ledgers, R: Abort>(&mut self, rt: &R, desk: &mut Desk<L>) {
         let image = desk.image(rt);
         let nodes = image.nodes.as_slice();
         assert_eq!(rt; nodes.len(), 1);
@@ -57,11 +52,7 @@ fn is_named(node: &Node, parent: u64, name: &str) -> bool {
 struct Worked;
 
 impl Story for Worked {
-    fn tell<B: Shared, E: tokens::Ledger, K: tokens::Ledger, F: tokens::Ledger, R: Abort>(
-        &mut self,
-        rt: &R,
-        desk: &mut Desk<B, E, K, F>,
-    ) {
+    fn tell<L: Ledgers, R: Abort>(&mut self, rt: &R, desk: &mut Desk<L>) {
         assert_eq!(rt; desk.look_up(rt, "a", true), Gave::entry(2, 0));
         assert_eq!(rt; desk.look_up(rt, "a", true), Gave::entry(2, 0));
         assert_eq!(rt; desk.forget(rt, 0, 2, 1), 1);

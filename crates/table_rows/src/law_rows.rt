@@ -4,11 +4,10 @@ use crate::desk::{Desk, Gave, ROOT, Story, tell};
 use crate::expects::{expect_hold, path};
 use holds::{Held, Lead, Leads, Paths};
 use image::{Hold, Holds, Image, Nodes, Numbers, Postings, Record, Records, Stage};
-use ledger::{Posting, Shared};
+use ledger::{Ledgers, Posting};
 use paths::Name;
 use std::alloc::{AllocError, Global};
 use std::process::Abort;
-use std::sync::ledger as tokens;
 use std::test::Fail;
 use table::{Limits, Outcome};
 use tree::{Key, Node, Place};
@@ -192,11 +191,7 @@ fn given_paths_lead_to_their_nodes(rt: HostRuntime) -> Result<(), Fail> {
 struct Holding;
 
 impl Story for Holding {
-    fn tell<B: Shared, E: tokens::Ledger, K: tokens::Ledger, F: tokens::Ledger, R: Abort>(
-        &mut self,
-        rt: &R,
-        desk: &mut Desk<B, E, K, F>,
-    ) {
+    fn tell<L: Ledgers, R: Abort>(&mut self, rt: &R, desk: &mut Desk<L>) {
         assert_eq!(rt; desk.image(rt).holds.as_slice().len(), 0);
         assert_eq!(rt; desk.look_up(rt, "a", true), Gave::entry(2, 0));
         let _removal = desk.remove(rt, ROOT, "d");

@@ -2,9 +2,8 @@
 
 use crate::desk::{Desk, Gave, ROOT, Story, tell};
 use errno::{EAGAIN, ENAMETOOLONG, ENFILE, ESTALE};
-use ledger::Shared;
+use ledger::Ledgers;
 use std::process::Abort;
-use std::sync::ledger as tokens;
 use std::test::Fail;
 use table::{Limits, Outcome};
 
@@ -12,11 +11,7 @@ use table::{Limits, Outcome};
 struct NodeLimit;
 
 impl Story for NodeLimit {
-    fn tell<B: Shared, E: tokens::Ledger, K: tokens::Ledger, F: tokens::Ledger, R: Abort>(
-        &mut self,
-        rt: &R,
-        desk: &mut Desk<B, E, K, F>,
-    ) {
+    fn tell<L: Ledgers, R: Abort>(&mut self, rt: &R, desk: &mut Desk<L>) {
         assert_eq!(rt; desk.look_up(rt, "a", true), Gave::entry(2, 0));
         assert_eq!(rt; desk.begin(rt, ROOT, "e"), Err(ENFILE));
         assert_eq!(rt; desk.begin(rt, ROOT, "zz"), Err(ENFILE));
@@ -45,11 +40,7 @@ fn node_limit(rt: HostRuntime) -> Result<(), Fail> {
 struct NodePromised;
 
 impl Story for NodePromised {
-    fn tell<B: Shared, E: tokens::Ledger, K: tokens::Ledger, F: tokens::Ledger, R: Abort>(
-        &mut self,
-        rt: &R,
-        desk: &mut Desk<B, E, K, F>,
-    ) {
+    fn tell<L: Ledgers, R: Abort>(&mut self, rt: &R, desk: &mut Desk<L>) {
         assert_eq!(rt; desk.begin(rt, ROOT, "a"), Ok(()));
         assert_eq!(rt; desk.begin(rt, ROOT, "e"), Err(ENFILE));
         assert_eq!(rt; desk.finish(rt, 0, 0, Outcome::Failed), Gave::Nothing);
@@ -71,11 +62,7 @@ fn node_promised(rt: HostRuntime) -> Result<(), Fail> {
 struct PostingLimit;
 
 impl Story for PostingLimit {
-    fn tell<B: Shared, E: tokens::Ledger, K: tokens::Ledger, F: tokens::Ledger, R: Abort>(
-        &mut self,
-        rt: &R,
-        desk: &mut Desk<B, E, K, F>,
-    ) {
+    fn tell<L: Ledgers, R: Abort>(&mut self, rt: &R, desk: &mut Desk<L>) {
         assert_eq!(rt; desk.look_up(rt, "a", true), Gave::entry(2, 0));
         assert_eq!(rt; desk.look_up(rt, "a", true), Gave::entry(2, 0));
         assert_eq!(rt; desk.forget(rt, 0, 2, 2), 2);
@@ -99,11 +86,7 @@ fn posting_limit(rt: HostRuntime) -> Result<(), Fail> {
 struct FlightLimit;
 
 impl Story for FlightLimit {
-    fn tell<B: Shared, E: tokens::Ledger, K: tokens::Ledger, F: tokens::Ledger, R: Abort>(
-        &mut self,
-        rt: &R,
-        desk: &mut Desk<B, E, K, F>,
-    ) {
+    fn tell<L: Ledgers, R: Abort>(&mut self, rt: &R, desk: &mut Desk<L>) {
         assert_eq!(rt; desk.begin(rt, ROOT, "a"), Ok(()));
         assert_eq!(rt; desk.begin(rt, ROOT, "e"), Err(EAGAIN));
         assert_eq!(rt; desk.begin(rt, 9, "e"), Err(ESTALE), "no node bears 9");
@@ -134,11 +117,7 @@ fn flight_limit(rt: HostRuntime) -> Result<(), Fail> {
 struct NodesBeforeFlights;
 
 impl Story for NodesBeforeFlights {
-    fn tell<B: Shared, E: tokens::Ledger, K: tokens::Ledger, F: tokens::Ledger, R: Abort>(
-        &mut self,
-        rt: &R,
-        desk: &mut Desk<B, E, K, F>,
-    ) {
+    fn tell<L: Ledgers, R: Abort>(&mut self, rt: &R, desk: &mut Desk<L>) {
         assert_eq!(rt; desk.begin(rt, ROOT, "a"), Ok(()));
         assert_eq!(rt; desk.begin(rt, ROOT, "e"), Err(ENFILE));
         assert_eq!(rt; desk.begin(rt, 9, "e"), Err(ESTALE));
@@ -162,11 +141,7 @@ fn nodes_before_flights(rt: HostRuntime) -> Result<(), Fail> {
 struct LongPath;
 
 impl Story for LongPath {
-    fn tell<B: Shared, E: tokens::Ledger, K: tokens::Ledger, F: tokens::Ledger, R: Abort>(
-        &mut self,
-        rt: &R,
-        desk: &mut Desk<B, E, K, F>,
-    ) {
+    fn tell<L: Ledgers, R: Abort>(&mut self, rt: &R, desk: &mut Desk<L>) {
         let name = NAME_OF_255;
         assert_eq!(rt; name.len(), 255);
         for parent in 1..17 {

@@ -5,10 +5,9 @@ use crate::draws::Draws;
 use crate::tally::{Tally, expect_all, note};
 use errno::{EAGAIN, EINVAL, ENFILE, ENOTEMPTY, ESTALE};
 use image::Image;
-use ledger::{Posting, Shared, Totals};
+use ledger::{Ledgers, Posting, Totals};
 use std::alloc::Global;
 use std::process::Abort;
-use std::sync::ledger as tokens;
 use std::test::Fail;
 use table::{Limits, Outcome};
 use tree::{Key, Place};
@@ -58,10 +57,7 @@ fn is_named_otherwise(image: &Image, number: u64, old: &Key) -> bool {
 }
 
 /// How many nodes of the table are cut.
-fn cut_nodes<B: Shared, E: tokens::Ledger, K: tokens::Ledger, F: tokens::Ledger>(
-    rt: &impl Abort,
-    desk: &Desk<B, E, K, F>,
-) -> u64 {
+fn cut_nodes<L: Ledgers>(rt: &impl Abort, desk: &Desk<L>) -> u64 {
     let image = desk.table.export().expect(rt, "memory is ample");
     image
         .nodes
@@ -72,11 +68,7 @@ fn cut_nodes<B: Shared, E: tokens::Ledger, K: tokens::Ledger, F: tokens::Ledger>
 }
 
 impl LongRun {
-    fn begin<B: Shared, E: tokens::Ledger, K: tokens::Ledger, F: tokens::Ledger, R: Abort>(
-        &mut self,
-        rt: &R,
-        desk: &mut Desk<B, E, K, F>,
-    ) {
+    fn begin<L: Ledgers, R: Abort>(&mut self, rt: &R, desk: &mut Desk<L>) {
         let parent = match self.draws.among(2) {
             0 => ROOT,
             _ => self.draws.among(7),
@@ -107,12 +99,7 @@ impl LongRun {
     }
 
     /// Begins a request that moves a name to another.
-    fn rename<B: Shared, E: tokens::Ledger, K: tokens::Ledger, F: tokens::Ledger, R: Abort>(
-        &mut self,
-        rt: &R,
-        desk: &mut Desk<B, E, K, F>,
-        parent: u64,
-    ) -> Asked {
+    fn rename<L: Ledgers, R: Abort>(&mut self, rt: &R, desk: &mut Desk<L>, parent: u64) -> Asked {
         let new_parent = match self.draws.among(2) {
             0 => ROOT,
             _ => self.draws.among(6),
@@ -121,11 +108,7 @@ impl LongRun {
         desk.rename(rt, parent, name, new_parent, self.draws.name())
     }
 
-    fn finish<B: Shared, E: tokens::Ledger, K: tokens::Ledger, F: tokens::Ledger, R: Abort>(
-        &mut self,
-        rt: &R,
-        desk: &mut Desk<B, E, K, F>,
-    ) {
+    fn finish<L: Ledgers, R: Abort>(&mut self, rt: &R, desk: &mut Desk<L>) {
         if desk.tickets.is_empty() {
             return;
         }
@@ -140,10 +123,10 @@ impl LongRun {
         }
     }
 
-    fn finish_node<B: Shared, E: tokens::Ledger, K: tokens::Ledger, F: tokens::Ledger, R: Abort>(
+    fn finish_node<L: Ledgers, R: Abort>(
         &mut self,
         rt: &R,
-        desk: &mut Desk<B, E, K, F>,
+        desk: &mut Desk<L>,
         share: usize,
         ticket: usize,
     ) {
@@ -151,10 +134,10 @@ impl LongRun {
         assert_eq!(rt; desk.finish(rt, share, ticket, Outcome::Done), Gave::Empty);
     }
 
-    fn finish_removal<B: Shared, E: tokens::Ledger, K: tokens::Ledger, F: tokens::Ledger, R: Abort>(
+    fn finish_removal<L: Ledgers, R: Abort>(
         &mut self,
         rt: &R,
-        desk: &mut Desk<B, E, K, F>,
+        desk: &mut Desk<L>,
         share: usize,
         ticket: usize,
     ) {
@@ -177,10 +160,10 @@ impl LongRun {
         }
     }
 
-    fn finish_move<B: Shared, E: tokens::Ledger, K: tokens::Ledger, F: tokens::Ledger, R: Abort>(
+    fn finish_move<L: Ledgers, R: Abort>(
         &mut self,
         rt: &R,
-        desk: &mut Desk<B, E, K, F>,
+        desk: &mut Desk<L>,
         share: usize,
         ticket: usize,
     ) {
@@ -207,10 +190,10 @@ impl LongRun {
         }
     }
 
-    fn finish_name<B: Shared, E: tokens::Ledger, K: tokens::Ledger, F: tokens::Ledger, R: Abort>(
+    fn finish_name<L: Ledgers, R: Abort>(
         &mut self,
         rt: &R,
-        desk: &mut Desk<B, E, K, F>,
+        desk: &mut Desk<L>,
         share: usize,
         ticket: usize,
     ) {
@@ -237,11 +220,7 @@ impl LongRun {
         }
     }
 
-    fn settle<B: Shared, E: tokens::Ledger, K: tokens::Ledger, F: tokens::Ledger, R: Abort>(
-        &mut self,
-        rt: &R,
-        desk: &mut Desk<B, E, K, F>,
-    ) {
+    fn settle<L: Ledgers, R: Abort>(&mut self, rt: &R, desk: &mut Desk<L>) {
         if desk.answers.is_empty() {
             return;
         }
@@ -254,11 +233,7 @@ impl LongRun {
         }
     }
 
-    fn forget<B: Shared, E: tokens::Ledger, K: tokens::Ledger, F: tokens::Ledger, R: Abort>(
-        &mut self,
-        rt: &R,
-        desk: &mut Desk<B, E, K, F>,
-    ) {
+    fn forget<L: Ledgers, R: Abort>(&mut self, rt: &R, desk: &mut Desk<L>) {
         let number = self.draws.among(7);
         let share = self.draws.place(2);
         let n = self.draws.among(6);
@@ -270,11 +245,7 @@ impl LongRun {
         self.tally.forgotten = self.tally.forgotten.saturating_add(amount);
     }
 
-    fn step<B: Shared, E: tokens::Ledger, K: tokens::Ledger, F: tokens::Ledger, R: Abort>(
-        &mut self,
-        rt: &R,
-        desk: &mut Desk<B, E, K, F>,
-    ) {
+    fn step<L: Ledgers, R: Abort>(&mut self, rt: &R, desk: &mut Desk<L>) {
         match self.draws.among(10) {
             0..=3 => self.begin(rt, desk),
             4..=5 => self.finish(rt, desk),
@@ -300,11 +271,7 @@ impl LongRun {
     }
 
     /// Ends all requests and gives every lookup back, until the root alone is left.
-    fn wind_up<B: Shared, E: tokens::Ledger, K: tokens::Ledger, F: tokens::Ledger, R: Abort>(
-        &mut self,
-        rt: &R,
-        desk: &mut Desk<B, E, K, F>,
-    ) {
+    fn wind_up<L: Ledgers, R: Abort>(&mut self, rt: &R, desk: &mut Desk<L>) {
         for _ticket in 0..desk.tickets.len() {
             assert!(rt; !self.kinds.is_empty());
             let gave = match self.kinds.remove(0) {
@@ -328,11 +295,7 @@ impl LongRun {
 }
 
 impl Story for LongRun {
-    fn tell<B: Shared, E: tokens::Ledger, K: tokens::Ledger, F: tokens::Ledger, R: Abort>(
-        &mut self,
-        rt: &R,
-        desk: &mut Desk<B, E, K, F>,
-    ) {
+    fn tell<L: Ledgers, R: Abort>(&mut self, rt: &R, desk: &mut Desk<L>) {
         for step in 0..STEPS {
             self.step(rt, desk);
             if step < 500 || step % 50 == 0 {

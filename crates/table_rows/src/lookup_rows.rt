@@ -1,9 +1,8 @@
 //! Names looked up, forgotten, and given back.
 
 use crate::desk::{Desk, Gave, ROOT, Story, tell};
-use ledger::{Posting, Shared};
+use ledger::{Ledgers, Posting};
 use std::process::Abort;
-use std::sync::ledger as tokens;
 use std::test::Fail;
 use table::{Limits, Outcome};
 
@@ -36,11 +35,7 @@ pub const fn forgotten(amount: u64) -> Posting {
 struct FreshLookup;
 
 impl Story for FreshLookup {
-    fn tell<B: Shared, E: tokens::Ledger, K: tokens::Ledger, F: tokens::Ledger, R: Abort>(
-        &mut self,
-        rt: &R,
-        desk: &mut Desk<B, E, K, F>,
-    ) {
+    fn tell<L: Ledgers, R: Abort>(&mut self, rt: &R, desk: &mut Desk<L>) {
         assert_eq!(rt; desk.look_up(rt, "a", true), Gave::entry(2, 0));
         let image = desk.image(rt);
         assert_eq!(rt; image.postings.as_slice(), [BORN, ENTRY].as_slice());
@@ -58,11 +53,7 @@ fn fresh_lookup(rt: HostRuntime) -> Result<(), Fail> {
 struct ForgetAboveCount;
 
 impl Story for ForgetAboveCount {
-    fn tell<B: Shared, E: tokens::Ledger, K: tokens::Ledger, F: tokens::Ledger, R: Abort>(
-        &mut self,
-        rt: &R,
-        desk: &mut Desk<B, E, K, F>,
-    ) {
+    fn tell<L: Ledgers, R: Abort>(&mut self, rt: &R, desk: &mut Desk<L>) {
         assert_eq!(rt; desk.look_up(rt, "a", true), Gave::entry(2, 0));
         assert_eq!(rt; desk.look_up(rt, "a", true), Gave::entry(2, 0));
         assert_eq!(rt; desk.forget(rt, 0, 2, 5), 2);
@@ -86,11 +77,7 @@ fn forget_above_count(rt: HostRuntime) -> Result<(), Fail> {
 struct ForgetInPieces;
 
 impl Story for ForgetInPieces {
-    fn tell<B: Shared, E: tokens::Ledger, K: tokens::Ledger, F: tokens::Ledger, R: Abort>(
-        &mut self,
-        rt: &R,
-        desk: &mut Desk<B, E, K, F>,
-    ) {
+    fn tell<L: Ledgers, R: Abort>(&mut self, rt: &R, desk: &mut Desk<L>) {
         for _entry in 0..3 {
             assert_eq!(rt; desk.look_up(rt, "a", true), Gave::entry(2, 0));
         }
@@ -116,11 +103,7 @@ fn forget_in_pieces(rt: HostRuntime) -> Result<(), Fail> {
 struct UntakenLookup;
 
 impl Story for UntakenLookup {
-    fn tell<B: Shared, E: tokens::Ledger, K: tokens::Ledger, F: tokens::Ledger, R: Abort>(
-        &mut self,
-        rt: &R,
-        desk: &mut Desk<B, E, K, F>,
-    ) {
+    fn tell<L: Ledgers, R: Abort>(&mut self, rt: &R, desk: &mut Desk<L>) {
         assert_eq!(rt; desk.look_up(rt, "a", false), Gave::entry(2, 0));
         let image = desk.image(rt);
         assert_eq!(rt; image.postings.as_slice(), [BORN, ENTRY, BACK].as_slice());
@@ -139,11 +122,7 @@ fn untaken_lookup(rt: HostRuntime) -> Result<(), Fail> {
 struct ForgetBeforeSettle;
 
 impl Story for ForgetBeforeSettle {
-    fn tell<B: Shared, E: tokens::Ledger, K: tokens::Ledger, F: tokens::Ledger, R: Abort>(
-        &mut self,
-        rt: &R,
-        desk: &mut Desk<B, E, K, F>,
-    ) {
+    fn tell<L: Ledgers, R: Abort>(&mut self, rt: &R, desk: &mut Desk<L>) {
         assert_eq!(rt; desk.begin(rt, ROOT, "a"), Ok(()));
         assert_eq!(rt; desk.finish(rt, 0, 0, Outcome::Entry), Gave::entry(2, 0));
         assert_eq!(rt; desk.forget(rt, 0, 2, 1), 1);

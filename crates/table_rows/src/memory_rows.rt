@@ -2,9 +2,8 @@
 
 use crate::desk::{Desk, Gave, ROOT, Story, tell};
 use errno::EAGAIN;
-use ledger::Shared;
+use ledger::Ledgers;
 use std::process::Abort;
-use std::sync::ledger as tokens;
 use std::test::Fail;
 use table::{Limits, Outcome};
 
@@ -15,11 +14,7 @@ const NAMES: [&str; 4] = ["a", "b", "c", "d"];
 struct FullTable;
 
 impl Story for FullTable {
-    fn tell<B: Shared, E: tokens::Ledger, K: tokens::Ledger, F: tokens::Ledger, R: Abort>(
-        &mut self,
-        rt: &R,
-        desk: &mut Desk<B, E, K, F>,
-    ) {
+    fn tell<L: Ledgers, R: Abort>(&mut self, rt: &R, desk: &mut Desk<L>) {
         for request in 0..64usize {
             assert_eq!(rt;
                 desk.begin(rt, ROOT, NAMES[request % 4]),

@@ -6,27 +6,19 @@ use crate::expects::{
     expect_same_nodes, give_folder,
 };
 use errno::{EINVAL, ENAMETOOLONG, ENFILE, ENOTEMPTY, ESTALE};
-use ledger::Shared;
+use ledger::Ledgers;
 use std::process::Abort;
-use std::sync::ledger as tokens;
 use std::test::Fail;
 use table::{Limits, Outcome};
 
 /// Whether the last ticket says that its path and its target are the same.
-fn is_same<B: Shared, E: tokens::Ledger, K: tokens::Ledger, F: tokens::Ledger>(
-    rt: &impl Abort,
-    desk: &Desk<B, E, K, F>,
-) -> bool {
+fn is_same<L: Ledgers>(rt: &impl Abort, desk: &Desk<L>) -> bool {
     let ticket = desk.tickets.last().expect(rt, "a request was begun");
     ticket.same()
 }
 
 /// The target of the last ticket has these names.
-fn expect_target<B: Shared, E: tokens::Ledger, K: tokens::Ledger, F: tokens::Ledger>(
-    rt: &impl Abort,
-    desk: &Desk<B, E, K, F>,
-    expected: &[&str],
-) {
+fn expect_target<L: Ledgers>(rt: &impl Abort, desk: &Desk<L>, expected: &[&str]) {
     let ticket = desk.tickets.last().expect(rt, "a request was begun");
     let names = ticket.target().expect(rt, "it is a move").names();
     assert_eq!(rt; names.len(), expected.len());
@@ -39,11 +31,7 @@ fn expect_target<B: Shared, E: tokens::Ledger, K: tokens::Ledger, F: tokens::Led
 struct MovedFolder;
 
 impl Story for MovedFolder {
-    fn tell<B: Shared, E: tokens::Ledger, K: tokens::Ledger, F: tokens::Ledger, R: Abort>(
-        &mut self,
-        rt: &R,
-        desk: &mut Desk<B, E, K, F>,
-    ) {
+    fn tell<L: Ledgers, R: Abort>(&mut self, rt: &R, desk: &mut Desk<L>) {
         give_folder(rt, desk);
         assert_eq!(rt; desk.rename(rt, ROOT, "d", ROOT, "f"), Asked::Go);
         expect_path(rt, desk, &["d"]);
@@ -80,11 +68,7 @@ fn moved_folder(rt: HostRuntime) -> Result<(), Fail> {
 struct OwnFronts;
 
 impl Story for OwnFronts {
-    fn tell<B: Shared, E: tokens::Ledger, K: tokens::Ledger, F: tokens::Ledger, R: Abort>(
-        &mut self,
-        rt: &R,
-        desk: &mut Desk<B, E, K, F>,
-    ) {
+    fn tell<L: Ledgers, R: Abort>(&mut self, rt: &R, desk: &mut Desk<L>) {
         give_folder(rt, desk);
         let before = desk.image(rt);
         assert_eq!(rt; desk.rename(rt, ROOT, "d", 3, "y"), Asked::Refused(EINVAL));
@@ -124,11 +108,7 @@ fn moves_onto_own_fronts(rt: HostRuntime) -> Result<(), Fail> {
 struct MovedOnto;
 
 impl Story for MovedOnto {
-    fn tell<B: Shared, E: tokens::Ledger, K: tokens::Ledger, F: tokens::Ledger, R: Abort>(
-        &mut self,
-        rt: &R,
-        desk: &mut Desk<B, E, K, F>,
-    ) {
+    fn tell<L: Ledgers, R: Abort>(&mut self, rt: &R, desk: &mut Desk<L>) {
         give_folder(rt, desk);
         assert_eq!(rt; desk.look_up(rt, "a", true), Gave::entry(4, 0));
         assert_eq!(rt; desk.rename(rt, ROOT, "a", ROOT, "d"), Asked::Go);
@@ -168,11 +148,7 @@ fn moved_onto_a_folder(rt: HostRuntime) -> Result<(), Fail> {
 struct MovedFromNothing;
 
 impl Story for MovedFromNothing {
-    fn tell<B: Shared, E: tokens::Ledger, K: tokens::Ledger, F: tokens::Ledger, R: Abort>(
-        &mut self,
-        rt: &R,
-        desk: &mut Desk<B, E, K, F>,
-    ) {
+    fn tell<L: Ledgers, R: Abort>(&mut self, rt: &R, desk: &mut Desk<L>) {
         give_folder(rt, desk);
         assert_eq!(rt; desk.rename(rt, ROOT, "zz", 2, "x"), Asked::Go);
         assert_eq!(rt; desk.forget(rt, 0, 3, 1), 1);
@@ -200,11 +176,7 @@ struct MoveIgnored {
 }
 
 impl Story for MoveIgnored {
-    fn tell<B: Shared, E: tokens::Ledger, K: tokens::Ledger, F: tokens::Ledger, R: Abort>(
-        &mut self,
-        rt: &R,
-        desk: &mut Desk<B, E, K, F>,
-    ) {
+    fn tell<L: Ledgers, R: Abort>(&mut self, rt: &R, desk: &mut Desk<L>) {
         give_folder(rt, desk);
         assert_eq!(rt; desk.rename(rt, 2, "x", ROOT, "a"), Asked::Go);
         let begun = desk.image(rt);
@@ -234,11 +206,7 @@ fn failed_move(rt: HostRuntime) -> Result<(), Fail> {
 struct MoveTests;
 
 impl Story for MoveTests {
-    fn tell<B: Shared, E: tokens::Ledger, K: tokens::Ledger, F: tokens::Ledger, R: Abort>(
-        &mut self,
-        rt: &R,
-        desk: &mut Desk<B, E, K, F>,
-    ) {
+    fn tell<L: Ledgers, R: Abort>(&mut self, rt: &R, desk: &mut Desk<L>) {
         give_folder(rt, desk);
         let long = "n";
         let mut name = String::new(desk.alloc);

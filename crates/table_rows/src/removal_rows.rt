@@ -5,9 +5,8 @@ use crate::expects::{
     expect_cut, expect_many, expect_named, expect_same, expect_same_nodes, give_folder,
 };
 use errno::ESTALE;
-use ledger::Shared;
+use ledger::Ledgers;
 use std::process::Abort;
-use std::sync::ledger as tokens;
 use std::test::Fail;
 use table::{Limits, Outcome};
 
@@ -15,11 +14,7 @@ use table::{Limits, Outcome};
 struct RemovedFolder;
 
 impl Story for RemovedFolder {
-    fn tell<B: Shared, E: tokens::Ledger, K: tokens::Ledger, F: tokens::Ledger, R: Abort>(
-        &mut self,
-        rt: &R,
-        desk: &mut Desk<B, E, K, F>,
-    ) {
+    fn tell<L: Ledgers, R: Abort>(&mut self, rt: &R, desk: &mut Desk<L>) {
         give_folder(rt, desk);
         assert_eq!(rt; desk.remove(rt, ROOT, "d"), Asked::Go);
         let begun = desk.image(rt);
@@ -59,11 +54,7 @@ fn removed_folder(rt: HostRuntime) -> Result<(), Fail> {
 struct RemovalOfNothing;
 
 impl Story for RemovalOfNothing {
-    fn tell<B: Shared, E: tokens::Ledger, K: tokens::Ledger, F: tokens::Ledger, R: Abort>(
-        &mut self,
-        rt: &R,
-        desk: &mut Desk<B, E, K, F>,
-    ) {
+    fn tell<L: Ledgers, R: Abort>(&mut self, rt: &R, desk: &mut Desk<L>) {
         give_folder(rt, desk);
         let before = desk.image(rt);
         assert_eq!(rt; desk.remove(rt, ROOT, "x"), Asked::Go);
@@ -89,11 +80,7 @@ struct RemovalIgnored {
 }
 
 impl Story for RemovalIgnored {
-    fn tell<B: Shared, E: tokens::Ledger, K: tokens::Ledger, F: tokens::Ledger, R: Abort>(
-        &mut self,
-        rt: &R,
-        desk: &mut Desk<B, E, K, F>,
-    ) {
+    fn tell<L: Ledgers, R: Abort>(&mut self, rt: &R, desk: &mut Desk<L>) {
         give_folder(rt, desk);
         let before = desk.image(rt);
         assert_eq!(rt; desk.remove(rt, ROOT, "d"), Asked::Go);
@@ -131,11 +118,7 @@ fn removal_misfit(rt: HostRuntime) -> Result<(), Fail> {
 struct PinnedByRemoval;
 
 impl Story for PinnedByRemoval {
-    fn tell<B: Shared, E: tokens::Ledger, K: tokens::Ledger, F: tokens::Ledger, R: Abort>(
-        &mut self,
-        rt: &R,
-        desk: &mut Desk<B, E, K, F>,
-    ) {
+    fn tell<L: Ledgers, R: Abort>(&mut self, rt: &R, desk: &mut Desk<L>) {
         assert_eq!(rt; desk.look_up(rt, "a", true), Gave::entry(2, 0));
         assert_eq!(rt; desk.remove(rt, ROOT, "a"), Asked::Go);
         assert_eq!(rt; desk.forget(rt, 0, 2, 1), 1);
@@ -152,11 +135,7 @@ impl Story for PinnedByRemoval {
 struct KeptByCount;
 
 impl Story for KeptByCount {
-    fn tell<B: Shared, E: tokens::Ledger, K: tokens::Ledger, F: tokens::Ledger, R: Abort>(
-        &mut self,
-        rt: &R,
-        desk: &mut Desk<B, E, K, F>,
-    ) {
+    fn tell<L: Ledgers, R: Abort>(&mut self, rt: &R, desk: &mut Desk<L>) {
         assert_eq!(rt; desk.look_up(rt, "a", true), Gave::entry(2, 0));
         assert_eq!(rt; desk.remove(rt, ROOT, "a"), Asked::Go);
         assert_eq!(rt; desk.finish(rt, 0, 0, Outcome::Done), Gave::Empty);
@@ -172,11 +151,7 @@ impl Story for KeptByCount {
 struct PinnedByNode;
 
 impl Story for PinnedByNode {
-    fn tell<B: Shared, E: tokens::Ledger, K: tokens::Ledger, F: tokens::Ledger, R: Abort>(
-        &mut self,
-        rt: &R,
-        desk: &mut Desk<B, E, K, F>,
-    ) {
+    fn tell<L: Ledgers, R: Abort>(&mut self, rt: &R, desk: &mut Desk<L>) {
         assert_eq!(rt; desk.look_up(rt, "a", true), Gave::entry(2, 0));
         assert_eq!(rt; desk.node(rt, 2), Asked::Go);
         assert_eq!(rt; desk.finish(rt, 0, 0, Outcome::Done), Gave::Empty);

@@ -1,11 +1,10 @@
 //! Runs of calls with a hand.
 
 use crate::desk::{Desk, ROOT, Story, tell};
-use ledger::Shared;
+use ledger::Ledgers;
 use paths::Name;
 use std::alloc::Global;
 use std::process::Abort;
-use std::sync::ledger as tokens;
 use std::test::Fail;
 use table::{Call, Hand, Limits, Outcome, Told, Want};
 
@@ -68,12 +67,7 @@ struct RunStory;
 
 impl RunStory {
     /// One call on the first share.
-    fn call<B: Shared, E: tokens::Ledger, K: tokens::Ledger, F: tokens::Ledger>(
-        rt: &impl Abort,
-        desk: &mut Desk<B, E, K, F>,
-        hand: &mut Hand,
-        call: Call,
-    ) -> Told {
+    fn call<L: Ledgers>(rt: &impl Abort, desk: &mut Desk<L>, hand: &mut Hand, call: Call) -> Told {
         assert!(rt; !desk.shares.is_empty());
         desk.table
             .call(&mut desk.shares[0], hand, call)
@@ -82,11 +76,7 @@ impl RunStory {
 }
 
 impl Story for RunStory {
-    fn tell<B: Shared, E: tokens::Ledger, K: tokens::Ledger, F: tokens::Ledger, R: Abort>(
-        &mut self,
-        rt: &R,
-        desk: &mut Desk<B, E, K, F>,
-    ) {
+    fn tell<L: Ledgers, R: Abort>(&mut self, rt: &R, desk: &mut Desk<L>) {
         let mut hand = Hand::new(desk.alloc);
         assert!(rt; !desk.shares.is_empty());
         let calls = first_calls(rt, desk.alloc);

@@ -1,9 +1,8 @@
 //! What each worker posted, and the sum of it.
 
 use crate::desk::{Desk, Gathered, Gave, Story, tell};
-use ledger::{Gather, Shared, Totals};
+use ledger::{Gather, Ledgers, Totals};
 use std::process::Abort;
-use std::sync::ledger as tokens;
 use std::test::Fail;
 use table::Limits;
 
@@ -14,11 +13,7 @@ struct TwoShares {
 }
 
 impl Story for TwoShares {
-    fn tell<B: Shared, E: tokens::Ledger, K: tokens::Ledger, F: tokens::Ledger, R: Abort>(
-        &mut self,
-        rt: &R,
-        desk: &mut Desk<B, E, K, F>,
-    ) {
+    fn tell<L: Ledgers, R: Abort>(&mut self, rt: &R, desk: &mut Desk<L>) {
         assert_eq!(rt; desk.look_up(rt, "a", true), Gave::entry(2, 0));
         assert_eq!(rt; desk.look_up(rt, "a", true), Gave::entry(2, 0));
         assert_eq!(rt; desk.forget(rt, 1, 2, 1), 1);

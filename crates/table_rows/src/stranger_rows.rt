@@ -2,10 +2,9 @@
 
 use crate::desk::{Desk, Gave, ROOT, Story, keep, tell};
 use image::{Image, Stage};
-use ledger::Shared;
+use ledger::Ledgers;
 use std::alloc::Global;
 use std::process::Abort;
-use std::sync::ledger as tokens;
 use std::test::Fail;
 use table::{Limits, Outcome, Ticket};
 
@@ -13,11 +12,7 @@ use table::{Limits, Outcome, Ticket};
 struct MisfitOutcome;
 
 impl Story for MisfitOutcome {
-    fn tell<B: Shared, E: tokens::Ledger, K: tokens::Ledger, F: tokens::Ledger, R: Abort>(
-        &mut self,
-        rt: &R,
-        desk: &mut Desk<B, E, K, F>,
-    ) {
+    fn tell<L: Ledgers, R: Abort>(&mut self, rt: &R, desk: &mut Desk<L>) {
         assert_eq!(rt; desk.begin(rt, ROOT, "a"), Ok(()));
         assert_eq!(rt; desk.finish(rt, 0, 0, Outcome::Done), Gave::Nothing);
         expect_bare(rt, &desk.image(rt), 1);
@@ -49,11 +44,7 @@ struct Leaving {
 }
 
 impl Story for Leaving {
-    fn tell<B: Shared, E: tokens::Ledger, K: tokens::Ledger, F: tokens::Ledger, R: Abort>(
-        &mut self,
-        rt: &R,
-        desk: &mut Desk<B, E, K, F>,
-    ) {
+    fn tell<L: Ledgers, R: Abort>(&mut self, rt: &R, desk: &mut Desk<L>) {
         assert_eq!(rt; desk.begin(rt, ROOT, "a"), Ok(()));
         if let Some(ticket) = desk.tickets.pop() {
             keep(rt, &mut self.tickets, ticket);
@@ -67,11 +58,7 @@ struct Coming {
 }
 
 impl Story for Coming {
-    fn tell<B: Shared, E: tokens::Ledger, K: tokens::Ledger, F: tokens::Ledger, R: Abort>(
-        &mut self,
-        rt: &R,
-        desk: &mut Desk<B, E, K, F>,
-    ) {
+    fn tell<L: Ledgers, R: Abort>(&mut self, rt: &R, desk: &mut Desk<L>) {
         assert_eq!(rt; desk.look_up(rt, "b", true), Gave::entry(2, 0));
         assert_eq!(rt; self.tickets.len(), 1);
         if let Some(ticket) = self.tickets.pop() {
@@ -94,11 +81,7 @@ struct ComingInPlace {
 }
 
 impl Story for ComingInPlace {
-    fn tell<B: Shared, E: tokens::Ledger, K: tokens::Ledger, F: tokens::Ledger, R: Abort>(
-        &mut self,
-        rt: &R,
-        desk: &mut Desk<B, E, K, F>,
-    ) {
+    fn tell<L: Ledgers, R: Abort>(&mut self, rt: &R, desk: &mut Desk<L>) {
         assert_eq!(rt; desk.look_up(rt, "b", true), Gave::entry(2, 0));
         assert_eq!(rt; desk.begin(rt, ROOT, "b"), Ok(()));
         if let Some(ticket) = self.tickets.pop() {

@@ -1,27 +1,24 @@
 //! A table behind a lock, and two threads that give lookups back.
 
 ghost use Rattle.std.specs.Prelude.{◌≡◌};
-ghost use Rattle.ledger.specs.Shares.{AreAll};
 
 use crate::desk::{Desk, Gathered, Gave, keep};
-use ledger::{Blanks, Share, Shared, Totals};
+use ledger::{Blanks, Ledgers, Share, Totals};
 use std::alloc::Global;
 use std::marker::Brand;
 use std::process::Abort;
-use std::sync::{Mutex, Wait, ledger as tokens};
+use std::sync::{Mutex, Wait};
 use std::test::Fail;
 use std::thread;
 use std::thread::Threads;
 use table::{Limits, Table};
 
 /// Gives 50 lookups of node 2 back, one at a time.
-fn forget_often<
-    B: Shared,
-    E: tokens::Ledger,
-    K: tokens::Ledger,
-    F: tokens::Ledger,
-    R: Wait + Abort,
->(rt: &R, table: &Mutex<Table<B, E, K, F>>, share: &mut Share<B, E, K, F>) {
+fn forget_often<L: Ledgers, R: Wait + Abort>(
+    rt: &R,
+    table: &Mutex<Table<L>>,
+    share: &mut Share<L>,
+) {
     for _call in 0..50 {
         let mut table = table.lock(rt);
         assert_eq!(rt; table.forget(share, 2, 1), 1);
@@ -29,18 +26,15 @@ fn forget_often<
 }
 
 /// The first of three workers looks `a` up 100 times, and the others give that back at the same time.
-fn forget_in_threads<
-    R: Threads + Wait + Abort + Sync,
-    B: Shared + Send + Sync,
-    E: tokens::Ledger + Send + Sync,
-    K: tokens::Ledger + Send + Sync,
-    F: tokens::Ledger + Send + Sync,
->(rt: &R, alloc: Global, blanks: Blanks) -> Result<Gathered, Fail>
-    requires names { blanks ≡ record { born = B.name; entries = E.name; backs = K.name; forgotten = F.name; parts = 3 } }
-    requires cut { AreAll 3 B.parts E.parts K.parts F.parts }
-    requires shares { B.shares ≡ 3 }
+fn forget_in_threads<R: Threads + Wait + Abort + Sync, L: Ledgers + Send + Sync>(
+    rt: &R,
+    alloc: Global,
+    blanks: Blanks,
+) -> Result<Gathered, Fail>
+    requires names { blanks ≡ L.names }
+    requires shares { L.names.parts ≡ 3 }
 {
-    let (table, shares) = Table::<B, E, K, F>::open(alloc, Limits::default(), blanks, 3)?;
+    let (table, shares) = Table::<L>::open(alloc, Limits::default(), blanks, 3)?;
     let mut desk = Desk {
         alloc,
         table,
@@ -86,7 +80,7 @@ fn tell_of_threads<R: Threads + Wait + Abort + Sync>(
     rt: &R,
     alloc: Global,
 ) -> Result<Gathered, Fail> {
-    forget_in_threads::<R, Brand, Brand, Brand, Brand>(rt, alloc, Blanks::new(3))
+    forget_in_threads::<R, Brand>(rt, alloc, Blanks::new(3))
 }
 
 #[test]
