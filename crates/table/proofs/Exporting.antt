@@ -1,5 +1,6 @@
 -- What is exported of a table shows it, and is lawful.
-use Rattle.std.proofs.Common.{ℕ, suc, zero, All, ◌+◌, ◌<◌, ◌≤◌, ◌≡◌, ◌≢◌, ◌==◌, Bool, true, false, cond, List, [], ◌∷◌, ◌++◌, Some, None, MatchOption, AllPairs, length, get_or, take, refl, sym, ap, ◌∙◌, subst, arith}
+use Rattle.std.proofs.Common.{ℕ, suc, zero, All, ◌+◌, ◌<◌, ◌≤◌, ◌≡◌, ◌≢◌, ◌==◌, Bool, true, false, cond, List, [], ◌∷◌, ◌++◌, Option, Some, None, MatchOption, AllPairs, length, get_or, take, refl, sym, ap, ◌∙◌, subst, arith}
+use Rattle.std.specs.Prelude.{option_map}
 use Rattle.std.specs.List.{AllZip}
 use Rattle.std.proofs.lemmas.List.{take_more}
 use mathlib.Core.Path.{fun_ext}
@@ -14,7 +15,7 @@ use Rattle.flights.specs.declared.data.Flight.{Flight}
 use Rattle.flights.specs.declared.data.Stage as flight
 use Rattle.flights.specs.declared.data.Stage.TheVariants as flight_stage
 use Rattle.flights.specs.declared.data.Work.{Work}
-use Rattle.flights.specs.Flying.{Flights, IsInTheWay, has_exclusive, has_shared}
+use Rattle.flights.specs.Flying.{Flights, has_exclusive, has_shared}
 use Rattle.flights.specs.Listed.{flight_in, flying_of, pinned_in}
 use Rattle.flights.proofs.Lookups.{flight_in_found}
 use Rattle.image.specs.declared.data.Hold.{Hold}
@@ -22,38 +23,42 @@ use Rattle.image.specs.declared.data.Record.{Record}
 use Rattle.image.specs.declared.data.Stage.TheVariants.{Working, Answered}
 use Rattle.image.specs.Law.{AreApart, AreCounts, AreHoldsCounted, AreKnown, IsLawfulImage, IsLead, owners_of, sharers_of}
 use Rattle.image.proofs.Exported.{ListsBelow, ListsBelow-all, IsLawfulImage-shows, Mirrors, is_pinned-mirrors, ids-mirrors}
-use Rattle.table.specs.declared.state.State.{State}
-use Rattle.table.specs.Exports.{Exports, IsRecordOf, held_by, owners_in, record_in, sharers_in, stage_of}
-use Rattle.table.specs.Holding.{AreHeld}
+use Rattle.steps.specs.declared.state.State.{State}
+use Rattle.table.specs.Copies.{IsCopyOf, held_of, owners_in, sharers_in, stage_of}
+use Rattle.table.specs.Exports.{Exports, IsRecordOf, held_by, record_in, stage_shown}
+use Rattle.steps.specs.World.{AreHeld, IsAtWork}
+use Rattle.steps.specs.World as world
+use Rattle.steps.specs.Kept.{flight_of, work_of}
+use Rattle.steps.specs.Kept as seen
 use Rattle.table.proofs.Holders.{counts_same, owners_same, sharers_same}
-use Rattle.table.specs.World.{IsKept, world_of}
+use Rattle.steps.specs.Kept.{IsKept, world_of}
 
 -- a record more
-pub zip_push : (fs : List Flight) (rs : List Record) (f : Flight) (r : Record) → AllZip IsRecordOf fs rs → IsRecordOf f r → AllZip IsRecordOf (fs ++ f ∷ []) (rs ++ r ∷ [])
+pub zip_push : (fs : List Flight) (rs : List Record) (f : Flight) (r : Record) → AllZip IsCopyOf fs rs → IsCopyOf f r → AllZip IsCopyOf (fs ++ f ∷ []) (rs ++ r ∷ [])
 zip_push [] [] f r h one = (one, h)
 zip_push [] (s ∷ rs) f r h one = absurd h
 zip_push (g ∷ fs) [] f r h one = absurd h
 zip_push (g ∷ fs) (s ∷ rs) f r h one = (h.0, zip_push fs rs f r h.1 one)
 
-pub zip_more : (fs : List Flight) (i : ℕ) (d f : Flight) (rs : List Record) (r : Record) → i < length fs → f ≡ get_or fs i d → AllZip IsRecordOf (take i fs) rs → IsRecordOf f r → AllZip IsRecordOf (take (i + 1) fs) (rs ++ r ∷ [])
+pub zip_more : (fs : List Flight) (i : ℕ) (d f : Flight) (rs : List Record) (r : Record) → i < length fs → f ≡ get_or fs i d → AllZip IsCopyOf (take i fs) rs → IsCopyOf f r → AllZip IsCopyOf (take (i + 1) fs) (rs ++ r ∷ [])
 zip_more fs i d f rs r within is h one =
-    subst (λ (gs : List Flight). AllZip IsRecordOf gs (rs ++ r ∷ [])) (sym (take_more fs i d within)) (zip_push (take i fs) rs (get_or fs i d) r h (subst (λ (g : Flight). IsRecordOf g r) is one))
+    subst (λ (gs : List Flight). AllZip IsCopyOf gs (rs ++ r ∷ [])) (sym (take_more fs i d within)) (zip_push (take i fs) rs (get_or fs i d) r h (subst (λ (g : Flight). IsCopyOf g r) is one))
 
-mirrors : (fs : List Flight) (rs : List Record) → AllZip IsRecordOf fs rs → Mirrors (λ (f : Flight). f.id) (λ (f : Flight). f.pins.numbers) fs rs
+mirrors : (fs : List Flight) (rs : List Record) → AllZip IsCopyOf fs rs → Mirrors (λ (f : Flight). f.id) (λ (f : Flight). f.pins.numbers) fs rs
 mirrors [] [] h = h
 mirrors [] (r ∷ rs) h = absurd h
 mirrors (f ∷ fs) [] h = absurd h
 mirrors (f ∷ fs) (r ∷ rs) h = ((h.0.id, h.0.pins), mirrors fs rs h.1)
 
 -- by the first test that one of both lists meets
-found_where : (f : Flight) (fs : List Flight) (r : Record) (rs : List Record) (id : ℕ) (b : Bool) → IsRecordOf f r
-    → MatchOption (flight_in fs id) (record_in rs id ≡ None) (λ g. (q : Record) × (record_in rs id ≡ Some q) × IsRecordOf g q)
-    → MatchOption (cond b (Some f) (flight_in fs id)) (cond b (Some r) (record_in rs id) ≡ None) (λ g. (q : Record) × (cond b (Some r) (record_in rs id) ≡ Some q) × IsRecordOf g q)
+found_where : (f : Flight) (fs : List Flight) (r : Record) (rs : List Record) (id : ℕ) (b : Bool) → IsCopyOf f r
+    → MatchOption (flight_in fs id) (record_in rs id ≡ None) (λ g. (q : Record) × (record_in rs id ≡ Some q) × IsCopyOf g q)
+    → MatchOption (cond b (Some f) (flight_in fs id)) (cond b (Some r) (record_in rs id) ≡ None) (λ g. (q : Record) × (cond b (Some r) (record_in rs id) ≡ Some q) × IsCopyOf g q)
 found_where f fs r rs id true one later = (r, refl, one)
 found_where f fs r rs id false one later = later
 
 -- a request is found under its id exactly where its record is
-pub records_found : (fs : List Flight) (rs : List Record) (id : ℕ) → AllZip IsRecordOf fs rs → MatchOption (flight_in fs id) (record_in rs id ≡ None) (λ f. (r : Record) × (record_in rs id ≡ Some r) × IsRecordOf f r)
+pub records_found : (fs : List Flight) (rs : List Record) (id : ℕ) → AllZip IsCopyOf fs rs → MatchOption (flight_in fs id) (record_in rs id ≡ None) (λ f. (r : Record) × (record_in rs id ≡ Some r) × IsCopyOf f r)
 records_found [] [] id h = refl
 records_found [] (r ∷ rs) id h = absurd h
 records_found (f ∷ fs) [] id h = absurd h
@@ -67,8 +72,8 @@ pub nodes_listed : (tree : Nodes) (last : ℕ) (xs : List Node) → ((n : ℕ) �
 nodes_listed tree last xs all lists = fun_ext (ListsBelow-all (at_in tree) (last + 1) xs (λ n alive. let le = all n alive in omega arith) lists)
 
 -- a record at a place of the list, and the request that it shows
-shown_at : (fs : List Flight) (rs : List Record) (i : ℕ) (d : Record) → AllZip IsRecordOf fs rs → i < length rs
-    → (f : Flight) × (i < length fs) × ((e : Flight) → get_or fs i e ≡ f) × IsRecordOf f (get_or rs i d)
+shown_at : (fs : List Flight) (rs : List Record) (i : ℕ) (d : Record) → AllZip IsCopyOf fs rs → i < length rs
+    → (f : Flight) × (i < length fs) × ((e : Flight) → get_or fs i e ≡ f) × IsCopyOf f (get_or rs i d)
 shown_at [] [] i d zip within = absurd (omega arith)
 shown_at [] (r ∷ rs) i d zip within = absurd zip
 shown_at (f ∷ fs) [] i d zip within = absurd zip
@@ -80,6 +85,31 @@ working_of : (s : flight.Stage) → stage_of s ≡ Working → (work : Work) × 
 working_of (flight_stage.Working work) is = (work, refl)
 working_of flight_stage.Answered is = let never : Answered ≡ Working = is in cc
 
+-- a request that is worked on, as the world shows it
+at_work : (flights : Flights) (id : ℕ) (f : Flight) (work : Work) → flights id ≡ Some f → f.stage ≡ flight_stage.Working work → IsAtWork (λ k. option_map flight_of (flights k)) id (flight_of f) (work_of work)
+at_work flights id f work here working = record { here = ap (option_map flight_of) here; working = ap seen.stage_of working }
+
+stage_seen : (s : flight.Stage) → stage_of s ≡ stage_shown (seen.stage_of s)
+stage_seen (flight_stage.Working work) = refl
+stage_seen flight_stage.Answered = refl
+
+held_seen : (s : flight.Stage) → held_of s ≡ held_by (seen.stage_of s)
+held_seen (flight_stage.Working work) = refl
+held_seen flight_stage.Answered = refl
+
+-- the copy of a request is the record of what the world shows of it
+record_seen : (rs : List Record) (id : ℕ) (o : Option Flight) → ((f : Flight) → o ≡ Some f → f.id ≡ id)
+    → MatchOption o (record_in rs id ≡ None) (λ f. (r : Record) × (record_in rs id ≡ Some r) × IsCopyOf f r)
+    → MatchOption (option_map flight_of o) (record_in rs id ≡ None) (λ f. (r : Record) × (record_in rs id ≡ Some r) × IsRecordOf id f r)
+record_seen rs id None numbered none = none
+record_seen rs id (Some f) numbered (r, found, copy) = (r, found, record {
+  id_is = copy.id ∙ numbered f refl;
+  unique = copy.unique;
+  stage = copy.stage ∙ stage_seen f.stage;
+  pins = copy.pins;
+  held = copy.held ∙ held_seen f.stage;
+})
+
 -- the request that a record at a place shows while it is worked on
 record IsShown (flights : Flights) (fs : List Flight) (i : ℕ) (r : Record) : Type 0 where
   flight : Flight
@@ -90,7 +120,7 @@ record IsShown (flights : Flights) (fs : List Flight) (i : ℕ) (r : Record) : T
   held : r.held ≡ work.held
   within : i < length fs
 
-module _ (flights : Flights) (fs : List Flight) (rs : List Record) (at : flight_in fs ≡ flights) (own : AllPairs (λ (f g : Flight). f.id ≢ g.id) fs) (zip : AllZip IsRecordOf fs rs) where
+module _ (flights : Flights) (fs : List Flight) (rs : List Record) (at : flight_in fs ≡ flights) (own : AllPairs (λ (f g : Flight). f.id ≢ g.id) fs) (zip : AllZip IsCopyOf fs rs) where
   shown : (i : ℕ) (d : Record) → i < length rs → (get_or rs i d).stage ≡ Working → IsShown flights fs i (get_or rs i d)
   shown i d within is =
       let it = shown_at fs rs i d zip within in
@@ -103,32 +133,32 @@ module _ (flights : Flights) (fs : List Flight) (rs : List Record) (at : flight_
         place = it.2;
         there = sym (ap (λ (l : Flights). l f.id) at) ∙ found;
         stage = w.1;
-        held = it.3.held ∙ ap held_by w.1;
+        held = it.3.held ∙ ap held_of w.1;
         within = it.1;
       }
 
   -- requests that do not clash show records that do not
-  pub records_apart : (l : Lookup) → AreHeld l flights → AreApart rs
+  pub records_apart : (l : Lookup) → AreHeld l (λ k. option_map flight_of (flights k)) → AreApart rs
   records_apart l held i j d before within = record {
     clear = λ one two clash.
         let a = shown i d (omega arith) one in
         let b = shown j d within two in
         let other : a.flight.id ≢ b.flight.id = λ e. own i j a.flight before b.within (ap (λ (f : Flight). f.id) (a.place a.flight) ∙ (e ∙ sym (ap (λ (f : Flight). f.id) (b.place a.flight)))) in
         let both : Clash a.work.held b.work.held = subst (λ (h : Held). Clash a.work.held h) b.held (subst (λ (h : Held). Clash h (get_or rs j d).held) a.held clash) in
-        let way : IsInTheWay a.flight.stage b.work.held = subst (λ (s : flight.Stage). IsInTheWay s b.work.held) (sym a.stage) both in
-        held.apart a.flight.id b.flight.id a.flight b.flight b.work a.there b.there other b.stage way;
+        held.apart a.flight.id b.flight.id (flight_of a.flight) (flight_of b.flight) (work_of a.work) (work_of b.work)
+        (at_work flights a.flight.id a.flight a.work a.there a.stage) (at_work flights b.flight.id b.flight b.work b.there b.stage) other both;
   }
 
   -- the paths that they were given are those of the requests
-  pub records_known : (l : Lookup) → AreHeld l flights → AreKnown l rs
+  pub records_known : (l : Lookup) → AreHeld l (λ k. option_map flight_of (flights k)) → AreKnown l rs
   records_known l held i d within = record {
     leads = λ is.
         let a = shown i d within is in
-        subst (λ (h : Held). All (IsLead l h) h.given) (sym a.held) (held.known a.flight.id a.flight a.work a.there a.stage);
+        subst (λ (h : Held). All (IsLead l h) h.given) (sym a.held) (held.known a.flight.id (flight_of a.flight) (work_of a.work) (at_work flights a.flight.id a.flight a.work a.there a.stage));
   }
 
 module _ (s : State) (kept : IsKept s) (xs : List Node) (ps : List Posting) (rs : List Record) (fs : List Flight) (distinct : IsDistinct xs) (nodes : node_at xs ≡ at_in s.tree) (postings : ps ≡ s.ledger.made)
-    (at : flight_in fs ≡ (flying_of s.flights).at) (pinned : pinned_in fs ≡ (flying_of s.flights).pinned) (many : length fs ≡ (flying_of s.flights).many) (apart : AllPairs (λ (f g : Flight). f.id ≢ g.id) fs) (zip : AllZip IsRecordOf fs rs)
+    (at : flight_in fs ≡ (flying_of s.flights).at) (pinned : pinned_in fs ≡ (flying_of s.flights).pinned) (many : length fs ≡ (flying_of s.flights).many) (apart : AllPairs (λ (f g : Flight). f.id ≢ g.id) fs) (zip : AllZip IsCopyOf fs rs)
     (hs : List Hold) (counts : AreCounts (sharers_in s.flights.flights) (owners_in s.flights.flights) hs) where
   ids : AllPairs (λ (r t : Record). r.id ≢ t.id) rs
   ids = ids-mirrors (λ (f : Flight). f.id) (λ (f : Flight). f.pins.numbers) fs rs (mirrors fs rs zip) apart
@@ -145,7 +175,8 @@ module _ (s : State) (kept : IsKept s) (xs : List Node) (ps : List Posting) (rs 
     nodes = nodes;
     postings = postings;
     ids = ids;
-    records = λ id. subst (λ (a : Flights). MatchOption (a id) (record_in rs id ≡ None) (λ f. (r : Record) × (record_in rs id ≡ Some r) × IsRecordOf f r)) at (records_found fs rs id zip);
+    records = λ id. record_seen rs id ((flying_of s.flights).at id) (kept.flying.numbered id)
+        (subst (λ (a : Flights). MatchOption (a id) (record_in rs id ≡ None) (λ f. (r : Record) × (record_in rs id ≡ Some r) × IsCopyOf f r)) at (records_found fs rs id zip));
     holds = counted;
   }
 

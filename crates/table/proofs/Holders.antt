@@ -23,7 +23,7 @@ use Rattle.image.specs.Law.{AreCounts, owners_of, owns, sharers_of, shares}
 use Rattle.image.specs.Parts.{IsStored}
 use Rattle.image.proofs.Counted.{among_contains, contains_among, count_none, count_some, stored_not_absent}
 use Rattle.image.proofs.Exported.{IsHeldBySome, ListsHeld, Stores}
-use Rattle.table.specs.Exports.{IsRecordOf, held_by, owners_in, sharers_in}
+use Rattle.table.specs.Copies.{IsCopyOf, held_of, owners_in, sharers_in}
 
 -- ---- the same requests in two orders
 
@@ -61,17 +61,17 @@ counts_same test fs all apart at many = same_counts test fs all.flights apart ma
 
 -- ---- what one request holds
 
-pub has_shared-at : (s : flight.Stage) (k : ℕ) (d : Names) → k < length (held_by s).shared → has_shared s (get_or (held_by s).shared k d) ≡ true
+pub has_shared-at : (s : flight.Stage) (k : ℕ) (d : Names) → k < length (held_of s).shared → has_shared s (get_or (held_of s).shared k d) ≡ true
 has_shared-at (flight_stage.Working work) k d within =
     contains_among work.held.shared (get_or work.held.shared k d) (k, within, get_or_default work.held.shared k (get_or work.held.shared k d) d within)
 has_shared-at flight_stage.Answered k d within = absurd (omega arith)
 
-pub has_exclusive-at : (s : flight.Stage) (k : ℕ) (d : Names) → k < length (held_by s).exclusive → has_exclusive s (get_or (held_by s).exclusive k d) ≡ true
+pub has_exclusive-at : (s : flight.Stage) (k : ℕ) (d : Names) → k < length (held_of s).exclusive → has_exclusive s (get_or (held_of s).exclusive k d) ≡ true
 has_exclusive-at (flight_stage.Working work) k d within =
     contains_among work.held.exclusive (get_or work.held.exclusive k d) (k, within, get_or_default work.held.exclusive k (get_or work.held.exclusive k d) d within)
 has_exclusive-at flight_stage.Answered k d within = absurd (omega arith)
 
-unshared : (s : flight.Stage) (hs : List Hold) (path : Names) → All (IsStored hs) (held_by s).shared → All (λ (h : Hold). h.path ≢ path) hs → has_shared s path ≡ false
+unshared : (s : flight.Stage) (hs : List Hold) (path : Names) → All (IsStored hs) (held_of s).shared → All (λ (h : Hold). h.path ≢ path) hs → has_shared s path ≡ false
 unshared (flight_stage.Working work) hs path stored none = elim (cases_Bool (is_among work.held.shared path)) [
   | inl found ↦
       let it = among_contains work.held.shared path found in
@@ -80,7 +80,7 @@ unshared (flight_stage.Working work) hs path stored none = elim (cases_Bool (is_
 ]
 unshared flight_stage.Answered hs path stored none = refl
 
-unowned : (s : flight.Stage) (hs : List Hold) (path : Names) → All (IsStored hs) (held_by s).exclusive → All (λ (h : Hold). h.path ≢ path) hs → has_exclusive s path ≡ false
+unowned : (s : flight.Stage) (hs : List Hold) (path : Names) → All (IsStored hs) (held_of s).exclusive → All (λ (h : Hold). h.path ≢ path) hs → has_exclusive s path ≡ false
 unowned (flight_stage.Working work) hs path stored none = elim (cases_Bool (is_among work.held.exclusive path)) [
   | inl found ↦
       let it = among_contains work.held.exclusive path found in
@@ -93,18 +93,18 @@ unowned flight_stage.Answered hs path stored none = refl
 
 -- the paths that the request holds are stored
 pub record IsCovered (hs : List Hold) (f : Flight) : Type 0 where
-  pub shared : All (IsStored hs) (held_by f.stage).shared
-  pub exclusive : All (IsStored hs) (held_by f.stage).exclusive
+  pub shared : All (IsStored hs) (held_of f.stage).shared
+  pub exclusive : All (IsStored hs) (held_of f.stage).exclusive
 
 abbrev pub AreCovered : List Hold → List Flight → Type 0
 AreCovered hs fs = All (IsCovered hs) fs
 
 pub covered_more : (old new : List Hold) (fs : List Flight) (i : ℕ) (f : Flight) → i < length fs → f ≡ get_or fs i f
-    → Stores old new (held_by f.stage).shared → Stores old new (held_by f.stage).exclusive → AreCovered old (take i fs) → AreCovered new (take (i + 1) fs)
+    → Stores old new (held_of f.stage).shared → Stores old new (held_of f.stage).exclusive → AreCovered old (take i fs) → AreCovered new (take (i + 1) fs)
 covered_more old new fs i f within read shared exclusive before =
     let kept : AreCovered new (take i fs) = λ k d inside. record {
-      shared = λ j e small. shared.kept (get_or (held_by (get_or (take i fs) k d).stage).shared j e) ((before k d inside).shared j e small);
-      exclusive = λ j e small. shared.kept (get_or (held_by (get_or (take i fs) k d).stage).exclusive j e) ((before k d inside).exclusive j e small);
+      shared = λ j e small. shared.kept (get_or (held_of (get_or (take i fs) k d).stage).shared j e) ((before k d inside).shared j e small);
+      exclusive = λ j e small. shared.kept (get_or (held_of (get_or (take i fs) k d).stage).exclusive j e) ((before k d inside).exclusive j e small);
     } in
     let last : IsCovered new f = record { shared = shared.stored; exclusive = exclusive.stored } in
     subst (λ (gs : List Flight). AreCovered new gs) (sym (take_more fs i f within ∙ ap (λ (g : Flight). take i fs ++ g ∷ []) (sym read))) (All-push (IsCovered new) (take i fs) f kept last)
@@ -123,30 +123,30 @@ counts_all fs all hs apart at many covered lists = record {
 
 -- what a request holds is held by some
 pub shared_by_some : (fs : List Flight) (all : InFlight) (i : ℕ) (f : Flight) → HaveOwnIds fs → flight_in fs ≡ (flying_of all).at → length fs ≡ (flying_of all).many → i < length fs → f ≡ get_or fs i f
-    → All (IsHeldBySome (sharers_in all.flights) (owners_in all.flights)) (held_by f.stage).shared
+    → All (IsHeldBySome (sharers_in all.flights) (owners_in all.flights)) (held_of f.stage).shared
 shared_by_some fs all i f apart at many within read k d inside =
-    let path = get_or (held_by f.stage).shared k d in
+    let path = get_or (held_of f.stage).shared k d in
     let here : has_shared (get_or fs i f).stage path ≡ true = subst (λ (g : Flight). has_shared g.stage path ≡ true) read (has_shared-at f.stage k d inside) in
     record { some = omega (arith, count_some (λ (g : Flight). has_shared g.stage path) fs i f within here, counts_same (λ (g : Flight). has_shared g.stage path) fs all apart at many) }
 
 pub owned_by_some : (fs : List Flight) (all : InFlight) (i : ℕ) (f : Flight) → HaveOwnIds fs → flight_in fs ≡ (flying_of all).at → length fs ≡ (flying_of all).many → i < length fs → f ≡ get_or fs i f
-    → All (IsHeldBySome (sharers_in all.flights) (owners_in all.flights)) (held_by f.stage).exclusive
+    → All (IsHeldBySome (sharers_in all.flights) (owners_in all.flights)) (held_of f.stage).exclusive
 owned_by_some fs all i f apart at many within read k d inside =
-    let path = get_or (held_by f.stage).exclusive k d in
+    let path = get_or (held_of f.stage).exclusive k d in
     let here : has_exclusive (get_or fs i f).stage path ≡ true = subst (λ (g : Flight). has_exclusive g.stage path ≡ true) read (has_exclusive-at f.stage k d inside) in
     record { some = omega (arith, count_some (λ (g : Flight). has_exclusive g.stage path) fs i f within here, counts_same (λ (g : Flight). has_exclusive g.stage path) fs all apart at many) }
 
 -- ---- records
 
-shares_same : (s : flight.Stage) (f : Flight) (r : Record) (path : Names) → f.stage ≡ s → IsRecordOf f r → shares r path ≡ has_shared f.stage path
+shares_same : (s : flight.Stage) (f : Flight) (r : Record) (path : Names) → f.stage ≡ s → IsCopyOf f r → shares r path ≡ has_shared f.stage path
 shares_same (flight_stage.Working work) f r path e h = rw (h.stage, h.held, e) refl
 shares_same flight_stage.Answered f r path e h = rw (h.stage, h.held, e) refl
 
-owns_same : (s : flight.Stage) (f : Flight) (r : Record) (path : Names) → f.stage ≡ s → IsRecordOf f r → owns r path ≡ has_exclusive f.stage path
+owns_same : (s : flight.Stage) (f : Flight) (r : Record) (path : Names) → f.stage ≡ s → IsCopyOf f r → owns r path ≡ has_exclusive f.stage path
 owns_same (flight_stage.Working work) f r path e h = rw (h.stage, h.held, e) refl
 owns_same flight_stage.Answered f r path e h = rw (h.stage, h.held, e) refl
 
-zip_counts : (test : Record → Bool) (check : Flight → Bool) → ((f : Flight) (r : Record) → IsRecordOf f r → test r ≡ check f) → (fs : List Flight) (rs : List Record) → AllZip IsRecordOf fs rs → count_by test rs ≡ count_by check fs
+zip_counts : (test : Record → Bool) (check : Flight → Bool) → ((f : Flight) (r : Record) → IsCopyOf f r → test r ≡ check f) → (fs : List Flight) (rs : List Record) → AllZip IsCopyOf fs rs → count_by test rs ≡ count_by check fs
 zip_counts test check same [] [] zip = refl
 zip_counts test check same [] (r ∷ rs) zip = absurd zip
 zip_counts test check same (f ∷ fs) [] zip = absurd zip
@@ -155,8 +155,8 @@ zip_counts test check same (f ∷ fs) (r ∷ rs) zip =
     omega (arith, first, zip_counts test check same fs rs zip.1, sum_by-cons (λ (g : Flight). one_if (check g)) f fs, sum_by-cons (λ (q : Record). one_if (test q)) r rs)
 
 -- the records of the requests hold what these hold
-pub sharers_same : (fs : List Flight) (rs : List Record) → AllZip IsRecordOf fs rs → sharers_of rs ≡ sharers_in fs
+pub sharers_same : (fs : List Flight) (rs : List Record) → AllZip IsCopyOf fs rs → sharers_of rs ≡ sharers_in fs
 sharers_same fs rs zip = fun_ext (λ path. zip_counts (λ (r : Record). shares r path) (λ (f : Flight). has_shared f.stage path) (λ f r h. shares_same f.stage f r path refl h) fs rs zip)
 
-pub owners_same : (fs : List Flight) (rs : List Record) → AllZip IsRecordOf fs rs → owners_of rs ≡ owners_in fs
+pub owners_same : (fs : List Flight) (rs : List Record) → AllZip IsCopyOf fs rs → owners_of rs ≡ owners_in fs
 owners_same fs rs zip = fun_ext (λ path. zip_counts (λ (r : Record). owns r path) (λ (f : Flight). has_exclusive f.stage path) (λ f r h. owns_same f.stage f r path refl h) fs rs zip)

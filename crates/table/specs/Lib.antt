@@ -1,10 +1,6 @@
-pub mod Answers
-pub mod Holding
-pub mod Moving
-pub mod World
-pub mod Steps
-pub mod Sweeping
-pub mod Beginning
+pub use Rattle.steps.specs.Answers
+pub use Rattle.steps.specs.World
+pub use Rattle.steps.specs.Steps
+pub use Rattle.steps.specs.Kept
 pub mod Exports
-pub mod Hands
-pub mod Runs
+pub mod Copies

@@ -5,16 +5,17 @@ ghost use Rattle.std.specs.List.{AllZip};
 ghost use Rattle.image.proofs.Exported.{IsHeldBySome, ListsBelow, ListsHeld, Stores};
 ghost use Rattle.image.specs.Law.{AreCounts, IsLawfulImage};
 ghost use Rattle.image.specs.Parts.{IsStored};
-ghost use Rattle.table.specs.Exports.{Exports, IsRecordOf, held_by, owners_in, sharers_in, stage_of};
-ghost use Rattle.table.specs.World.{IsKept, world_of};
+ghost use Rattle.table.specs.Copies.{IsCopyOf, held_of, owners_in, sharers_in, stage_of};
+ghost use Rattle.table.specs.Exports.{Exports};
+ghost use Rattle.steps.specs.Kept.{IsKept, world_of};
 ghost use Rattle.tree.specs.Listed.{node_at, IsDistinct};
 ghost use Rattle.tree.specs.Places.{at_in};
 
-use crate::state::State;
 use flights::{Flight, Flights};
 use holds::{Held, Lead, Leads, Paths};
 use image::{Hold, Holds, Image, Nodes, Numbers, Postings, Record, Records, Stage};
 use paths::Path;
+use steps::State;
 use std::alloc::{AllocError, Global};
 use tree::{Key, Node, Place, Tree};
 
@@ -135,8 +136,8 @@ fn nothing_held(alloc: Global) -> Held
 }
 
 /// What a request holds: nothing once its work has ended.
-fn held_by(alloc: Global, stage: &flights::Stage) -> Result<Held, AllocError>
-    ensures { IfOk result (λ h. h ≡ held_by stage.now) }
+fn held_of(alloc: Global, stage: &flights::Stage) -> Result<Held, AllocError>
+    ensures { IfOk result (λ h. h ≡ held_of stage.now) }
 {
     match stage {
         flights::Stage::Working(work) => copy_held(alloc, &work.held),
@@ -146,10 +147,10 @@ fn held_by(alloc: Global, stage: &flights::Stage) -> Result<Held, AllocError>
 
 /// What a request in flight shows of itself.
 fn copy_record(alloc: Global, flight: &Flight) -> Result<Record, AllocError>
-    ensures { IfOk result (IsRecordOf flight.now) }
+    ensures { IfOk result (IsCopyOf flight.now) }
 {
     let pins = Vec::from_slice(alloc, flight.pins.as_slice())?;
-    let held = held_by(alloc, &flight.stage)?;
+    let held = held_of(alloc, &flight.stage)?;
     Ok(Record {
         id: flight.id,
         unique: flight.unique,
@@ -172,7 +173,7 @@ fn stage(flight: &Flight) -> Stage
 
 /// All requests in flight, in their order.
 fn copy_records(alloc: Global, flights: &[Flight]) -> Result<Vec<Record>, AllocError>
-    ensures { IfOk result (λ rs. AllZip IsRecordOf flights.now rs.items) }
+    ensures { IfOk result (λ rs. AllZip IsCopyOf flights.now rs.items) }
 {
     let mut records = Vec::new(alloc);
     for flight in flights {
@@ -227,11 +228,11 @@ fn add_held(
     stage: &flights::Stage,
 ) -> Result<(), AllocError>
     requires lists { ListsHeld (sharers_in flights.now.flights) (owners_in flights.now.flights) holds.old.items }
-    requires shared { All (IsHeldBySome (sharers_in flights.now.flights) (owners_in flights.now.flights)) (held_by stage.now).shared }
-    requires exclusive { All (IsHeldBySome (sharers_in flights.now.flights) (owners_in flights.now.flights)) (held_by stage.now).exclusive }
+    requires shared { All (IsHeldBySome (sharers_in flights.now.flights) (owners_in flights.now.flights)) (held_of stage.now).shared }
+    requires exclusive { All (IsHeldBySome (sharers_in flights.now.flights) (owners_in flights.now.flights)) (held_of stage.now).exclusive }
     ensures lists { OnOk result (ListsHeld (sharers_in flights.now.flights) (owners_in flights.now.flights) holds.new.items) }
-    ensures shared { OnOk result (Stores holds.old.items holds.new.items (held_by stage.now).shared) }
-    ensures exclusive { OnOk result (Stores holds.old.items holds.new.items (held_by stage.now).exclusive) }
+    ensures shared { OnOk result (Stores holds.old.items holds.new.items (held_of stage.now).shared) }
+    ensures exclusive { OnOk result (Stores holds.old.items holds.new.items (held_of stage.now).exclusive) }
 {
     match stage {
         flights::Stage::Working(work) => {
@@ -253,22 +254,20 @@ fn copy_holds(alloc: Global, flights: &Flights) -> Result<Vec<Hold>, AllocError>
     Ok(holds)
 }
 
-impl State {
-    /// All that the table keeps, as plain data.
-    pub fn export(&self) -> Result<Image, AllocError>
-        requires { IsKept self.now }
-        ensures exports { IfOk result (Exports (world_of self.now)) }
-        ensures lawful { IfOk result IsLawfulImage }
-    {
-        let nodes = copy_nodes(self.alloc, &self.tree)?;
-        let postings = Vec::from_slice(self.alloc, self.ledger.postings())?;
-        let records = copy_records(self.alloc, self.flights.as_slice())?;
-        let holds = copy_holds(self.alloc, &self.flights)?;
-        Ok(Image {
-            nodes: Nodes::from(nodes),
-            postings: Postings::from(postings),
-            records: Records::from(records),
-            holds: Holds::from(holds),
-        })
-    }
+/// All that the table keeps, as plain data.
+pub fn export(state: &State) -> Result<Image, AllocError>
+    requires { IsKept state.now }
+    ensures exports { IfOk result (Exports (world_of state.now)) }
+    ensures lawful { IfOk result IsLawfulImage }
+{
+    let nodes = copy_nodes(state.alloc, &state.tree)?;
+    let postings = Vec::from_slice(state.alloc, state.ledger.postings())?;
+    let records = copy_records(state.alloc, state.flights.as_slice())?;
+    let holds = copy_holds(state.alloc, &state.flights)?;
+    Ok(Image {
+        nodes: Nodes::from(nodes),
+        postings: Postings::from(postings),
+        records: Records::from(records),
+        holds: Holds::from(holds),
+    })
 }

@@ -6,16 +6,17 @@ ghost use Rattle.ledger.specs.Shares.{nothing, plus, sum_of};
 ghost use Rattle.ledger.specs.Sums.{totals_of};
 ghost use Rattle.image.specs.Law.{IsLawfulImage};
 ghost use Rattle.table.specs.Exports.{Exports};
-ghost use Rattle.table.specs.Steps.{Begins, Finishes, Forgets, Settles, gained};
-ghost use Rattle.table.specs.World.{AreReady, IsCounted, IsLawfulWorld, IsOpened, world_of};
+ghost use Rattle.steps.specs.Kept.{world_of};
+ghost use Rattle.steps.specs.Steps.{Begins, Finishes, Forgets, Settles, gained};
+ghost use Rattle.steps.specs.World.{IsLawfulWorld, opened_world};
 
-use crate::data::{Answered, Begin, Limits, Outcome, Settled, Ticket};
-use crate::state::State;
+use crate::export::export;
 use flights::Want;
 use image::Image;
 use ledger::{Blanks, Book, Gather, Ledger, Ledgers, Share, Totals};
 use std::alloc::{AllocError, Global};
 use std::marker::Model;
+use steps::{Answered, Begin, Limits, Outcome, Settled, State, Ticket};
 
 /// The state that all workers share, under one lock. Its type parameter names the four ledgers of its book.
 #[derive(Drop)]
@@ -27,12 +28,12 @@ pub struct Table<L: Ledgers> {
 impl<L: Ledgers> Model for Table<L> {
     ghost use Rattle.std.specs.Prelude.{◌≡◌};
     ghost use Rattle.ledger.specs.Sums.{totals_of};
-    ghost use Rattle.table.specs.declared.state.State.{State};
+    ghost use Rattle.steps.specs.declared.state.State.{State};
     ghost use Rattle.std.specs.Coded.{codes, coded_ℕ};
     ghost use Rattle.std.specs.FinMap as map;
     ghost use Rattle.std.specs.Ordering.{nat_cmp};
     ghost use Rattle.tree.specs.contracts.nodes.Node as node;
-    ghost use Rattle.table.specs.World.{IsKept};
+    ghost use Rattle.steps.specs.Kept.{IsKept};
 
     ghost Value = { State };
 
@@ -68,30 +69,31 @@ impl<L: Ledgers> Table<L> {
         requires names { blanks ≡ L.names }
         requires shares { workers ≡ L.names.parts }
         requires root { 1 ≤ limits.nodes }
-        ensures opened { IfOk result (λ (table, _). IsOpened limits (world_of table)) }
+        ensures opened { IfOk result (λ (table, _). world_of table ≡ opened_world limits) }
         ensures lawful { IfOk result (λ (table, _). IsLawfulWorld (world_of table)) }
         ensures shares { IfOk result (λ (_, shares). shares.items ≡ map (λ index. record { index = index; totals = nothing }) (range_with_len 0 workers)) }
     {
         let state = State::open(alloc, limits)?;
+        state.attest();
         let (book, shares) = Book::open(alloc, blanks, workers)?;
         Ok((Table { state, book }, shares))
     }
 
-    /// Between any two calls the law holds, and each request that is worked on has what it relies on.
-    pub(crate) fn attest(&self)
-        ensures lawful { IsLawfulWorld (world_of self.now) }
-        ensures ready { AreReady (world_of self.now).at (world_of self.now).flying.at }
+    /// Between any two calls the law holds: a call that does nothing.
+    pub fn attest(&self)
+        ensures { IsLawfulWorld (world_of self.now) }
     {
-        let _limits = &self.state.limits;
+        self.state.attest();
     }
 
     /// Takes up a request. Busy and a refusal change nothing.
     pub fn begin(&mut self, unique: u64, want: Want) -> Begin
         ensures begins { Begins (world_of self.old) unique want result (world_of self.new) }
-        ensures census { IsCounted (world_of self.old) }
         ensures lawful { IsLawfulWorld (world_of self.new) }
     {
-        self.state.begin(unique, want)
+        let begin = self.state.begin(unique, want);
+        self.state.attest();
+        begin
     }
 
     /// Ends the work on a request. It takes no memory.
@@ -103,6 +105,7 @@ impl<L: Ledgers> Table<L> {
     {
         let made = self.state.ledger.postings().len();
         let answered = self.state.finish(ticket, outcome);
+        self.state.attest();
         post_since(&self.state.ledger, &mut self.book, share, made);
         answered
     }
@@ -116,6 +119,7 @@ impl<L: Ledgers> Table<L> {
     {
         let made = self.state.ledger.postings().len();
         let settled = self.state.settle(answered, taken);
+        self.state.attest();
         post_since(&self.state.ledger, &mut self.book, share, made);
         settled
     }
@@ -129,6 +133,7 @@ impl<L: Ledgers> Table<L> {
     {
         let made = self.state.ledger.postings().len();
         let amount = self.state.forget(number, n);
+        self.state.attest();
         post_since(&self.state.ledger, &mut self.book, share, made);
         amount
     }
@@ -138,7 +143,7 @@ impl<L: Ledgers> Table<L> {
         ensures exports { IfOk result (Exports (world_of self.now)) }
         ensures lawful { IfOk result IsLawfulImage }
     {
-        self.state.export()
+        export(&self.state)
     }
 
     /// Adds up the shares. Where none is missing, their sum is what the ledger holds. The table and the shares are used up.

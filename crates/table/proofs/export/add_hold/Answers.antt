@@ -3,7 +3,7 @@ use Rattle.image.specs.declared.data.Hold.{Hold}
 use Rattle.image.specs.Law.{IsCountOf}
 use Rattle.image.proofs.Counted.{stored_or_absent}
 use Rattle.image.proofs.Exported.{ListsHeld-push, Stores-push}
-use Rattle.table.specs.Exports.{owners_in, sharers_in}
+use Rattle.table.specs.Copies.{owners_in, sharers_in}
 use Rattle.table.proofs.export.add_hold.Goals as goal
 
 pub returns-clause-lists : goal.returns-clause-lists

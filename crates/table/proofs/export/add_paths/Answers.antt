@@ -2,7 +2,7 @@ use Rattle.std.proofs.Common.{◌≡◌, ◌+◌, [], ◌∷◌, ◌++◌, take,
 use Rattle.std.proofs.lemmas.List.{take_more}
 use Rattle.paths.specs.Fronts.{Names}
 use Rattle.image.proofs.Exported.{IsHeldBySome, Stores, Stores-more}
-use Rattle.table.specs.Exports.{owners_in, sharers_in}
+use Rattle.table.specs.Copies.{owners_in, sharers_in}
 use Rattle.table.proofs.export.add_paths.Goals as goal
 
 pub add_hold-requires-clause-held : goal.add_hold-requires-clause-held

@@ -1,6 +1,6 @@
 use Rattle.std.proofs.Common.{take}
 use Rattle.image.proofs.Exported.{ListsHeld, Stores}
-use Rattle.table.specs.Exports.{owners_in, sharers_in}
+use Rattle.table.specs.Copies.{owners_in, sharers_in}
 use Rattle.table.proofs.export.add_paths.Given as goal
 
 abbrev pub invariant-loop-path : goal.invariant-loop-path

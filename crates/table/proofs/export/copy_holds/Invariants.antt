@@ -1,6 +1,6 @@
 use Rattle.std.proofs.Common.{take}
 use Rattle.image.proofs.Exported.{ListsHeld}
-use Rattle.table.specs.Exports.{owners_in, sharers_in}
+use Rattle.table.specs.Copies.{owners_in, sharers_in}
 use Rattle.table.proofs.Holders.{AreCovered}
 use Rattle.table.proofs.export.copy_holds.Given as goal
 

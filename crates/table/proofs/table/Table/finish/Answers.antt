@@ -1,15 +1,16 @@
-use Rattle.table.specs.World.{world_of}
-use Rattle.table.proofs.Longer.{longer_finishes, length_longer, totals_longer, gained_longer}
+use Rattle.steps.proofs.Growing.{ledgers_grown}
+use Rattle.steps.specs.Kept.{world_of}
+use Rattle.table.proofs.Longer.{length_longer, totals_longer, gained_longer}
 use Rattle.table.proofs.table.Table.finish.Goals as goal
 
 pub post_since-requires-clause-within : goal.post_since-requires-clause-within
 post_since-requires-clause-within g c =
-    rw c.postings-made.ensures.made (length_longer c.self.inside.state.ledger.made c.finish-answered.new.self.ledger.made (longer_finishes (world_of c.self.inside.state) c.args.ticket.id c.args.outcome c.finish-answered.result (world_of c.finish-answered.new.self) c.finish-answered.ensures.finishes))
+    rw c.postings-made.ensures.made (length_longer (world_of c.self.inside.state) (world_of c.finish-answered.new.self) (ledgers_grown.finish (world_of c.self.inside.state) c.args.ticket.id c.args.outcome c.finish-answered.result (world_of c.finish-answered.new.self) c.finish-answered.ensures.finishes))
 
 pub post_since-requires-clause-so_far : goal.post_since-requires-clause-so_far
 post_since-requires-clause-so_far g c =
-    rw c.postings-made.ensures.made (totals_longer c.self.inside.state.ledger.made c.finish-answered.new.self.ledger.made c.self.inside.book (longer_finishes (world_of c.self.inside.state) c.args.ticket.id c.args.outcome c.finish-answered.result (world_of c.finish-answered.new.self) c.finish-answered.ensures.finishes) c.self.invariant.1)
+    rw c.postings-made.ensures.made (totals_longer (world_of c.self.inside.state) (world_of c.finish-answered.new.self) (ledgers_grown.finish (world_of c.self.inside.state) c.args.ticket.id c.args.outcome c.finish-answered.result (world_of c.finish-answered.new.self) c.finish-answered.ensures.finishes) c.self.inside.book c.self.invariant.1)
 
 pub returns-clause-grows : goal.returns-clause-grows
 returns-clause-grows g c =
-    rw (← c.self.view_is) (gained_longer c.self.inside.state.ledger.made c.finish-answered.new.self.ledger.made (longer_finishes (world_of c.self.inside.state) c.args.ticket.id c.args.outcome c.finish-answered.result (world_of c.finish-answered.new.self) c.finish-answered.ensures.finishes))
+    rw (← c.self.view_is) (gained_longer (world_of c.self.inside.state) (world_of c.finish-answered.new.self) (ledgers_grown.finish (world_of c.self.inside.state) c.args.ticket.id c.args.outcome c.finish-answered.result (world_of c.finish-answered.new.self) c.finish-answered.ensures.finishes))

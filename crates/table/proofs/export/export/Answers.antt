@@ -1,15 +1,15 @@
 use Rattle.std.proofs.Common.{◌∙◌}
 use Rattle.table.proofs.Exporting.{exports, exports_lawful}
-use Rattle.table.proofs.state.State.export.Goals as goal
+use Rattle.table.proofs.export.export.Goals as goal
 
 pub returns-clause-exports : goal.returns-clause-exports
 returns-clause-exports c =
     rw (c.from.ensures, c.from-2.ensures, c.from-3.ensures, c.from-4.ensures)
-    (exports c.args.self.now c.requires c.in_ok-nodes.nodes.items c.in_ok-postings.postings.items c.in_ok-records.records.items c.as_slice.result.now c.in_ok-nodes.ensures.distinct c.in_ok-nodes.ensures.nodes (c.in_ok-postings.ensures.items ∙ c.postings.ensures.made)
+    (exports c.args.state.now c.requires c.in_ok-nodes.nodes.items c.in_ok-postings.postings.items c.in_ok-records.records.items c.as_slice.result.now c.in_ok-nodes.ensures.distinct c.in_ok-nodes.ensures.nodes (c.in_ok-postings.ensures.items ∙ c.postings.ensures.made)
     c.as_slice.ensures.at c.as_slice.ensures.pinned c.as_slice.ensures.many c.as_slice.ensures.apart c.in_ok-records.ensures c.in_ok-holds.holds.items c.in_ok-holds.ensures)
 
 pub returns-clause-lawful : goal.returns-clause-lawful
 returns-clause-lawful c =
     rw (c.from.ensures, c.from-2.ensures, c.from-3.ensures, c.from-4.ensures)
-    (exports_lawful c.args.self.now c.requires c.in_ok-nodes.nodes.items c.in_ok-postings.postings.items c.in_ok-records.records.items c.as_slice.result.now c.in_ok-nodes.ensures.distinct c.in_ok-nodes.ensures.nodes (c.in_ok-postings.ensures.items ∙ c.postings.ensures.made)
+    (exports_lawful c.args.state.now c.requires c.in_ok-nodes.nodes.items c.in_ok-postings.postings.items c.in_ok-records.records.items c.as_slice.result.now c.in_ok-nodes.ensures.distinct c.in_ok-nodes.ensures.nodes (c.in_ok-postings.ensures.items ∙ c.postings.ensures.made)
     c.as_slice.ensures.at c.as_slice.ensures.pinned c.as_slice.ensures.many c.as_slice.ensures.apart c.in_ok-records.ensures c.in_ok-holds.holds.items c.in_ok-holds.ensures)

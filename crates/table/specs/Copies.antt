@@ -1,0 +1,36 @@
+-- What a copy shows of a request as it is kept.
+use Rattle.std.specs.Prelude.{ℕ, ◌≡◌, [], List, count_by}
+use Rattle.paths.specs.Fronts.{Names}
+use Rattle.holds.specs.declared.held.Held.{Held}
+use Rattle.flights.specs.declared.data.Flight.{Flight}
+use Rattle.flights.specs.declared.data.Stage as kept
+use Rattle.flights.specs.declared.data.Stage.TheVariants as kept_stage
+use Rattle.flights.specs.Flying.{has_exclusive, has_shared}
+use Rattle.image.specs.declared.data.Record.{Record}
+use Rattle.image.specs.declared.data.Stage.{Stage}
+use Rattle.image.specs.declared.data.Stage.TheVariants.{Working, Answered}
+
+abbrev pub stage_of : kept.Stage → Stage
+stage_of (kept_stage.Working work) = Working
+stage_of kept_stage.Answered = Answered
+
+-- what the request holds: nothing once its work has ended
+abbrev pub held_of : kept.Stage → Held
+held_of (kept_stage.Working work) = work.held
+held_of kept_stage.Answered = record { given = []; shared = []; exclusive = [] }
+
+-- how many of the requests that are worked on share the path
+abbrev pub sharers_in : List Flight → Names → ℕ
+sharers_in fs path = count_by (λ (f : Flight). has_shared f.stage path) fs
+
+-- how many of them hold it alone
+abbrev pub owners_in : List Flight → Names → ℕ
+owners_in fs path = count_by (λ (f : Flight). has_exclusive f.stage path) fs
+
+-- the record copies the request
+pub record IsCopyOf (f : Flight) (r : Record) : Type 0 where
+  pub id : r.id ≡ f.id
+  pub unique : r.unique ≡ f.unique
+  pub stage : r.stage ≡ stage_of f.stage
+  pub pins : r.pins ≡ f.pins.numbers
+  pub held : r.held ≡ held_of f.stage
