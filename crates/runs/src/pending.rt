@@ -1,67 +1,67 @@
 //! What a caller has in hand between its calls.
 
-ghost use Rattle.std.specs.Prelude.{◌≡◌, ◌++◌, ◌∷◌, [], IfOk, OnOk, IsErr};
+ghost use Rattle.std.specs.Prelude.{◌≡◌, IfOk};
 
-use crate::data::{Answered, Ticket};
-use flights::Want;
 use std::alloc::{AllocError, Global};
 use std::marker::Model;
+use table::{Answered, Ticket, Want};
 
 /// A ticket, beside the want that its request was begun with.
 #[must_use]
-pub struct Begun {
+pub struct Started {
     pub ticket: Ticket,
     pub want: Want,
 }
 
-/// What earlier calls gave and was not spent yet. A call names a ticket or an answer by its place.
+/// The tickets that were not finished yet and the answers that were not settled yet. A call names one of them by its place.
 #[must_use]
-pub struct Hand {
-    pub(crate) tickets: Vec<Begun>,
+pub struct Pending {
+    pub(crate) tickets: Vec<Started>,
     pub(crate) answers: Vec<Answered>,
 }
 
-impl Model for Hand {
-    ghost use Rattle.table.specs.Hands.{Unspent};
+impl Model for Pending {
+    ghost use Rattle.runs.specs.Outstanding.{Outstanding};
 
-    ghost Value = { Unspent };
+    ghost Value = { Outstanding };
 
-    ghost view = { λ h. record { tickets = h.tickets.items; answers = h.answers.items } };
+    ghost view = { λ p. record { tickets = p.tickets.items; answers = p.answers.items } };
 }
 
-impl Hand {
-    ghost use Rattle.table.specs.Runs.{AreClaimed};
-    ghost use Rattle.table.specs.World.{World};
+impl Pending {
+    ghost use Rattle.std.specs.Prelude.{[]};
+    ghost use Rattle.runs.specs.Runs.{AreCurrent};
+    ghost use Rattle.steps.specs.World.{World};
 
-    /// An empty hand. On any table, each of its tickets is of a request, since it has none.
-    pub fn new(alloc: Global) -> Hand
+    /// Nothing. On any table, each of its tickets is of a request, since it has none.
+    pub fn new(alloc: Global) -> Pending
         ensures empty { result ≡ record { tickets = []; answers = [] } }
-        ensures claims { (w : World) → AreClaimed w result }
+        ensures current { (w : World) → AreCurrent w result }
     {
-        Hand {
+        Pending {
             tickets: Vec::new(alloc),
             answers: Vec::new(alloc),
         }
     }
 
-    /// A hand of any tickets and answers.
-    pub fn from_parts(tickets: Vec<Begun>, answers: Vec<Answered>) -> Hand
+    /// Those tickets and answers.
+    pub fn from_parts(tickets: Vec<Started>, answers: Vec<Answered>) -> Pending
         ensures { result ≡ record { tickets = tickets.items; answers = answers.items } }
     {
-        Hand { tickets, answers }
+        Pending { tickets, answers }
     }
 
     /// The tickets and the answers.
-    pub fn into_parts(self) -> (Vec<Begun>, Vec<Answered>)
+    pub fn into_parts(self) -> (Vec<Started>, Vec<Answered>)
         ensures tickets { result.0.items ≡ self.tickets }
         ensures answers { result.1.items ≡ self.answers }
     {
-        let Hand { tickets, answers } = self;
+        let Pending { tickets, answers } = self;
         (tickets, answers)
     }
 
     /// The tickets, in the order of their begins.
-    pub fn tickets(&self) -> &[Begun]
+    pub fn tickets(&self) -> &[Started]
         ensures { result.now ≡ self.now.tickets }
     {
         self.tickets.as_slice()
@@ -76,7 +76,7 @@ impl Hand {
 }
 
 /// The same want once more.
-pub fn copy_of(want: &Want) -> Result<Want, AllocError>
+pub(crate) fn copy_of(want: &Want) -> Result<Want, AllocError>
     ensures { IfOk result (λ w. w ≡ want.now) }
 {
     match want {

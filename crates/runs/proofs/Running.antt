@@ -1,0 +1,360 @@
+-- What any call leaves of the tickets that are pending, and what all calls of a run leave together.
+use Rattle.std.proofs.Common.{ℕ, ℤ, ◌+◌, ◌<◌, ◌≤◌, ◌≡◌, ◌≢◌, ◌==◌, ◌⊎◌, suc, zero, Bool, List, [], ◌∷◌, ◌++◌, append_assoc, append-nil, Option, Some, None, All, AllPairs, Contains, length, length-append, drop, take, get_or, refl, sym, ap, ◌∙◌, subst, inl, inr, arith}
+use Rattle.std.specs.Prelude.{map}
+use Rattle.std.specs.List.{remove}
+use Rattle.std.proofs.lemmas.Bool.{cases_Bool, cases_eq, cases_lt, cond-false, cond-true, eq-eqb, ne_eqb}
+use Rattle.std.proofs.lemmas.Option.{none-some, same_Some}
+use Rattle.std.proofs.lemmas.List.Edits.{length-remove, get_or-remove_above, get_or-remove_below}
+use Rattle.std.proofs.lemmas.List.Elements.{All-contains, All-from_get_or, All-get_or, All-push, All-weaker}
+use Rattle.std.proofs.lemmas.List.Quantifiers.{all_pairs_push, all_pairs_remove}
+use Rattle.std.proofs.lemmas.List.Sums.{sum_by-append}
+use Rattle.std.proofs.Math.Seq.{drop-append_seam, drop-length, take-append_seam}
+use Rattle.ledger.specs.declared.postings.Posting.{Posting}
+use Rattle.ledger.specs.declared.shares.Totals.{Totals}
+use Rattle.ledger.specs.Shares.{Part, plus}
+use Rattle.ledger.specs.Sums.{totals_by, totals_of}
+use Rattle.paths.specs.Fronts.{Names}
+use Rattle.holds.specs.declared.held.Held.{Held}
+use Rattle.holds.specs.declared.held.Lead.{Lead}
+use Rattle.tree.specs.Places.{Lookup, IsPathOf, IsTree}
+use Rattle.tree.proofs.Climbing.{path_same}
+use Rattle.tree.proofs.LookupLemmas.{cases_option}
+use Rattle.flights.specs.declared.data.Want.{Want}
+use Rattle.wants.specs.Asked.{ArePaths, HasPath, Holds}
+use Rattle.wants.specs.Laws.{IsRow, base_of}
+use Rattle.wants.specs.Rows.{AtName, AtNode, Demand, Location, row_of}
+use Rattle.wants.proofs.Members.{first_in, in_map, later_in}
+use Rattle.wants.proofs.RowLemmas.{are_rows}
+use Rattle.steps.specs.declared.data.Begin.TheVariants as begin
+use Rattle.steps.specs.declared.data.Outcome.{Outcome}
+use Rattle.steps.specs.Answers.{Answer, Claim, Settlement}
+use Rattle.steps.specs.Steps.{Begins, Finishes, Forgets, Settles}
+use Rattle.steps.specs.World.{Answered, Flight, Flights, IsAtWork, IsLawfulWorld, IsReady, Stage, Work, Working, World, with_entry}
+use Rattle.runs.specs.declared.calls.Call.{Call}
+use Rattle.runs.specs.declared.calls.Call.TheVariants as call
+use Rattle.runs.specs.declared.calls.Told.{Told}
+use Rattle.runs.specs.declared.calls.Told.TheVariants as told
+use Rattle.runs.specs.declared.pending.Started.{Started}
+use Rattle.runs.specs.Outstanding.{Outstanding}
+use Rattle.runs.specs.Runs.{AreCurrent, ChangesNothing, IsCurrent, IsOther, IsStep, PutsTicket, Runs, SpendsAnswer, SpendsTicket}
+
+-- ---- one ticket
+
+-- a request is one of its want, and holds the same paths before and after: so the paths of its locations are the same
+module _ (old new : Lookup) (tree : IsTree old) (d : Demand) (held : Held) (was : Holds old d held) (is : Holds new d held) where
+  given_path : (n : ℕ) → Contains d.given n → (q : Names) → IsPathOf old n q → IsPathOf new n q
+  given_path n given q leads =
+      let it = in_map (λ (lead : Lead). lead.number) held.given n (subst (λ ns. Contains ns n) (sym was.numbers) given) in
+      let before : IsPathOf old it.0.number it.0.path = All-contains (λ (lead : Lead). IsPathOf old lead.number lead.path) held.given it.0 was.leads it.1 in
+      let after : IsPathOf new it.0.number it.0.path = All-contains (λ (lead : Lead). IsPathOf new lead.number lead.path) held.given it.0 is.leads it.1 in
+      let same : it.0.path ≡ q = path_same old tree.rooted it.0.path q n (subst (λ k. IsPathOf old k it.0.path) it.2 before) leads in
+      subst (λ p. IsPathOf new n p) same (subst (λ k. IsPathOf new k it.0.path) it.2 after)
+
+  location_path : (l : Location) → Contains d.given (base_of l) → (q : Names) → HasPath old l q → HasPath new l q
+  location_path (AtNode n) given q leads = given_path n given q leads
+  location_path (AtName parent name) given q it = record { above = it.above; leads = given_path parent given it.above it.leads; whole = it.whole }
+
+  pub paths_kept : (ls : List Location) → ((l : Location) → Contains ls l → Contains d.given (base_of l)) → (paths : List Names) → ArePaths old ls paths → ArePaths new ls paths
+  paths_kept [] given paths none = none
+  paths_kept (l ∷ ls) given paths (path, rest, spelt, leads, more) =
+      (path, rest, spelt, location_path l (given l (first_in l ls)) path leads, paths_kept ls (λ m h. given m (later_in l ls m h)) rest more)
+
+-- the request under the id is worked on as before
+abbrev pub StaysAtWork : World → World → ℕ → Type 0
+StaysAtWork old new id = (f : Flight) (work : Work) → IsAtWork old.flights id f work → new.flights id ≡ Some f
+
+pub current_kept : (old new : World) (s : Started) → IsLawfulWorld old → IsLawfulWorld new → StaysAtWork old new s.ticket.id → IsCurrent old s → IsCurrent new s
+current_kept old new s was is stays c =
+    let here : IsAtWork new.flights s.ticket.id c.flight c.work = record { here = stays c.flight c.work c.here; working = c.here.working } in
+    let before = was.ready s.ticket.id c.flight c.work c.here in
+    let after = is.ready s.ticket.id c.flight c.work here in
+    let row : IsRow c.work.row = subst (λ (d : Demand). IsRow d) (sym before.row) (are_rows c.work.want before.case) in
+    record {
+      flight = c.flight;
+      work = c.work;
+      here = here;
+      want_is = c.want_is;
+      paths = paths_kept old.at new.at was.law.tree c.work.row c.work.held before.holds after.holds c.work.row.paths row.paths s.ticket.paths c.paths;
+    }
+
+-- ---- requests that a step leaves at work
+
+entry_same : (at : Flights) (id : ℕ) (x : Option Flight) → with_entry at id x id ≡ x
+entry_same at id x = cond-true (id == id) x (at id) (eq-eqb id id refl)
+
+entry_other : (at : Flights) (id : ℕ) (x : Option Flight) (k : ℕ) → id ≢ k → with_entry at id x k ≡ at k
+entry_other at id x k ne = cond-false (id == k) x (at k) (ne_eqb id k ne)
+
+stays_same : (old new : World) (id : ℕ) → new ≡ old → StaysAtWork old new id
+stays_same old new id e f work it = ap (λ (w : World). w.flights id) e ∙ it.here
+
+cases_flight : (o : Option Flight) → (o ≡ None) ⊎ ((f : Flight) × (o ≡ Some f))
+cases_flight None = inl refl
+cases_flight (Some f) = inr (f, refl)
+
+cases_stage : (s : Stage) → (s ≡ Answered) ⊎ ((work : Work) × (s ≡ Working work))
+cases_stage Answered = inl refl
+cases_stage (Working work) = inr (work, refl)
+
+idle_or_not : (flights : Flights) (id : ℕ) → ((f : Flight) (work : Work) → IsAtWork flights id f work → ⊥) ⊎ ((f : Flight) × ((work : Work) × IsAtWork flights id f work))
+idle_or_not flights id = elim (cases_flight (flights id)) [
+  | inl none ↦ inl (λ f work it. none-some f (sym none ∙ it.here))
+  | inr (g, here) ↦ elim (cases_stage g.stage) [
+    | inl idle ↦ inl (λ f work it.
+        let one : g ≡ f = same_Some g f (sym here ∙ it.here) in
+        let bad : Answered ≡ Working work = sym idle ∙ (ap (λ (x : Flight). x.stage) one ∙ it.working) in absurd (cc))
+    | inr (work, working) ↦ inr (g, (work, record { here = here; working = working }))
+  ]
+]
+
+finishes_other : (old : World) (id : ℕ) (o : Outcome) (answer : Answer) (new : World) → Finishes old id o answer new → (k : ℕ) → id ≢ k → StaysAtWork old new k
+finishes_other old id o answer new fin k ne f work it = elim (idle_or_not old.flights id) [
+  | inl idle ↦ stays_same old new k (fin.lost idle).1 f work it
+  | inr (g, (w, at)) ↦ ap (λ (x : World). x.flights k) (fin.found g w at).new_is ∙ (entry_other old.flights id _ k ne ∙ it.here)
+]
+
+settles_stays : (old : World) (answer : Answer) (taken : Bool) (settled : Settlement) (new : World) → Settles old answer taken settled new → (k : ℕ) → StaysAtWork old new k
+settles_stays old answer taken settled new s k f work it = elim (cases_Bool answer.lost) [
+  | inl gone ↦ stays_same old new k (s.lost gone) f work it
+  | inr held ↦ elim (cases_flight (old.flights answer.id)) [
+    | inl none ↦ stays_same old new k (s.unknown (λ a. none-some a.flight (sym none ∙ a.here))) f work it
+    | inr (g, there) ↦ elim (cases_stage g.stage) [
+      | inl idle ↦
+          let e = s.found held (record { flight = g; here = there; ended = idle }) in
+          let ne : answer.id ≢ k = λ same.
+          let one : g ≡ f = same_Some g f (sym there ∙ (ap old.flights same ∙ it.here)) in
+          let bad : Answered ≡ Working work = sym idle ∙ (ap (λ (x : Flight). x.stage) one ∙ it.working) in absurd (cc) in
+          ap (λ (x : World). x.flights k) e.new_is ∙ (entry_other old.flights answer.id None k ne ∙ it.here)
+      | inr (busy, working) ↦ stays_same old new k (s.unknown (λ a.
+          let one : g ≡ a.flight = same_Some g a.flight (sym there ∙ a.here) in
+          let bad : Working busy ≡ Answered = sym working ∙ (ap (λ (x : Flight). x.stage) one ∙ a.ended) in absurd (cc))) f work it
+    ]
+  ]
+]
+
+forgets_stays : (old : World) (number n amount : ℕ) (new : World) → Forgets old number n amount new → (k : ℕ) → StaysAtWork old new k
+forgets_stays old number n amount new h k f work it = elim (cases_eq amount 0) [
+  | inl none ↦ stays_same old new k (h.nothing none) f work it
+  | inr some ↦ elim (cases_option (old.at number)) [
+    | inl gone ↦ absurd (some (h.unknown gone))
+    | inr (x, stood) ↦ ap (λ (w : World). w.flights k) (h.something x stood (omega arith)).new_is ∙ it.here
+  ]
+]
+
+-- ---- one call
+
+all_kept : (old new : World) (ss : List Started) → IsLawfulWorld old → IsLawfulWorld new → ((s : Started) → StaysAtWork old new s.ticket.id) → All (IsCurrent old) ss → All (IsCurrent new) ss
+all_kept old new ss was is stays current = All-weaker (IsCurrent old) (IsCurrent new) (λ s c. current_kept old new s was is (stays s) c) ss current
+
+pub current_same : (old new : World) (hand hand' : Outstanding) → new ≡ old → hand' ≡ hand → AreCurrent old hand → AreCurrent new hand'
+current_same old new hand hand' world hand_is current =
+    subst (λ w. AreCurrent w hand') (sym world) (subst (λ h. AreCurrent old h) (sym hand_is) current)
+
+current_begin : (old : World) (hand : Outstanding) (unique : ℕ) (want : Want) (new : World) (hand' : Outstanding) → IsLawfulWorld old → IsLawfulWorld new → PutsTicket old hand unique want new hand' → AreCurrent old hand → AreCurrent new hand'
+current_begin old hand unique want new hand' was is puts current =
+    let s : Started = record { ticket = puts.ticket; want = want } in
+    let goes = puts.begins.begins.1 in
+    let id = puts.ticket.id in
+    let stays : (k : ℕ) → StaysAtWork old new k = λ k f work it.
+    let ne : id ≢ k = λ same. none-some f (sym goes.fresh ∙ (ap old.flights same ∙ it.here)) in
+    ap (λ (w : World). w.flights k) goes.new_is ∙ (entry_other old.flights id _ k ne ∙ it.here) in
+    let work : Work = record { want = want; row = puts.begins.demand; held = goes.held } in
+    let flight : Flight = record { unique = unique; stage = Working work; pins = goes.pins } in
+    let one : IsCurrent new s = record {
+      flight = flight;
+      work = work;
+      here = record { here = ap (λ (w : World). w.flights id) goes.new_is ∙ entry_same old.flights id (Some flight); working = refl };
+      want_is = refl;
+      paths = subst (λ at. ArePaths at puts.begins.demand.paths puts.ticket.paths) (sym (ap (λ (w : World). w.at) goes.new_is)) goes.ticket_is.paths;
+    } in
+    let apart : (k : ℕ) (d : Started) → k < length hand.tickets → (get_or hand.tickets k d).ticket.id ≢ id = λ k d within same.
+    let c = All-get_or (IsCurrent old) hand.tickets k d within current.current in
+    none-some c.flight (sym goes.fresh ∙ (ap old.flights (sym same) ∙ c.here.here)) in
+    subst (λ h. AreCurrent new h) (sym puts.hand_is) (record {
+      apart = all_pairs_push IsOther hand.tickets s current.apart apart;
+      current = All-push (IsCurrent new) hand.tickets s (all_kept old new hand.tickets was is (λ c. stays c.ticket.id) current.current) one;
+    })
+
+-- the others that are pending, when one is spent
+others : (w : World) (ss : List Started) (place : ℕ) (s : Started) → place < length ss → get_or ss place s ≡ s → AllPairs IsOther ss → All (IsCurrent w) ss → All (λ (c : Started). IsCurrent w c × (s.ticket.id ≢ c.ticket.id)) (remove ss place)
+others w ss place s inside here apart current = All-from_get_or (λ (c : Started). IsCurrent w c × (s.ticket.id ≢ c.ticket.id)) (remove ss place) s (λ i within. elim (cases_lt i place) [
+  | inl before ↦
+      let stood : get_or (remove ss place) i s ≡ get_or ss i s = get_or-remove_below ss place s i before inside in
+      let ne : s.ticket.id ≢ (get_or ss i s).ticket.id = λ same. apart i place s before inside (sym same ∙ ap (λ (x : Started). x.ticket.id) (sym here)) in
+      subst (λ (c : Started). IsCurrent w c × (s.ticket.id ≢ c.ticket.id)) (sym stood) (All-get_or (IsCurrent w) ss i s (omega arith) current, ne)
+  | inr after ↦
+      let stood : get_or (remove ss place) i s ≡ get_or ss (i + 1) s = get_or-remove_above ss place s i after inside in
+      let below : i + 1 < length ss = omega (arith, length-remove ss place inside) in
+      let ne : s.ticket.id ≢ (get_or ss (i + 1) s).ticket.id = λ same. apart place (i + 1) s (omega arith) below (ap (λ (x : Started). x.ticket.id) here ∙ same) in
+      subst (λ (c : Started). IsCurrent w c × (s.ticket.id ≢ c.ticket.id)) (sym stood) (All-get_or (IsCurrent w) ss (i + 1) s below current, ne)
+])
+
+current_finish : (old : World) (hand : Outstanding) (place : ℕ) (o : Outcome) (new : World) (hand' : Outstanding) → IsLawfulWorld old → IsLawfulWorld new → SpendsTicket old hand place o new hand' → AreCurrent old hand → AreCurrent new hand'
+current_finish old hand place o new hand' was is spends current =
+    let s = spends.spent in
+    let left = others old hand.tickets place s spends.within spends.here current.apart current.current in
+    let other = finishes_other old s.ticket.id o spends.answer new spends.finishes in
+    subst (λ h. AreCurrent new h) (sym spends.hand_is) (record {
+      apart = all_pairs_remove IsOther hand.tickets place spends.within current.apart;
+      current = All-weaker (λ (c : Started). IsCurrent old c × (s.ticket.id ≢ c.ticket.id)) (IsCurrent new) (λ c it. current_kept old new c was is (other c.ticket.id it.1) it.0) (remove hand.tickets place) left;
+    })
+
+same_tickets : (old new : World) (hand hand' : Outstanding) → IsLawfulWorld old → IsLawfulWorld new → ((k : ℕ) → StaysAtWork old new k) → hand'.tickets ≡ hand.tickets → AreCurrent old hand → AreCurrent new hand'
+same_tickets old new hand hand' was is stays same current = record {
+  apart = subst (λ ss. AllPairs IsOther ss) (sym same) current.apart;
+  current = subst (λ ss. All (IsCurrent new) ss) (sym same) (all_kept old new hand.tickets was is (λ s. stays s.ticket.id) current.current);
+}
+
+-- after any call each ticket that is pending is still of its request, and its paths are those of its want
+pub current_step : (old : World) (hand : Outstanding) (c : Call) (t : Told) (new : World) (hand' : Outstanding) → IsLawfulWorld old → IsLawfulWorld new → IsStep old hand c t new hand' → AreCurrent old hand → AreCurrent new hand'
+current_step old hand (call.Begin unique want) told.Begun new hand' was is puts current = current_begin old hand unique want new hand' was is puts current
+current_step old hand (call.Begin unique want) told.Busy new hand' was is (begins, same) current = current_same old new hand hand' begins.begins.2 same current
+current_step old hand (call.Begin unique want) (told.Refused e) new hand' was is (begins, same) current = current_same old new hand hand' begins.begins.1 same current
+current_step old hand (call.Begin unique want) told.Nothing new hand' was is bad current = absurd bad
+current_step old hand (call.Begin unique want) told.Finished new hand' was is bad current = absurd bad
+current_step old hand (call.Begin unique want) (told.Settled settled) new hand' was is bad current = absurd bad
+current_step old hand (call.Begin unique want) (told.Forgot amount) new hand' was is bad current = absurd bad
+current_step old hand (call.Finish place o) told.Finished new hand' was is spends current = current_finish old hand place o new hand' was is spends current
+current_step old hand (call.Finish place o) told.Nothing new hand' was is (none, same) current = current_same old new hand hand' same.world same.hand_is current
+current_step old hand (call.Finish place o) told.Begun new hand' was is bad current = absurd bad
+current_step old hand (call.Finish place o) told.Busy new hand' was is bad current = absurd bad
+current_step old hand (call.Finish place o) (told.Refused e) new hand' was is bad current = absurd bad
+current_step old hand (call.Finish place o) (told.Settled settled) new hand' was is bad current = absurd bad
+current_step old hand (call.Finish place o) (told.Forgot amount) new hand' was is bad current = absurd bad
+current_step old hand (call.Settle place taken) (told.Settled settled) new hand' was is spends current =
+    same_tickets old new hand hand' was is (settles_stays old spends.spent taken settled new spends.settles) (ap (λ (h : Outstanding). h.tickets) spends.hand_is) current
+current_step old hand (call.Settle place taken) told.Nothing new hand' was is (none, same) current = current_same old new hand hand' same.world same.hand_is current
+current_step old hand (call.Settle place taken) told.Begun new hand' was is bad current = absurd bad
+current_step old hand (call.Settle place taken) told.Busy new hand' was is bad current = absurd bad
+current_step old hand (call.Settle place taken) (told.Refused e) new hand' was is bad current = absurd bad
+current_step old hand (call.Settle place taken) told.Finished new hand' was is bad current = absurd bad
+current_step old hand (call.Settle place taken) (told.Forgot amount) new hand' was is bad current = absurd bad
+current_step old hand (call.Forget number n) (told.Forgot amount) new hand' was is (forgets, same) current =
+    same_tickets old new hand hand' was is (forgets_stays old number n amount new forgets) (ap (λ (h : Outstanding). h.tickets) same) current
+current_step old hand (call.Forget number n) told.Nothing new hand' was is bad current = absurd bad
+current_step old hand (call.Forget number n) told.Begun new hand' was is bad current = absurd bad
+current_step old hand (call.Forget number n) told.Busy new hand' was is bad current = absurd bad
+current_step old hand (call.Forget number n) (told.Refused e) new hand' was is bad current = absurd bad
+current_step old hand (call.Forget number n) told.Finished new hand' was is bad current = absurd bad
+current_step old hand (call.Forget number n) (told.Settled settled) new hand' was is bad current = absurd bad
+
+-- ---- many calls
+
+pub runs_more : (old : World) (hand : Outstanding) (cs : List Call) (ts : List Told) (mid : World) (between : Outstanding) (c : Call) (t : Told) (new : World) (hand' : Outstanding) → Runs old hand cs ts mid between → IsStep mid between c t new hand' → Runs old hand (cs ++ c ∷ []) (ts ++ t ∷ []) new hand'
+runs_more old hand [] [] mid between c t new hand' same step =
+    (new, hand', subst (λ w. IsStep w hand c t new hand') same.world (subst (λ h. IsStep mid h c t new hand') same.hand_is step), record { world = refl; hand_is = refl })
+runs_more old hand [] (s ∷ ts) mid between c t new hand' bad step = absurd bad
+runs_more old hand (d ∷ cs) [] mid between c t new hand' bad step = absurd bad
+runs_more old hand (d ∷ cs) (s ∷ ts) mid between c t new hand' runs step =
+    (runs.0, runs.1, runs.2, runs_more runs.0 runs.1 cs ts mid between c t new hand' runs.3 step)
+
+pub runs_same : (old : World) (hand : Outstanding) (cs : List Call) (ts : List Told) (mid : World) (between : Outstanding) (new : World) (hand' : Outstanding) → Runs old hand cs ts mid between → ChangesNothing mid between new hand' → Runs old hand cs ts new hand'
+runs_same old hand cs ts mid between new hand' runs same =
+    subst (λ w. Runs old hand cs ts w hand') (sym same.world) (subst (λ h. Runs old hand cs ts mid h) (sym same.hand_is) runs)
+
+-- each call told one thing
+pub runs_length : (old : World) (hand : Outstanding) (cs : List Call) (ts : List Told) (new : World) (hand' : Outstanding) → Runs old hand cs ts new hand' → length cs ≡ length ts
+runs_length old hand [] [] new hand' runs = refl
+runs_length old hand [] (t ∷ ts) new hand' bad = absurd bad
+runs_length old hand (c ∷ cs) [] new hand' bad = absurd bad
+runs_length old hand (c ∷ cs) (t ∷ ts) new hand' runs = ap (λ n. suc n) (runs_length runs.0 runs.1 cs ts new hand' runs.3)
+
+-- the calls that were made are the first of the list
+pub runs_first : (old : World) (hand : Outstanding) (cs : List Call) (ts : List Told) (new : World) (hand' : Outstanding) (calls rest : List Call) → calls ≡ cs ++ rest → Runs old hand cs ts new hand' → Runs old hand (take (length ts) calls) ts new hand'
+runs_first old hand cs ts new hand' calls rest is runs =
+    let first : take (length ts) calls ≡ cs = ap (λ n. take n calls) (sym (runs_length old hand cs ts new hand' runs)) ∙ (ap (take (length cs)) is ∙ take-append_seam cs rest) in
+    subst (λ xs. Runs old hand xs ts new hand') (sym first) runs
+
+-- what is told besides comes last
+pub told_more : (o u v : List Told) (t : Told) → u ≡ o ++ drop (length o) u → v ≡ u ++ t ∷ [] → drop (length o) v ≡ drop (length o) u ++ t ∷ []
+told_more o u v t was is =
+    let whole : v ≡ o ++ (drop (length o) u ++ t ∷ []) = is ∙ (ap (λ xs. xs ++ t ∷ []) was ∙ append_assoc o (drop (length o) u) (t ∷ [])) in
+    ap (drop (length o)) whole ∙ drop-append_seam o (drop (length o) u ++ t ∷ [])
+
+pub told_whole : (o u v : List Told) (t : Told) → u ≡ o ++ drop (length o) u → v ≡ u ++ t ∷ [] → v ≡ o ++ drop (length o) v
+told_whole o u v t was is =
+    is ∙ (ap (λ xs. xs ++ t ∷ []) was ∙ (append_assoc o (drop (length o) u) (t ∷ []) ∙ ap (λ xs. o ++ xs) (sym (told_more o u v t was is))))
+
+-- ---- what the ledger and the share gain
+
+-- the ledger gained some postings, and the share their totals
+pub record Grows (old new : List Posting) (before after : Part) : Type 0 where
+  pub grows : new ≡ old ++ drop (length old) new
+  pub share : after ≡ record before { totals = plus before.totals (totals_of (drop (length old) new)) }
+
+totals_append : (ps qs : List Posting) → totals_of (ps ++ qs) ≡ plus (totals_of ps) (totals_of qs)
+totals_append ps qs = λ i. record {
+  born = sum_by-append (λ p. (totals_by p).born) ps qs i;
+  entries = sum_by-append (λ p. (totals_by p).entries) ps qs i;
+  backs = sum_by-append (λ p. (totals_by p).backs) ps qs i;
+  forgotten = sum_by-append (λ p. (totals_by p).forgotten) ps qs i;
+}
+
+totals_eq : (s t : Totals) → s.born ≡ t.born → s.entries ≡ t.entries → s.backs ≡ t.backs → s.forgotten ≡ t.forgotten → s ≡ t
+totals_eq s t b e k f = λ i. record { born = b i; entries = e i; backs = k i; forgotten = f i }
+
+plus_assoc : (s t u : Totals) → plus (plus s t) u ≡ plus s (plus t u)
+plus_assoc s t u = totals_eq (plus (plus s t) u) (plus s (plus t u)) (omega arith) (omega arith) (omega arith) (omega arith)
+
+plus_nothing : (s : Totals) → plus s (totals_of []) ≡ s
+plus_nothing s = totals_eq (plus s (totals_of [])) s (omega arith) (omega arith) (omega arith) (omega arith)
+
+pub grows_same : (old new : List Posting) (before after : Part) → new ≡ old → after ≡ before → Grows old new before after
+grows_same old new before after e same =
+    let none : drop (length old) new ≡ [] = ap (drop (length old)) e ∙ drop-length old in
+    record {
+      grows = e ∙ (sym (append-nil old) ∙ ap (λ (x : List Posting). old ++ x) (sym none));
+      share = same ∙ ap (λ (t : Totals). record before { totals = t }) (sym (ap (λ x. plus before.totals (totals_of x)) none ∙ plus_nothing before.totals));
+    }
+
+pub grows_trans : (old mid new : List Posting) (before between after : Part) → Grows old mid before between → Grows mid new between after → Grows old new before after
+grows_trans old mid new before between after first next =
+    let a = drop (length old) mid in
+    let b = drop (length mid) new in
+    let whole : new ≡ old ++ (a ++ b) = next.grows ∙ (ap (λ (x : List Posting). x ++ b) first.grows ∙ append_assoc old a b) in
+    let gained : drop (length old) new ≡ a ++ b = ap (drop (length old)) whole ∙ drop-append_seam old (a ++ b) in
+    record {
+      grows = whole ∙ ap (λ (x : List Posting). old ++ x) (sym gained);
+      share =
+          next.share
+          ∙ (ap (λ (p : Part). record p { totals = plus p.totals (totals_of b) }) first.share
+          ∙ ap (λ (t : Totals). record before { totals = t }) (plus_assoc before.totals (totals_of a) (totals_of b) ∙ (ap (plus before.totals) (sym (totals_append a b)) ∙ ap (λ x. plus before.totals (totals_of x)) (sym gained))));
+    }
+
+-- ---- a run
+
+-- what stands after the first calls of a run, with what they told
+pub record HasRun (old : World) (hand : Outstanding) (before : Part) (made : List Call) (ts : List Told) (new : World) (hand' : Outstanding) (after : Part) : Type 0 where
+  pub runs : Runs old hand made ts new hand'
+  pub lawful : IsLawfulWorld new
+  pub current : AreCurrent old hand → AreCurrent new hand'
+  pub gains : Grows old.postings new.postings before after
+
+pub run_none : (w : World) (hand : Outstanding) (before : Part) → IsLawfulWorld w → HasRun w hand before [] [] w hand before
+run_none w hand before lawful = record {
+  runs = record { world = refl; hand_is = refl };
+  lawful = lawful;
+  current = λ current. current;
+  gains = grows_same w.postings w.postings before before refl refl;
+}
+
+pub run_more : (old : World) (hand : Outstanding) (before : Part) (made : List Call) (ts : List Told) (mid : World) (between : Outstanding) (among : Part) (c : Call) (t : Told) (new : World) (hand' : Outstanding) (after : Part)
+    → HasRun old hand before made ts mid between among → IsStep mid between c t new hand' → IsLawfulWorld new → (AreCurrent mid between → AreCurrent new hand') → Grows mid.postings new.postings among after
+    → HasRun old hand before (made ++ c ∷ []) (ts ++ t ∷ []) new hand' after
+run_more old hand before made ts mid between among c t new hand' after run step lawful current gains = record {
+  runs = runs_more old hand made ts mid between c t new hand' run.runs step;
+  lawful = lawful;
+  current = λ start. current (run.current start);
+  gains = grows_trans old.postings mid.postings new.postings before among after run.gains gains;
+}
+
+-- a call that found no memory
+pub run_refused : (old : World) (hand : Outstanding) (before : Part) (made : List Call) (ts : List Told) (mid : World) (between : Outstanding) (among : Part) (new : World) (hand' : Outstanding) (after : Part)
+    → HasRun old hand before made ts mid between among → ChangesNothing mid between new hand' → IsLawfulWorld new → Grows mid.postings new.postings among after
+    → HasRun old hand before made ts new hand' after
+run_refused old hand before made ts mid between among new hand' after run same lawful gains = record {
+  runs = runs_same old hand made ts mid between new hand' run.runs same;
+  lawful = lawful;
+  current = λ start. current_same mid new between hand' same.world same.hand_is (run.current start);
+  gains = grows_trans old.postings mid.postings new.postings before among after run.gains gains;
+}
