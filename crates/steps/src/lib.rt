@@ -3,6 +3,7 @@
 //! Each call on the parts is one atomic step, and keeps what holds of them.
 #![tactic(auto)]
 
+mod begin;
 mod data;
 mod laws;
 mod state;

