@@ -4,6 +4,8 @@
 #![tactic(auto)]
 
 mod data;
+mod items;
 mod lawful;
 
 pub use data::{Hold, Holds, Image, Nodes, Numbers, Postings, Record, Records, Stage};
+pub use items::Items;
