@@ -5,7 +5,10 @@
 
 mod begin;
 mod data;
+mod forget;
+mod settle;
 mod state;
+mod sweep;
 
 pub use data::{Answered, Begin, Limits, Outcome, Settled, Ticket};
 pub use state::State;

@@ -1,0 +1,5 @@
+pub mod Ordered
+pub mod Booked
+pub mod Reasons
+pub mod Laws
+pub mod Backs
