@@ -1,5 +1,13 @@
+pub mod Standing
+pub mod Staying
+pub mod Guarding
+pub mod Beginning
+pub mod Finishing
+pub mod Growing
+pub mod Adding
 pub mod Ordered
 pub mod Booked
 pub mod Reasons
 pub mod Laws
 pub mod Backs
+pub mod Viewed

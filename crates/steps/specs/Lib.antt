@@ -6,3 +6,4 @@ pub mod Steps
 pub mod Kept
 pub mod Sweeping
 pub mod Beginning
+pub mod Laws

@@ -3,7 +3,7 @@ use Rattle.std.specs.Prelude.{ℕ, ◌≡◌, ◌⊎◌, List, Any, Contains, le
 use Rattle.flights.specs.declared.data.Want.{Want}
 use Rattle.tree.specs.declared.nodes.Key.{Key}
 use Rattle.tree.specs.Places.{Lookup, IsTree}
-use Rattle.wants.specs.Asked.{IsCase, IsDemand}
+use Rattle.wants.specs.Asked.{IsDemand}
 use Rattle.wants.specs.Rows.{Case, Change, Demand, Location, AtName, AtNode, cuts, moves, row_of, stays}
 
 -- the node that a location is that of, or is under

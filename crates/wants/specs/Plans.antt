@@ -8,7 +8,7 @@ use Rattle.flights.specs.Roomy.{Pinned}
 use Rattle.tree.specs.Places.{Lookup}
 use Rattle.wants.specs.declared.data.Plan.{Plan}
 use Rattle.wants.specs.Asked.{ArePaths, Holds, IsCase, IsDemand, IsPin, IsSound, IsUnsound, promise_of}
-use Rattle.wants.specs.Rows.{Case, Demand, case_in, row_of}
+use Rattle.wants.specs.Rows.{Demand, case_in, row_of}
 
 -- the row of a request that is worked on
 abbrev pub row_in : Work → Demand

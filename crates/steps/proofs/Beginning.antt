@@ -1,0 +1,46 @@
+-- A request that goes on has what it will rely on, whatever its want.
+use Rattle.std.proofs.Common.{ℕ, ◌≡◌, ◌⊎◌, [], All, Contains, length, refl, sym, subst, inl, inr, arith}
+use Rattle.std.proofs.lemmas.List.{length-map}
+use Rattle.std.proofs.lemmas.List.Elements.{All-cons}
+use Rattle.paths.specs.Fronts.{Name}
+use Rattle.tree.specs.declared.nodes.Key.{Key}
+use Rattle.tree.specs.Places.{Lookup}
+use Rattle.flights.specs.declared.data.Want.{Want}
+use Rattle.flights.specs.declared.data.Want.TheVariants.{Node, Name as AName, Remove, Move}
+use Rattle.steps.specs.Answers.{Claim}
+use Rattle.wants.specs.Asked.{IsCase, IsDemand, IsEntryCase, IsPin, IsThere}
+use Rattle.wants.specs.Rows.{AtName, Case, Demand, absent, name_row, plain, row_of}
+use Rattle.steps.specs.Steps.{GoesOn, MayBegin}
+use Rattle.steps.specs.World.{Flight, IsReady, IsStanding, Working, World}
+use Rattle.wants.proofs.Members.{any_first}
+
+module _ (at : Lookup) (f : Flight) where
+  entry_known : (parent : ℕ) (name : Name) (c : Case) → IsEntryCase at parent name c → ((n : ℕ) → IsPin at (name_row parent name c) n → Contains f.pins n)
+      → ((name_row parent name c).births ≡ length (name_row parent name c).entries) ⊎ All (IsStanding at f) (name_row parent name c).entries
+  entry_known parent name plain fits pins =
+      let key : Key = record { parent = parent; name = name } in
+      let stands : IsStanding at f key = record { number = fits.0; named = fits.1; pin = pins fits.0 (inr (any_first (λ l. IsThere at l fits.0) (AtName parent name) [] fits.1)) } in
+      inr (All-cons (IsStanding at f) key [] stands (λ k d within. absurd (omega (arith, within))))
+  entry_known parent name absent fits pins = inl refl
+
+  names_known : (want : Want) (c : Case) → IsCase at want c → ((n : ℕ) → IsPin at (row_of want c) n → Contains f.pins n)
+      → ((row_of want c).births ≡ length (row_of want c).entries) ⊎ All (IsStanding at f) (row_of want c).entries
+  names_known (Node number) c fits pins = inl refl
+  names_known (AName parent name) c fits pins = entry_known parent name c fits pins
+  names_known (Remove parent name) c fits pins = inl refl
+  names_known (Move parent name new_parent new_name) c fits pins = inl refl
+
+pub begun_ready : (old new : World) (unique : ℕ) (want : Want) (d : Demand) (ticket : Claim) → IsDemand old.at want d → MayBegin old d → (goes : GoesOn old unique want d ticket new)
+    → IsReady old.at (record { unique = unique; stage = Working (record { want = want; row = d; held = goes.held }); pins = goes.pins }) (record { want = want; row = d; held = goes.held })
+begun_ready old new unique want d ticket asked may goes =
+    let f : Flight = record { unique = unique; stage = Working (record { want = want; row = d; held = goes.held }); pins = goes.pins } in
+    let P : Demand → Type 0 = λ e. ((n : ℕ) → IsPin old.at e n → Contains goes.pins n) → (e.births ≡ length e.entries) ⊎ All (IsStanding old.at f) e.entries in
+    let known : P d = subst P (sym asked.row) (names_known old.at f want asked.case asked.fits) in
+    record {
+      case = asked.case;
+      row = asked.row;
+      holds = goes.holds;
+      pinned = λ n h. (goes.pinned n).1 (inl h);
+      names = known (λ n h. (goes.pinned n).1 h);
+      placed = may.sound.not_misplaced;
+    }

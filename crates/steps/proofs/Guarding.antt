@@ -1,0 +1,135 @@
+-- What one request holds alone is no prefix of a path whose prefixes another holds, so that its changes leave that path.
+use Rattle.std.proofs.Common.{ℕ, zero, suc, ◌+◌, ◌≡◌, ◌≢◌, ◌==◌, ◌&&◌, ◌||◌, Bool, true, false, if◌then◌else◌, List, length, [], ◌∷◌, ◌++◌, Option, Some, None, Contains, reverse, refl, sym, ap, ◌∙◌, subst, inl, inr}
+use Rattle.std.specs.Prelude.{map}
+use Rattle.std.proofs.lemmas.Bool.{cases_Bool}
+use Rattle.paths.specs.Fronts.{Name, Names, is_front}
+use Rattle.holds.specs.declared.held.Held.{Held}
+use Rattle.holds.specs.Clashes.{Clash, IsHeld}
+use Rattle.tree.specs.declared.nodes.Node.{Node}
+use Rattle.tree.specs.Moves.{Changes, Stands, Where, after_move, at_path}
+use Rattle.tree.specs.Places.{Lookup, IsNamed, IsPathOf, IsTree, Reaches}
+use Rattle.tree.proofs.Transfers.{path_after_cut, path_after_move}
+use Rattle.tree.proofs.Writing.{reaches_now}
+use Rattle.flights.specs.declared.data.Given.{Given}
+use Rattle.ledger.specs.declared.postings.Posting.{Posting}
+use Rattle.tree.specs.declared.nodes.Key.{Key}
+use Rattle.tree.proofs.LookupLemmas.{cases_option}
+use Rattle.steps.specs.Entries.{Enters, newborn}
+use Rattle.steps.specs.Swept.{IsSwept}
+use Rattle.steps.proofs.Standing.{HoldsFronts, named_born, named_written, stays_pinned}
+use Rattle.std.proofs.lemmas.Option.{none-some, same_Some}
+use Rattle.flights.specs.declared.data.Want.{Want}
+use Rattle.steps.specs.declared.data.Outcome.{Outcome}
+use Rattle.steps.specs.declared.data.Outcome.TheVariants.{Done, Entry, Failed}
+use Rattle.wants.specs.Asked.{HasPath, Holds}
+use Rattle.wants.specs.Laws.{AreOwn, IsRow}
+use Rattle.steps.specs.Laws.{AreEntriesHarmless, AreOthersLeft, AreSweepsHarmless, IsPlaced, LeavesWork}
+use Rattle.wants.specs.Rows.{AtName, AtNode, Case, Change, Demand, Location, cuts, moves, row_of, stays}
+use Rattle.steps.specs.Steps.{Alters, EntersAll, HoldsUp, Moves, act_of}
+use Rattle.steps.specs.World.{Flight, Flights, IsAtWork, Work}
+use Rattle.wants.proofs.Members.{any_in, first_in, later_in}
+use Rattle.wants.proofs.RowLemmas.{are_rows}
+use Rattle.steps.proofs.Staying.{KeepsPaths, paths_kept, ready_kept}
+
+-- ---- acts change no names but those that their rows hold alone
+
+pub act_own : (d : Demand) → IsRow d → (outcome : Outcome) → AreOwn d.alone (act_of d outcome).change
+act_own d row Failed = tt
+act_own d row Done = row.own
+act_own d row Entry = tt
+
+pub acts_own : (want : Want) (case : Case) (outcome : Outcome) → AreOwn (row_of want case).alone (act_of (row_of want case) outcome).change
+acts_own want case outcome = act_own (row_of want case) (are_rows want case) outcome
+
+-- ---- the guard
+
+clash_at : (r h : Held) (p : Names) → Contains h.exclusive p → IsHeld r p → Clash r h
+clash_at r h p own (inl shared) = inr (inr (own.0, p, own.1, own.2, shared))
+clash_at r h p own (inr alone) = inr (inl (own.0, p, own.1, own.2, alone))
+
+-- nothing is in the way of these paths, so none of them is a prefix of a path whose prefixes another holds
+guard : (flights : Flights) (held : Held) (p : Names) → (HoldsUp flights held → ⊥) → Contains held.exclusive p → p ≢ []
+    → (id : ℕ) (f : Flight) (work : Work) → IsAtWork flights id f work → (q : Names) → HoldsFronts work.held q → is_front p q ≡ false
+guard flights held p clear own some id f work here q fronts = elim (cases_Bool (is_front p q)) [
+  | inl front ↦ absurd (clear (record { id = id; flight = f; work = work; here = here; clash = clash_at work.held held p own (fronts p (record { some = some; begins = front })) }))
+  | inr none ↦ none
+]
+
+not_empty : (p : Names) (name : List ℕ) → p ++ name ∷ [] ≢ []
+not_empty [] name e = cc
+not_empty (x ∷ p) name e = cc
+
+-- the path of a location other than the root is not empty
+path_some : (at : Lookup) (l : Location) (alone : List Location) → IsPlaced alone → Contains alone l → (p : Names) → HasPath at l p → p ≢ []
+path_some at (AtNode n) alone placed among p leads e =
+    let one : n ≡ 1 = subst (λ r. IsPathOf at n r) e leads in
+    placed (subst (λ k. Contains alone (AtNode k)) one among)
+path_some at (AtName parent name) alone placed among p leads e = not_empty leads.above name (sym leads.whole ∙ e)
+
+module _ (old : Lookup) (flights : Flights) (d : Demand) (held : Held) (holds : Holds old d held) (clear : HoldsUp flights held → ⊥) (placed : IsPlaced d.alone)
+    (id : ℕ) (f : Flight) (work : Work) (here : IsAtWork flights id f work) (q : Names) (fronts : HoldsFronts work.held q) where
+  -- no location that is held alone is a prefix of that path
+  apart : (l : Location) → Contains d.alone l → (p : Names) → HasPath old l p → is_front p q ≡ false
+  apart l among p leads =
+      guard flights held p clear ((holds.exclusive p).1 (any_in (λ m. HasPath old m p) d.alone l among leads)) (path_some old l d.alone placed among p leads) id f work here q fronts
+
+  moved_away : (s t : Location) → Contains d.alone s → Contains d.alone t → (new : Lookup) → Moves old s t new → (n : ℕ) → IsPathOf old n q → IsPathOf new n q
+  moved_away s t own_s own_t new m n h = path_after_move old new m.path m.new_path m.changes n q (apart t own_t m.new_path m.new_leads) (apart s own_s m.path m.leads) h
+
+  pub path_stays : (change : Change) (new : Lookup) → AreOwn d.alone change → Alters old change new → (n : ℕ) → IsPathOf old n q → IsPathOf new n q
+  path_stays stays new own same n h = subst (λ at. IsPathOf at n q) (sym same) h
+  path_stays (cuts l) new own it n h = path_after_cut old new it.path it.changes n q (apart l own it.path it.leads) h
+  path_stays (moves s t) new own it n h = moved_away s t own.0 own.1 new it n h
+
+-- where all its paths stay, a request is left
+pub left_where : (old new : Lookup) (flights : Flights) → IsTree new → ((id : ℕ) (f : Flight) (work : Work) → IsAtWork flights id f work → KeepsPaths old new f.pins work.held) → LeavesWork old new flights
+left_where old new flights tree' keeps = record {
+  ready = λ id f work here ready. ready_kept old new tree' f work (keeps id f work here) ready;
+  paths = λ id f work here ready paths are. paths_kept old new tree' f work (keeps id f work here) ready paths are;
+}
+
+pub others_left : AreOthersLeft
+others_left old new flights d held change tree' holds clear placed own alters =
+    left_where old new flights tree' (λ id f work here n pin q fronts h. path_stays old flights d held holds clear placed id f work here q fronts change new own alters n h)
+
+-- ---- entries
+
+reaches_named : (old new : Lookup) → ((n p : ℕ) (name : Name) → IsNamed old n p name → IsNamed new n p name) → (n : ℕ) (way : Names) → Reaches old 1 n way → Reaches new 1 n way
+reaches_named old new named n [] h = h
+reaches_named old new named n (name ∷ way) h = (h.0, named n h.0 name h.1, reaches_named old new named h.0 way h.2)
+
+entered_path : (at : Lookup) (ps : List Posting) (parent : ℕ) (name : Name) (g : Given) (at' : Lookup) (qs : List Posting) → Enters at ps parent name g at' qs → (n : ℕ) (q : Names) → IsPathOf at n q → IsPathOf at' n q
+entered_path at ps parent name g at' qs (inl again) n q h =
+    subst (λ l. IsPathOf l n q) (sym again.nodes) (reaches_named at _ (named_written at g.number again.node (record again.node { count = again.node.count + 1 }) again.here refl) n (reverse q) h)
+entered_path at ps parent name g at' qs (inr born) n q h =
+    subst (λ l. IsPathOf l n q) (sym born.nodes) (reaches_named at _ (named_born at g.number (newborn g parent name) born.fresh) n (reverse q) h)
+
+pub all_entered : (owners : Flights) (at at' : Lookup) (ps qs : List Posting) (keys : List Key) (found : List Bool) (given : List (Option Given)) → EntersAll owners at ps keys found given at' qs → (n : ℕ) (q : Names) → IsPathOf at n q → IsPathOf at' n q
+all_entered owners at at' ps qs (key ∷ keys) (true ∷ found) (Some g ∷ given) (free, (mid, rs, enters, more)) n q h =
+    all_entered owners mid at' rs qs keys found given more n q (entered_path at ps key.parent key.name g mid rs enters n q h)
+all_entered owners at at' ps qs (key ∷ keys) (true ∷ found) (None ∷ given) (owned, more) n q h = all_entered owners at at' ps qs keys found given more n q h
+all_entered owners at at' ps qs (key ∷ keys) (false ∷ found) (None ∷ given) more n q h = all_entered owners at at' ps qs keys found given more n q h
+all_entered owners at at' ps qs [] [] [] same n q h = subst (λ l. IsPathOf l n q) (sym same.0) h
+all_entered owners at at' ps qs keys found given bad n q h = absurd bad
+
+pub entries_harmless : AreEntriesHarmless
+entries_harmless flights owners old new ps qs keys found given tree' enters =
+    left_where old new flights tree' (λ id f work here n pin q fronts h. all_entered owners old new ps qs keys found given enters n q h)
+
+-- ---- sweeps
+
+pub reaches_swept : (kept : ℕ → Bool) (old new : Lookup) → IsSwept kept old new → (n : ℕ) (way : Names) → ((x : Node) → old n ≡ Some x → new n ≡ None → ⊥) → Reaches old 1 n way → Reaches new 1 n way
+reaches_swept kept old new swept n [] remains h = h
+reaches_swept kept old new swept n (name ∷ way) remains h = elim (cases_option (new n)) [
+  | inl none ↦ absurd (remains h.1.0 h.1.1 none)
+  | inr (y, now) ↦
+      let same : y ≡ h.1.0 = same_Some y h.1.0 (sym (swept.kept n y now) ∙ h.1.1) in
+      let named : IsNamed new n h.0 name = (y, now, ap (λ (z : Node). z.place) same ∙ h.1.2) in
+      (h.0, named, reaches_swept kept old new swept h.0 way (λ x was none. (swept.gone h.0 x was none).childless (n, name, named)) h.2)
+]
+
+pub sweeps_harmless : AreSweepsHarmless
+sweeps_harmless flights old new kept tree' keeps swept =
+    left_where old new flights tree' (λ id f work here n pin q fronts h.
+    let held : kept n ≡ true = (keeps n).1 (record { id = id; flight = f; here = here.here; pin = pin }) in
+    reaches_swept kept old new swept n (reverse q) (λ x was none. none-some x (sym none ∙ stays_pinned kept old new n x swept was held)) h)

@@ -1,0 +1,78 @@
+-- Each row has its locations at or under the nodes that it names.
+use Rattle.std.proofs.Common.{ℕ, ◌≡◌, [], ◌∷◌, Contains, refl, sym, ap, ◌∙◌, subst, inl, inr}
+use Rattle.std.specs.Prelude.{Any}
+use Rattle.paths.specs.Fronts.{Name}
+use Rattle.tree.specs.declared.nodes.Key.{Key}
+use Rattle.flights.specs.declared.data.Want.{Want}
+use Rattle.flights.specs.declared.data.Want.TheVariants as wants
+use Rattle.wants.specs.Laws.{IsRow, base_of}
+use Rattle.wants.specs.Rows.{Case, Location, AtNode, AtName, move_row, name_row, node_row, removal_row, row_of}
+use Rattle.wants.proofs.Members.{any_first, any_later, cases_in, first_in, later_in, none_in, only_in}
+
+-- the one location at or under the one node
+under_only : (n : ℕ) (l m : Location) → base_of l ≡ n → Contains (l ∷ []) m → Contains (n ∷ []) (base_of m)
+under_only n l m base h = subst (λ k. Contains (n ∷ []) k) (sym base ∙ ap base_of (only_in l m h)) (first_in n [])
+
+key_only : (parent : ℕ) (name : Name) (key : Key) → Contains (record { parent = parent; name = name } ∷ []) key → Contains (AtName parent name ∷ []) (AtName key.parent key.name)
+key_only parent name key h = subst (λ (k : Key). Contains (AtName parent name ∷ []) (AtName k.parent k.name)) (only_in (record { parent = parent; name = name }) key h) (first_in (AtName parent name) [])
+
+node_is_row : (number : ℕ) → IsRow (node_row number)
+node_is_row number = record {
+  shared = λ l h. under_only number (AtNode number) l refl h;
+  alone = λ l h. absurd (none_in l h);
+  paths = λ l h. under_only number (AtNode number) l refl h;
+  covered = λ n h. inl (any_first (λ l. base_of l ≡ n) (AtNode number) [] (only_in number n h));
+  entered = inl refl;
+  own = tt;
+}
+
+name_is_row : (parent : ℕ) (name : Name) (c : Case) → IsRow (name_row parent name c)
+name_is_row parent name c = record {
+  shared = λ l h. under_only parent (AtName parent name) l refl h;
+  alone = λ l h. absurd (none_in l h);
+  paths = λ l h. under_only parent (AtName parent name) l refl h;
+  covered = λ n h. inl (any_first (λ l. base_of l ≡ n) (AtName parent name) [] (only_in parent n h));
+  entered = inr (λ key h. key_only parent name key h);
+  own = tt;
+}
+
+removal_is_row : (parent : ℕ) (name : Name) → IsRow (removal_row parent name)
+removal_is_row parent name = record {
+  shared = λ l h. absurd (none_in l h);
+  alone = λ l h. under_only parent (AtName parent name) l refl h;
+  paths = λ l h. under_only parent (AtName parent name) l refl h;
+  covered = λ n h. inr (any_first (λ l. base_of l ≡ n) (AtName parent name) [] (only_in parent n h));
+  entered = inl refl;
+  own = first_in (AtName parent name) [];
+}
+
+module _ (parent : ℕ) (name : Name) (new_parent : ℕ) (new_name : Name) where
+  pair_under : (l : Location) → Contains (AtName parent name ∷ AtName new_parent new_name ∷ []) l → Contains (parent ∷ new_parent ∷ []) (base_of l)
+  pair_under l h =
+      let second : Contains (parent ∷ new_parent ∷ []) new_parent = later_in parent (new_parent ∷ []) new_parent (first_in new_parent []) in
+      elim (cases_in (AtName parent name) (AtName new_parent new_name ∷ []) l h) [
+        | inl e ↦ subst (λ k. Contains (parent ∷ new_parent ∷ []) k) (ap base_of e) (first_in parent (new_parent ∷ []))
+        | inr more ↦ subst (λ k. Contains (parent ∷ new_parent ∷ []) k) (ap base_of (only_in (AtName new_parent new_name) l more)) second
+      ]
+
+  pair_covered : (n : ℕ) → Contains (parent ∷ new_parent ∷ []) n → Any (λ l. base_of l ≡ n) (AtName parent name ∷ AtName new_parent new_name ∷ [])
+  pair_covered n h = elim (cases_in parent (new_parent ∷ []) n h) [
+    | inl e ↦ any_first (λ l. base_of l ≡ n) (AtName parent name) (AtName new_parent new_name ∷ []) e
+    | inr more ↦ any_later (λ l. base_of l ≡ n) (AtName parent name) (AtName new_parent new_name ∷ []) (any_first (λ l. base_of l ≡ n) (AtName new_parent new_name) [] (only_in new_parent n more))
+  ]
+
+  move_is_row : IsRow (move_row parent name new_parent new_name)
+  move_is_row = record {
+    shared = λ l h. absurd (none_in l h);
+    alone = pair_under;
+    paths = pair_under;
+    covered = λ n h. inr (pair_covered n h);
+    entered = inl refl;
+    own = (first_in (AtName parent name) (AtName new_parent new_name ∷ []), later_in (AtName parent name) (AtName new_parent new_name ∷ []) (AtName new_parent new_name) (first_in (AtName new_parent new_name) []));
+  }
+
+pub are_rows : (want : Want) (case : Case) → IsRow (row_of want case)
+are_rows (wants.Node number) c = node_is_row number
+are_rows (wants.Name parent name) c = name_is_row parent name c
+are_rows (wants.Remove parent name) c = removal_is_row parent name
+are_rows (wants.Move parent name new_parent new_name) c = move_is_row parent name new_parent new_name
