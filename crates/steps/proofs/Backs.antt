@@ -9,7 +9,7 @@ use Rattle.flights.specs.declared.data.Given.{Given}
 use Rattle.steps.specs.Entries.{TakesBack, TakesNone, TakesAllBack}
 use Rattle.steps.specs.Sweeping.{IsAmong, HaveReasonsBut, IsNearly, IsTakenBack}
 use Rattle.steps.specs.Steps.{numbers_of}
-use Rattle.steps.proofs.Laws.{booked_back}
+use Rattle.steps.proofs.Lawful.{booked_back}
 use Rattle.steps.proofs.Reasons.{HaveReasons-write, HaveReasons-more}
 
 -- an entry of a suspect is taken back

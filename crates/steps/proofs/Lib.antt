@@ -8,6 +8,7 @@ pub mod Adding
 pub mod Ordered
 pub mod Booked
 pub mod Reasons
-pub mod Laws
+pub mod Lawful
 pub mod Backs
 pub mod Viewed
+pub mod Kept

@@ -152,13 +152,6 @@ IsSwept-trans pinned a b c first then = record {
   ];
 }
 
--- a pinned node is not dropped, nor is one under which a node is named that is not
-pub stays_pinned : (pinned : ℕ → Bool) (old new : Lookup) (n : ℕ) (x : Node) → IsSwept pinned old new → old n ≡ Some x → pinned n ≡ true → new n ≡ Some x
-stays_pinned pinned old new n x swept stood pin = elim (cases_option (new n)) [
-  | inl none ↦ absurd (true≢false (sym pin ∙ (swept.gone n x stood none).unpinned))
-  | inr (y, stands) ↦ stands ∙ ap (λ (w : Node). Some w) (same_Some y x (sym (swept.kept n y stands) ∙ stood))
-]
-
 -- ---- one step of a sweep
 
 module _ (at : Lookup) (pinned : ℕ → Bool) (number : ℕ) (rest : List ℕ) (x : Node) (stood : at number ≡ Some x) where
