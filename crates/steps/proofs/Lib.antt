@@ -12,3 +12,4 @@ pub mod Lawful
 pub mod Backs
 pub mod Viewed
 pub mod Kept
+pub mod Settling

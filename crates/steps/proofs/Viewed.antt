@@ -1,5 +1,5 @@
 -- Requests in flight as the world sees them, and what is kept where some of them are no longer worked on.
-use Rattle.std.proofs.Common.{ℕ, ◌≡◌, ◌==◌, ◌↔◌, Bool, true, false, if◌then◌else◌, List, [], ◌∷◌, Contains, Option, Some, None, refl, sym, ap, ◌∙◌, subst, inl, inr, arith}
+use Rattle.std.proofs.Common.{ℕ, ◌≡◌, ◌==◌, ◌↔◌, Bool, true, false, if◌then◌else◌, List, [], ◌∷◌, Contains, Option, Some, None, refl, sym, ap, ◌∙◌, subst, ◌⊎◌, inl, inr, arith}
 use Rattle.std.specs.Prelude.{option_map}
 use Rattle.std.specs.List.{list_any}
 use Rattle.std.proofs.lemmas.Bool.{or_cases, or_left, or_right, true≢false, eqb-true, eq-eqb, cases_eq, ne_eqb, cond-true, cond-false}
@@ -33,9 +33,13 @@ in_any_of (m ∷ ns) n h = elim (or_cases (m == n) (list_any (λ k. k == n) ns) 
 
 -- ---- one request
 
-found_in : (o : Option Recorded) (f : Flight) → option_map flight_of o ≡ Some f → (r : Recorded) × (o ≡ Some r) × (flight_of r ≡ f)
+pub found_in : (o : Option Recorded) (f : Flight) → option_map flight_of o ≡ Some f → (r : Recorded) × (o ≡ Some r) × (flight_of r ≡ f)
 found_in None f e = absurd (cc)
 found_in (Some r) f e = (r, refl, same_Some (flight_of r) f e)
+
+pub cases_stage : (s : Recording) → (s ≡ recorded.Answered) ⊎ ((work : RecordedWork) × (s ≡ recorded.Working work))
+cases_stage recorded.Answered = inl refl
+cases_stage (recorded.Working work) = inr (work, refl)
 
 work_in : (s : Recording) (work : Work) → stage_of s ≡ Working work → (r : RecordedWork) × (s ≡ recorded.Working r) × (work_of r ≡ work)
 work_in (recorded.Working r) work e = (r, refl, (let same : work_of r ≡ work = cc in same))

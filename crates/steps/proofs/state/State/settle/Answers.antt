@@ -1,11 +1,10 @@
-use Rattle.std.proofs.Common.{ℕ, ◌++◌, ap, subst}
-use Rattle.flights.specs.Listed.{flying_of}
+use Rattle.std.proofs.Common.{ℕ, ◌++◌, ap, subst, sym}
+use Rattle.flights.specs.Listed.{InFlight, flying_of}
 use Rattle.tree.specs.Places.{at_in}
 use Rattle.steps.specs.Answers.{Answer, Settlement}
-use Rattle.steps.specs.Steps.{Settles}
+use Rattle.steps.specs.Steps.{Settles, numbers_of}
 use Rattle.steps.specs.Sweeping.{IsNearly}
-use Rattle.steps.specs.Steps.{numbers_of}
-use Rattle.steps.specs.World.{world_of}
+use Rattle.steps.specs.Kept.{IsKept, world_of}
 use Rattle.steps.proofs.Settling.{taken_nearly, settle_kept, Settles-found, Settles-none}
 use Rattle.steps.proofs.state.State.settle.Goals as goal
 
@@ -27,8 +26,8 @@ returns-clause-settles c =
     subst (λ (a : Answer). Settles (world_of c.args.self.now) a c.args.taken r (world_of (record c.args.self.now { tree = c.sweep_pins.new.tree; ledger = c.take_all_back.new.ledger; flights = c.take.new.self; counts = c.take_all_back.new.counts }))) c.answered.view_is
     (Settles-found c.args.self.now c.requires c.take.new.self c.answered.inside.id c.in-Some.pins.numbers c.in-Some.ensures.some c.in-Some.ensures.law
     c.untaken-untaken.result.now c.take_all_back.new.tree c.sweep_given.new.tree c.sweep_pins.new.tree c.take_all_back.new.ledger c.take_all_back.ensures.back nearly c.take_all_back.ensures.rest
-    c.sweep_given.ensures.swept c.sweep_pins.ensures.swept c.sweep_given.ensures.rest c.sweep_pins.ensures.rest c.sweep_pins.ensures.pruned
-    c.answered.inside.given.items c.args.taken c.answered.inside.lost c.take_all_back.new.counts r c.untaken-untaken.ensures c.if-lost.false
+    c.sweep_given.ensures.swept c.sweep_pins.ensures.swept c.sweep_given.ensures.rest c.sweep_pins.ensures.rest c.sweep_pins.ensures.pruned c.take_all_back.new.counts
+    c.answered.inside.given.items c.args.taken c.answered.inside.lost r c.untaken-untaken.ensures c.if-lost.false
     (ap (λ (n : ℕ). record { id = c.answered.inside.id; entries = n; taken = c.args.taken }) c.entries.ensures))
 
 pub returns-clause-kept : goal.returns-clause-kept
@@ -38,3 +37,6 @@ returns-clause-kept c =
     c.untaken-untaken.result.now c.take_all_back.new.tree c.sweep_given.new.tree c.sweep_pins.new.tree c.take_all_back.new.ledger c.take_all_back.ensures.back nearly c.take_all_back.ensures.rest
     c.sweep_given.ensures.swept c.sweep_pins.ensures.swept c.sweep_given.ensures.rest c.sweep_pins.ensures.rest c.sweep_pins.ensures.pruned
     c.take_all_back.new.counts c.take_all_back.ensures.counts
+
+pub returns-in_default-clause-kept : goal.returns-in_default-clause-kept
+returns-in_default-clause-kept c = subst (λ (f : InFlight). IsKept (record c.args.self.now { flights = f })) (sym c.in_default.ensures.same) c.requires
