@@ -5,3 +5,11 @@ pub mod Beginning
 pub mod Finishing
 pub mod Growing
 pub mod Adding
+pub mod Ordered
+pub mod Booked
+pub mod Reasons
+pub mod Lawful
+pub mod Backs
+pub mod Viewed
+pub mod Kept
+pub mod Settling
