@@ -13,3 +13,8 @@ pub mod Backs
 pub mod Viewed
 pub mod Kept
 pub mod Settling
+pub mod Apart
+pub mod Tallying
+pub mod Attesting
+pub mod Testing
+pub mod Starting
