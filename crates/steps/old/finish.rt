@@ -50,6 +50,7 @@ fn enter_again(
 /// Bears a node at the name, and counts its first entry.
 fn bear(tree: &mut Tree, ledger: &mut Ledger, _flights: &Flights, key: Key, copy: Key) -> Given
     requires law { IsLawful (at_in tree.old) ledger.old.made (flying_of _flights.now).pinned }
+    requires copy { copy ≡ key }
     requires free { IsFree (at_in tree.old) key.parent key.name }
     requires above { Leads (at_in tree.old) key.parent }
     requires node_room { 0 < tree.old.room }
@@ -60,9 +61,9 @@ fn bear(tree: &mut Tree, ledger: &mut Ledger, _flights: &Flights, key: Key, copy
     ensures alive { IsAlive (at_in tree.new) result.number }
     ensures more { IsOneMore 1 tree.old ledger.old tree.new ledger.new }
 {
-    let number = tree.vacant();
-    let generation = ledger.births(number);
-    tree.birth(number, generation, key, copy);
+    let next = tree.vacant();
+    let generation = ledger.births(next);
+    let number = tree.birth(generation, key, copy);
     ledger.post(Posting::Born { number, generation });
     tree.set_count(number, 1);
     ledger.post(Posting::Entry { number, generation });
@@ -72,6 +73,7 @@ fn bear(tree: &mut Tree, ledger: &mut Ledger, _flights: &Flights, key: Key, copy
 /// Gives an entry of the name: of the node that stands there, or of one that is born.
 fn enter(tree: &mut Tree, ledger: &mut Ledger, flights: &Flights, key: Key, copy: Key) -> Given
     requires law { IsLawful (at_in tree.old) ledger.old.made (flying_of flights.now).pinned }
+    requires copy { copy ≡ key }
     requires above { Leads (at_in tree.old) key.parent }
     requires node_room { IsFree (at_in tree.old) key.parent key.name → 0 < tree.old.room }
     requires room { 2 ≤ ledger.old.room }
@@ -115,6 +117,7 @@ impl State {
     ) -> Answered
         requires kept { IsKept self.old }
         requires ending { IsNameEnding self.old id key.parent key.name _promise }
+        requires copy { copy ≡ key }
         requires room { 0 < answer.room }
         requires unanswered { answer.items ≡ [] }
         ensures gives { (e : IsNameEnding self.old id key.parent key.name _promise) → GivesEntry (world_of self.old) id e.flight key.parent key.name result (world_of self.new) }
@@ -205,6 +208,7 @@ impl State {
     /// Moves what stands at the name to the other, where what stood is cut, and drops what nothing keeps any more.
     fn move_name(&mut self, key: &Key, target: Key, copy: Key, _held: &Held)
         requires kept { IsKept self.old }
+        requires copy { copy ≡ target }
         requires may { MayMove self.old _held.now key.now.parent key.now.name target.parent target.name }
         ensures moves { MovesName (world_of self.old) key.now.parent key.now.name target.parent target.name (world_of self.new) }
         ensures kept { IsKept self.new }

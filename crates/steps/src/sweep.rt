@@ -141,9 +141,9 @@ pub fn sweep_cut(tree: &mut Tree, flights: &Flights)
     ensures swept { IsSwept (flying_of flights.now).pinned (at_in tree.old) (at_in tree.new) }
     ensures rest { IsSameRest tree.old tree.new }
 {
-    let last = tree.last();
-    for number in 0..last {
-        drop_cut(tree, flights, number);
+    let mut number = 0;
+    while let Some(next) = tree.after(number) {
+        drop_cut(tree, flights, next);
+        number = next;
     }
-    drop_cut(tree, flights, last);
 }
