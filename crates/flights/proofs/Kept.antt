@@ -6,12 +6,12 @@ use Rattle.std.specs.Prelude.{sum_by}
 use Rattle.std.proofs.lemmas.List.Sums.{sum_by-cons}
 use mathlib.Core.Path.{fun_ext}
 use Rattle.sums.specs.Sum.{IsSum}
-use Rattle.sums.proofs.Listing.{sum_listed}
 use Rattle.std.specs.declared.alloc.Global.{Global}
 use Rattle.flights.specs.declared.data.Flight.{Flight}
 use Rattle.flights.specs.Flying.{pins_number, pinning, nodes_promised, postings_promised, IsFlying, IsTallied}
 use Rattle.flights.specs.Listed.{flight_in, pinned_in, InFlight, in_flight, flying_of, HaveOwnIds}
 use Rattle.flights.proofs.ById.{or_none, pins_number-pinning}
+use Rattle.flights.proofs.Summing.{sum_of_flights}
 use Rattle.flights.proofs.Lookups.{flight_in_id, flight_in_found, found_flight}
 
 or_assoc : (a b c : Bool) → (a || (b || c)) ≡ ((a || b) || c)
@@ -80,9 +80,9 @@ one_each (f ∷ fs) = let more = one_each fs in omega (arith, more, sum_by-cons 
 tallied : (fs : List Flight) (room : ℕ) → HaveOwnIds fs → IsTallied (flying_of (record { flights = fs; room = room }))
 unfolding flying_of
 tallied fs room apart = record {
-  many = subst (λ n. IsSum (flight_in fs) (λ (f : Flight). 1) n) (one_each fs) (sum_listed (λ (f : Flight). f.id) (λ f. 1) fs apart);
-  nodes = sum_listed (λ (f : Flight). f.id) (λ f. nodes_promised f.stage) fs apart;
-  postings = sum_listed (λ (f : Flight). f.id) (λ f. postings_promised f.stage) fs apart;
+  many = subst (λ n. IsSum (flight_in fs) (λ (f : Flight). 1) n) (one_each fs) (sum_of_flights fs (λ f. 1) apart);
+  nodes = sum_of_flights fs (λ f. nodes_promised f.stage) apart;
+  postings = sum_of_flights fs (λ f. postings_promised f.stage) apart;
 }
 
 pub IsTallied_listed : (v : Vec Flight Global) (all : InFlight) → HaveOwnIds v.items → in_flight v ≡ all → IsTallied (flying_of all)
