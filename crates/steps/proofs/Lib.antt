@@ -18,3 +18,5 @@ pub mod Tallying
 pub mod Attesting
 pub mod Testing
 pub mod Starting
+pub mod Refusing
+pub mod Reserving

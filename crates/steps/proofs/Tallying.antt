@@ -48,8 +48,8 @@ pub tallied : (s : State) → IsCensus (at_in s.tree) s.tree.living s.tree.count
 tallied s census totals provided =
     let all = flying_of s.flights in
     record {
-      living = ?;
-      counts = ?;
+      living = census.living_is;
+      counts = census.counts_is;
       flights = sum_seen all.at flight_of (λ f. 1) (λ f. 1) all.many (λ k x here. refl) totals.many;
       nodes = sum_seen all.at flight_of (λ f. nodes_promised f.stage) (λ f. (promised_to f.stage).nodes) all.nodes (λ k x here. same_nodes all provided k x here x.stage refl) totals.nodes;
       postings = sum_seen all.at flight_of (λ f. postings_promised f.stage) (λ f. (promised_to f.stage).postings) all.postings (λ k x here. same_postings all provided k x here x.stage refl) totals.postings;

@@ -10,7 +10,7 @@ use Rattle.steps.proofs.begin.is_same.Goals as goal
 test_is : (b : Bool) (a c : Name) → (b ≡ true) ↔ (a ≡ c) → b ≡ is_name a c
 test_is true a c h = sym (is_name-yes a c (h.0 refl))
 test_is false a c h = elim (cases_Bool (is_name a c)) [
-  | inl same ↦ h.1 (is_name-true a c same)
+  | inl same ↦ h.1 (is_name-true a c same) ∙ sym same
   | inr other ↦ sym other
 ]
 
