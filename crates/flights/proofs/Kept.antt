@@ -2,12 +2,16 @@
 use Rattle.std.proofs.Common.{ℕ, ◌-◌, ◌<◌, ◌≡◌, ◌==◌, ◌||◌, suc, zero, Bool, true, false, List, [], ◌∷◌, ◌++◌, Some, Vec, vec_len, vec_capacity, length, get_or, set, refl, sym, ap, ◌∙◌, subst, arith}
 use Rattle.std.specs.List.{remove, list_any}
 use Rattle.std.proofs.lemmas.List.Folds.{list_any-append, list_any_at, Any-from_list_any}
+use Rattle.std.specs.Prelude.{sum_by}
+use Rattle.std.proofs.lemmas.List.Sums.{sum_by-cons}
 use mathlib.Core.Path.{fun_ext}
+use Rattle.sums.specs.Sum.{IsSum}
 use Rattle.std.specs.declared.alloc.Global.{Global}
 use Rattle.flights.specs.declared.data.Flight.{Flight}
-use Rattle.flights.specs.Flying.{pins_number, pinning, IsFlying}
+use Rattle.flights.specs.Flying.{pins_number, pinning, nodes_promised, postings_promised, IsFlying, IsTallied}
 use Rattle.flights.specs.Listed.{flight_in, pinned_in, InFlight, in_flight, flying_of, HaveOwnIds}
 use Rattle.flights.proofs.ById.{or_none, pins_number-pinning}
+use Rattle.flights.proofs.Summing.{sum_of_flights}
 use Rattle.flights.proofs.Lookups.{flight_in_id, flight_in_found, found_flight}
 
 or_assoc : (a b c : Bool) → (a || (b || c)) ≡ ((a || b) || c)
@@ -68,3 +72,18 @@ IsFlying_kept v apart = listed v.items (vec_capacity v - vec_len v) apart
 
 pub IsFlying_listed : (v : Vec Flight Global) (all : InFlight) → HaveOwnIds v.items → in_flight v ≡ all → IsFlying (flying_of all)
 IsFlying_listed v all apart is = subst (λ (a : InFlight). IsFlying (flying_of a)) is (IsFlying_kept v apart)
+
+one_each : (fs : List Flight) → sum_by (λ (f : Flight). 1) fs ≡ length fs
+one_each [] = refl
+one_each (f ∷ fs) = let more = one_each fs in omega (arith, more, sum_by-cons (λ (g : Flight). 1) f fs)
+
+tallied : (fs : List Flight) (room : ℕ) → HaveOwnIds fs → IsTallied (flying_of (record { flights = fs; room = room }))
+unfolding flying_of
+tallied fs room apart = record {
+  many = subst (λ n. IsSum (flight_in fs) (λ (f : Flight). 1) n) (one_each fs) (sum_of_flights fs (λ f. 1) apart);
+  nodes = sum_of_flights fs (λ f. nodes_promised f.stage) apart;
+  postings = sum_of_flights fs (λ f. postings_promised f.stage) apart;
+}
+
+pub IsTallied_listed : (v : Vec Flight Global) (all : InFlight) → HaveOwnIds v.items → in_flight v ≡ all → IsTallied (flying_of all)
+IsTallied_listed v all apart is = subst (λ (a : InFlight). IsTallied (flying_of a)) is (tallied v.items (vec_capacity v - vec_len v) apart)

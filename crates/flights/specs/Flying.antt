@@ -4,6 +4,7 @@ use Rattle.std.specs.List.{list_any}
 use Rattle.paths.specs.Fronts.{Names}
 use Rattle.holds.specs.Clashes.{Clash, is_among}
 use Rattle.holds.specs.declared.held.Held.{Held}
+use Rattle.sums.specs.Sum.{IsSum}
 use Rattle.flights.specs.declared.data.Flight.{Flight}
 use Rattle.flights.specs.declared.data.Stage.{Stage}
 use Rattle.flights.specs.declared.data.Stage.TheVariants.{Working, Answered}
@@ -79,6 +80,12 @@ pub record IsFlying (all : Flying) : Type 0 where
   pub numbered : (id : ℕ) (f : Flight) → all.at id ≡ Some f → f.id ≡ id
   -- a number is pinned exactly if one of them pins it
   pub pins : (n : ℕ) → (all.pinned n ≡ true) ↔ ((id : ℕ) × (f : Flight) × (all.at id ≡ Some f) × (pins_number f n ≡ true))
+
+-- the totals are sums over all of them
+pub record IsTallied (all : Flying) : Type 0 where
+  pub many : IsSum all.at (λ f. 1) all.many
+  pub nodes : IsSum all.at (λ f. nodes_promised f.stage) all.nodes
+  pub postings : IsSum all.at (λ f. postings_promised f.stage) all.postings
 
 -- none is worked on under the id
 abbrev pub HasNoneWorking : Flights → ℕ → Type 0

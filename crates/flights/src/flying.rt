@@ -2,7 +2,7 @@
 
 ghost use Rattle.std.specs.Prelude.{true, false, ◌≡◌, ◌≢◌, ◌<◌, ◌≤◌, ◌+◌, ◌^◌, ℕ, None, Some, IfNone, IfSome, IsOk, OnOk, IsTrue, AllPairs, ◌↔◌, option_copied, count_by, length};
 ghost use Rattle.flights.specs.declared.data.Flight.{Flight};
-ghost use Rattle.flights.specs.Flying.{none_flying, nodes_promised, postings_promised, IsFlying, HasNoneWorking, HasNoneAnswered, Adds, Answers, PinsMore, Goes, HoldsUp, has_exclusive, has_shared};
+ghost use Rattle.flights.specs.Flying.{none_flying, nodes_promised, postings_promised, IsFlying, IsTallied, HasNoneWorking, HasNoneAnswered, Adds, Answers, PinsMore, Goes, HoldsUp, has_exclusive, has_shared};
 ghost use Rattle.flights.specs.Listed.{flying_of, flight_in, pinned_in};
 
 use crate::data::{Flight, Pins, Promise, Work};
@@ -68,6 +68,7 @@ impl Flights {
     pub fn promised(&self) -> Promise
         ensures nodes { result.nodes ≡ (flying_of self.now).nodes }
         ensures postings { result.postings ≡ (flying_of self.now).postings }
+        ensures tallied { IsTallied (flying_of self.now) }
         ensures law { IsFlying (flying_of self.now) }
     {
         self.promised

@@ -19,7 +19,7 @@ use Rattle.steps.specs.World.{Flight, IsReady, IsStanding, Work}
 use Rattle.wants.proofs.Members.{any_in, in_any, in_map, later_in, cases_in, first_in, none_in}
 use Rattle.wants.proofs.RowLemmas.{are_rows}
 
-map_in : {X Y : Type 0} → (f : X → Y) (xs : List X) (x : X) → Contains xs x → Contains (map f xs) (f x)
+pub map_in : {X Y : Type 0} → (f : X → Y) (xs : List X) (x : X) → Contains xs x → Contains (map f xs) (f x)
 map_in f [] x h = absurd (none_in x h)
 map_in f (y ∷ xs) x h = elim (cases_in y xs x h) [
   | inl e ↦ subst (λ z. Contains (f y ∷ map f xs) (f z)) e (first_in (f y) (map f xs))
@@ -64,7 +64,7 @@ KeepsPaths old new pins held = (n : ℕ) → Contains pins n → (q : Names) →
 module _ (old new : Lookup) (tree' : IsTree new) (d : Demand) (held : Held) (row : IsRow d) (holds : Holds old d held) (f : Flight)
     (pinned : (n : ℕ) → Contains d.given n → Contains f.pins n) (keeps : KeepsPaths old new f.pins held) where
   -- the prefixes of the path of a node that is given are held
-  fronts_given : (n : ℕ) → Contains d.given n → (p : Names) → IsPathOf old n p → HoldsFronts held p
+  pub fronts_given : (n : ℕ) → Contains d.given n → (p : Names) → IsPathOf old n p → HoldsFronts held p
   fronts_given n given p leads front some = elim (row.covered n given) [
     | inl any ↦
         let it = in_any (λ l. base_of l ≡ n) d.shared any in
@@ -77,7 +77,7 @@ module _ (old new : Lookup) (tree' : IsTree new) (d : Demand) (held : Held) (row
         ]
   ]
 
-  given_path : (n : ℕ) → Contains d.given n → (p : Names) × IsPathOf old n p
+  pub given_path : (n : ℕ) → Contains d.given n → (p : Names) × IsPathOf old n p
   given_path n given =
       let it = in_map (λ (lead : Lead). lead.number) held.given n (subst (λ ns. Contains ns n) (sym holds.numbers) given) in
       let leads : IsPathOf old it.0.number it.0.path = All-contains (λ (lead : Lead). IsPathOf old lead.number lead.path) held.given it.0 holds.leads it.1 in

@@ -12,7 +12,7 @@ use Rattle.ledger.specs.Postings.{Postings}
 use Rattle.tree.specs.Places.{Nodes, at_in}
 use Rattle.wants.specs.Plans.{IsProvided, row_in}
 use Rattle.steps.specs.declared.state.State.{State}
-use Rattle.steps.specs.World.{AreHeld, AreReady, Answered, Flight, Flights, Stage, Work, Working, World}
+use Rattle.steps.specs.World.{AreHeld, AreReady, Answered, Flight, Flights, Stage, Tally, Work, Working, World}
 
 -- ---- the parts as a world
 
@@ -35,6 +35,15 @@ world_of s = record {
   postings = s.ledger.made;
   flights = flights_in (flying_of s.flights);
   limits = s.limits;
+}
+
+-- the totals that run along
+abbrev pub tally_of : State → Tally
+tally_of s = record {
+  living = s.tree.living;
+  counts = s.tree.counts;
+  flights = (flying_of s.flights).many;
+  promised = record { nodes = (flying_of s.flights).nodes; postings = (flying_of s.flights).postings };
 }
 
 -- ---- what holds of the parts

@@ -1,6 +1,5 @@
 -- What holds while nodes that nothing keeps are dropped one by one.
 use Rattle.std.specs.Prelude.{ℕ, ◌+◌, ◌≡◌, ◌≢◌, ◌≤◌, ◌<◌, ◌⊎◌, Bool, List, [], ◌∷◌, Option, Some, None, length}
-use Rattle.flights.specs.declared.data.Given.{Given}
 use Rattle.paths.specs.Fronts.{Name}
 use Rattle.tree.specs.declared.nodes.Node.{Node}
 use Rattle.tree.specs.declared.nodes.Place.{Place}
@@ -45,12 +44,6 @@ abbrev pub parent_in : Place → Option ℕ
 parent_in Root = None
 parent_in (Named key) = Some key.parent
 parent_in Cut = None
-
--- the numbers of the nodes given
-abbrev pub numbers_in : List (Option Given) → List ℕ
-numbers_in [] = []
-numbers_in (None ∷ gs) = numbers_in gs
-numbers_in (Some g ∷ gs) = g.number ∷ numbers_in gs
 
 -- nodes with a count of 0 went: the sum of the counts and the limit are the same, and there is no less room
 pub record IsSameRest (old new : Nodes) : Type 0 where

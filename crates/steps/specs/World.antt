@@ -1,6 +1,6 @@
 -- All that a table keeps, and the law of it. No number stands here that the rest already fixes: what the limits are judged
 -- by is added up over what stands.
-use Rattle.std.specs.Prelude.{ℕ, ℤ, ◌+◌, ◌≤◌, ◌≡◌, ◌≢◌, ◌==◌, ◌↔◌, ◌⊎◌, Bool, true, if◌then◌else◌, List, [], Option, Some, None, All, AllPairs, Contains, IsSome, length, sum_by, option_map, unwrap_or}
+use Rattle.std.specs.Prelude.{ℕ, ℤ, ◌+◌, ◌≤◌, ◌≡◌, ◌≢◌, ◌==◌, ◌↔◌, ◌⊎◌, Bool, true, if◌then◌else◌, List, [], Option, Some, None, All, Contains, length}
 use Rattle.holds.specs.declared.held.Held.{Held}
 use Rattle.holds.specs.Clashes.{Clash}
 use Rattle.ledger.specs.declared.postings.Posting.{Posting}
@@ -9,6 +9,7 @@ use Rattle.flights.specs.declared.data.Want.{Want}
 use Rattle.tree.specs.declared.nodes.Key.{Key}
 use Rattle.tree.specs.Places.{Lookup, IsNamed, no_nodes, root_node, with_node}
 use Rattle.image.specs.Law.{IsLawful, IsLead}
+use Rattle.sums.specs.Sum.{IsSum}
 use Rattle.steps.specs.declared.data.Limits.{Limits}
 use Rattle.wants.specs.Asked.{Holds, IsMisplaced, promise_of}
 use Rattle.wants.specs.Rows.{Case, Demand, row_of}
@@ -64,13 +65,6 @@ abbrev pub AreKept : Flights → (ℕ → Bool) → Type 0
 AreKept flights kept = (n : ℕ) → (kept n ≡ true) ↔ IsPinned flights n
 
 -- ---- what stands, added up
-
--- what all that a look-up finds weighs together: each key counts once
-pub record IsSum {X : Type 0} (at : ℕ → Option X) (weight : X → ℕ) (total : ℕ) : Type 0 where
-  pub keys : List ℕ
-  pub apart : AllPairs (λ j k. j ≢ k) keys
-  pub exact : (k : ℕ) → Contains keys k ↔ IsSome (at k)
-  pub total_is : total ≡ sum_by (λ k. unwrap_or (option_map weight (at k)) 0) keys
 
 -- what is promised to a request that is worked on
 abbrev pub promised_to : Stage → Promise

@@ -2,8 +2,9 @@
 
 ghost use Rattle.std.specs.Prelude.{◌≡◌, ◌≤◌, ◌<◌, ◌+◌, true, IfErr, OnOk};
 ghost use Rattle.steps.specs.Beginning.{Allows, Forbids, IsRoomForOne, IsSameButRoom};
-ghost use Rattle.steps.specs.Kept.{IsKept, world_of};
+ghost use Rattle.steps.specs.Kept.{IsKept, tally_of, world_of};
 ghost use Rattle.steps.specs.Steps.{Begins};
+ghost use Rattle.steps.specs.World.{IsTally};
 ghost use Rattle.tree.specs.Places.{at_in};
 ghost use Rattle.wants.specs.Plans.{IsPlan};
 ghost use Rattle.wants.specs.Rows.{is_same, plain, row_of};
@@ -79,6 +80,7 @@ impl State {
         requires { IsKept self.now }
         ensures ok { OnOk result (Allows self.now promise.now) }
         ensures err { IfErr result (Forbids self.now promise.now) }
+        ensures tally { IsTally (world_of self.now) (tally_of self.now) }
     {
         let promised = self.flights.promised();
         let made = self.ledger.postings().len() as u64;

@@ -45,6 +45,7 @@ impl State {
         requires { IsKept self.now }
         ensures { IsLawfulWorld (world_of self.now) }
     {
-        let _limits = &self.limits;
+        let _nodes = self.tree.len();
+        let _promised = self.flights.promised();
     }
 }

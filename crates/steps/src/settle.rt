@@ -2,9 +2,10 @@
 
 ghost use Rattle.std.specs.Prelude.{◌≡◌, ◌≤◌, ◌+◌, ◌⊎◌, ◌++◌};
 ghost use Rattle.flights.specs.Listed.{flying_of};
-ghost use Rattle.table.specs.Steps.{Settles, TakesAllBack, TakesBack, TakesNone, untaken_of};
-ghost use Rattle.table.specs.Sweeping.{IsAmong, IsNearly, IsTakenBack, numbers_in};
-ghost use Rattle.table.specs.World.{IsKept, world_of};
+ghost use Rattle.steps.specs.Entries.{TakesAllBack, TakesBack, TakesNone, untaken_of};
+ghost use Rattle.steps.specs.Steps.{Settles, numbers_of};
+ghost use Rattle.steps.specs.Sweeping.{IsAmong, IsNearly, IsTakenBack};
+ghost use Rattle.steps.specs.Kept.{IsKept, world_of};
 ghost use Rattle.tree.specs.Places.{at_in};
 
 use crate::data::{Answered, Settled};
@@ -25,11 +26,11 @@ fn take_back(
     _pins: &[u64],
 )
     requires counts { counts.old ≡ tree.old.counts }
-    requires nearly { IsNearly (at_in tree.old) ledger.old.made (flying_of _flights.now).pinned (numbers_in _given.now ++ _pins.now) }
-    requires suspect { IsAmong entry.number (numbers_in _given.now ++ _pins.now) }
+    requires nearly { IsNearly (at_in tree.old) ledger.old.made (flying_of _flights.now).pinned (numbers_of _given.now ++ _pins.now) }
+    requires suspect { IsAmong entry.number (numbers_of _given.now ++ _pins.now) }
     requires room { tree.old.counts ≤ ledger.old.room }
     ensures back { TakesBack (at_in tree.old) ledger.old.made entry (at_in tree.new) ledger.new.made ⊎ TakesNone (at_in tree.old) ledger.old.made entry (at_in tree.new) ledger.new.made }
-    ensures nearly { IsNearly (at_in tree.new) ledger.new.made (flying_of _flights.now).pinned (numbers_in _given.now ++ _pins.now) }
+    ensures nearly { IsNearly (at_in tree.new) ledger.new.made (flying_of _flights.now).pinned (numbers_of _given.now ++ _pins.now) }
     ensures rest { IsTakenBack tree.old ledger.old tree.new ledger.new }
     ensures counts { counts.new ≡ tree.new.counts }
 {
@@ -61,10 +62,10 @@ fn take_all_back(
     pins: &[u64],
 )
     requires counts { counts.old ≡ tree.old.counts }
-    requires nearly { IsNearly (at_in tree.old) ledger.old.made (flying_of flights.now).pinned (numbers_in given.now ++ pins.now) }
+    requires nearly { IsNearly (at_in tree.old) ledger.old.made (flying_of flights.now).pinned (numbers_of given.now ++ pins.now) }
     requires room { tree.old.counts ≤ ledger.old.room }
     ensures back { TakesAllBack (at_in tree.old) ledger.old.made given.now (at_in tree.new) ledger.new.made }
-    ensures nearly { IsNearly (at_in tree.new) ledger.new.made (flying_of flights.now).pinned (numbers_in given.now ++ pins.now) }
+    ensures nearly { IsNearly (at_in tree.new) ledger.new.made (flying_of flights.now).pinned (numbers_of given.now ++ pins.now) }
     ensures rest { IsTakenBack tree.old ledger.old tree.new ledger.new }
     ensures counts { counts.new ≡ tree.new.counts }
 {

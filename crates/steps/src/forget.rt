@@ -1,8 +1,8 @@
 //! FORGET: the client gives lookups of a node back.
 
 ghost use Rattle.std.specs.Prelude.{◌≡◌};
-ghost use Rattle.table.specs.Steps.{Forgets};
-ghost use Rattle.table.specs.World.{IsKept, world_of};
+ghost use Rattle.steps.specs.Steps.{Forgets};
+ghost use Rattle.steps.specs.Kept.{IsKept, world_of};
 
 use crate::state::State;
 use crate::sweep::sweep;

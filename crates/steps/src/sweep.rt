@@ -3,8 +3,9 @@
 ghost use Rattle.std.specs.Prelude.{true, false, ◌≡◌, ◌≤◌, ◌<◌, ◌+◌, ◌⊎◌, ℕ, Some, None, IfNone, IfSome, MatchOption, [], ◌∷◌, ◌++◌};
 ghost use Rattle.flights.specs.Listed.{flying_of};
 ghost use Rattle.image.specs.Law.{HasReason, HaveReasons};
-ghost use Rattle.table.specs.Steps.{IsNeedless, IsSwept};
-ghost use Rattle.table.specs.Sweeping.{HaveReasonsBelow, IsPruned, IsSameRest, numbers_in, parent_in};
+ghost use Rattle.steps.specs.Swept.{IsNeedless, IsSwept};
+ghost use Rattle.steps.specs.Sweeping.{HaveReasonsBelow, IsPruned, IsSameRest, parent_in};
+ghost use Rattle.steps.specs.Steps.{numbers_of};
 ghost use Rattle.tree.specs.Places.{at_in, IsTree};
 
 use flights::{Flights, Given};
@@ -48,8 +49,8 @@ fn drop_needless(
     _given: &[Option<Given>],
     _pins: &[u64],
 ) -> Option<u64>
-    requires { IsPruned (at_in tree.old) (flying_of flights.now).pinned (number ∷ (numbers_in _given.now ++ _pins.now)) }
-    ensures pruned { MatchOption result (IsPruned (at_in tree.new) (flying_of flights.now).pinned (numbers_in _given.now ++ _pins.now)) (λ p. IsPruned (at_in tree.new) (flying_of flights.now).pinned (p ∷ (numbers_in _given.now ++ _pins.now))) }
+    requires { IsPruned (at_in tree.old) (flying_of flights.now).pinned (number ∷ (numbers_of _given.now ++ _pins.now)) }
+    ensures pruned { MatchOption result (IsPruned (at_in tree.new) (flying_of flights.now).pinned (numbers_of _given.now ++ _pins.now)) (λ p. IsPruned (at_in tree.new) (flying_of flights.now).pinned (p ∷ (numbers_of _given.now ++ _pins.now))) }
     ensures swept { IsSwept (flying_of flights.now).pinned (at_in tree.old) (at_in tree.new) }
     ensures fewer { IfSome result (λ p. tree.new.living < tree.old.living) }
     ensures rest { IsSameRest tree.old tree.new }
@@ -67,8 +68,8 @@ fn drop_needless(
 
 /// Drops the node if nothing keeps it, then its parent, and so on. The nodes given and pinned may lack a reason.
 pub fn sweep(tree: &mut Tree, flights: &Flights, number: u64, given: &[Option<Given>], pins: &[u64])
-    requires { IsPruned (at_in tree.old) (flying_of flights.now).pinned (number ∷ (numbers_in given.now ++ pins.now)) }
-    ensures pruned { IsPruned (at_in tree.new) (flying_of flights.now).pinned (numbers_in given.now ++ pins.now) }
+    requires { IsPruned (at_in tree.old) (flying_of flights.now).pinned (number ∷ (numbers_of given.now ++ pins.now)) }
+    ensures pruned { IsPruned (at_in tree.new) (flying_of flights.now).pinned (numbers_of given.now ++ pins.now) }
     ensures swept { IsSwept (flying_of flights.now).pinned (at_in tree.old) (at_in tree.new) }
     ensures rest { IsSameRest tree.old tree.new }
 {
@@ -80,7 +81,7 @@ pub fn sweep(tree: &mut Tree, flights: &Flights, number: u64, given: &[Option<Gi
 
 /// Drops what nothing keeps of the nodes given, and then of their parents.
 pub fn sweep_given(tree: &mut Tree, flights: &Flights, given: &[Option<Given>], pins: &[u64])
-    requires { IsPruned (at_in tree.old) (flying_of flights.now).pinned (numbers_in given.now ++ pins.now) }
+    requires { IsPruned (at_in tree.old) (flying_of flights.now).pinned (numbers_of given.now ++ pins.now) }
     ensures pruned { IsPruned (at_in tree.new) (flying_of flights.now).pinned pins.now }
     ensures swept { IsSwept (flying_of flights.now).pinned (at_in tree.old) (at_in tree.new) }
     ensures rest { IsSameRest tree.old tree.new }

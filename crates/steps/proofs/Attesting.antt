@@ -1,0 +1,25 @@
+-- What holds of the parts makes a lawful world.
+use Rattle.std.proofs.Common.{◌+◌, ◌≤◌, length, arith}
+use Rattle.flights.specs.Flying.{IsTallied}
+use Rattle.flights.specs.Listed.{flying_of}
+use Rattle.tree.specs.Places.{IsCensus, at_in}
+use Rattle.steps.specs.declared.state.State.{State}
+use Rattle.steps.specs.Kept.{IsKept, tally_of, world_of}
+use Rattle.steps.specs.World.{IsLawfulWorld}
+use Rattle.steps.proofs.Tallying.{tallied}
+use Rattle.steps.proofs.Viewed.{are_kept}
+
+pub kept_lawful : (s : State) → IsCensus (at_in s.tree) s.tree.living s.tree.counts → IsTallied (flying_of s.flights) → IsKept s → IsLawfulWorld (world_of s)
+kept_lawful s census totals kept = record {
+  kept = (flying_of s.flights).pinned;
+  keeps = are_kept (flying_of s.flights) kept.flying;
+  law = kept.law;
+  held = kept.held;
+  ready = kept.ready;
+  within = record {
+    tally = tally_of s;
+    tallied = tallied s census totals kept.provided;
+    room = record { nodes = omega (arith, kept.limited.nodes); postings = omega (arith, kept.limited.postings) };
+    flights = kept.limited.flights;
+  };
+}

@@ -1,0 +1,145 @@
+-- What is kept of a table when its nodes and its ledger change, and the requests in flight do not.
+use Rattle.std.proofs.Common.{ℕ, ◌+◌, ◌-◌, ◌<◌, ◌≤◌, ◌≡◌, ◌≢◌, List, [], ◌∷◌, ◌++◌, Some, length, length-append, min, reverse, refl, sym, ap, ◌∙◌, subst, arith}
+use Rattle.std.proofs.lemmas.Option.{none-some, same_Some}
+use Rattle.paths.specs.Fronts.{Names}
+use Rattle.ledger.specs.declared.postings.Posting.{Posting}
+use Rattle.ledger.specs.declared.postings.Posting.TheVariants.{Forget}
+use Rattle.ledger.specs.Postings.{Postings}
+use Rattle.tree.specs.declared.nodes.Node.{Node}
+use Rattle.tree.specs.Places.{Lookup, Nodes, at_in, with_node, IsPathOf, IsTree}
+use Rattle.tree.specs.Moves.{Writes}
+use Rattle.tree.proofs.Writing.{reaches_now}
+use Rattle.flights.specs.Flying.{Flying, IsFlying}
+use Rattle.flights.specs.Listed.{flying_of}
+use Rattle.image.specs.Law.{IsLawful}
+use Rattle.steps.specs.declared.state.State.{State}
+use Rattle.steps.specs.Kept.{IsKept, flights_in, world_of}
+use Rattle.steps.specs.Steps.{Forgets, Sweeps, Takes}
+use Rattle.steps.specs.Swept.{IsSwept}
+use Rattle.steps.specs.Sweeping.{HaveReasonsBut, IsPruned, IsSameRest, IsBooked}
+use Rattle.steps.specs.World.{AreHeld, AreReady, Flights, IsAtWork, World}
+use Rattle.steps.proofs.Guarding.{left_where, sweeps_harmless}
+use Rattle.steps.proofs.Lawful.{booked_of, booked_forget, lawful_swept}
+use Rattle.steps.proofs.Reasons.{HaveReasons-some, HaveReasons-write}
+use Rattle.steps.proofs.Viewed.{are_kept}
+
+-- one posting more
+pub length_push : (ps qs : List Posting) (p : Posting) → qs ≡ ps ++ p ∷ [] → length qs ≡ length ps + 1
+length_push ps qs p e = omega (arith, ap {B = ℕ} length e, length-append ps (p ∷ []))
+
+-- what a write leaves of a tree
+pub record IsWritten (old new : Nodes) : Type 0 where
+  pub living : new.living ≡ old.living
+  pub limit : new.limit ≡ old.limit
+  pub room : new.room ≡ old.room
+
+pub written : (old new : Nodes) (n : ℕ) (x y : Node) → Writes old n x y new → IsWritten old new
+written old new n x y w = record {
+  living = ap (λ (t : Nodes). t.living) w.rest;
+  limit = ap (λ (t : Nodes). t.limit) w.rest;
+  room = ap (λ (t : Nodes). t.room) w.rest;
+}
+
+-- ---- what requests rely on
+
+-- each path leads where it led
+abbrev pub KeepsAllPaths : Lookup → Lookup → Type 0
+KeepsAllPaths old new = (n : ℕ) (q : Names) → IsPathOf old n q → IsPathOf new n q
+
+pub ready_where : (old new : Lookup) (flights : Flights) → IsTree new → KeepsAllPaths old new → AreReady old flights → AreReady new flights
+ready_where old new flights tree keeps ready id f work here =
+    (left_where old new flights tree (λ _ _ _ _ n pin q fronts h. keeps n q h)).ready id f work here (ready id f work here)
+
+pub ready_swept : (old new : Lookup) (all : Flying) → IsFlying all → IsTree new → IsSwept all.pinned old new → AreReady old (flights_in all) → AreReady new (flights_in all)
+ready_swept old new all flying tree swept ready id f work here =
+    (sweeps_harmless (flights_in all) old new all.pinned tree (are_kept all flying) swept).ready id f work here (ready id f work here)
+
+-- the paths given stay known to who has what it relies on
+pub held_ready : (old new : Lookup) (flights : Flights) → AreReady new flights → AreHeld old flights → AreHeld new flights
+held_ready old new flights ready held = record {
+  apart = held.apart;
+  known = λ id f work here k d within. record {
+    path = (ready id f work here).holds.leads k d within;
+    fronts = (held.known id f work here k d within).fronts;
+  };
+}
+
+-- a count moves no node
+pub paths_written : (at : Lookup) (n : ℕ) (x : Node) (c : ℕ) → at n ≡ Some x → KeepsAllPaths at (with_node at n (record x { count = c }))
+paths_written at n x c stood m q h = reaches_now at n x (record x { count = c }) stood (record { number = refl; generation = refl; place = refl }) 1 (reverse q) m h
+
+-- ---- nodes and ledger change
+
+-- nodes and ledger may change where the law stays, requests that go on have what they rely on, and there is room
+pub kept_changed : (s : State) (tree : Nodes) (ledger : Postings) (counts : ℕ) → IsKept s
+    → IsLawful (at_in tree) ledger.made (flying_of s.flights).pinned → AreReady (at_in tree) (flights_in (flying_of s.flights))
+    → s.tree.room ≤ tree.room → tree.living ≤ s.tree.living → tree.limit ≡ s.tree.limit
+    → s.ledger.room + tree.counts ≤ ledger.room + s.tree.counts → length ledger.made + tree.counts ≤ length s.ledger.made + s.tree.counts → ledger.limit ≡ s.ledger.limit → counts ≡ tree.counts
+    → IsKept (record s { tree = tree; ledger = ledger; counts = counts })
+kept_changed s tree ledger counts kept law ready room living limit posting_room made posting_limit same = record {
+  law = law;
+  flying = kept.flying;
+  held = held_ready (at_in s.tree) (at_in tree) (flights_in (flying_of s.flights)) ready kept.held;
+  ready = ready;
+  provided = kept.provided;
+  reserved = record { nodes = omega (arith, kept.reserved.nodes); postings = omega (arith, kept.reserved.postings) };
+  limited = record {
+    nodes = omega (arith, kept.limited.nodes);
+    postings = omega (arith, kept.limited.postings);
+    flights = kept.limited.flights;
+    node_limit = limit ∙ kept.limited.node_limit;
+    posting_limit = posting_limit ∙ kept.limited.posting_limit;
+    short = kept.limited.short;
+  };
+  counts = same;
+}
+
+-- ---- forget
+
+module _ (s : State) (kept : IsKept s) (number : ℕ) (x : Node) (stood : at_in s.tree number ≡ Some x) (amount : ℕ) (some : amount ≢ 0) (fits : amount ≤ x.count) (tree : Nodes) (writes : Writes s.tree number x (record x { count = x.count - amount }) tree) (law : IsTree (at_in tree)) where
+  pub forget_pruned : IsPruned (at_in tree) (flying_of s.flights).pinned (number ∷ [])
+  forget_pruned = record {
+    tree = law;
+    reasons =
+        let pinned = (flying_of s.flights).pinned in
+        subst (λ a. HaveReasonsBut a pinned (number ∷ [])) (sym writes.nodes)
+        (HaveReasons-write (at_in s.tree) pinned number x (record x { count = x.count - amount }) [] stood refl (HaveReasons-some (at_in s.tree) pinned [] kept.law.reasons));
+  }
+
+  module _ (ledger : Postings) (new : Nodes) (made : ledger.made ≡ s.ledger.made ++ Forget number x.generation amount ∷ []) (swept : IsSwept (flying_of s.flights).pinned (at_in tree) (at_in new)) where
+    pub forget_kept : ledger.limit ≡ s.ledger.limit → s.ledger.room ≤ ledger.room + 1 → IsPruned (at_in new) (flying_of s.flights).pinned [] → IsSameRest tree new
+        → IsKept (record s { tree = new; ledger = ledger; counts = s.counts - amount })
+    forget_kept limit room pruned rest =
+        let all = flying_of s.flights in
+        let w = written s.tree tree number x (record x { count = x.count - amount }) writes in
+        let booked : IsBooked (at_in tree) ledger.made all.pinned =
+        rw (writes.nodes, made) (booked_forget (at_in s.tree) s.ledger.made all.pinned (booked_of (at_in s.tree) s.ledger.made all.pinned kept.law) number x stood amount (omega arith) fits) in
+        let paths : KeepsAllPaths (at_in s.tree) (at_in tree) = subst (λ a. KeepsAllPaths (at_in s.tree) a) (sym writes.nodes) (paths_written (at_in s.tree) number x (x.count - amount) stood) in
+        let one : AreReady (at_in tree) (flights_in all) = ready_where (at_in s.tree) (at_in tree) (flights_in all) law paths kept.ready in
+        kept_changed s new ledger (s.counts - amount) kept
+        (lawful_swept (at_in tree) (at_in new) ledger.made all.pinned booked swept pruned)
+        (ready_swept (at_in tree) (at_in new) all kept.flying pruned.tree swept one)
+        (omega (arith, rest.room, w.room)) (omega (arith, rest.fewer, w.living)) (rest.limit ∙ w.limit)
+        (omega (arith, writes.counts, rest.counts)) (omega (arith, writes.counts, rest.counts, length_push s.ledger.made ledger.made _ made)) limit
+        (omega (arith, writes.counts, rest.counts, kept.counts))
+
+    pub takes : Takes (world_of s) number amount x (world_of (record s { tree = new; ledger = ledger; counts = s.counts - amount }))
+    takes = record {
+      sweeps = record {
+        kept = (flying_of s.flights).pinned;
+        keeps = are_kept (flying_of s.flights) kept.flying;
+        swept = subst (λ a. IsSwept (flying_of s.flights).pinned a (at_in new)) writes.nodes swept;
+      };
+      new_is = ap (λ (ps : List Posting). let w : World = record (world_of s) { at = at_in new; postings = ps } in w) made;
+    }
+
+    pub forgets : (n : ℕ) → amount ≡ min n x.count → Forgets (world_of s) number n amount (world_of (record s { tree = new; ledger = ledger; counts = s.counts - amount }))
+    forgets n least =
+        let after = world_of (record s { tree = new; ledger = ledger; counts = s.counts - amount }) in
+        let same : (y : Node) → at_in s.tree number ≡ Some y → x ≡ y = λ y h. same_Some x y (sym stood ∙ h) in
+        record {
+          unknown = λ none. absurd (none-some x (sym none ∙ stood));
+          smaller = λ y h. subst (λ (z : Node). amount ≡ min n z.count) (same y h) least;
+          nothing = λ zero. absurd (some zero);
+          something = λ y h _. subst (λ (z : Node). Takes (world_of s) number amount z after) (same y h) takes;
+        }

@@ -1,0 +1,31 @@
+-- An error number is written and read as it is.
+use Rattle.std.proofs.Common.{ℤ, ◌≡◌, ap, inl, inr, to_z, of_z, w32}
+use Rattle.paths.specs.Fronts.{Names}
+use Rattle.tree.specs.Places.{Lookup}
+use Rattle.wants.specs.Asked.{IsMisplaced, IsRefusedMove, IsUnsound, long, misplaced, no_memory, stale}
+use Rattle.wants.specs.Rows.{Change, Demand, cuts, moves, stays}
+use Rattle.steps.specs.Steps.{IsRefusal, crowded, full, unsound}
+use Rattle.steps.specs.World.{World}
+
+abbrev bits : ℤ → ℤ
+bits e = to_z w32 (of_z w32 e)
+
+refused_bits : (p q : Names) (e : ℤ) → IsRefusedMove p q e → IsRefusedMove p q (bits e)
+refused_bits p q e (inl (is, front)) = inl (ap bits is, front)
+refused_bits p q e (inr (is, front)) = inr (ap bits is, front)
+
+misplaced_bits : (at : Lookup) (c : Change) (e : ℤ) → IsMisplaced at c e → IsMisplaced at c (bits e)
+misplaced_bits at stays e bad = bad
+misplaced_bits at (cuts l) e bad = bad
+misplaced_bits at (moves source target) e it = record { path = it.path; leads = it.leads; new_path = it.new_path; new_leads = it.new_leads; refused = refused_bits it.path it.new_path e it.refused }
+
+unsound_bits : (at : Lookup) (d : Demand) (e : ℤ) → IsUnsound at d e → IsUnsound at d (bits e)
+unsound_bits at d e (stale is why) = stale (ap bits is) why
+unsound_bits at d e (long is a why) = long (ap bits is) a why
+unsound_bits at d e (misplaced a b why) = misplaced a b (misplaced_bits at d.done e why)
+unsound_bits at d e (no_memory is a) = no_memory (ap bits is) a
+
+pub refusal_bits : (w : World) (d : Demand) (e : ℤ) → IsRefusal w d e → IsRefusal w d (to_z w32 (of_z w32 e))
+refusal_bits w d e (unsound why) = unsound (unsound_bits w.at d e why)
+refusal_bits w d e (full is a b why) = full (ap bits is) a b why
+refusal_bits w d e (crowded is a b c why) = crowded (ap bits is) a b c why

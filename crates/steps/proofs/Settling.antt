@@ -1,0 +1,149 @@
+-- What the end of a request leaves.
+use Rattle.std.proofs.Common.{ℕ, ◌-◌, ◌≡◌, ◌==◌, Bool, true, false, List, [], ◌∷◌, ◌++◌, Option, Some, None, refl, sym, ap, ◌∙◌, subst, ◌⊎◌, inl, inr, arith}
+use Rattle.std.specs.Prelude.{option_map}
+use Rattle.std.specs.List.{list_any}
+use Rattle.std.proofs.lemmas.Bool.{or_cases, or_left, true≢false, eqb-true}
+use Rattle.paths.specs.Fronts.{Names}
+use Rattle.ledger.specs.declared.postings.Posting.{Posting}
+use Rattle.ledger.specs.Postings.{Postings}
+use Rattle.tree.specs.Places.{Lookup, Nodes, at_in, IsPathOf}
+use Rattle.flights.specs.declared.data.Flight.{Flight as Recorded}
+use Rattle.flights.specs.declared.data.Given.{Given}
+use Rattle.flights.specs.declared.data.Stage.TheVariants as recorded
+use Rattle.flights.specs.Flying.{Flying, IsFlying, Goes, HasNoneAnswered, is_working}
+use Rattle.flights.specs.Listed.{InFlight, flying_of}
+use Rattle.steps.specs.declared.state.State.{State}
+use Rattle.steps.specs.Answers.{Answer, Settlement, entries_in}
+use Rattle.steps.specs.Entries.{TakesAllBack, untaken_of}
+use Rattle.steps.specs.Kept.{IsKept, flight_of, flights_in, stage_of, work_of, world_of}
+use Rattle.steps.specs.Steps.{EndsFor, IsAnswered, Settles, numbers_of}
+use Rattle.steps.specs.Swept.{IsSwept}
+use Rattle.steps.specs.Sweeping.{IsAmong, IsPruned, IsSameRest, IsNearly, IsTakenBack}
+use Rattle.steps.specs.World.{AreReady, Answered, Flight, Flights, Working, World}
+use Rattle.steps.proofs.Booked.{IsBooked-pins}
+use Rattle.steps.proofs.Kept.{KeepsAllPaths, held_ready, paths_written, ready_swept, ready_where}
+use Rattle.steps.proofs.Lawful.{booked_of, lawful_swept}
+use Rattle.steps.proofs.Reasons.{HaveReasons-some, HaveReasons-unpin, IsSwept-trans, IsSameRest-trans}
+use Rattle.steps.proofs.Viewed.{IsFewer, are_kept, fewer_held, fewer_provided, fewer_ready, fewer_without, cases_stage, flights_without, found_in}
+
+-- a number in a list is among its numbers, whatever stands before them
+among_any : (ms : List ℕ) (n : ℕ) → list_any (λ m. m == n) ms ≡ true → IsAmong n ms
+among_any [] n h = absurd (true≢false (sym h))
+among_any (m ∷ ms) n h = elim (or_cases (m == n) (list_any (λ a. a == n) ms) h) [
+  | inl e ↦ inl (sym (eqb-true m n e))
+  | inr later ↦ inr (among_any ms n later)
+]
+
+among_after : (few more : List ℕ) (n : ℕ) → IsAmong n more → IsAmong n (few ++ more)
+among_after [] more n h = h
+among_after (m ∷ few) more n h = inr (among_after few more n h)
+
+-- no node moves where entries are taken back
+paths_back : (gs : List (Option Given)) (at new : Lookup) (ps qs : List Posting) → TakesAllBack at ps gs new qs → KeepsAllPaths at new
+paths_back [] at new ps qs h n q leads = subst (λ a. IsPathOf a n q) (sym h.0) leads
+paths_back (None ∷ gs) at new ps qs h n q leads = paths_back gs at new ps qs h n q leads
+paths_back (Some g ∷ gs) at new ps qs (mid, ms, inl back, rest) n q leads =
+    paths_back gs mid new ms qs rest n q (subst (λ a. IsPathOf a n q) (sym back.nodes) (paths_written at g.number back.node (back.node.count - 1) back.here n q leads))
+paths_back (Some g ∷ gs) at new ps qs (mid, ms, inr none, rest) n q leads = paths_back gs mid new ms qs rest n q (subst (λ a. IsPathOf a n q) (sym none.nodes) leads)
+
+module _ (s : State) (kept : IsKept s) (flights : InFlight) (id : ℕ) (pins : List ℕ) (goes : Goes (flying_of s.flights) id pins (flying_of flights)) (law : IsFlying (flying_of flights)) where
+  -- the pins that went may have been the last reasons of their nodes
+  pub taken_nearly : (numbers : List ℕ) → IsNearly (at_in s.tree) s.ledger.made (flying_of flights).pinned (numbers ++ pins)
+  taken_nearly numbers =
+      let old = (flying_of s.flights).pinned in
+      let new = (flying_of flights).pinned in
+      let was : (m : ℕ) → new m ≡ true → old m ≡ true = λ m h. goes.pinned m ∙ or_left (new m) (list_any (λ a. a == m) pins) h in
+      let gone : (m : ℕ) → old m ≡ true → (new m ≡ true) ⊎ IsAmong m (numbers ++ pins) = λ m h. elim (or_cases (new m) (list_any (λ a. a == m) pins) (sym (goes.pinned m) ∙ h)) [
+        | inl still ↦ inl still
+        | inr left ↦ inr (among_after numbers pins m (among_any pins m left))
+      ] in
+      record {
+        booked = IsBooked-pins (at_in s.tree) s.ledger.made old new (λ m h. kept.law.pins m (was m h)) (booked_of (at_in s.tree) s.ledger.made old kept.law);
+        pruned = record {
+          tree = kept.law.tree;
+          reasons = HaveReasons-unpin (at_in s.tree) old new [] (numbers ++ pins) gone (λ m h. absurd h) (HaveReasons-some (at_in s.tree) old [] kept.law.reasons);
+        };
+      }
+
+  fewer : IsFewer (flying_of s.flights) (flying_of flights)
+  fewer = fewer_without (flying_of s.flights) (flying_of flights) id goes.at
+
+  module _ (given : List (Option Given)) (tree two new : Nodes) (ledger : Postings) (back : TakesAllBack (at_in s.tree) s.ledger.made given (at_in tree) ledger.made)
+      (nearly : IsNearly (at_in tree) ledger.made (flying_of flights).pinned (numbers_of given ++ pins)) (rest : IsTakenBack s.tree s.ledger tree ledger)
+      (swept_given : IsSwept (flying_of flights).pinned (at_in tree) (at_in two)) (swept_pins : IsSwept (flying_of flights).pinned (at_in two) (at_in new)) (rest_given : IsSameRest tree two) (rest_pins : IsSameRest two new)
+      (pruned : IsPruned (at_in new) (flying_of flights).pinned []) (counts : ℕ) where
+    swept : IsSwept (flying_of flights).pinned (at_in tree) (at_in new)
+    swept = IsSwept-trans (flying_of flights).pinned (at_in tree) (at_in two) (at_in new) swept_given swept_pins
+
+    still_ready : AreReady (at_in new) (flights_in (flying_of flights))
+    still_ready =
+        let all = flying_of s.flights in
+        ready_swept (at_in tree) (at_in new) (flying_of flights) law pruned.tree swept
+        (fewer_ready all (flying_of flights) fewer (at_in tree)
+        (ready_where (at_in s.tree) (at_in tree) (flights_in all) nearly.pruned.tree (paths_back given (at_in s.tree) (at_in tree) s.ledger.made ledger.made back) kept.ready))
+
+    pub settle_kept : counts ≡ tree.counts → IsKept (record s { tree = new; ledger = ledger; flights = flights; counts = counts })
+    settle_kept same =
+        let all = flying_of s.flights in
+        let after = IsSameRest-trans tree two new rest_given rest_pins in
+        record {
+          law = lawful_swept (at_in tree) (at_in new) ledger.made (flying_of flights).pinned nearly.booked swept pruned;
+          flying = law;
+          held = held_ready (at_in s.tree) (at_in new) (flights_in (flying_of flights)) still_ready (fewer_held all (flying_of flights) fewer (at_in s.tree) kept.held);
+          ready = still_ready;
+          provided = fewer_provided all (flying_of flights) fewer kept.provided;
+          reserved = record { nodes = omega (arith, kept.reserved.nodes, goes.nodes, rest.room, after.room); postings = omega (arith, kept.reserved.postings, goes.postings, rest.posting_room, after.counts) };
+          limited = record {
+            nodes = omega (arith, kept.limited.nodes, goes.nodes, rest.living, after.fewer);
+            postings = omega (arith, kept.limited.postings, goes.postings, rest.postings, after.counts);
+            flights = omega (arith, kept.limited.flights, goes.many);
+            node_limit = after.limit ∙ (rest.limit ∙ kept.limited.node_limit);
+            posting_limit = rest.posting_limit ∙ kept.limited.posting_limit;
+            short = kept.limited.short;
+          };
+          counts = same ∙ sym after.counts;
+        }
+
+    is_answered : IsAnswered (flights_in (flying_of s.flights)) id
+    is_answered = record { flight = flight_of goes.flight; here = ap (λ (o : Option Recorded). option_map flight_of o) goes.here; ended = ap stage_of goes.answered }
+
+    ends_for : (all : List (Option Given)) (taken lost : Bool) → given ≡ untaken_of taken all
+        → EndsFor (world_of s) (record { id = id; given = all; lost = lost }) taken (world_of (record s { tree = new; ledger = ledger; flights = flights; counts = counts }))
+    ends_for all taken lost some = record {
+      mid = at_in tree;
+      back = subst (λ gs. TakesAllBack (at_in s.tree) s.ledger.made gs (at_in tree) ledger.made) some back;
+      sweeps = record { kept = (flying_of flights).pinned; keeps = are_kept (flying_of flights) law; swept = swept };
+      new_is = ap (λ (fs : Flights). let w : World = record (world_of s) { at = at_in new; postings = ledger.made; flights = fs } in w) (flights_without (flying_of s.flights) (flying_of flights) id goes.at);
+    }
+
+    pub Settles-found : (all : List (Option Given)) (taken lost : Bool) (settled : Settlement) → given ≡ untaken_of taken all → lost ≡ false → settled ≡ record { id = id; entries = entries_in all; taken = taken }
+        → Settles (world_of s) (record { id = id; given = all; lost = lost }) taken settled (world_of (record s { tree = new; ledger = ledger; flights = flights; counts = counts }))
+    Settles-found all taken lost settled some found is = record {
+      settled_is = is;
+      lost = λ e. absurd (true≢false (sym e ∙ found));
+      unknown = λ none. absurd (none is_answered);
+      found = λ _ _. ends_for all taken lost some;
+    }
+
+not_working : (f : Recorded) → is_working f.stage ≡ true → stage_of f.stage ≡ Answered → ⊥
+not_working f working ended = elim (cases_stage f.stage) [
+  | inl idle ↦ true≢false (sym working ∙ ap is_working idle)
+  | inr (work, is) ↦ let bad : Working (work_of work) ≡ Answered = sym (ap stage_of is) ∙ ended in cc
+]
+
+-- none was answered under the id
+none_answered : (all : Flying) (id : ℕ) → HasNoneAnswered all.at id → IsAnswered (flights_in all) id → ⊥
+none_answered all id none is =
+    let it = found_in (all.at id) is.flight is.here in
+    not_working it.0 (none it.0 it.1) (ap (λ (f : Flight). f.stage) it.2 ∙ is.ended)
+
+pub Settles-none : (s : State) (flights : InFlight) (answer : Answer) (taken : Bool) (settled : Settlement) → settled ≡ record { id = answer.id; entries = entries_in answer.given; taken = taken } → HasNoneAnswered (flying_of s.flights).at answer.id → flights ≡ s.flights
+    → Settles (world_of s) answer taken settled (world_of (record s { flights = flights }))
+Settles-none s flights answer taken settled is none same =
+    let e : world_of (record s { flights = flights }) ≡ world_of s = ap (λ (f : InFlight). world_of (record s { flights = f })) same in
+    record {
+      settled_is = is;
+      lost = λ _. e;
+      unknown = λ _. e;
+      found = λ _ answered. absurd (none_answered (flying_of s.flights) answer.id none answered);
+    }

@@ -1,0 +1,200 @@
+-- What a request that goes on leaves.
+use Rattle.std.proofs.Common.{ℕ, ◌+◌, ◌≡◌, ◌||◌, ◌⊎◌, Bool, true, reverse, All, Any, Contains, List, Option, Some, None, length, refl, sym, ap, ◌∙◌, subst, inl, inr, arith}
+use Rattle.std.specs.Prelude.{option_map}
+use Rattle.std.proofs.lemmas.Bool.{or_cases, or_left}
+use Rattle.holds.specs.declared.held.Held.{Held}
+use Rattle.flights.specs.declared.data.Flight.{Flight as Recorded}
+use Rattle.flights.specs.declared.data.Promise.{Promise}
+use Rattle.flights.specs.declared.data.Stage.TheVariants as recorded
+use Rattle.flights.specs.declared.data.Want.{Want}
+use Rattle.flights.specs.declared.data.Want.TheVariants as wants
+use Rattle.flights.specs.declared.data.Work.{Work as RecordedWork}
+use Rattle.flights.specs.Flying as flying
+use Rattle.flights.specs.Flying.{Adds, Flying, IsFlying, nodes_promised, postings_promised, pins_number}
+use Rattle.flights.specs.Listed.{InFlight, flying_of}
+use Rattle.flights.proofs.ById.{Adds_found}
+use Rattle.image.specs.Law.{ArePinsAlive, IsLawful, IsLead}
+use Rattle.ledger.specs.declared.postings.Posting.{Posting}
+use Rattle.tree.specs.Places.{Lookup, Nodes, at_in, IsAlive, IsTree}
+use Rattle.tree.proofs.Climbing.{climbs_alive}
+use Rattle.wants.specs.declared.data.Plan.{Plan}
+use Rattle.wants.specs.Asked.{Holds, IsPin, IsThere}
+use Rattle.wants.specs.Laws.{IsRow}
+use Rattle.wants.specs.Plans.{IsPlan, IsProvided, row_in}
+use Rattle.wants.specs.Rows.{AtName, AtNode, Case, Demand, Location, case_in, is_same, plain, row_of}
+use Rattle.wants.proofs.Members.{in_any}
+use Rattle.wants.proofs.RowLemmas.{are_rows}
+use Rattle.steps.specs.declared.data.Limits.{Limits}
+use Rattle.steps.specs.declared.state.State.{State}
+use Rattle.steps.specs.Answers.{Claim}
+use Rattle.steps.specs.Beginning.{Allows, IsRoomForOne, IsSameButRoom}
+use Rattle.steps.specs.Kept.{AreProvided, IsKept, IsLimited, flight_of, flights_in, work_of, world_of}
+use Rattle.steps.specs.Steps.{GoesOn, HoldsUp, MayBegin}
+use Rattle.steps.specs.World.{AreHeld, AreReady, Flight, Flights, IsAtWork, IsReady, Work, World, with_entry}
+use Rattle.steps.proofs.Apart.{AreApart, at_work_more, apart_more, held_up_recorded, known_held}
+use Rattle.steps.proofs.Beginning.{begun_ready}
+use Rattle.steps.proofs.Staying.{given_path}
+use Rattle.steps.proofs.Viewed.{flights_with, in_any_of}
+
+-- ---- more pins
+
+-- more numbers are pinned, all of them alive
+lawful_pins : (at : Lookup) (ps : List Posting) (old new : ℕ → Bool) → IsLawful at ps old → ((n : ℕ) → old n ≡ true → new n ≡ true) → ArePinsAlive at new → IsLawful at ps new
+lawful_pins at ps old new law more alive = record {
+  tree = law.tree;
+  root = law.root;
+  counted = law.counted;
+  born = law.born;
+  marks = law.marks;
+  pins = alive;
+  reasons = λ n x here other. elim (law.reasons n x here other) [
+    | inl count ↦ inl count
+    | inr (inl mark) ↦ inr (inl mark)
+    | inr (inr (inl pin)) ↦ inr (inr (inl (more n pin)))
+    | inr (inr (inr child)) ↦ inr (inr (inr child))
+  ];
+}
+
+module _ (at : Lookup) (tree : IsTree at) (d : Demand) (held : Held) (row : IsRow d) (holds : Holds at d held) (f : Flight) (pinned : (n : ℕ) → Contains d.given n → Contains f.pins n) where
+  given_alive : (n : ℕ) → Contains d.given n → IsAlive at n
+  given_alive n given =
+      let path = given_path at at tree d held row holds f pinned (λ m pin q fronts leads. leads) n given in
+      climbs_alive at tree.rooted (reverse path.0) n path.1
+
+  there_alive : (l : Location) → Contains d.paths l → (n : ℕ) → IsThere at l n → IsAlive at n
+  there_alive (AtNode m) asked n e = subst (λ k. IsAlive at k) (sym e) (given_alive m (row.paths (AtNode m) asked))
+  there_alive (AtName parent name) asked n named = (named.0, named.1)
+
+  -- what is pinned stands
+  pub pin_alive : (n : ℕ) → IsPin at d n → IsAlive at n
+  pin_alive n (inl given) = given_alive n given
+  pin_alive n (inr any) = let it = in_any (λ l. IsThere at l n) d.paths any in there_alive it.0 it.1 n it.2
+
+-- ---- a plan that is recorded
+
+-- whether a name is moved to itself does not hang on the case
+pub same_case : (want : Want) (c : Case) → is_same (row_of want plain).done ≡ is_same (row_of want c).done
+same_case (wants.Node number) c = refl
+same_case (wants.Name parent name) c = refl
+same_case (wants.Remove parent name) c = refl
+same_case (wants.Move parent name new_parent new_name) c = refl
+
+same_record : (v w : RecordedWork) → recorded.Working v ≡ recorded.Working w → v ≡ w
+same_record v w e = cc
+
+module _ (s mid : State) (unique id : ℕ) (plan : Plan) (is : IsPlan (at_in s.tree) plan.work.want plan) (same : IsSameButRoom s mid) (flights : InFlight)
+    (adds : Adds (flying_of mid.flights) (record { id = id; unique = unique; stage = recorded.Working plan.work; pins = plan.pins }) (flying_of flights)) where
+  abbrev pub begun : Recorded
+  begun = record { id = id; unique = unique; stage = recorded.Working plan.work; pins = plan.pins }
+
+  pub flights_same : flights_in (flying_of mid.flights) ≡ flights_in (flying_of s.flights)
+  flights_same = ap (λ (w : World). w.flights) same.world
+
+  pub flights_new : flights_in (flying_of flights) ≡ with_entry (flights_in (flying_of mid.flights)) id (Some (flight_of begun))
+  flights_new = flights_with (flying_of mid.flights) (flying_of flights) id begun adds.at
+
+  abbrev pub goes_on : (same_path : Bool) → (flying_of mid.flights).at id ≡ None → same_path ≡ is_same (row_of plan.work.want plain).done
+      → GoesOn (world_of s) unique plan.work.want (row_in plan.work) (record { id = id; paths = plan.paths; same = same_path }) (world_of (record mid { flights = flights }))
+  goes_on same_path fresh same_is = record {
+    fresh = ap (λ (fs : Flights). fs id) (sym flights_same) ∙ ap (λ (o : Option Recorded). option_map flight_of o) fresh;
+    ticket_is = record { paths = is.paths; same = same_is ∙ same_case plan.work.want (case_in plan.work.promise) };
+    held = plan.work.held;
+    holds = is.holds;
+    pins = plan.pins.numbers;
+    pinned = is.pins;
+    new_is = ap (λ (w : World). record w { flights = flights_in (flying_of flights) }) same.world
+        ∙ ap (λ (fs : Flights). record (world_of s) { flights = fs }) (flights_new ∙ ap (λ (fs : Flights). with_entry fs id (Some (flight_of begun))) flights_same);
+  }
+
+  module _ (same_path : Bool) (fresh : (flying_of mid.flights).at id ≡ None) (same_is : same_path ≡ is_same (row_of plan.work.want plain).done) (kept : IsKept mid) (all_flying : IsFlying (flying_of flights))
+      (free : flying.HoldsUp (flying_of s.flights).at plan.work.held → ⊥) (may : MayBegin (world_of s) (row_in plan.work)) (allows : Allows s plan.work.promise) (room : IsRoomForOne mid plan.work.promise) where
+    at_same : at_in mid.tree ≡ at_in s.tree
+    at_same = ap (λ (w : World). w.at) same.world
+
+    tree_law : IsTree (at_in s.tree)
+    tree_law = subst (λ (at : Lookup). IsTree at) at_same kept.law.tree
+
+    given_pinned : (n : ℕ) → Contains (row_in plan.work).given n → Contains plan.pins.numbers n
+    given_pinned n given = (is.pins n).1 (inl given)
+
+    its_row : IsRow (row_in plan.work)
+    its_row = are_rows plan.work.want (case_in plan.work.promise)
+
+    -- ---- the new request
+
+    new_ready : IsReady (at_in mid.tree) (flight_of begun) (work_of plan.work)
+    new_ready = subst (λ (at : Lookup). IsReady at (flight_of begun) (work_of plan.work)) (sym at_same)
+        (begun_ready (world_of s) (world_of (record mid { flights = flights })) unique plan.work.want (row_in plan.work) (record { id = id; paths = plan.paths; same = same_path })
+        (record { case = case_in plan.work.promise; fits = is.fits; row = refl }) may (goes_on same_path fresh same_is))
+
+    new_known : All (IsLead (at_in mid.tree) plan.work.held) plan.work.held.given
+    new_known = subst (λ (at : Lookup). All (IsLead at plan.work.held) plan.work.held.given) (sym at_same)
+        (known_held (at_in s.tree) tree_law (row_in plan.work) plan.work.held its_row is.holds (flight_of begun) given_pinned)
+
+    new_alive : (n : ℕ) → pins_number begun n ≡ true → IsAlive (at_in mid.tree) n
+    new_alive n pin = subst (λ (at : Lookup). IsAlive at n) (sym at_same)
+        (pin_alive (at_in s.tree) tree_law (row_in plan.work) plan.work.held its_row is.holds (flight_of begun) given_pinned n ((is.pins n).0 (in_any_of plan.pins.numbers n pin)))
+
+    clear : HoldsUp (flights_in (flying_of mid.flights)) plan.work.held → ⊥
+    clear up = free (held_up_recorded (flying_of s.flights) plan.work.held (subst (λ (fs : Flights). HoldsUp fs plan.work.held) flights_same up))
+
+    -- ---- all requests
+
+    at_work_now : (k : ℕ) (f : Flight) (work : Work) → IsAtWork (flights_in (flying_of flights)) k f work → ((id ≡ k) × (flight_of begun ≡ f) × (work_of plan.work ≡ work)) ⊎ IsAtWork (flights_in (flying_of mid.flights)) k f work
+    at_work_now k f work here = at_work_more (flights_in (flying_of mid.flights)) id (flight_of begun) (work_of plan.work) refl k f work (subst (λ (fs : Flights). IsAtWork fs k f work) flights_new here)
+
+    all_ready : AreReady (at_in mid.tree) (flights_in (flying_of flights))
+    all_ready k f work here = elim (at_work_now k f work here) [
+      | inl (e, same_flight, same_work) ↦ subst (λ (g : Flight). IsReady (at_in mid.tree) g work) same_flight (subst (λ (v : Work). IsReady (at_in mid.tree) (flight_of begun) v) same_work new_ready)
+      | inr was ↦ kept.ready k f work was
+    ]
+
+    all_held : AreHeld (at_in mid.tree) (flights_in (flying_of flights))
+    all_held = record {
+      apart = subst (λ (fs : Flights). AreApart fs) (sym flights_new) (apart_more (flights_in (flying_of mid.flights)) id (flight_of begun) (work_of plan.work) refl clear kept.held.apart);
+      known = λ k f work here. elim (at_work_now k f work here) [
+        | inl (e, same_flight, same_work) ↦ subst (λ (v : Work). All (IsLead (at_in mid.tree) v.held) v.held.given) same_work new_known
+        | inr was ↦ kept.held.known k f work was
+      ];
+    }
+
+    all_provided : AreProvided (flying_of flights)
+    all_provided k f work here working = elim (Adds_found (flying_of mid.flights) (flying_of flights) begun adds k f here) [
+      | inl (e, same_flight) ↦
+          let same_work : plan.work ≡ work = same_record plan.work work (ap (λ (g : Recorded). g.stage) same_flight ∙ working) in
+          subst (λ (g : Recorded). IsProvided work g.pins) same_flight (subst (λ (v : RecordedWork). IsProvided v plan.pins) same_work is.provided)
+      | inr (ne, was) ↦ kept.provided k f work was working
+    ]
+
+    pinned_now : (n : ℕ) → (flying_of flights).pinned n ≡ ((flying_of mid.flights).pinned n || pins_number begun n)
+    pinned_now n = ap (λ (g : ℕ → Bool). g n) adds.pinned
+
+    all_lawful : IsLawful (at_in mid.tree) mid.ledger.made (flying_of flights).pinned
+    all_lawful = lawful_pins (at_in mid.tree) mid.ledger.made (flying_of mid.flights).pinned (flying_of flights).pinned kept.law
+        (λ n h. pinned_now n ∙ or_left ((flying_of mid.flights).pinned n) (pins_number begun n) h)
+        (λ n h. elim (or_cases ((flying_of mid.flights).pinned n) (pins_number begun n) (sym (pinned_now n) ∙ h)) [
+          | inl was ↦ kept.law.pins n was
+          | inr here ↦ new_alive n here
+        ])
+
+    all_limited : IsLimited (record mid { flights = flights })
+    all_limited = record {
+      nodes = omega (arith, adds.nodes, allows.nodes, ap (λ (t : Nodes). t.living) same.tree, ap (λ (x : Flying). x.nodes) same.flights, ap (λ (l : Limits). l.nodes) same.limits);
+      postings = omega (arith, adds.postings, allows.postings, ap {B = ℕ} length same.made, ap (λ (t : Nodes). t.counts) same.tree, ap (λ (x : Flying). x.postings) same.flights, ap (λ (l : Limits). l.postings) same.limits);
+      flights = omega (arith, adds.many, allows.flights, ap (λ (x : Flying). x.many) same.flights, ap (λ (l : Limits). l.flights) same.limits);
+      node_limit = kept.limited.node_limit;
+      posting_limit = kept.limited.posting_limit;
+      short = kept.limited.short;
+    }
+
+    pub begun_kept : IsKept (record mid { flights = flights })
+    begun_kept = record {
+      law = all_lawful;
+      flying = all_flying;
+      held = all_held;
+      ready = all_ready;
+      provided = all_provided;
+      reserved = record { nodes = omega (arith, adds.nodes, room.nodes); postings = omega (arith, adds.postings, room.postings) };
+      limited = all_limited;
+      counts = kept.counts;
+    }

@@ -1,0 +1,77 @@
+-- What the tests of a plan decide.
+use Rattle.std.proofs.Common.{ℤ, ◌+◌, ◌<◌, ◌≡◌, length, sym, subst, inl, inr, arith}
+use Rattle.flights.specs.declared.data.Promise.{Promise}
+use Rattle.flights.specs.declared.data.Want.{Want}
+use Rattle.flights.specs.Flying as flying
+use Rattle.flights.specs.Listed.{flying_of}
+use Rattle.tree.specs.Places.{at_in}
+use Rattle.wants.specs.declared.data.Plan.{Plan}
+use Rattle.wants.specs.Asked.{promise_of}
+use Rattle.wants.specs.Plans.{IsPlan, row_in}
+use Rattle.steps.specs.declared.state.State.{State}
+use Rattle.steps.specs.Beginning.{Allows, Forbids, IsTooMuch}
+use Rattle.steps.specs.Kept.{flights_in, tally_of, world_of}
+use Rattle.steps.specs.Steps.{IsCrowded, IsFull, IsHeldUp, IsRefusal, MayBegin, crowded, full}
+use Rattle.steps.specs.World.{HasRoom, IsTally, Tally}
+use Rattle.steps.proofs.Adding.{tally_once}
+use Rattle.steps.proofs.Apart.{held_up_recorded, held_up_same, held_up_seen}
+
+-- ---- the limits, by the running totals
+
+module _ (s : State) (p : Promise) where
+  room_of : Allows s p → HasRoom (world_of s) (tally_of s) p
+  room_of allows = record { nodes = allows.nodes; postings = allows.postings }
+
+  no_room : IsTooMuch s p → HasRoom (world_of s) (tally_of s) p → ⊥
+  no_room (inl much) room = omega (arith, room.nodes)
+  no_room (inr much) room = omega (arith, room.postings)
+
+  room_from : (IsTooMuch s p → ⊥) → HasRoom (world_of s) (tally_of s) p
+  room_from fits =
+      let nodes : s.limits.nodes < s.tree.living + (flying_of s.flights).nodes + p.nodes → ⊥ = λ h. fits (inl h) in
+      let postings : s.limits.postings < length s.ledger.made + s.tree.counts + (flying_of s.flights).postings + p.postings → ⊥ = λ h. fits (inr h) in
+      record { nodes = omega (arith, nodes); postings = omega (arith, postings) }
+
+-- ---- tests of a plan
+
+module _ (s : State) (want : Want) (plan : Plan) (is : IsPlan (at_in s.tree) want plan) where
+  pub held_up : flying.HoldsUp (flying_of s.flights).at plan.work.held → IsHeldUp (world_of s) (row_in plan.work)
+  held_up up = record { held = plan.work.held; holds = is.holds; up = held_up_seen (flying_of s.flights) plan.work.held up }
+
+  pub not_held_up : (flying.HoldsUp (flying_of s.flights).at plan.work.held → ⊥) → IsHeldUp (world_of s) (row_in plan.work) → ⊥
+  not_held_up free up = free (held_up_recorded (flying_of s.flights) plan.work.held (held_up_same (at_in s.tree) (row_in plan.work) up.held plan.work.held up.holds is.holds (flights_in (flying_of s.flights)) up.up))
+
+module _ (s : State) (want : Want) (plan : Plan) (is : IsPlan (at_in s.tree) want plan) (tally : IsTally (world_of s) (tally_of s)) where
+  -- the tally is the running totals
+  on_totals : (t : Tally) → IsTally (world_of s) t → t ≡ tally_of s
+  on_totals t it = tally_once (world_of s) t (tally_of s) it tally
+
+  not_full : HasRoom (world_of s) (tally_of s) plan.work.promise → IsFull (world_of s) (row_in plan.work) → ⊥
+  not_full room it =
+      it.none (subst (λ (t : Tally). HasRoom (world_of s) t (promise_of (row_in plan.work))) (sym (on_totals it.tally it.tallied))
+      (subst (λ (p : Promise). HasRoom (world_of s) (tally_of s) p) is.provided.promise room))
+
+  full_of : IsTooMuch s plan.work.promise → IsFull (world_of s) (row_in plan.work)
+  full_of much = record {
+    tally = tally_of s;
+    tallied = tally;
+    none = λ room. no_room s plan.work.promise much (subst (λ (p : Promise). HasRoom (world_of s) (tally_of s) p) (sym is.provided.promise) room);
+  }
+
+  not_crowded : Allows s plan.work.promise → IsCrowded (world_of s) → ⊥
+  not_crowded allows it =
+      let over : s.limits.flights < (flying_of s.flights).many + 1 = subst (λ (t : Tally). s.limits.flights < t.flights + 1) (on_totals it.tally it.tallied) it.over in
+      omega (arith, allows.flights)
+
+  pub limit_refusal : (e : ℤ) → (flying.HoldsUp (flying_of s.flights).at plan.work.held → ⊥) → Forbids s plan.work.promise e → IsRefusal (world_of s) (row_in plan.work) e
+  limit_refusal e free (inl (errno, much)) = full errno is.sound (not_held_up s want plan is free) (full_of much)
+  limit_refusal e free (inr (errno, fits, over)) =
+      crowded errno is.sound (not_held_up s want plan is free) (not_full (room_from s plan.work.promise fits)) (record { tally = tally_of s; tallied = tally; over = over })
+
+  pub may_begin : (flying.HoldsUp (flying_of s.flights).at plan.work.held → ⊥) → Allows s plan.work.promise → MayBegin (world_of s) (row_in plan.work)
+  may_begin free allows = record {
+    sound = is.sound;
+    clear = not_held_up s want plan is free;
+    room = not_full (room_of s plan.work.promise allows);
+    uncrowded = not_crowded allows;
+  }

@@ -1,0 +1,17 @@
+use Rattle.std.proofs.Common.{◌∷◌, ◌++◌}
+use Rattle.flights.specs.Listed.{flying_of}
+use Rattle.tree.specs.Places.{at_in}
+use Rattle.steps.specs.Swept.{IsSwept}
+use Rattle.steps.specs.Sweeping.{IsPruned, IsSameRest}
+use Rattle.steps.specs.Steps.{numbers_of}
+use Rattle.steps.proofs.sweep.sweep.Given as goal
+
+abbrev pub invariant-loop-parent : goal.invariant-loop-parent
+invariant-loop-parent l = record {
+  pruned : IsPruned (at_in l.tree) (flying_of l.flights).pinned (l.number ∷ (numbers_of l.given ++ l.pins));
+  swept : IsSwept (flying_of l.flights).pinned (at_in l.fn.tree) (at_in l.tree);
+  rest : IsSameRest l.fn.tree l.tree;
+}
+
+abbrev pub decreases-loop-parent : goal.decreases-loop-parent
+decreases-loop-parent l = l.tree.living

@@ -1,0 +1,17 @@
+use Rattle.std.proofs.Common.{◌++◌, length}
+use Rattle.flights.specs.Listed.{flying_of}
+use Rattle.tree.specs.Places.{at_in}
+use Rattle.steps.specs.Swept.{IsSwept}
+use Rattle.steps.specs.Sweeping.{IsPruned, IsSameRest}
+use Rattle.steps.specs.Steps.{numbers_of}
+use Rattle.steps.proofs.sweep.sweep_given.Given as goal
+
+abbrev pub invariant-loop-entry : goal.invariant-loop-entry
+invariant-loop-entry l = record {
+  pruned : IsPruned (at_in l.tree) (flying_of l.flights).pinned (numbers_of l.left ++ l.pins);
+  swept : IsSwept (flying_of l.flights).pinned (at_in l.fn.tree) (at_in l.tree);
+  rest : IsSameRest l.fn.tree l.tree;
+}
+
+abbrev pub decreases-loop-entry : goal.decreases-loop-entry
+decreases-loop-entry l = length l.left
