@@ -1,0 +1,75 @@
+-- One request alone in a table.
+use Rattle.std.proofs.lemmas.Option.{none-some}
+use Rattle.std.proofs.lemmas.Bool.{eq-eqb}
+use Rattle.std.proofs.Common.{◌≡◌, ◌==◌, ℕ, Bool, true, false, Option, Some, None, if◌then◌else◌, refl, sym, ap, ◌∙◌, ℤ, to_z, of_z, w32}
+use Rattle.flights.specs.declared.data.Want.{Want}
+use Rattle.steps.proofs.Refusing.{refusal_bits}
+use Rattle.steps.specs.Answers.{Claim, Answer, Settlement}
+use Rattle.steps.specs.World.{Answered, Flight, Flights, IsAtWork, Work, Working, World, opened_world, with_entry}
+use Rattle.steps.specs.declared.data.Limits.{Limits}
+use Rattle.steps.specs.Steps.{Begins, Finishes, Settles, answered}
+use Rattle.steps.specs.declared.data.Outcome.{Outcome}
+use Rattle.steps.specs.declared.data.Begin.TheVariants.{Busy, Go, Refused}
+use Rattle.engine.specs.Tables.{IsIdle}
+
+pub never_busy : (old new : World) (unique : ℕ) (want : Want) → IsIdle old → Begins old unique want Busy new → ⊥
+never_busy old new unique want idle b =
+    let up = b.begins.1.up in
+    none-some up.flight (sym (idle up.id) ∙ up.here.here)
+
+-- one request is in flight, and it was answered
+pub record Alone (id : ℕ) (flights : Flights) : Type 0 where
+  pub flight : Flight
+  pub here : flights id ≡ Some flight
+  pub stage : flight.stage ≡ Answered
+  pub others : (k : ℕ) → (id == k) ≡ false → flights k ≡ None
+
+itself : (id : ℕ) (at : Flights) (x : Option Flight) → with_entry at id x id ≡ x
+itself id at x = ap (λ (b : Bool). if b then x else at id) (eq-eqb id id refl)
+
+another : (id k : ℕ) (at : Flights) (x : Option Flight) → (id == k) ≡ false → at k ≡ None → with_entry at id x k ≡ None
+another id k at x e none = ap (λ (b : Bool). if b then x else at k) e ∙ none
+
+-- what an outcome does to the requests in flight
+pub record Ended (id : ℕ) (a : Answer) (new : World) : Type 0 where
+  pub not_lost : a.lost ≡ false
+  pub id_is : a.id ≡ id
+  pub alone : Alone id new.flights
+
+-- A request that is begun in an idle table is not lost.
+pub finishes_one : (old mid fin : World) (unique : ℕ) (want : Want) (claim : Claim) (o : Outcome) (a : Answer) → IsIdle old → Begins old unique want (Go claim) mid → Finishes mid claim.id o a fin → Ended claim.id a fin
+finishes_one old mid fin unique want claim o a idle begins finishes =
+    let goes = begins.begins.1 in
+    let work : Work = record { want = want; row = begins.demand; held = goes.held } in
+    let f : Flight = record { unique = unique; stage = Working work; pins = goes.pins } in
+    let now : (k : ℕ) → mid.flights k ≡ with_entry old.flights claim.id (Some f) k = λ k. ap (λ (w : World). w.flights k) goes.new_is in
+    let ends = finishes.found f work (record { here = now claim.id ∙ itself claim.id old.flights (Some f); working = refl }) in
+    let then_is : (k : ℕ) → fin.flights k ≡ with_entry mid.flights claim.id (Some (answered f a.given)) k = λ k. ap (λ (w : World). w.flights k) ends.new_is in
+    record {
+      not_lost = ends.not_lost;
+      id_is = ends.answer_id;
+      alone = record {
+        flight = answered f a.given;
+        here = then_is claim.id ∙ itself claim.id mid.flights (Some (answered f a.given));
+        stage = refl;
+        others = λ k e. then_is k ∙ another claim.id k mid.flights (Some (answered f a.given)) e (now k ∙ another claim.id k old.flights (Some f) e (idle k));
+      };
+    }
+
+gone : (b : Bool) (id k : ℕ) (at : Flights) → (id == k) ≡ b → ((id == k) ≡ false → at k ≡ None) → with_entry at id None k ≡ None
+gone true id k at e none = ap (λ (b : Bool). if b then None else at k) e
+gone false id k at e none = ap (λ (b : Bool). if b then None else at k) e ∙ none e
+
+-- Once it is settled, the table is idle.
+pub settles_one : (fin new : World) (id : ℕ) (a : Answer) (taken : Bool) (settled : Settlement) → Ended id a fin → Settles fin a taken settled new → IsIdle new
+settles_one fin new id a taken settled ended s = λ k.
+    let ends = s.found ended.not_lost (record { flight = ended.alone.flight; here = ap fin.flights ended.id_is ∙ ended.alone.here; ended = ended.alone.stage }) in
+    ap (λ (w : World). w.flights k) ends.new_is ∙ gone (a.id == k) a.id k fin.flights refl (λ e. ended.alone.others k (ap (λ n. n == k) (sym ended.id_is) ∙ e))
+
+-- An error number of the table is written and read as it is.
+pub refused_bits : (old new : World) (unique : ℕ) (want : Want) (errno : ℤ) → Begins old unique want (Refused errno) new → Begins old unique want (Refused (to_z w32 (of_z w32 errno))) new
+refused_bits old new unique want errno b = record { demand = b.demand; demanded = b.demanded; begins = (refusal_bits old b.demand errno b.begins.0, b.begins.1) }
+
+-- A table that was opened is idle.
+pub opened_idle : (limits : Limits) (w : World) → w ≡ opened_world limits → IsIdle w
+opened_idle limits w o = λ id. ap (λ (v : World). v.flights id) o

@@ -1,0 +1,264 @@
+-- What the code of a session has done from its first byte to its end is a whole session.
+use Rattle.std.proofs.lemmas.Option.{none-some, same_Some}
+use Rattle.std.proofs.Common.{◌≡◌, ℕ, ◌≤◌, ◌-◌, suc, zero, List, [], ◌∷◌, ◌++◌, length, take, drop, refl, sym, subst, ap, ◌∙◌, append_assoc, append-nil, arith, inl, inr, ◌⊎◌, Option, Some, None}
+use Rattle.std.specs.Prelude.{option_to_list}
+use Rattle.std.specs.List.{AllByRecursion}
+use Rattle.std.proofs.lemmas.Bool.{cases_lt}
+use Rattle.std.proofs.lemmas.List.{length-drop}
+use Rattle.wire.specs.declared.request.TheConstants.{HEADER_LEN, MAX_FRAME_LEN}
+use Rattle.wire.specs.Requests.{IsFramed}
+use Rattle.wire.specs.Standing.{IsWhole}
+use Rattle.wire.specs.Stream.{BeginsBadly, IsPartial, Splits, joined, len_in}
+use Rattle.wire.proofs.Cutting.{handed, partial_ends, bad_ends}
+use Rattle.backing.specs.Calls.{Asked}
+use Rattle.backing.specs.declared.call.Answer.{Answer}
+use Rattle.engine.specs.declared.ends.SessionEnd.{SessionEnd}
+use Rattle.engine.specs.declared.ends.SessionEnd.TheVariants as ends
+use Rattle.engine.specs.declared.links.Sent.{Sent}
+use Rattle.engine.specs.declared.replies.Settings.{Settings}
+use Rattle.engine.specs.Chain.{Chain}
+use Rattle.engine.specs.Links.{Heard, Piece, Ended, Broke, Event, Happens}
+use Rattle.engine.specs.Reference.{At, Offer, Stop, AtEnd, Lost, IsTurn, frames_of, Closes}
+use Rattle.engine.specs.Serving.{Step, Hears, Works, Gives, Makes, GoesOn, IsSessionRun, Paces, bytes_of, events_of, heard_of, made_of, sent_of, stop_in, stops_of, turns_of}
+use Rattle.engine.specs.Tables.{Table}
+use Rattle.engine.specs.Walks.{Side, side, Drains, IsStep, Passes, Stops, Walks}
+use Rattle.engine.proofs.Runs.{chain_append}
+use Rattle.engine.proofs.Walking.{ended, walks_on}
+
+-- ---- any bytes split into frames and a rest
+
+stands : (bytes : List ℕ) → IsPartial bytes ⊎ ((len : ℕ) × BeginsBadly bytes len) ⊎ ((len : ℕ) × IsWhole bytes len)
+stands bytes =
+    elim (cases_lt (length bytes) 4) [
+      | inl short ↦ inl (inl short)
+      | inr there ↦ elim (cases_lt (len_in bytes) HEADER_LEN) [
+        | inl low ↦ inr (inl (len_in bytes, record { there = there; is = refl; lawless = inl low }))
+        | inr long ↦ elim (cases_lt MAX_FRAME_LEN (len_in bytes)) [
+          | inl high ↦ inr (inl (len_in bytes, record { there = there; is = refl; lawless = inr high }))
+          | inr small ↦ elim (cases_lt (length bytes) (len_in bytes)) [
+            | inl part ↦ inl (inr (record { long = long; short = small }, part))
+            | inr whole ↦ inr (inr (len_in bytes, record { is = refl; lawful = record { long = long; short = small }; there = whole }))
+          ]
+        ]
+      ]
+    ]
+
+record Rest (bytes : List ℕ) : Type 0 where
+  pub frames : List (List ℕ)
+  pub rest : List ℕ
+  pub splits : Splits bytes frames rest
+
+no_frame : (bytes : List ℕ) → ((frame more : List ℕ) → IsFramed frame → bytes ≡ frame ++ more → ⊥) → Splits bytes [] bytes
+no_frame bytes none = record { whole = refl; each = tt; ends = none }
+
+none : (bytes : List ℕ) → ((frame more : List ℕ) → IsFramed frame → bytes ≡ frame ++ more → ⊥) → Rest bytes
+none bytes nothing = record { frames = []; rest = bytes; splits = no_frame bytes nothing }
+
+one_more : (bytes frame more : List ℕ) → bytes ≡ frame ++ more → IsFramed frame → Rest more → Rest bytes
+one_more bytes frame more e framed r = record {
+  frames = frame ∷ r.frames;
+  rest = r.rest;
+  splits = record {
+    whole = e ∙ ap (λ xs. frame ++ xs) r.splits.whole ∙ sym (append_assoc frame (joined r.frames) r.rest);
+    each = (framed, r.splits.each);
+    ends = r.splits.ends;
+  };
+}
+
+shorter : (n h len : ℕ) → n ≤ suc h → 40 ≤ len → len ≤ n → n - len ≤ h
+shorter n h len a b c = omega arith
+
+splits_by : (fuel : ℕ) (bytes : List ℕ) → length bytes ≤ fuel → Rest bytes
+splits_by zero bytes small = none bytes (partial_ends bytes (inl (omega arith)))
+splits_by (suc fuel) bytes small =
+    elim (stands bytes) [
+      | inl part ↦ none bytes (partial_ends bytes part)
+      | inr other ↦ elim other [
+        | inl bad ↦ none bytes (bad_ends bytes bad.0 bad.1)
+        | inr whole ↦
+            let front = handed bytes (take whole.0 bytes) whole.0 whole.1 refl in
+            let less : length (drop whole.0 bytes) ≤ fuel = subst (λ n. n ≤ fuel) (sym (length-drop whole.0 bytes)) (shorter (length bytes) fuel whole.0 small whole.1.lawful.long whole.1.there) in
+            one_more bytes (take whole.0 bytes) (drop whole.0 bytes) front.0 front.1 (splits_by fuel (drop whole.0 bytes) less)
+      ]
+    ]
+
+splits_all : (bytes : List ℕ) → Rest bytes
+splits_all bytes = splits_by (length bytes) bytes (omega arith)
+
+joined_append : (fs gs : List (List ℕ)) → joined (fs ++ gs) ≡ joined fs ++ joined gs
+joined_append [] gs = refl
+joined_append (f ∷ fs) gs = ap (λ xs. f ++ xs) (joined_append fs gs) ∙ sym (append_assoc f (joined fs) (joined gs))
+
+each_append : (fs gs : List (List ℕ)) → AllByRecursion IsFramed fs → AllByRecursion IsFramed gs → AllByRecursion IsFramed (fs ++ gs)
+each_append [] gs a b = b
+each_append (f ∷ fs) gs a b = (a.0, each_append fs gs a.1 b)
+
+-- ---- steps, told apart
+
+passes_on : {L : Type 0} (receives : L → Heard → L → Type 0) (sends : L → List ℕ → Sent → L → Type 0) (a b c : L) (offer : Option Offer) (es : List Event) → Passes sends a offer b → Chain (Happens receives sends) b es c → Chain (Happens receives sends) a (sent_of offer ++ es) c
+passes_on {L = L} receives sends a b c None es p chain = subst (λ (l : L). Chain (Happens receives sends) l es c) p chain
+passes_on receives sends a b c (Some offer) es p chain = (b, p, chain)
+
+goes_last : (heard : Heard) → GoesOn heard []
+goes_last (Piece bytes) = tt
+goes_last Ended = refl
+goes_last Broke = refl
+
+module _ {W L C : Type 0} (table : Table W) (settings : Settings) (receives : L → Heard → L → Type 0) (sends : L → List ℕ → Sent → L → Type 0) (gives : C → Asked → Answer → C → Type 0) where
+  -- what steps from a place tell of the link, the directory, the table and the bytes
+  record Tells (old : Side W L C) (steps : List Step) (link : L) (calls : C) (at : At W) (kept : List ℕ) (stops : List Stop) : Type 0 where
+    pub passes : Chain (Happens receives sends) old.link (events_of steps) link
+    pub makes : Makes gives old.calls (made_of (turns_of steps)) calls
+    pub run : Chain (IsTurn table settings) old.at (turns_of steps) at
+    pub bytes : old.kept ++ heard_of steps ≡ joined (frames_of (turns_of steps)) ++ kept
+    pub each : AllByRecursion IsFramed (frames_of (turns_of steps))
+    pub stops_are : stops_of steps ≡ stops
+    pub paces : Paces old.kept steps kept
+    pub goes : (old.at.end ≡ None) ⊎ (steps ≡ [])
+
+  tells_none : (s : Side W L C) → Tells s [] s.link s.calls s.at s.kept []
+  tells_none s = record { passes = refl; makes = refl; run = refl; bytes = append-nil s.kept; each = tt; stops_are = refl; paces = refl; goes = inr refl }
+
+  tells_heard : (s : Side W L C) (heard : Heard) (link : L) (kept : List ℕ) → s.at.end ≡ None → IsPartial s.kept → receives s.link heard link → kept ≡ s.kept ++ bytes_of heard → Tells s (Hears heard ∷ []) link s.calls s.at kept (stop_in heard ++ [])
+  tells_heard s heard link kept goes partial r is = record {
+    passes = (link, r, refl);
+    makes = refl;
+    run = refl;
+    bytes = ap (λ xs. s.kept ++ xs) (append-nil (bytes_of heard)) ∙ sym is;
+    each = tt;
+    stops_are = refl;
+    paces = (partial, goes_last heard, is);
+    goes = inl goes;
+  }
+
+  tells_on : (steps last : List Step) (old mid : Side W L C) (link : L) (calls : C) (at : At W) (kept : List ℕ) (stops : List Stop) → Chain (IsStep table settings receives sends gives) old steps mid → Tells mid last link calls at kept stops → Tells old (steps ++ last) link calls at kept stops
+  tells_on [] last old mid link calls at kept stops e t = subst (λ (s : Side W L C). Tells s last link calls at kept stops) e t
+  tells_on (Hears (Piece bytes) ∷ steps) last old new link calls at kept stops chain t =
+      let h = chain.1 in
+      let mid = chain.0 in
+      let more = tells_on steps last mid new link calls at kept stops chain.2 t in
+      let kept_is : mid.kept ≡ old.kept ++ bytes = ap (λ (s : Side W L C). s.kept) h.rest in
+      record {
+        passes = (mid.link, h.brought, more.passes);
+        makes = subst (λ (c : C). Makes gives c (made_of (turns_of (steps ++ last))) calls) (ap (λ (s : Side W L C). s.calls) h.rest) more.makes;
+        run = subst (λ (a : At W). Chain (IsTurn table settings) a (turns_of (steps ++ last)) at) (ap (λ (s : Side W L C). s.at) h.rest) more.run;
+        bytes = sym (append_assoc old.kept bytes (heard_of (steps ++ last))) ∙ ap (λ xs. xs ++ heard_of (steps ++ last)) (sym kept_is) ∙ more.bytes;
+        each = more.each;
+        stops_are = more.stops_are;
+        paces = (h.partial, tt, subst (λ (k : List ℕ). Paces k (steps ++ last) kept) kept_is more.paces);
+        goes = inl h.goes;
+      }
+  tells_on (Hears Ended ∷ steps) last old new link calls at kept stops chain t = absurd chain.1
+  tells_on (Hears Broke ∷ steps) last old new link calls at kept stops chain t = absurd chain.1
+  tells_on (Works turn ∷ steps) last old new link calls at kept stops chain t =
+      let w = chain.1 in
+      let mid = chain.0 in
+      let more = tells_on steps last mid new link calls at kept stops chain.2 t in
+      let frames = frames_of (turns_of (steps ++ last)) in
+      record {
+        passes = passes_on receives sends old.link mid.link link turn.offer (events_of (steps ++ last)) w.passes more.passes;
+        makes = chain_append (Gives gives) old.calls mid.calls calls turn.made (made_of (turns_of (steps ++ last))) w.makes more.makes;
+        run = (mid.at, w.is_turn, more.run);
+        bytes = ap (λ xs. xs ++ heard_of (steps ++ last)) w.front ∙ append_assoc turn.frame mid.kept (heard_of (steps ++ last)) ∙ ap (λ xs. turn.frame ++ xs) more.bytes ∙ sym (append_assoc turn.frame (joined frames) kept);
+        each = (w.framed, more.each);
+        stops_are = more.stops_are;
+        paces = (mid.kept, w.front, w.framed, elim more.goes [ inl going ↦ inl (sym w.is_turn.end ∙ going) | inr over ↦ inr over ], more.paces);
+        goes = inl w.is_turn.goes;
+      }
+
+  -- ---- a whole session
+
+  closing : (start s : Side W L C) (last : List Step) (link : L) (calls : C) (at : At W) (kept : List ℕ) (stop : Option Stop) (dropped : List (List ℕ)) (rest : List ℕ) (end : SessionEnd) (world : W)
+      → start.at ≡ record { world = world; end = None } → start.kept ≡ [] → table.is_idle world
+      → Walks table settings receives sends gives start s → Tells s last link calls at kept (option_to_list stop)
+      → Splits kept dropped rest → Closes at.end end stop dropped rest
+      → IsSessionRun table settings receives sends gives start.link start.calls world link calls at.world end
+  closing start s last link calls at kept stop dropped rest end world begins empty fresh walks t splits closes =
+      let all = tells_on walks.steps last start s link calls at kept (option_to_list stop) walks.chain t in
+      let steps = walks.steps ++ last in
+      let frames = frames_of (turns_of steps) in
+      let heard : heard_of steps ≡ joined frames ++ kept = ap (λ xs. xs ++ heard_of steps) (sym empty) ∙ all.bytes in
+      record {
+        steps = steps;
+        passes = all.passes;
+        makes = all.makes;
+        kept = kept;
+        paces = subst (λ (k : List ℕ). Paces k steps kept) empty all.paces;
+        stop = stop;
+        stopped = all.stops_are;
+        session = record {
+          fresh = fresh;
+          dropped = dropped;
+          rest = rest;
+          frames = record {
+            whole = heard ∙ ap (λ xs. joined frames ++ xs) splits.whole ∙ sym (append_assoc (joined frames) (joined dropped) rest) ∙ ap (λ xs. xs ++ rest) (sym (joined_append frames dropped));
+            each = each_append frames dropped all.each splits.each;
+            ends = splits.ends;
+          };
+          reached = at;
+          run = subst (λ (a : At W). Chain (IsTurn table settings) a (turns_of steps) at) begins all.run;
+          last_is = refl;
+          closes = closes;
+        };
+      }
+
+  -- ---- the ends of a session
+
+  module _ (link mid : L) (calls calls' : C) (world world' : W) (kept : List ℕ) (fresh : table.is_idle world) (partial : IsPartial kept) (walks : Walks table settings receives sends gives (side link calls world []) (side mid calls' world' kept)) where
+    -- hearing ends
+    by_heard : (heard : Heard) (link' : L) (now : List ℕ) (stop : Option Stop) (dropped : List (List ℕ)) (rest : List ℕ) (end : SessionEnd) → receives mid heard link' → now ≡ kept ++ bytes_of heard → stop_in heard ++ [] ≡ option_to_list stop → Splits now dropped rest → Closes None end stop dropped rest
+        → IsSessionRun table settings receives sends gives link calls world link' calls' world' end
+    by_heard heard link' now stop dropped rest end r is stops splits closes =
+        closing (side link calls world []) (side mid calls' world' kept) (Hears heard ∷ []) link' calls' (record { world = world'; end = None }) now stop dropped rest end world refl refl fresh walks
+        (subst (λ (ss : List Stop). Tells (side mid calls' world' kept) (Hears heard ∷ []) link' calls' (record { world = world'; end = None }) now ss) stops (tells_heard (side mid calls' world' kept) heard link' now refl partial r is))
+        splits closes
+
+    pub at_end : (link' : L) (rest : ℕ) → receives mid Ended link' → rest ≡ length kept → IsSessionRun table settings receives sends gives link calls world link' calls' world' (ends.Closed rest)
+    at_end link' rest r is = by_heard Ended link' kept (Some AtEnd) [] kept (ends.Closed rest) r (sym (append-nil kept)) refl (no_frame kept (partial_ends kept partial)) (refl, refl, partial, is)
+
+    pub at_break : (link' : L) → receives mid Broke link' → IsSessionRun table settings receives sends gives link calls world link' calls' world' ends.LinkBroken
+    at_break link' r = by_heard Broke link' kept (Some Lost) [] kept ends.LinkBroken r (sym (append-nil kept)) refl (no_frame kept (partial_ends kept partial)) (refl, refl, partial)
+
+    pub unfed : (link' : L) (piece : List ℕ) → receives mid (Piece piece) link' → IsSessionRun table settings receives sends gives link calls world link' calls' world' ends.Memory
+    unfed link' piece r =
+        let all = splits_all (kept ++ piece) in
+        by_heard (Piece piece) link' (kept ++ piece) None all.frames all.rest ends.Memory r refl refl all.splits refl
+
+  -- the session ended by a frame, a bad length or want of memory
+  by_stop : (link link' : L) (calls calls' : C) (world world' : W) (kept : List ℕ) (reached : Option SessionEnd) (end : SessionEnd) → table.is_idle world → Walks table settings receives sends gives (side link calls world []) (ended link' calls' world' reached kept) → Stops reached (Some end) kept
+      → IsSessionRun table settings receives sends gives link calls world link' calls' world' end
+  by_stop link link' calls calls' world world' kept (Some reached) end fresh walks stops =
+      let all = splits_all kept in
+      closing (side link calls world []) (ended link' calls' world' (Some reached) kept) [] link' calls' (record { world = world'; end = Some reached }) kept None all.frames all.rest end world refl refl fresh walks
+      (tells_none (ended link' calls' world' (Some reached) kept)) all.splits (same_Some end reached stops, refl)
+  by_stop link link' calls calls' world world' kept None (ends.Closed len) fresh walks stops = absurd stops
+  by_stop link link' calls calls' world world' kept None (ends.BadLength len) fresh walks stops =
+      closing (side link calls world []) (side link' calls' world' kept) [] link' calls' (record { world = world'; end = None }) kept None [] kept (ends.BadLength len) world refl refl fresh walks
+      (tells_none (side link' calls' world' kept)) (no_frame kept (bad_ends kept len stops)) (refl, refl, stops)
+  by_stop link link' calls calls' world world' kept None ends.LinkBroken fresh walks stops = absurd stops
+  by_stop link link' calls calls' world world' kept None ends.Memory fresh walks stops =
+      let all = splits_all kept in
+      closing (side link calls world []) (side link' calls' world' kept) [] link' calls' (record { world = world'; end = None }) kept None all.frames all.rest ends.Memory world refl refl fresh walks
+      (tells_none (side link' calls' world' kept)) all.splits refl
+
+  pub drained_end : (link mid link' : L) (calls calls' calls'' : C) (world world' world'' : W) (fed kept : List ℕ) (result : Option SessionEnd) (end : SessionEnd) (now : Settings) → now ≡ settings → table.is_idle world → Walks table settings receives sends gives (side link calls world []) (side mid calls' world' fed) → result ≡ Some end
+      → Drains table now receives sends gives (side mid calls' world' fed) link' calls'' world'' kept result
+      → IsSessionRun table settings receives sends gives link calls world link' calls'' world'' end
+  drained_end link mid link' calls calls' calls'' world world' world'' fed kept result end now set fresh walks is given =
+      let d = subst (λ (s : Settings). Drains table s receives sends gives (side mid calls' world' fed) link' calls'' world'' kept result) set given in
+      by_stop link link' calls calls'' world world'' kept d.reached end fresh
+      (walks_on table settings receives sends gives (side link calls world []) (side mid calls' world' fed) (ended link' calls'' world'' d.reached kept) walks d.walks)
+      (subst (λ (e : Option SessionEnd). Stops d.reached e kept) is d.stops)
+
+  still : (old : Side W L C) (link' : L) (calls' : C) (world' : W) (kept : List ℕ) (reached : Option SessionEnd) → Walks table settings receives sends gives old (ended link' calls' world' reached kept) → Stops reached None kept → Walks table settings receives sends gives old (side link' calls' world' kept) × IsPartial kept
+  still old link' calls' world' kept (Some reached) walks stops = absurd (none-some reached stops)
+  still old link' calls' world' kept None walks stops = (walks, stops)
+
+  pub drained_on : (old : Side W L C) (mid link' : L) (calls' calls'' : C) (world' world'' : W) (fed kept : List ℕ) (result : Option SessionEnd) (now : Settings) → now ≡ settings → Walks table settings receives sends gives old (side mid calls' world' fed) → result ≡ None
+      → Drains table now receives sends gives (side mid calls' world' fed) link' calls'' world'' kept result
+      → Walks table settings receives sends gives old (side link' calls'' world'' kept) × IsPartial kept
+  drained_on old mid link' calls' calls'' world' world'' fed kept result now set walks is given =
+      let d = subst (λ (s : Settings). Drains table s receives sends gives (side mid calls' world' fed) link' calls'' world'' kept result) set given in
+      still old link' calls'' world'' kept d.reached
+      (walks_on table settings receives sends gives old (side mid calls' world' fed) (ended link' calls'' world'' d.reached kept) walks d.walks)
+      (subst (λ (e : Option SessionEnd). Stops d.reached e kept) is d.stops)

@@ -1,0 +1,5 @@
+pub mod Alone
+pub mod Closing
+pub mod Runs
+pub mod Turns
+pub mod Walking

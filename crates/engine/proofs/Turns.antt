@@ -1,0 +1,185 @@
+-- What came of one frame.
+use Rattle.std.proofs.Common.{ℕ, ℤ, ◌≡◌, true, false, List, [], Option, Some, None, IfSome, IfNone, inl, inr, refl, subst}
+use Rattle.errno.specs.declared.TheConstants.{ENOMEM}
+use Rattle.backing.specs.Calls.{Asked}
+use Rattle.backing.specs.declared.call.Answer.{Answer as Told}
+use Rattle.flights.specs.declared.data.Want.{Want}
+use Rattle.steps.specs.Answers.{Claim}
+use Rattle.steps.specs.declared.data.Begin.TheVariants.{Go, Refused}
+use Rattle.wire.specs.Faults.{IsFirstFault, errno_of}
+use Rattle.wire.specs.Requests.{IsRequest, opcode_in, unique_in}
+use Rattle.wire.specs.Written.{reply_bytes}
+use Rattle.wire.specs.declared.fault.WireFault.{WireFault}
+use Rattle.wire.specs.declared.reply.Reply.{Reply}
+use Rattle.wire.specs.declared.reply.ReplyBody.{ReplyBody}
+use Rattle.wire.specs.declared.reply.ReplyBody.TheVariants.{Failed}
+use Rattle.wire.specs.declared.request.Request.{Request}
+use Rattle.engine.specs.declared.intents.Intent.{Intent}
+use Rattle.engine.specs.declared.intents.Intent.TheVariants as intents
+use Rattle.engine.specs.declared.links.Sent.{Sent}
+use Rattle.engine.specs.declared.replies.Settings.{Settings}
+use Rattle.engine.specs.Intents.{intent, IsBegun}
+use Rattle.engine.specs.Reference.{Place, AtBegin, AtReply, Turn, IsSaid, Says, Serves, Carries, WorksOff, is_unanswered}
+use Rattle.engine.specs.Replies.{refusal, TakesMemory}
+use Rattle.engine.specs.Scripts.{Made}
+use Rattle.engine.specs.Tables.{Table}
+use Rattle.engine.specs.Walks.{IsAnswered, WorkedOff, Performs, CarriesOut}
+
+-- a frame with its reply
+abbrev pub answering : List ℕ → Option Place → List Made → ℕ → ReplyBody → Sent → Turn
+answering frame refused made unique said sent = record {
+  frame = frame;
+  refused = refused;
+  made = made;
+  offer = Some (record { reply = record { unique = unique; body = said }; sent = sent });
+}
+
+-- a frame without one
+abbrev pub silent : List ℕ → Turn
+silent frame = record { frame = frame; refused = None; made = []; offer = None }
+
+-- the same from the same link
+pub sent_from : {L : Type 0} (sends : L → List ℕ → Sent → L → Type 0) (old mid new : L) (bytes : List ℕ) (sent : Sent) → mid ≡ old → sends mid bytes sent new → sends old bytes sent new
+sent_from {L = L} sends old mid new bytes sent same s = subst (λ (l : L). sends l bytes sent new) same s
+
+pub answered : {L : Type 0} (sends : L → List ℕ → Sent → L → Type 0) (meant : Reply) (old new : L) (sent : Sent) → sends old (reply_bytes meant) sent new → IsAnswered sends meant old sent new
+answered sends meant old new sent s = record { refused = None; said = meant.body; said_is = refl; offer = s }
+
+pub starved : {L : Type 0} (sends : L → List ℕ → Sent → L → Type 0) (meant : Reply) (old new : L) (sent : Sent) → TakesMemory meant.body → sends old (reply_bytes (refusal meant.unique ENOMEM)) sent new → IsAnswered sends meant old sent new
+starved sends meant old new sent takes s = record { refused = Some AtReply; said = Failed ENOMEM; said_is = (takes, refl); offer = s }
+
+module _ {W L C : Type 0} (table : Table W) (settings : Settings) (sends : L → List ℕ → Sent → L → Type 0) (gives : C → Asked → Told → C → Type 0) where
+  -- a frame that is no request
+  pub fault_answered : (frame : List ℕ) (fault : WireFault) (link link' : L) (calls : C) (world : W) (result : Option Sent) → IsFirstFault frame fault
+      → IfSome result (λ sent. (is_unanswered (opcode_in frame) ≡ false) × sends link (reply_bytes (refusal (unique_in frame) (errno_of fault))) sent link')
+      → IfNone result ((is_unanswered (opcode_in frame) ≡ true) × (link' ≡ link))
+      → WorkedOff table settings sends gives frame link calls world result link' calls world
+  fault_answered frame fault link link' calls world (Some sent) is some none =
+      let turn = answering frame None [] (unique_in frame) (Failed (errno_of fault)) sent in
+      record {
+        turn = turn;
+        frame_is = refl;
+        sent_is = refl;
+        meets = inr (fault, is, rw some.0 (Failed (errno_of fault), refl, record { offers = refl; no_call = refl; same = refl }));
+        makes = refl;
+        passes = some.1;
+      }
+  fault_answered frame fault link link' calls world None is some none = record {
+    turn = silent frame;
+    frame_is = refl;
+    sent_is = refl;
+    meets = inr (fault, is, rw none.0 (record { no_offer = refl; no_call = refl; no_place = refl }, refl));
+    makes = refl;
+    passes = none.1;
+  }
+
+  -- a request that is answered at once
+  pub said_at_once : (frame : List ℕ) (q : Request) (meant : ReplyBody) (link link' : L) (calls : C) (world : W) (sent : Sent) → IsRequest frame q → intents.Reply meant ≡ intent q
+      → IsAnswered sends (record { unique = q.unique; body = meant }) link sent link'
+      → WorkedOff table settings sends gives frame link calls world (Some sent) link' calls world
+  said_at_once frame q meant link link' calls world sent is i a =
+      let turn = answering frame a.refused [] q.unique a.said sent in
+      record {
+        turn = turn;
+        frame_is = refl;
+        sent_is = refl;
+        meets = inl (q, is, subst (λ (x : Intent). Serves table settings q x world turn world) i (a.said, a.said_is, record { offers = refl; no_call = refl; same = refl }));
+        makes = refl;
+        passes = a.offer;
+      }
+
+  -- lookups are given back
+  pub forgot : (frame : List ℕ) (q : Request) (number n : ℕ) (link : L) (calls : C) (world world' : W) → IsRequest frame q → intents.Forget number n ≡ intent q → table.forgets world number n world'
+      → WorkedOff table settings sends gives frame link calls world None link calls world'
+  forgot frame q number n link calls world world' is i f = record {
+    turn = silent frame;
+    frame_is = refl;
+    sent_is = refl;
+    meets = inl (q, is, subst (λ (x : Intent). Serves table settings q x world (silent frame) world') i (record { no_offer = refl; no_call = refl; no_place = refl }, f));
+    makes = refl;
+    passes = refl;
+  }
+
+  -- a request that is begun
+  pub carried : (frame : List ℕ) (q : Request) (want : Want) (link link' : L) (calls calls' : C) (world world' : W) (sent : Sent) → IsRequest frame q → intents.Want want ≡ intent q
+      → CarriesOut table settings sends gives q want link calls world sent link' calls' world'
+      → WorkedOff table settings sends gives frame link calls world (Some sent) link' calls' world'
+  carried frame q want link link' calls calls' world world' sent is i a =
+      let turn = answering frame a.refused a.made q.unique a.said sent in
+      record {
+        turn = turn;
+        frame_is = refl;
+        sent_is = refl;
+        meets = inl (q, is, subst (λ (x : Intent). Serves table settings q x world turn world') i (a.works frame));
+        makes = a.makes;
+        passes = a.offer;
+      }
+
+  by_begin : (i : Intent) → IsBegun i → (q : Request) (world : W) (frame : List ℕ) (sent : Sent) → Serves table settings q i world (answering frame (Some AtBegin) [] q.unique (Failed ENOMEM) sent) world
+  by_begin (intents.Reply body) b q world frame sent = absurd b
+  by_begin (intents.Want want) b q world frame sent = record { offers = refl; no_call = refl; same = refl }
+  by_begin (intents.Forget number n) b q world frame sent = absurd b
+
+  -- a request that finds no memory to begin
+  pub unbegun : (frame : List ℕ) (q : Request) (link link' : L) (calls : C) (world : W) (sent : Sent) → IsRequest frame q → IsBegun (intent q)
+      → sends link (reply_bytes (refusal q.unique ENOMEM)) sent link'
+      → WorkedOff table settings sends gives frame link calls world (Some sent) link' calls world
+  unbegun frame q link link' calls world sent is b s = record {
+    turn = answering frame (Some AtBegin) [] q.unique (Failed ENOMEM) sent;
+    frame_is = refl;
+    sent_is = refl;
+    meets = inl (q, is, by_begin (intent q) b q world frame sent);
+    makes = refl;
+    passes = s;
+  }
+
+  -- ---- a request from begin to settle
+
+  works_by : (refused : Option Place) (q : Request) (want : Want) (old : W) (turn : Turn) (new : W) (meant said : ReplyBody) → IsSaid refused meant said → Carries table settings q want old turn new → WorksOff table settings refused q want old turn new
+  works_by None q want old turn new meant said is c = inr c
+  works_by (Some AtBegin) q want old turn new meant said is c = absurd is
+  works_by (Some AtReply) q want old turn new meant said is c = c
+
+  pub goes_on : (q : Request) (want : Want) (ticket : Claim) (link link' : L) (calls calls' : C) (world begun world' : W) (sent : Sent) → table.begins world q.unique want (Go ticket) begun
+      → (p : Performs table settings sends gives q ticket link calls begun sent link' calls' world') → p.answer.lost ≡ false
+      → CarriesOut table settings sends gives q want link calls world sent link' calls' world'
+  goes_on q want ticket link link' calls calls' world begun world' sent b p kept = record {
+    refused = p.refused;
+    made = p.made;
+    said = p.said;
+    makes = p.makes;
+    offer = p.offer;
+    works = λ frame. works_by p.refused q want world (answering frame p.refused p.made q.unique p.said sent) world' _ p.said p.said_is (record {
+      ticket = ticket;
+      begun = begun;
+      begins = b;
+      end = p.end;
+      script = p.script;
+      answer = p.answer;
+      finished = p.finished;
+      finishes = p.finishes;
+      not_lost = kept;
+      said = p.said;
+      said_is = p.said_is;
+      offers = refl;
+      settles = p.settles;
+    });
+  }
+
+  by_refusal : (refused : Option Place) (q : Request) (want : Want) (errno : ℤ) (said : ReplyBody) (world world' : W) (turn : Turn) → IsSaid refused (Failed errno) said → table.begins world q.unique want (Refused errno) world' → Says q.unique said world turn world' → WorksOff table settings refused q want world turn world'
+  by_refusal None q want errno said world world' turn is b says = inl (record { errno = errno; begins = b; says = subst (λ (body : ReplyBody). Says q.unique body world turn world') is says })
+  by_refusal (Some AtBegin) q want errno said world world' turn is b says = absurd is
+  by_refusal (Some AtReply) q want errno said world world' turn is b says = absurd is.0
+
+  -- the table refuses it
+  pub table_refused : (q : Request) (want : Want) (errno : ℤ) (link link' : L) (calls : C) (world world' : W) (sent : Sent) → table.begins world q.unique want (Refused errno) world' → world' ≡ world
+      → IsAnswered sends (refusal q.unique errno) link sent link'
+      → CarriesOut table settings sends gives q want link calls world sent link' calls world'
+  table_refused q want errno link link' calls world world' sent b same a = record {
+    refused = a.refused;
+    made = [];
+    said = a.said;
+    makes = refl;
+    offer = a.offer;
+    works = λ frame. by_refusal a.refused q want errno a.said world world' (answering frame a.refused [] q.unique a.said sent) a.said_is b (record { offers = refl; no_call = refl; same = same });
+  }

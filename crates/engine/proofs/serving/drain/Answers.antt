@@ -1,0 +1,45 @@
+use Rattle.std.proofs.Common.{Some, None, Err, refl, sym, ap, ◌∙◌}
+use Rattle.steps.specs.Kept.{world_of}
+use Rattle.wire.specs.Stream.{Cutting}
+use Rattle.engine.specs.Tables.{worlds}
+use Rattle.engine.specs.Walks.{side}
+use Rattle.engine.proofs.Walking.{bad_stop, frame_on}
+use Rattle.engine.proofs.serving.drain.Goals as goal
+
+pub returns-in-Some-clause-drains : goal.returns-in-Some-clause-drains
+returns-in-Some-clause-drains g c =
+    let inv = c.loop-frame.invariant in
+    let frame = rw c.in-Ok-Some.field-0-is at c.in-Ok-Some.ensures.frame in
+    record {
+      reached = Some c.in-Some.end;
+      walks = frame_on worlds c.args.desk.now.settings g.L.LinkIn.receives g.L.LinkOut.sends g.C.Calls.gives
+          (side c.args.link.now c.args.calls.now (world_of c.args.table.now) c.args.cutter.now.kept)
+          c.loop-frame.link c.work_off.new.link c.loop-frame.calls c.work_off.new.calls (world_of c.loop-frame.table) (world_of c.work_off.new.table)
+          c.loop-frame.cutter.kept c.in-Ok-Some.frame.items c.deref.result.now c.next.new.self.kept c.work_off.result c.ending.result (Some c.in-Some.end)
+          c.loop-frame.desk.settings inv.settings inv.walks frame.front frame.framed (sym c.deref.ensures.value) c.work_off.ensures.idle c.work_off.ensures.worked c.ending.ensures c.in-Some.is;
+      stops = refl;
+    }
+
+pub loop-frame-preserved : goal.loop-frame-preserved
+loop-frame-preserved g c =
+    let inv = c.loop-frame.invariant in
+    let frame = rw c.in-Ok-Some.field-0-is at c.in-Ok-Some.ensures.frame in
+    record {
+      stopped = frame.stopped ∙ inv.stopped;
+      settings = c.work_off.ensures.settings ∙ inv.settings;
+      idle = c.work_off.ensures.idle;
+      walks = frame_on worlds c.args.desk.now.settings g.L.LinkIn.receives g.L.LinkOut.sends g.C.Calls.gives
+          (side c.args.link.now c.args.calls.now (world_of c.args.table.now) c.args.cutter.now.kept)
+          c.loop-frame.link c.work_off.new.link c.loop-frame.calls c.work_off.new.calls (world_of c.loop-frame.table) (world_of c.work_off.new.table)
+          c.loop-frame.cutter.kept c.in-Ok-Some.frame.items c.deref.result.now c.next.new.self.kept c.work_off.result c.ending.result None
+          c.loop-frame.desk.settings inv.settings inv.walks frame.front frame.framed (sym c.deref.ensures.value) c.work_off.ensures.idle c.work_off.ensures.worked c.ending.ensures c.in-None.is;
+    }
+
+pub returns-in-Err-BadLength-clause-drains : goal.returns-in-Err-BadLength-clause-drains
+returns-in-Err-BadLength-clause-drains g c =
+    let arm = c.in-Err-BadLength in
+    let stopped = arm.ensures.for_good arm.len (ap Err arm.field-0-is) in
+    bad_stop worlds c.args.desk.now.settings g.L.LinkIn.receives g.L.LinkOut.sends g.C.Calls.gives
+    (side c.args.link.now c.args.calls.now (world_of c.args.table.now) c.args.cutter.now.kept)
+    c.loop-frame.link c.loop-frame.calls (world_of c.loop-frame.table) c.loop-frame.cutter.kept c.next.new.self.kept arm.len
+    c.loop-frame.invariant.walks (sym (ap (λ (k : Cutting). k.kept) stopped)) ((arm.ensures.bad arm.len).0 (ap Err arm.field-0-is))

@@ -1,0 +1,19 @@
+use Rattle.std.proofs.Common.{◌≡◌, length}
+use Rattle.steps.specs.Kept.{world_of}
+use Rattle.engine.specs.Tables.{worlds, IsIdle}
+use Rattle.engine.specs.Walks.{side, Walks}
+use Rattle.engine.proofs.serving.drain.Given as goal
+
+-- the frames so far are worked off
+abbrev pub invariant-loop-frame : goal.invariant-loop-frame
+invariant-loop-frame g l = record {
+  stopped : l.cutter.stopped ≡ l.initial.cutter.stopped;
+  settings : l.desk.settings ≡ l.initial.desk.settings;
+  idle : IsIdle (world_of l.table);
+  walks : Walks worlds l.initial.desk.settings g.L.LinkIn.receives g.L.LinkOut.sends g.C.Calls.gives
+      (side l.initial.link l.initial.calls (world_of l.initial.table) l.initial.cutter.kept) (side l.link l.calls (world_of l.table) l.cutter.kept);
+}
+
+-- each frame takes its bytes with it
+abbrev pub decreases-loop-frame : goal.decreases-loop-frame
+decreases-loop-frame g l = length l.cutter.kept

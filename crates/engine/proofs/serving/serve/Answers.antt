@@ -1,0 +1,65 @@
+use Rattle.std.proofs.Common.{[], take, ap, inl, refl, subst, sym, ◌∙◌, ℕ, List, arith}
+use Rattle.steps.specs.Kept.{world_of}
+use Rattle.wire.specs.Stream.{Cutting, IsPartial}
+use Rattle.engine.specs.Tables.{worlds}
+use Rattle.engine.specs.Walks.{side}
+use Rattle.engine.proofs.Closing.{at_break, at_end, drained_end, drained_on, unfed}
+use Rattle.engine.proofs.Walking.{piece_on, walks_from}
+use Rattle.engine.proofs.serving.serve.Goals as goal
+
+pub loop-init : goal.loop-init
+loop-init g c =
+    let empty = ap (λ (k : Cutting). k.kept) c.new-cutter.ensures in
+    record {
+      partial = subst (λ (k : List ℕ). IsPartial k) (sym empty) (inl (omega arith));
+      on = ap (λ (k : Cutting). k.stopped) c.new-cutter.ensures;
+      settings = refl;
+      idle = c.requires.fresh;
+      walks = walks_from worlds c.args.settings g.L.LinkIn.receives g.L.LinkOut.sends g.C.Calls.gives c.args.link.now c.args.calls.now (world_of c.args.table.now) c.new-cutter.result.kept empty;
+    }
+
+pub returns-in-End : goal.returns-in-End
+returns-in-End g c =
+    record {
+      serves = at_end worlds c.args.settings g.L.LinkIn.receives g.L.LinkOut.sends g.C.Calls.gives c.args.link.now c.loop.link c.args.calls.now c.loop.calls (world_of c.args.table.now) (world_of c.loop.table) c.loop.cutter.kept
+          c.requires.fresh c.loop.invariant.partial c.loop.invariant.walks c.receive.new.self c.rest.result c.in-End.ensures.brought c.rest.ensures;
+    }
+
+pub returns-in-Broken : goal.returns-in-Broken
+returns-in-Broken g c =
+    record {
+      serves = at_break worlds c.args.settings g.L.LinkIn.receives g.L.LinkOut.sends g.C.Calls.gives c.args.link.now c.loop.link c.args.calls.now c.loop.calls (world_of c.args.table.now) (world_of c.loop.table) c.loop.cutter.kept
+          c.requires.fresh c.loop.invariant.partial c.loop.invariant.walks c.receive.new.self c.in-Broken.ensures.brought;
+    }
+
+pub returns-in-Err : goal.returns-in-Err
+returns-in-Err g c =
+    record {
+      serves = unfed worlds c.args.settings g.L.LinkIn.receives g.L.LinkOut.sends g.C.Calls.gives c.args.link.now c.loop.link c.args.calls.now c.loop.calls (world_of c.args.table.now) (world_of c.loop.table) c.loop.cutter.kept
+          c.requires.fresh c.loop.invariant.partial c.loop.invariant.walks c.receive.new.self (take c.in-Bytes.count c.receive.new.room) c.in-Bytes.ensures.brought;
+    }
+
+pub returns-in-Some-drain : goal.returns-in-Some-drain
+returns-in-Some-drain g c =
+    let inv = c.loop.invariant in
+    let fed = ap (λ (k : Cutting). k.kept) c.in-Ok.ensures.ok in
+    let walks = piece_on worlds c.args.settings g.L.LinkIn.receives g.L.LinkOut.sends g.C.Calls.gives (side c.args.link.now c.args.calls.now (world_of c.args.table.now) []) c.loop.link c.receive.new.self c.loop.calls (world_of c.loop.table) c.loop.cutter.kept (take c.in-Bytes.count c.receive.new.room) c.feed.new.self.kept inv.walks inv.partial c.in-Bytes.ensures.brought fed in
+    record {
+      serves = drained_end worlds c.args.settings g.L.LinkIn.receives g.L.LinkOut.sends g.C.Calls.gives c.args.link.now c.receive.new.self c.drain.new.link c.args.calls.now c.loop.calls c.drain.new.calls (world_of c.args.table.now) (world_of c.loop.table) (world_of c.drain.new.table)
+          c.feed.new.self.kept c.drain.new.cutter.kept c.drain.result c.in-Some-drain.end c.loop.desk.settings inv.settings c.requires.fresh walks c.in-Some-drain.is c.drain.ensures.drains;
+    }
+
+pub loop-preserved : goal.loop-preserved
+loop-preserved g c =
+    let inv = c.loop.invariant in
+    let fed = ap (λ (k : Cutting). k.kept) c.in-Ok.ensures.ok in
+    let walks = piece_on worlds c.args.settings g.L.LinkIn.receives g.L.LinkOut.sends g.C.Calls.gives (side c.args.link.now c.args.calls.now (world_of c.args.table.now) []) c.loop.link c.receive.new.self c.loop.calls (world_of c.loop.table) c.loop.cutter.kept (take c.in-Bytes.count c.receive.new.room) c.feed.new.self.kept inv.walks inv.partial c.in-Bytes.ensures.brought fed in
+    let on = drained_on worlds c.args.settings g.L.LinkIn.receives g.L.LinkOut.sends g.C.Calls.gives (side c.args.link.now c.args.calls.now (world_of c.args.table.now) []) c.receive.new.self c.drain.new.link c.loop.calls c.drain.new.calls (world_of c.loop.table) (world_of c.drain.new.table)
+    c.feed.new.self.kept c.drain.new.cutter.kept c.drain.result c.loop.desk.settings inv.settings walks c.in-None-drain.is c.drain.ensures.drains in
+    record {
+      partial = on.1;
+      on = c.in-None-drain.ensures.on ∙ (ap (λ (k : Cutting). k.stopped) c.in-Ok.ensures.ok ∙ inv.on);
+      settings = c.drain.ensures.settings ∙ inv.settings;
+      idle = c.drain.ensures.idle;
+      walks = on.0;
+    }

@@ -1,0 +1,17 @@
+use Rattle.std.proofs.Common.{◌≡◌, None, []}
+use Rattle.steps.specs.Kept.{world_of}
+use Rattle.wire.specs.Stream.{IsPartial}
+use Rattle.engine.specs.Tables.{worlds, IsIdle}
+use Rattle.engine.specs.Walks.{side, Walks}
+use Rattle.engine.proofs.serving.serve.Given as goal
+
+-- no whole frame and no bad length is left between two pieces
+abbrev pub invariant-loop : goal.invariant-loop
+invariant-loop g l = record {
+  partial : IsPartial l.cutter.kept;
+  on : l.cutter.stopped ≡ None;
+  settings : l.desk.settings ≡ l.fn.settings;
+  idle : IsIdle (world_of l.table);
+  walks : Walks worlds l.fn.settings g.L.LinkIn.receives g.L.LinkOut.sends g.C.Calls.gives
+      (side l.initial.link l.initial.calls (world_of l.initial.table) []) (side l.link l.calls (world_of l.table) l.cutter.kept);
+}

@@ -1,0 +1,26 @@
+use Rattle.std.proofs.Common.{to_z, of_z, w32}
+use Rattle.steps.specs.Kept.{world_of}
+use Rattle.engine.proofs.Alone.{finishes_one, refused_bits, settles_one}
+use Rattle.engine.proofs.Turns.{goes_on, table_refused}
+use Rattle.engine.specs.Tables.{worlds}
+use Rattle.engine.proofs.session.Desk.carry.Goals as goal
+
+pub returns-in-Go-clause-carries : goal.returns-in-Go-clause-carries
+returns-in-Go-clause-carries g c =
+    let p = c.perform.ensures.performs in
+    let begins = c.in-Go.ensures.begins in
+    let alone = finishes_one (world_of c.args.table.now) (world_of c.begin.new.self) p.finished c.args.request.unique c.args.want c.in-Go.ticket p.end.outcome p.answer c.requires.idle begins p.finishes in
+    goes_on worlds c.args.self.now.settings g.L.LinkOut.sends g.C.Calls.gives c.args.request c.args.want c.in-Go.ticket c.args.link.now c.perform.new.link c.args.calls.now c.perform.new.calls
+    (world_of c.args.table.now) (world_of c.begin.new.self) (world_of c.perform.new.table) c.perform.result begins p alone.not_lost
+
+pub returns-in-Go-clause-idle : goal.returns-in-Go-clause-idle
+returns-in-Go-clause-idle g c =
+    let p = c.perform.ensures.performs in
+    let alone = finishes_one (world_of c.args.table.now) (world_of c.begin.new.self) p.finished c.args.request.unique c.args.want c.in-Go.ticket p.end.outcome p.answer c.requires.idle c.in-Go.ensures.begins p.finishes in
+    settles_one p.finished (world_of c.perform.new.table) c.in-Go.ticket.id p.answer _ p.settles.0 alone p.settles.1
+
+pub returns-in-Refused-clause-carries : goal.returns-in-Refused-clause-carries
+returns-in-Refused-clause-carries g c =
+    let begins = c.in-Refused.ensures.begins in
+    table_refused worlds c.args.self.now.settings g.L.LinkOut.sends g.C.Calls.gives c.args.request c.args.want (to_z w32 (of_z w32 c.in-Refused.errno)) c.args.link.now c.answer.new.link c.args.calls.now
+    (world_of c.args.table.now) (world_of c.begin.new.self) c.answer.result (refused_bits (world_of c.args.table.now) (world_of c.begin.new.self) c.args.request.unique c.args.want c.in-Refused.errno begins) begins.begins.1 c.answer.ensures.said

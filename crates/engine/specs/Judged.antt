@@ -1,0 +1,30 @@
+-- What an answer of a directory counts as: one that is not right for its call is EIO.
+use Rattle.std.specs.Prelude.{ℕ, ℤ, pos, int_le, ◌&&◌, ◌==◌, Bool, true, false, if◌then◌else◌}
+use Rattle.errno.specs.declared.TheConstants.{EIO}
+use Rattle.backing.specs.declared.call.Kind.{Kind}
+use Rattle.backing.specs.declared.call.Kind.TheVariants.{Folder, File}
+use Rattle.backing.specs.declared.call.Answer.{Answer}
+use Rattle.backing.specs.declared.call.Answer.TheVariants.{Stat, Fault}
+use Rattle.backing.specs.Calls.{Asked, AskStat}
+
+-- an error number is 1 to 4,095
+abbrev pub is_errno : ℤ → Bool
+is_errno errno = int_le (pos 1) errno && int_le errno (pos 4095)
+
+-- the error that an answer tells
+abbrev pub errno_in : Answer → ℤ
+errno_in (Fault errno) = if is_errno errno then errno else EIO
+errno_in answer = EIO
+
+-- a folder has no size
+abbrev pub is_sized : Kind → ℕ → Bool
+is_sized Folder size = size == 0
+is_sized File size = true
+
+-- the answer is of its call's kind and shape; a call that joins is one more line
+abbrev pub fits : Asked → Answer → Bool
+fits (AskStat p) (Stat kind size) = is_sized kind size
+fits call answer = false
+
+abbrev pub judged : Asked → Answer → Answer
+judged call answer = if fits call answer then answer else Fault (errno_in answer)

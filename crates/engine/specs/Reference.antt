@@ -1,0 +1,202 @@
+-- A session as it ought to go: one frame after another, each worked off before the next.
+use Rattle.std.specs.Prelude.{ℕ, ℤ, ◌≡◌, ◌⊎◌, ◌==◌, ◌||◌, Bool, true, false, if◌then◌else◌, List, [], ◌++◌, map, length, Option, Some, None}
+use Rattle.std.specs.Option.{option_map}
+use Rattle.errno.specs.declared.TheConstants.{ENOMEM}
+use Rattle.flights.specs.declared.data.Want.{Want}
+use Rattle.steps.specs.Answers.{Claim, Answer}
+use Rattle.steps.specs.declared.data.Begin.TheVariants.{Go, Refused}
+use Rattle.wire.specs.Faults.{IsFirstFault, errno_of}
+use Rattle.wire.specs.Requests.{IsRequest, opcode_in, unique_in}
+use Rattle.wire.specs.Stream.{Splits, IsPartial, BeginsBadly}
+use Rattle.wire.specs.declared.fault.WireFault.{WireFault}
+use Rattle.wire.specs.declared.opcode.TheConstants.{FORGET, INTERRUPT, BATCH_FORGET}
+use Rattle.wire.specs.declared.reply.Reply.{Reply}
+use Rattle.wire.specs.declared.reply.ReplyBody.{ReplyBody}
+use Rattle.wire.specs.declared.reply.ReplyBody.TheVariants.{Failed}
+use Rattle.wire.specs.declared.request.Request.{Request}
+use Rattle.engine.specs.declared.intents.Intent.{Intent}
+use Rattle.engine.specs.declared.intents.Intent.TheVariants as intents
+use Rattle.engine.specs.declared.links.Sent.{Sent}
+use Rattle.engine.specs.declared.links.Sent.TheVariants.{Taken, Untaken, Broken}
+use Rattle.engine.specs.declared.replies.Settings.{Settings}
+use Rattle.engine.specs.declared.ends.SessionEnd.{SessionEnd}
+use Rattle.engine.specs.declared.ends.SessionEnd.TheVariants as ends
+use Rattle.engine.specs.Chain.{Chain}
+use Rattle.engine.specs.Intents.{intent}
+use Rattle.engine.specs.Replies.{reply_to, TakesMemory}
+use Rattle.engine.specs.Scripts.{plan_of, End, Made, Follows}
+use Rattle.engine.specs.Tables.{Table}
+
+-- ---- one frame: what came of it
+
+-- where memory was refused first
+pub data Place : Type 0 where
+  AtBegin : Place  -- at begin at the latest
+  AtReply : Place
+
+-- a reply, and what became of it
+pub record Offer : Type 0 where
+  pub reply : Reply
+  pub sent : Sent
+
+-- a frame, where memory was refused for it, the calls that it made with their answers, and what was replied
+pub record Turn : Type 0 where
+  pub frame : List ℕ
+  pub refused : Option Place
+  pub made : List Made
+  pub offer : Option Offer
+
+abbrev pub is_taken : Sent → Bool
+is_taken Taken = true
+is_taken Untaken = false
+is_taken Broken = false
+
+abbrev pub is_broken : Sent → Bool
+is_broken Taken = false
+is_broken Untaken = false
+is_broken Broken = true
+
+abbrev pub sent_in : Option Offer → Option Sent
+sent_in offer = option_map (λ (o : Offer). o.sent) offer
+
+abbrev pub was_taken : Option Sent → Bool
+was_taken None = false
+was_taken (Some sent) = is_taken sent
+
+abbrev pub was_broken : Option Sent → Bool
+was_broken None = false
+was_broken (Some sent) = is_broken sent
+
+-- this reply and no other is offered
+abbrev pub Offers : Option Offer → ℕ → ReplyBody → Type 0
+Offers None unique said = ⊥
+Offers (Some offer) unique said = offer.reply ≡ record { unique = unique; body = said }
+
+-- What is said where this is meant: where the reply found no memory, ENOMEM takes its place.
+abbrev pub IsSaid : Option Place → (meant said : ReplyBody) → Type 0
+IsSaid None meant said = said ≡ meant
+IsSaid (Some AtBegin) meant said = ⊥
+IsSaid (Some AtReply) meant said = TakesMemory meant × (said ≡ Failed ENOMEM)
+
+-- a frame that makes no call and changes nothing
+pub record Says {W : Type 0} (unique : ℕ) (said : ReplyBody) (old : W) (turn : Turn) (new : W) : Type 0 where
+  pub offers : Offers turn.offer unique said
+  pub no_call : turn.made ≡ []
+  pub same : new ≡ old
+
+-- it is answered at once
+abbrev pub Answers : {W : Type 0} → ℕ → ReplyBody → W → Turn → W → Type 0
+Answers unique meant old turn new = (said : ReplyBody) × IsSaid turn.refused meant said × Says unique said old turn new
+
+-- a frame that gets no reply
+pub record IsSilent (turn : Turn) : Type 0 where
+  pub no_offer : turn.offer ≡ None
+  pub no_call : turn.made ≡ []
+  pub no_place : turn.refused ≡ None
+
+-- without memory for its reply a request counts as untaken
+abbrev pub taken_of : Option Place → Option Offer → Bool
+taken_of None offer = was_taken (sent_in offer)
+taken_of (Some place) offer = false
+
+-- ---- where a session stands: the table, and how it has ended if it has
+
+pub record At (W : Type 0) : Type 0 where
+  pub world : W
+  pub end : Option SessionEnd
+
+abbrev pub starting : {W : Type 0} → W → At W
+starting world = record { world = world; end = None }
+
+-- A reply that broke the link ends the session.
+abbrev pub ending : Option Sent → Option SessionEnd
+ending sent = if was_broken sent then Some ends.LinkBroken else None
+
+-- ---- the rules, by the table's steps
+
+-- opcodes that are never answered
+abbrev pub is_unanswered : ℕ → Bool
+is_unanswered opcode = opcode == FORGET || opcode == INTERRUPT || opcode == BATCH_FORGET
+
+module _ {W : Type 0} (table : Table W) (settings : Settings) where
+  -- a request from begin to settle
+  pub record Carries (q : Request) (want : Want) (old : W) (turn : Turn) (new : W) : Type 0 where
+    pub ticket : Claim
+    pub begun : W
+    pub begins : table.begins old q.unique want (Go ticket) begun
+    pub end : End
+    pub script : Follows (plan_of q.operation ticket) turn.made end
+    pub answer : Answer
+    pub finished : W
+    pub finishes : table.finishes begun ticket.id end.outcome answer finished
+    pub not_lost : answer.lost ≡ false
+    pub said : ReplyBody
+    pub said_is : IsSaid turn.refused (reply_to settings end.findings answer) said
+    pub offers : Offers turn.offer q.unique said
+    pub settles : table.settles finished answer (taken_of turn.refused turn.offer) new
+
+  -- the table refuses it
+  pub record IsRefused (q : Request) (want : Want) (old : W) (turn : Turn) (new : W) : Type 0 where
+    pub errno : ℤ
+    pub begins : table.begins old q.unique want (Refused errno) new
+    pub says : Says q.unique (Failed errno) old turn new
+
+  -- No other request is in flight, so none is in its way.
+  abbrev pub WorksOff : Option Place → Request → Want → W → Turn → W → Type 0
+  WorksOff None q want old turn new = IsRefused q want old turn new ⊎ Carries q want old turn new
+  WorksOff (Some AtBegin) q want old turn new = Says q.unique (Failed ENOMEM) old turn new
+  WorksOff (Some AtReply) q want old turn new = Carries q want old turn new
+
+  abbrev pub Serves : Request → Intent → W → Turn → W → Type 0
+  Serves q (intents.Reply meant) old turn new = Answers q.unique meant old turn new
+  Serves q (intents.Want want) old turn new = WorksOff turn.refused q want old turn new
+  Serves q (intents.Forget number n) old turn new = IsSilent turn × table.forgets old number n new
+
+  -- a frame that is no request is answered with its fault, if its opcode is answered at all
+  abbrev pub Faults : (unanswered : Bool) → WireFault → W → Turn → W → Type 0
+  Faults true fault old turn new = IsSilent turn × (new ≡ old)
+  Faults false fault old turn new = Answers (unique_in turn.frame) (Failed (errno_of fault)) old turn new
+
+  abbrev pub Meets : W → Turn → W → Type 0
+  Meets old turn new =
+      ((q : Request) × IsRequest turn.frame q × Serves q (intent q) old turn new)
+      ⊎ ((fault : WireFault) × IsFirstFault turn.frame fault × Faults (is_unanswered (opcode_in turn.frame)) fault old turn new)
+
+  pub record IsTurn (old : At W) (turn : Turn) (new : At W) : Type 0 where
+    pub goes : old.end ≡ None
+    pub meets : Meets old.world turn new.world
+    pub end : new.end ≡ ending (sent_in turn.offer)
+    pub idle : table.is_idle new.world
+
+-- ---- how a session ends
+
+-- how hearing stopped, if the session was not over before
+pub data Stop : Type 0 where
+  AtEnd : Stop
+  Lost : Stop
+
+abbrev pub frames_of : List Turn → List (List ℕ)
+frames_of turns = map (λ turn. turn.frame) turns
+
+-- A frame ended it and the frames after it are dropped; or all frames were worked off, and the input ended, the link broke,
+-- or a length stood next that no frame has; or the cutter found no memory for what stood next.
+abbrev pub Closes : Option SessionEnd → SessionEnd → Option Stop → (dropped : List (List ℕ)) → (rest : List ℕ) → Type 0
+Closes (Some reached) end stop dropped rest = (end ≡ reached) × (stop ≡ None)
+Closes None (ends.Closed len) stop dropped rest = (stop ≡ Some AtEnd) × (dropped ≡ []) × IsPartial rest × (len ≡ length rest)
+Closes None (ends.BadLength len) stop dropped rest = (stop ≡ None) × (dropped ≡ []) × BeginsBadly rest len
+Closes None ends.LinkBroken stop dropped rest = (stop ≡ Some Lost) × (dropped ≡ []) × IsPartial rest
+Closes None ends.Memory stop dropped rest = stop ≡ None
+
+-- ---- a whole session
+
+-- Inputs: the bytes heard and how hearing them stopped. Outputs: the frames worked off with their calls and replies, the last
+-- table, and the end. Between two frames no request is in flight.
+pub record IsSession {W : Type 0} (table : Table W) (settings : Settings) (world : W) (heard : List ℕ) (stop : Option Stop) (turns : List Turn) (last : W) (end : SessionEnd) : Type 0 where
+  pub fresh : table.is_idle world
+  pub dropped : List (List ℕ)
+  pub rest : List ℕ
+  pub frames : Splits heard (frames_of turns ++ dropped) rest
+  pub reached : At W
+  pub run : Chain (IsTurn table settings) (starting world) turns reached
+  pub last_is : last ≡ reached.world
+  pub closes : Closes reached.end end stop dropped rest

@@ -1,0 +1,105 @@
+-- What a server does: a session as it ought to go, over a link and a directory.
+use Rattle.std.specs.Prelude.{ℕ, ◌≡◌, ◌⊎◌, List, [], ◌∷◌, ◌++◌, Option, Some, None, option_to_list}
+use Rattle.backing.specs.Calls.{Asked}
+use Rattle.backing.specs.declared.call.Answer.{Answer}
+use Rattle.wire.specs.Requests.{IsFramed}
+use Rattle.wire.specs.Stream.{IsPartial}
+use Rattle.wire.specs.Written.{reply_bytes}
+use Rattle.engine.specs.declared.ends.SessionEnd.{SessionEnd}
+use Rattle.engine.specs.declared.links.Sent.{Sent}
+use Rattle.engine.specs.declared.replies.Settings.{Settings}
+use Rattle.engine.specs.Chain.{Chain}
+use Rattle.engine.specs.Links.{Heard, Piece, Ended, Broke, Event, In, Out, Happens}
+use Rattle.engine.specs.Reference.{Turn, Offer, Stop, AtEnd, Lost, IsSession, ending, sent_in}
+use Rattle.engine.specs.Scripts.{Made}
+use Rattle.engine.specs.Tables.{Table}
+
+-- What comes next in a session: a receive, or a frame that is worked off.
+pub data Step : Type 0 where
+  Hears : (heard : Heard) → Step
+  Works : (turn : Turn) → Step
+
+-- ---- the lists of a session, in its order
+
+abbrev pub turns_of : List Step → List Turn
+turns_of [] = []
+turns_of (Hears heard ∷ steps) = turns_of steps
+turns_of (Works turn ∷ steps) = turn ∷ turns_of steps
+
+-- the calls of the directory, with their answers
+abbrev pub made_of : List Turn → List Made
+made_of [] = []
+made_of (turn ∷ turns) = turn.made ++ made_of turns
+
+-- the replies, with what became of each
+abbrev pub sent_of : Option Offer → List Event
+sent_of None = []
+sent_of (Some offer) = Out (reply_bytes offer.reply) offer.sent ∷ []
+
+-- what passes over the link
+abbrev pub events_of : List Step → List Event
+events_of [] = []
+events_of (Hears heard ∷ steps) = In heard ∷ events_of steps
+events_of (Works turn ∷ steps) = sent_of turn.offer ++ events_of steps
+
+-- the bytes that came
+abbrev pub bytes_of : Heard → List ℕ
+bytes_of (Piece bytes) = bytes
+bytes_of Ended = []
+bytes_of Broke = []
+
+abbrev pub heard_of : List Step → List ℕ
+heard_of [] = []
+heard_of (Hears heard ∷ steps) = bytes_of heard ++ heard_of steps
+heard_of (Works turn ∷ steps) = heard_of steps
+
+-- how hearing stopped
+abbrev pub stop_in : Heard → List Stop
+stop_in (Piece bytes) = []
+stop_in Ended = AtEnd ∷ []
+stop_in Broke = Lost ∷ []
+
+abbrev pub stops_of : List Step → List Stop
+stops_of [] = []
+stops_of (Hears heard ∷ steps) = stop_in heard ++ stops_of steps
+stops_of (Works turn ∷ steps) = stops_of steps
+
+-- ---- no reply waits for later bytes
+
+-- what may come after what was heard
+abbrev pub GoesOn : Heard → List Step → Type 0
+GoesOn (Piece bytes) steps = Unit {0}
+GoesOn Ended steps = steps ≡ []
+GoesOn Broke steps = steps ≡ []
+
+-- The bytes kept are worked off frame by frame, and more are heard only where no whole frame and no bad length stands next.
+-- Nothing comes after the end of the input, after a link that broke or after a frame that ended the session.
+abbrev pub Paces : (kept : List ℕ) → List Step → (rest : List ℕ) → Type 0
+Paces kept [] rest = rest ≡ kept
+Paces kept (Hears heard ∷ steps) rest = IsPartial kept × GoesOn heard steps × Paces (kept ++ bytes_of heard) steps rest
+Paces kept (Works turn ∷ steps) rest =
+    (more : List ℕ) × (kept ≡ turn.frame ++ more) × IsFramed turn.frame
+    × ((ending (sent_in turn.offer) ≡ None) ⊎ (steps ≡ [])) × Paces more steps rest
+
+-- ---- calls of a directory
+
+abbrev pub Gives : {C : Type 0} → (C → Asked → Answer → C → Type 0) → C → Made → C → Type 0
+Gives gives old made new = gives old made.call made.answer new
+
+-- each call once and in order
+abbrev pub Makes : {C : Type 0} → (C → Asked → Answer → C → Type 0) → C → List Made → C → Type 0
+Makes gives = Chain (Gives gives)
+
+-- ---- what serving promises
+
+-- Served was a session as it ought to go: of the bytes that the link gave; its replies were offered, and its calls made, each once
+-- and in order.
+pub record IsSessionRun {W L C : Type 0} (table : Table W) (settings : Settings) (receives : L → Heard → L → Type 0) (sends : L → List ℕ → Sent → L → Type 0) (gives : C → Asked → Answer → C → Type 0) (link : L) (calls : C) (world : W) (link' : L) (calls' : C) (world' : W) (end : SessionEnd) : Type 0 where
+  pub steps : List Step
+  pub passes : Chain (Happens receives sends) link (events_of steps) link'
+  pub makes : Makes gives calls (made_of (turns_of steps)) calls'
+  pub kept : List ℕ
+  pub paces : Paces [] steps kept
+  pub stop : Option Stop
+  pub stopped : stops_of steps ≡ option_to_list stop
+  pub session : IsSession table settings world (heard_of steps) stop (turns_of steps) world' end

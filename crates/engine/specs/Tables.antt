@@ -1,0 +1,40 @@
+-- A table by its steps, and what a session knows of its insides: how it stands between two requests, and the path of a ticket.
+use Rattle.std.specs.Prelude.{ℕ, ◌≡◌, Bool, List, [], ◌∷◌, None}
+use Rattle.flights.specs.declared.data.Want.{Want}
+use Rattle.paths.specs.Fronts.{Names}
+use Rattle.steps.specs.Answers.{Claim, Answer, Settlement}
+use Rattle.steps.specs.Steps.{Begins, Finishes, Settles, Forgets}
+use Rattle.steps.specs.World.{World}
+use Rattle.steps.specs.declared.data.Begin.{Begin}
+use Rattle.steps.specs.declared.data.Outcome.{Outcome}
+
+-- a table whose states are the elements of W
+pub record Table (W : Type 0) : Type 1 where
+  pub begins : W → (unique : ℕ) → Want → Begin → W → Type 0
+  pub finishes : W → (id : ℕ) → Outcome → Answer → W → Type 0
+  pub settles : W → Answer → (taken : Bool) → W → Type 0
+  pub forgets : W → (number n : ℕ) → W → Type 0
+  -- no request is in flight
+  pub is_idle : W → Type 0
+
+abbrev pub IsIdle : World → Type 0
+IsIdle w = (id : ℕ) → w.flights id ≡ None
+
+-- the table that is served
+abbrev pub worlds : Table World
+worlds = record {
+  begins = Begins;
+  finishes = Finishes;
+  settles = λ old answer taken new. (settled : Settlement) × Settles old answer taken settled new;
+  forgets = λ old number n new. (amount : ℕ) × Forgets old number n amount new;
+  is_idle = IsIdle;
+}
+
+-- the first of some paths; the root's where there is none
+abbrev pub first_of : List Names → Names
+first_of [] = []
+first_of (path ∷ paths) = path
+
+-- the path that a ticket is about
+abbrev pub path_of : Claim → Names
+path_of ticket = first_of ticket.paths

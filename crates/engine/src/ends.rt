@@ -1,0 +1,14 @@
+//! How sessions end.
+
+/// How a session ended.
+#[derive(Clone, Copy, Debug, PartialEq, Eq)]
+pub enum SessionEnd {
+    /// The input ended. So many bytes of it were no whole frame.
+    Closed { rest: usize },
+    /// A frame begins with a length that no frame has.
+    BadLength { len: u32 },
+    /// The link failed.
+    LinkBroken,
+    /// Memory was refused where no request could be told so.
+    Memory,
+}

@@ -1,0 +1,65 @@
+//! What a session reads from and writes to.
+
+ghost use Rattle.std.specs.Prelude.{◌≡◌, ℕ, List, length};
+ghost use Rattle.engine.specs.Links.{counted, heard, lost, missed, Heard, IsWithin};
+ghost use Rattle.engine.specs.declared.links.Sent.{Sent};
+
+/// What a link gave.
+#[derive(Clone, Copy, Debug, PartialEq, Eq)]
+pub enum Received {
+    /// So many bytes, at the front of the room for them. More may come.
+    Bytes(usize),
+    /// There is no more.
+    End,
+    /// The link failed, for good.
+    Broken,
+}
+
+/// What became of a reply.
+#[derive(Clone, Copy, Debug, PartialEq, Eq)]
+pub enum Sent {
+    /// The client has it.
+    Taken,
+    /// The client does not want it any more. Others may be sent.
+    Untaken,
+    /// The link failed, for good.
+    Broken,
+}
+
+/// A stream of bytes from a client.
+pub trait LinkIn {
+    /// What a receive may bring, and what the link is then.
+    ghost receives: { Self → Heard → Self → Type 0 };
+
+    /// How many of its calls have failed.
+    ghost failed_receives: { Self → ℕ };
+
+    /// A receive is broken only where it is counted as a failure.
+    ghost counts_receives: { (old new : Self) (brought : Heard) → receives old brought new → failed_receives new ≡ counted (failed_receives old) (lost brought) };
+
+    /// Reads what comes next, as much as the room takes.
+    fn receive(&mut self, room: &mut [u8]) -> Received
+        ensures within { IsWithin result (length room.new) }
+        ensures brought { receives self.old (heard result room.new) self.new };
+}
+
+/// The way back to a client, for replies.
+pub trait LinkOut {
+    /// What may be answered to which reply, and what the link is then.
+    ghost sends: { Self → List ℕ → Sent → Self → Type 0 };
+
+    /// How many of its calls have failed.
+    ghost failed_sends: { Self → ℕ };
+
+    /// A reply is not taken only where that is counted as a failure.
+    ghost counts_sends: { (old new : Self) (bytes : List ℕ) (sent : Sent) → sends old bytes sent new → failed_sends new ≡ counted (failed_sends old) (missed sent) };
+
+    /// Offers one reply.
+    fn send(&mut self, frame: &[u8]) -> Sent
+        ensures { sends self.old frame.now result self.new };
+}
+
+/// A stream of bytes from a client, and the way back for replies, with one count of failures.
+pub trait Link: LinkIn + LinkOut {
+    ghost one_count: { (link : Self) → Self.failed_receives link ≡ Self.failed_sends link };
+}

@@ -1,0 +1,108 @@
+//! A whole session on one thread.
+
+ghost use Rattle.std.specs.Prelude.{◌≡◌, None, IfNone};
+ghost use Rattle.steps.specs.Kept.{world_of};
+ghost use Rattle.engine.specs.Reference.{ending};
+ghost use Rattle.engine.specs.Serving.{IsSessionRun};
+ghost use Rattle.engine.specs.Tables.{worlds, IsIdle};
+ghost use Rattle.engine.specs.Walks.{side, Drains};
+
+use crate::ends::SessionEnd;
+use crate::links::{Link, Received, Sent};
+use crate::replies::Settings;
+use crate::session::Desk;
+use backing::Calls;
+use ledger::{Ledgers, Share};
+use std::alloc::Global;
+use std::sync::Wait;
+use table::Table;
+use wire::{CutFault, Cutter};
+
+/// How many bytes are asked of a link at a time.
+const ROOM: usize = 4096;
+
+/// How a session has ended with a reply, if it has.
+fn ending(sent: Option<Sent>) -> Option<SessionEnd>
+    ensures { result ≡ ending sent }
+{
+    match sent {
+        Some(Sent::Broken) => Some(SessionEnd::LinkBroken),
+        Some(Sent::Taken | Sent::Untaken) | None => None,
+    }
+}
+
+/// Works off the frames that are there whole. Some end says that the session is over.
+fn drain<T: Ledgers, L: Link, C: Calls>(
+    desk: &mut Desk,
+    link: &mut L,
+    calls: &mut C,
+    table: &mut Table<T>,
+    share: &mut Share<T>,
+    cutter: &mut Cutter,
+) -> Option<SessionEnd>
+    requires idle { IsIdle (world_of table.old) }
+    ensures drains { Drains worlds desk.old.settings L.receives L.sends C.gives
+        (side link.old calls.old (world_of table.old) cutter.old.kept) link.new calls.new (world_of table.new) cutter.new.kept result }
+    ensures on { IfNone result (cutter.new.stopped ≡ cutter.old.stopped) }
+    ensures idle { IsIdle (world_of table.new) }
+    ensures settings { desk.new.settings ≡ desk.old.settings }
+{
+    loop {
+        match cutter.next() {
+            Ok(None) => return None,
+            Ok(Some(frame)) => {
+                match ending(desk.work_off(link, calls, table, share, &frame)) {
+                    None => {}
+                    Some(end) => return Some(end),
+                }
+            }
+            Err(CutFault::BadLength { len }) => return Some(SessionEnd::BadLength { len }),
+            Err(CutFault::Memory) => return Some(SessionEnd::Memory),
+        }
+    }
+}
+
+/// Serves a client on one thread until its session ends. The share counts the postings. No request may be in flight in the
+/// table. It may wait for the link.
+pub fn serve<H: Wait, T: Ledgers, L: Link, C: Calls>(
+    rt: &H,
+    alloc: Global,
+    link: &mut L,
+    calls: &mut C,
+    table: &mut Table<T>,
+    share: &mut Share<T>,
+    settings: Settings,
+) -> SessionEnd
+    requires fresh { IsIdle (world_of table.old) }
+    ensures serves { IsSessionRun worlds settings L.receives L.sends C.gives
+        link.old calls.old (world_of table.old) link.new calls.new (world_of table.new) result }
+{
+    let mut desk = Desk {
+        alloc,
+        settings,
+        buffer: Vec::new(alloc),
+    };
+    let mut cutter = Cutter::new(alloc);
+    let mut room = [0; ROOM];
+    for _ in rt.forever() {
+        let count = match link.receive(&mut room) {
+            Received::Bytes(count) => count,
+            Received::End => {
+                return SessionEnd::Closed {
+                    rest: cutter.rest(),
+                };
+            }
+            Received::Broken => return SessionEnd::LinkBroken,
+        };
+        match cutter.feed(&room[..count]) {
+            Ok(()) => {}
+            // It has met no bad length yet.
+            Err(_) => return SessionEnd::Memory,
+        }
+        match drain(&mut desk, link, calls, table, share, &mut cutter) {
+            None => {}
+            Some(end) => return end,
+        }
+    }
+    unreachable!()
+}

@@ -1,0 +1,203 @@
+//! One frame of a session.
+
+ghost use Rattle.std.specs.Prelude.{◌≡◌, ◌≤◌, true, false, [], length, IfNone, IfSome};
+ghost use Rattle.steps.specs.Kept.{world_of};
+ghost use Rattle.wire.specs.Faults.{errno_of};
+ghost use Rattle.wire.specs.Requests.{opcode_in, unique_in, IsFramed};
+ghost use Rattle.wire.specs.Written.{reply_bytes};
+ghost use Rattle.engine.specs.Reference.{is_taken, is_unanswered};
+ghost use Rattle.engine.specs.Replies.{refusal, TakesMemory};
+ghost use Rattle.engine.specs.Tables.{path_of, worlds, IsIdle};
+ghost use Rattle.engine.specs.Walks.{CarriesOut, IsAnswered, Performs, WorkedOff};
+
+use crate::intents::{Intent, intent_of};
+use crate::links::{LinkOut, Sent};
+use crate::replies::{Settings, reply_to};
+use crate::script::{Script, play};
+use backing::Calls;
+use errno::ENOMEM;
+use flights::Want;
+use ledger::{Ledgers, Share};
+use paths::Path;
+use std::alloc::Global;
+use table::{Begin, Table, Ticket};
+use wire::{
+    HEADER_LEN, Reply, ReplyBody, Request, WireFault, decode, encode_reply, error_frame, has_reply,
+    header_of,
+};
+
+/// Whether the client has the reply.
+fn is_taken(sent: Sent) -> bool
+    ensures { result ≡ is_taken sent }
+{
+    match sent {
+        Sent::Taken => true,
+        Sent::Untaken | Sent::Broken => false,
+    }
+}
+
+/// Offers an error. It takes no memory.
+fn refuse<L: LinkOut>(link: &mut L, unique: u64, errno: i32) -> Sent
+    ensures { L.sends link.old (reply_bytes (refusal unique errno)) result link.new }
+{
+    link.send(&error_frame(unique, errno))
+}
+
+/// Answers a faulty frame, unless it is of an opcode that gets no reply.
+fn refuse_frame<L: LinkOut>(link: &mut L, frame: &[u8], fault: WireFault) -> Option<Sent>
+    requires { HEADER_LEN ≤ length frame.now }
+    ensures some { IfSome result (λ sent. (is_unanswered (opcode_in frame.now) ≡ false)
+        × L.sends link.old (reply_bytes (refusal (unique_in frame.now) (errno_of fault))) sent link.new) }
+    ensures none { IfNone result ((is_unanswered (opcode_in frame.now) ≡ true) × (link.new ≡ link.old)) }
+{
+    match header_of(frame) {
+        Some(header) if has_reply(header.opcode) => {
+            Some(refuse(link, header.unique, fault.errno()))
+        }
+        _ => None,
+    }
+}
+
+/// The path that a request is about: the first of its ticket's.
+fn path_of<'a>(ticket: &'a Ticket, root: &'a Path) -> &'a Path
+    requires { root.now ≡ [] }
+    ensures { result.now ≡ path_of ticket.now }
+{
+    match ticket.paths().first() {
+        Some(path) => path,
+        None => root,
+    }
+}
+
+/// What a session works with beside its link, its directory and its table.
+#[derive(Drop)]
+pub(crate) struct Desk {
+    pub alloc: Global,
+    pub settings: Settings,
+    /// The reply that is written.
+    pub buffer: Vec<u8>,
+}
+
+impl Desk {
+    /// Offers a reply. None says that there was no memory for it.
+    fn offer<L: LinkOut>(&mut self, link: &mut L, reply: &Reply) -> Option<Sent>
+        ensures some { IfSome result (λ sent. L.sends link.old (reply_bytes reply.now) sent link.new) }
+        ensures none { IfNone result (TakesMemory reply.now.body × (link.new ≡ link.old)) }
+        ensures settings { self.new.settings ≡ self.old.settings }
+    {
+        if let ReplyBody::Failed { errno } = reply.body {
+            return Some(refuse(link, reply.unique, errno));
+        }
+        self.buffer.clear();
+        match encode_reply(reply, &mut self.buffer) {
+            Ok(()) => Some(link.send(&self.buffer)),
+            Err(_) => None,
+        }
+    }
+
+    /// Answers a request at once: with the reply, or with ENOMEM where there is no memory for it.
+    fn answer<L: LinkOut>(&mut self, link: &mut L, reply: &Reply) -> Sent
+        ensures said { IsAnswered L.sends reply.now link.old result link.new }
+        ensures settings { self.new.settings ≡ self.old.settings }
+    {
+        match self.offer(link, reply) {
+            Some(sent) => sent,
+            None => refuse(link, reply.unique, ENOMEM),
+        }
+    }
+
+    /// Plays the script of a request that has begun, finishes it, answers it and settles it.
+    fn perform<T: Ledgers, L: LinkOut, C: Calls>(
+        &mut self,
+        link: &mut L,
+        calls: &mut C,
+        table: &mut Table<T>,
+        share: &mut Share<T>,
+        request: Request<'_>,
+        ticket: Ticket,
+    ) -> Sent
+        ensures performs { Performs worlds self.old.settings L.sends C.gives request.entry ticket
+            link.old calls.old (world_of table.old) result link.new calls.new (world_of table.new) }
+        ensures settings { self.new.settings ≡ self.old.settings }
+    {
+        let root = Path::new(self.alloc);
+        let mut script = Script::start(request.operation, path_of(&ticket, &root));
+        let found = play(calls, &mut script);
+        let answered = table.finish(share, ticket, found.outcome());
+        let reply = Reply {
+            unique: request.unique,
+            body: reply_to(self.settings, found, &answered),
+        };
+        match self.offer(link, &reply) {
+            Some(sent) => {
+                table.settle(share, answered, is_taken(sent));
+                sent
+            }
+            None => {
+                table.settle(share, answered, false);
+                refuse(link, request.unique, ENOMEM)
+            }
+        }
+    }
+
+    /// Carries a request from begin to settle. No other is in flight.
+    fn carry<T: Ledgers, L: LinkOut, C: Calls>(
+        &mut self,
+        link: &mut L,
+        calls: &mut C,
+        table: &mut Table<T>,
+        share: &mut Share<T>,
+        request: Request<'_>,
+        want: Want,
+    ) -> Sent
+        requires idle { IsIdle (world_of table.old) }
+        ensures carries { CarriesOut worlds self.old.settings L.sends C.gives request.entry want
+            link.old calls.old (world_of table.old) result link.new calls.new (world_of table.new) }
+        ensures idle { IsIdle (world_of table.new) }
+        ensures settings { self.new.settings ≡ self.old.settings }
+    {
+        match table.begin(request.unique, want) {
+            Begin::Go(ticket) => self.perform(link, calls, table, share, request, ticket),
+            Begin::Refused(errno) => {
+                let unique = request.unique;
+                let body = ReplyBody::Failed { errno };
+                self.answer(link, &Reply { unique, body })
+            }
+            Begin::Busy => unreachable!(),
+        }
+    }
+
+    /// Works one frame off. Some tells what became of its reply.
+    pub fn work_off<T: Ledgers, L: LinkOut, C: Calls>(
+        &mut self,
+        link: &mut L,
+        calls: &mut C,
+        table: &mut Table<T>,
+        share: &mut Share<T>,
+        frame: &[u8],
+    ) -> Option<Sent>
+        requires framed { IsFramed frame.now }
+        requires idle { IsIdle (world_of table.old) }
+        ensures worked { WorkedOff worlds self.old.settings L.sends C.gives frame.now
+            link.old calls.old (world_of table.old) result link.new calls.new (world_of table.new) }
+        ensures idle { IsIdle (world_of table.new) }
+        ensures settings { self.new.settings ≡ self.old.settings }
+    {
+        let request = match decode(frame) {
+            Ok(request) => request,
+            Err(fault) => return refuse_frame(link, frame, fault),
+        };
+        match intent_of(self.alloc, &request) {
+            Ok(Intent::Reply(body)) => {
+                let unique = request.unique;
+                Some(self.answer(link, &Reply { unique, body }))
+            }
+            Ok(Intent::Want(want)) => Some(self.carry(link, calls, table, share, request, want)),
+            Ok(Intent::Forget { number, lookups }) => {
+                table.forget(share, number, lookups);
+                None
+            }
+            Err(_) => Some(refuse(link, request.unique, ENOMEM)),
+        }
+    }
+}
