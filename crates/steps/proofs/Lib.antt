@@ -13,3 +13,5 @@ pub mod Backs
 pub mod Viewed
 pub mod Kept
 pub mod Settling
+pub mod Entering
+pub mod Placing

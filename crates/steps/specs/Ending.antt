@@ -14,6 +14,7 @@ use Rattle.wants.specs.Plans.{IsProvided}
 use Rattle.wants.specs.Rows.{Change, Demand, AtName, Location, cuts, moves, stays}
 use Rattle.steps.specs.declared.acts.Change.{Change as Changing}
 use Rattle.steps.specs.declared.acts.Change.TheVariants.{Stays, Cuts, Moves}
+use Rattle.steps.specs.declared.keys.Keys.{Keys}
 use Rattle.steps.specs.declared.state.State.{State}
 use Rattle.steps.specs.Kept.{IsRoomFor, flight_of, flights_in, work_of}
 use Rattle.steps.specs.Laws.{IsPlaced}
@@ -22,9 +23,9 @@ use Rattle.steps.specs.World.{IsReady, World}
 
 -- ---- the acts of a row
 
-abbrev pub keys_in : Option Key → List Key
+abbrev pub keys_in : Option Keys → List Key
 keys_in None = []
-keys_in (Some key) = key ∷ []
+keys_in (Some keys) = keys.key ∷ []
 
 abbrev pub name_at : Key → Location
 name_at key = AtName key.parent key.name
@@ -32,7 +33,7 @@ name_at key = AtName key.parent key.name
 abbrev pub change_in : Changing → Change
 change_in Stays = stays
 change_in (Cuts key) = cuts (name_at key)
-change_in (Moves key target) = moves (name_at key) (name_at target)
+change_in (Moves key target) = moves (name_at key) (name_at target.key)
 
 -- an entry is given for each name
 abbrev pub entering : List Key → Act

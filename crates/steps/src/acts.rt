@@ -1,46 +1,14 @@
 //! What the end of a request's work may do: the names of its row, taken out of its want.
 
-ghost use Rattle.std.specs.Prelude.{◌≡◌, Some};
+ghost use Rattle.std.specs.Prelude.{◌≡◌};
 ghost use Rattle.steps.specs.Ending.{change_in, keys_in};
 ghost use Rattle.wants.specs.Plans.{copied};
 ghost use Rattle.wants.specs.Rows.{Case, row_of};
 
+use crate::keys::Keys;
 use flights::Want;
 use paths::Name;
-use std::marker::Model;
 use tree::Key;
-
-/// The key of a name, twice: a node is put into the tree under two.
-#[derive(Drop)]
-pub(crate) struct Keys {
-    pub(crate) key: Key,
-    pub(crate) copy: Key,
-}
-
-impl Model for Keys {
-    ghost use Rattle.std.specs.Prelude.{◌≡◌};
-
-    ghost Value = { Key };
-
-    ghost view = { λ k. k.key };
-
-    ghost invariant = { λ k. k.copy ≡ k.key };
-}
-
-impl Keys {
-    fn new(parent: u64, name: Name, copy: Option<Name>) -> Keys
-        requires { copy ≡ Some name }
-        ensures { result ≡ record { parent = parent; name = name } }
-    {
-        let Some(copy) = copy else {
-            unreachable!();
-        };
-        Keys {
-            key: Key { parent, name },
-            copy: Key { parent, name: copy },
-        }
-    }
-}
 
 /// What becomes of names once the work is done.
 #[derive(Drop)]

@@ -7,7 +7,7 @@ ghost use Rattle.steps.specs.Entries.{Bears, Enters, EntersAgain};
 ghost use Rattle.steps.specs.Sweeping.{IsEntered, IsOneMore};
 ghost use Rattle.tree.specs.Places.{at_in, IsFree, IsNamed, IsTree, Leads};
 
-use crate::acts::Keys;
+use crate::keys::Keys;
 use flights::{Flights, Given};
 use ledger::{Ledger, Posting};
 use tree::{Key, Tree};
@@ -40,11 +40,11 @@ fn enter_again(
 /// Bears a node at the name, and counts its first entry.
 fn bear(tree: &mut Tree, ledger: &mut Ledger, _flights: &Flights, keys: Keys) -> Given
     requires law { IsLawful (at_in tree.old) ledger.old.made (flying_of _flights.now).pinned }
-    requires free { IsFree (at_in tree.old) keys.parent keys.name }
-    requires above { Leads (at_in tree.old) keys.parent }
+    requires free { IsFree (at_in tree.old) keys.key.parent keys.key.name }
+    requires above { Leads (at_in tree.old) keys.key.parent }
     requires node_room { 0 < tree.old.room }
     requires room { 2 ≤ ledger.old.room }
-    ensures bears { Bears (at_in tree.old) ledger.old.made keys.parent keys.name result (at_in tree.new) ledger.new.made }
+    ensures bears { Bears (at_in tree.old) ledger.old.made keys.key.parent keys.key.name result (at_in tree.new) ledger.new.made }
     ensures law { IsLawful (at_in tree.new) ledger.new.made (flying_of _flights.now).pinned }
     ensures more { IsOneMore 1 tree.old ledger.old tree.new ledger.new }
 {
@@ -61,13 +61,13 @@ fn bear(tree: &mut Tree, ledger: &mut Ledger, _flights: &Flights, keys: Keys) ->
 /// Gives an entry of the name: of the node that stands there, or of one that is born.
 pub(crate) fn enter(tree: &mut Tree, ledger: &mut Ledger, flights: &Flights, keys: Keys) -> Given
     requires law { IsLawful (at_in tree.old) ledger.old.made (flying_of flights.now).pinned }
-    requires above { Leads (at_in tree.old) keys.parent }
-    requires node_room { IsFree (at_in tree.old) keys.parent keys.name → 0 < tree.old.room }
+    requires above { Leads (at_in tree.old) keys.key.parent }
+    requires node_room { IsFree (at_in tree.old) keys.key.parent keys.key.name → 0 < tree.old.room }
     requires room { 2 ≤ ledger.old.room }
     requires short { length ledger.old.made + 1 < 2 ^ 64 }
-    ensures enters { Enters (at_in tree.old) ledger.old.made keys.parent keys.name result (at_in tree.new) ledger.new.made }
+    ensures enters { Enters (at_in tree.old) ledger.old.made keys.key.parent keys.key.name result (at_in tree.new) ledger.new.made }
     ensures law { IsLawful (at_in tree.new) ledger.new.made (flying_of flights.now).pinned }
-    ensures more { IsEntered tree.old ledger.old keys.parent keys.name tree.new ledger.new }
+    ensures more { IsEntered tree.old ledger.old keys.key.parent keys.key.name tree.new ledger.new }
 {
     match tree.find(&keys.key) {
         Some(number) => enter_again(tree, ledger, flights, number, &keys.key),

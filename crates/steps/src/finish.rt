@@ -6,9 +6,10 @@ ghost use Rattle.steps.specs.Kept.{IsKept, flight_of, world_of};
 ghost use Rattle.steps.specs.Steps.{Ends, Finishes, act_of};
 ghost use Rattle.wants.specs.Plans.{row_in};
 
-use crate::acts::{Acts, Change, Keys, acts_of};
+use crate::acts::{Acts, Change, acts_of};
 use crate::data::{Answered, Outcome, Ticket};
 use crate::entries::enter;
+use crate::keys::Keys;
 use crate::places::{cut_at, move_at};
 use crate::state::State;
 use crate::sweep::sweep_cut;

@@ -9,6 +9,7 @@ mod data;
 mod entries;
 mod finish;
 mod forget;
+mod keys;
 mod laws;
 mod places;
 mod settle;

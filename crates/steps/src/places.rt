@@ -6,7 +6,7 @@ ghost use Rattle.steps.specs.Steps.{Cuts, Moves};
 ghost use Rattle.tree.specs.Places.{at_in, IsTree, Leads};
 ghost use Rattle.wants.specs.Asked.{IsRefusedAt};
 
-use crate::acts::Keys;
+use crate::keys::Keys;
 use tree::{Key, Tree};
 
 /// Cuts what stands at the name, with all below it.
@@ -29,10 +29,10 @@ pub(crate) fn cut_at(tree: &mut Tree, key: &Key)
 /// Where nothing stands at the name, what stands at the other is cut alone.
 pub(crate) fn move_at(tree: &mut Tree, key: &Key, target: Keys)
     requires leads { Leads (at_in tree.old) key.now.parent }
-    requires target_leads { Leads (at_in tree.old) target.parent }
-    requires may { (e : ℤ) → IsRefusedAt (at_in tree.old) (name_at key.now) (name_at target) e → ⊥ }
-    ensures moves { Moves (at_in tree.old) (name_at key.now) (name_at target) (at_in tree.new) }
-    ensures children { KeepsChildren (at_in tree.old) (λ n. (n ≡ key.now.parent) ⊎ (n ≡ target.parent)) (at_in tree.new) }
+    requires target_leads { Leads (at_in tree.old) target.key.parent }
+    requires may { (e : ℤ) → IsRefusedAt (at_in tree.old) (name_at key.now) (name_at target.key) e → ⊥ }
+    ensures moves { Moves (at_in tree.old) (name_at key.now) (name_at target.key) (at_in tree.new) }
+    ensures children { KeepsChildren (at_in tree.old) (λ n. (n ≡ key.now.parent) ⊎ (n ≡ target.key.parent)) (at_in tree.new) }
     ensures rest { tree.new ≡ record tree.old { nodes = tree.new.nodes; next = tree.new.next } }
     ensures tree { IsTree (at_in tree.new) }
 {
