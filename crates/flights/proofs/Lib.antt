@@ -1,5 +1,6 @@
 pub mod ById
 pub mod Lookups
+pub mod Summing
 mod InTheWay
 mod Kept
 mod Stepping

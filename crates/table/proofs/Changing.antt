@@ -84,7 +84,7 @@ pub record IsMoved (s : State) (mid : Nodes) : Type 0 where
   pub f : Where → Where
   pub changes : Changes f (at_in s.tree) (at_in mid)
   pub tree : IsTree (at_in mid)
-  pub rest : mid ≡ record s.tree { nodes = mid.nodes }
+  pub rest : mid ≡ record s.tree { nodes = mid.nodes; next = mid.next }
   pub children : KeepsChildren (at_in s.tree) (λ n. (flying_of s.flights).pinned n ≡ true) (at_in mid)
   pub held : KeepsHeld (flying_of s.flights).at (at_in s.tree) (at_in mid)
 
@@ -137,7 +137,7 @@ not_empty (x ∷ p) name e = cc
 
 module _ (s : State) (held : Held) (parent : ℕ) (name : List ℕ) (r : IsRemovable s held parent name) (mid : Nodes)
     (cuts : (up : Names) → IsPathOf (at_in s.tree) parent up → Changes (after_cut (up ++ name ∷ [])) (at_in s.tree) (at_in mid))
-    (children : KeepsChildren (at_in s.tree) (λ n. n ≡ parent) (at_in mid)) (rest : mid ≡ record s.tree { nodes = mid.nodes }) (tree : IsTree (at_in mid)) where
+    (children : KeepsChildren (at_in s.tree) (λ n. n ≡ parent) (at_in mid)) (rest : mid ≡ record s.tree { nodes = mid.nodes; next = mid.next }) (tree : IsTree (at_in mid)) where
   own : Contains held.exclusive (r.holds.above ++ name ∷ [])
   own = subst (λ (ps : List Names). Contains ps (r.holds.above ++ name ∷ [])) (sym r.holds.exclusive) (0, omega arith, refl)
 
@@ -174,7 +174,7 @@ module _ (s : State) (held : Held) (parent : ℕ) (name : List ℕ) (new_parent 
 
   module _ (mid : Nodes)
       (moves : (up new_up : Names) → IsPathOf (at_in s.tree) parent up → IsPathOf (at_in s.tree) new_parent new_up → Changes (after_move (up ++ name ∷ []) (new_up ++ new_name ∷ [])) (at_in s.tree) (at_in mid))
-      (children : KeepsChildren (at_in s.tree) (λ n. (n ≡ parent) ⊎ (n ≡ new_parent)) (at_in mid)) (rest : mid ≡ record s.tree { nodes = mid.nodes }) (tree : IsTree (at_in mid)) where
+      (children : KeepsChildren (at_in s.tree) (λ n. (n ≡ parent) ⊎ (n ≡ new_parent)) (at_in mid)) (rest : mid ≡ record s.tree { nodes = mid.nodes; next = mid.next }) (tree : IsTree (at_in mid)) where
     pub moved_by_move : IsMoved s mid
     moved_by_move =
         let h = may.holds in

@@ -1,6 +1,7 @@
 -- What is exported of a table shows it, and is lawful.
-use Rattle.std.proofs.Common.{ℕ, suc, zero, All, ◌+◌, ◌<◌, ◌≤◌, ◌≡◌, ◌≢◌, ◌==◌, Bool, true, false, cond, List, [], ◌∷◌, ◌++◌, Some, None, MatchOption, AllPairs, length, get_or, take, refl, sym, ap, ◌∙◌, subst, arith}
+use Rattle.std.proofs.Common.{ℕ, suc, zero, All, ◌+◌, ◌<◌, ◌≤◌, ◌≡◌, ◌≢◌, ◌==◌, Bool, true, false, cond, List, [], ◌∷◌, ◌++◌, Some, None, MatchOption, AllPairs, length, get_or, take, refl, sym, ap, ◌∙◌, subst, arith, inl, inr}
 use Rattle.std.specs.List.{AllZip}
+use Rattle.std.proofs.lemmas.Bool.{cases_lt}
 use Rattle.std.proofs.lemmas.List.{take_more}
 use mathlib.Core.Path.{fun_ext}
 use Rattle.ledger.specs.declared.postings.Posting.{Posting}
@@ -63,6 +64,17 @@ records_found (f ∷ fs) (r ∷ rs) id h =
     rw same it
 
 -- the whole list of nodes
+-- numbers that no node bears are passed over
+pub lists_far : (at : Lookup) (a b : ℕ) (xs : List Node) → a ≤ b → ((m : ℕ) → a ≤ m → m < b → at m ≡ None) → ListsBelow at a xs → ListsBelow at b xs
+lists_far at a b xs more none lists = record {
+  distinct = lists.distinct;
+  below = λ n less. elim (cases_lt n a) [
+    | inl within ↦ lists.below n within
+    | inr le ↦ lists.above n le ∙ sym (none n le less)
+  ];
+  above = λ n le. lists.above n (omega arith);
+}
+
 pub nodes_listed : (tree : Nodes) (last : ℕ) (xs : List Node) → ((n : ℕ) → IsAlive (at_in tree) n → n ≤ last) → ListsBelow (at_in tree) (last + 1) xs → node_at xs ≡ at_in tree
 nodes_listed tree last xs all lists = fun_ext (ListsBelow-all (at_in tree) (last + 1) xs (λ n alive. let le = all n alive in omega arith) lists)
 

@@ -1,6 +1,6 @@
 -- Who has a reason to stay after a node was dropped or changed, and what a sweep leaves.
-use Rattle.std.proofs.Common.{ℕ, ◌+◌, ◌≤◌, ◌≡◌, ◌≢◌, Bool, true, List, [], ◌∷◌, Option, Some, None, MatchOption, refl, sym, ap, ◌∙◌, subst, ◌⊎◌, inl, inr, arith}
-use Rattle.std.proofs.lemmas.Bool.{cases_eq, true≢false}
+use Rattle.std.proofs.Common.{ℕ, ◌+◌, ◌≤◌, ◌<◌, ◌≡◌, ◌≢◌, Bool, true, List, [], ◌∷◌, Option, Some, None, MatchOption, refl, sym, ap, ◌∙◌, subst, ◌⊎◌, inl, inr, arith}
+use Rattle.std.proofs.lemmas.Bool.{cases_eq, cases_lt, true≢false}
 use Rattle.std.proofs.lemmas.Option.{none-some, same_Some}
 use Rattle.tree.specs.declared.nodes.Key.{Key}
 use Rattle.tree.specs.declared.nodes.Node.{Node}
@@ -229,5 +229,14 @@ below_dropped at new pinned number x stood place is before = subst (λ a. HaveRe
 })
 
 -- all that live were looked at
+-- numbers that no node bears are passed over
+pub below_far : (at : Lookup) (pinned : ℕ → Bool) (a b : ℕ) → ((m : ℕ) → a ≤ m → m < b → at m ≡ None) → HaveReasonsBelow at pinned a → HaveReasonsBelow at pinned b
+below_far at pinned a b none before = record {
+  reasons = λ n x h not_root low. before.reasons n x h not_root (λ lost. elim (cases_lt n a) [
+    | inl less ↦ less
+    | inr le ↦ absurd (none-some x (sym (none n le (low lost)) ∙ h))
+  ]);
+}
+
 pub below_all : (at : Lookup) (pinned : ℕ → Bool) (last : ℕ) → ((n : ℕ) (x : Node) → at n ≡ Some x → n ≤ last) → HaveReasonsBelow at pinned (last + 1) → HaveReasons at pinned
 below_all at pinned last within before n x h not_root = before.reasons n x h not_root (λ lost. let b = within n x h in omega arith)

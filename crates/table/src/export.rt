@@ -67,12 +67,12 @@ fn copy_nodes(alloc: Global, tree: &Tree) -> Result<Vec<Node>, AllocError>
     ensures distinct { IfOk result (λ xs. IsDistinct xs.items) }
     ensures nodes { IfOk result (λ xs. node_at xs.items ≡ at_in tree.now) }
 {
-    let last = tree.last();
     let mut nodes = Vec::new(alloc);
-    for number in 0..last {
-        add_node(&mut nodes, tree, number)?;
+    let mut number = 0;
+    while let Some(next) = tree.after(number) {
+        add_node(&mut nodes, tree, next)?;
+        number = next;
     }
-    add_node(&mut nodes, tree, last)?;
     Ok(nodes)
 }
 

@@ -34,6 +34,16 @@ without_some at n m x h = elim (cases_eq n m) [
   | inr ne ↦ (ne, sym (without_other at n m ne) ∙ h)
 ]
 
+-- who was not there is not there after a removal, or a write of another
+pub none_without : (at : Lookup) (n m : ℕ) → at m ≡ None → without at n m ≡ None
+none_without at n m none = elim (cases_eq n m) [
+  | inl e ↦ subst (λ k. without at n k ≡ None) e (without_same at n)
+  | inr ne ↦ without_other at n m ne ∙ none
+]
+
+pub none_with : (at : Lookup) (n : ℕ) (y : Node) (m : ℕ) → (n ≡ m → ⊥) → at m ≡ None → with_node at n y m ≡ None
+none_with at n y m ne none = with_other at n y m ne ∙ none
+
 -- who stands after a write is the written one, or stood before
 pub with_some : (at : Lookup) (n : ℕ) (y : Node) (m : ℕ) (x : Node) → with_node at n y m ≡ Some x → ((n ≡ m) × (y ≡ x)) ⊎ ((n ≡ m → ⊥) × (at m ≡ Some x))
 with_some at n y m x h = elim (cases_eq n m) [

@@ -8,8 +8,8 @@ use Rattle.paths.proofs.FrontLemmas.{is_front-more, is_front-append}
 use Rattle.tree.specs.declared.nodes.Node.{Node}
 use Rattle.tree.specs.declared.nodes.Place.{Place}
 use Rattle.tree.specs.declared.nodes.Place.TheVariants.{Root, Named, Cut}
-use Rattle.tree.specs.Places.{Lookup, without, IsAlive, IsNamed, IsCut, IsFree, IsPathOf, Reaches, Climbs, IsBelow, HasChild, IsTree}
-use Rattle.tree.specs.Moves.{Where, at_path, cut, Stands, IsChanged, stays, is_moved, is_cut, moved_node, cut_node, Changes, after_cut, after_move, IsBorn, CutsBelow, CanRelink, Moves}
+use Rattle.tree.specs.Places.{Lookup, Nodes, at_in, with_node, without, IsAlive, IsNamed, IsCut, IsFree, IsPathOf, Reaches, Climbs, IsBelow, HasChild, IsTree}
+use Rattle.tree.specs.Moves.{Where, at_path, cut, Stands, IsChanged, stays, is_moved, is_cut, moved_node, cut_node, Changes, after_cut, after_move, IsBorn, Cuts, CutsBelow, CanRelink, Moves}
 use Rattle.tree.proofs.LookupLemmas.{cases_option, with_same, with_other, without_some, without_other}
 use Rattle.tree.proofs.Climbing.{place_same, named_same, cut_unnamed, climbs_same, climbs_alive, path_same, path_once, path_under, named_at, reaches_join, reaches_split, climbs_once}
 
@@ -195,6 +195,18 @@ child_before_cut old new n c m child = elim (c.each child.0) [
   | inr lost ↦ absurd (cut_unnamed new child.0 (cut_node lost.1.0) lost.1.2 refl m child.1 child.2)
 ]
 
+-- what a cut and a move do, at any paths of their nodes
+pub cuts_at : (old new : Nodes) (n : ℕ) → IsTree (at_in old) → Cuts old n new → (p : Names) → IsPathOf (at_in old) n p → Changes (after_cut p) (at_in old) (at_in new)
+cuts_at old new n tree cuts p h =
+    subst (λ (q : Names). Changes (after_cut q) (at_in old) (at_in new)) (path_same (at_in old) tree.rooted cuts.path p n cuts.leads h) cuts.changes
+
+pub moves_at : (old new : Lookup) (n parent : ℕ) (name : Name) → IsTree old → Moves old new n parent name → (p up : Names) → IsPathOf old n p → IsPathOf old parent up → Changes (after_move p (up ++ name ∷ [])) old new
+moves_at old new n parent name tree moves p up h h' =
+    let one = path_same old tree.rooted moves.path p n moves.leads h in
+    let two = path_same old tree.rooted moves.above up parent moves.parent_leads h' in
+    subst (λ (q : Names). Changes (after_move q (up ++ name ∷ [])) old new) one
+    (subst (λ (q : Names). Changes (after_move moves.path (q ++ name ∷ [])) old new) two moves.changes)
+
 -- a relink, node by node
 module _ (old new : Lookup) (tree : IsTree old) (n parent : ℕ) (name : Name) (can : CanRelink old n parent name) (moves : Moves old new n parent name) where
   target_apart : (t : ℕ) → IsNamed old t parent name → (t ≡ n → ⊥) → IsBelow old t n → ⊥
@@ -205,21 +217,24 @@ module _ (old new : Lookup) (tree : IsTree old) (n parent : ℕ) (name : Name) (
 
   freed_stays : (x : Node) → old n ≡ Some x → moves.freed n ≡ Some x
   freed_stays x alive = elim moves.frees [
-    | inl same ↦ ap (λ (at : Lookup). at n) same ∙ alive
+    | inl (alone, same) ↦ ap (λ (at : Lookup). at n) same ∙ alive
     | inr (t, named, other, cuts) ↦ elim (cuts.each n) [
       | inl same ↦ same ∙ alive
       | inr lost ↦ absurd (target_apart t named other lost.0)
     ]
   ]
 
+  named_now : (x : Node) → old n ≡ Some x → new ≡ with_node moves.freed n (moved_node x parent name)
+  named_now x alive =
+      moves.named ∙ ap (λ (w : Node). with_node moves.freed n (moved_node w parent name)) (same_Some moves.node x (sym moves.stood ∙ freed_stays x alive))
+
   -- the node stands at the name
   pub relinked_node : (x : Node) → old n ≡ Some x → new n ≡ Some (moved_node x parent name)
-  relinked_node x alive =
-      ap (λ (at : Lookup). at n) (moves.named x (freed_stays x alive)) ∙ with_same moves.freed n (moved_node x parent name)
+  relinked_node x alive = ap (λ (at : Lookup). at n) (named_now x alive) ∙ with_same moves.freed n (moved_node x parent name)
 
   relinked_else : (x : Node) → old n ≡ Some x → (m : ℕ) → (n ≡ m → ⊥) → new m ≡ moves.freed m
   relinked_else x alive m ne =
-      ap (λ (at : Lookup). at m) (moves.named x (freed_stays x alive)) ∙ with_other moves.freed n (moved_node x parent name) m ne
+      ap (λ (at : Lookup). at m) (named_now x alive) ∙ with_other moves.freed n (moved_node x parent name) m ne
 
   -- each other node is as it was, or is cut
   pub relinked_others : (m : ℕ) → (n ≡ m → ⊥) → (new m ≡ old m) ⊎ ((x : Node) × (old m ≡ Some x) × (new m ≡ Some (cut_node x)))
@@ -227,7 +242,7 @@ module _ (old new : Lookup) (tree : IsTree old) (n parent : ℕ) (name : Name) (
       let it = climbs_alive old tree.rooted (reverse can.path) n can.leads in
       let else_same = relinked_else it.0 it.1 m ne in
       elim moves.frees [
-        | inl same ↦ inl (else_same ∙ ap (λ (at : Lookup). at m) same)
+        | inl (alone, same) ↦ inl (else_same ∙ ap (λ (at : Lookup). at m) same)
         | inr (t, named, other, cuts) ↦ elim (cuts.each m) [
           | inl same ↦ inl (else_same ∙ same)
           | inr lost ↦ inr (lost.1.0, lost.1.1, else_same ∙ lost.1.2)
@@ -245,7 +260,7 @@ module _ (old new : Lookup) (tree : IsTree old) (n parent : ℕ) (name : Name) (
       let it = climbs_alive old tree.rooted (reverse can.path) n can.leads in
       let else_same = relinked_else it.0 it.1 c ne in
       elim moves.frees [
-        | inl same ↦ inl (c, called, (h.0, else_same ∙ (ap (λ (at : Lookup). at c) same ∙ h.1), h.2))
+        | inl (alone, same) ↦ inl (c, called, (h.0, else_same ∙ (ap (λ (at : Lookup). at c) same ∙ h.1), h.2))
         | inr (t, named, other, cuts) ↦ elim (cuts.each c) [
           | inl same ↦ inl (c, called, (h.0, else_same ∙ (same ∙ h.1), h.2))
           | inr lost ↦ elim (below_or_parent old t c m called h lost.0.names lost.0.climb) [

@@ -1,13 +1,13 @@
 -- A node is rewritten, and keeps its number, generation and place.
 use Rattle.std.proofs.Common.{reverse, ℕ, ◌≡◌, ◌<◌, List, [], ◌∷◌, Some, length, get_or, set, slice_get, sym, ap, ◌∙◌, subst, inl, inr}
 use Rattle.std.proofs.lemmas.Bool.{cases_eq}
-use Rattle.std.proofs.lemmas.Option.{same_Some}
+use Rattle.std.proofs.lemmas.Option.{none-some, same_Some}
 use Rattle.paths.specs.Fronts.{Name, Names}
 use Rattle.tree.specs.declared.nodes.Node.{Node}
 use Rattle.tree.specs.Moves.{Where, at_path, cut, Stands}
 use Rattle.tree.specs.Places.{Lookup, with_node, IsNamed, Reaches, IsTree}
 use Rattle.tree.specs.Listed.{node_at, IsGrown}
-use Rattle.tree.proofs.LookupLemmas.{with_other, with_same, with_some, written, IsDistinct-written}
+use Rattle.tree.proofs.LookupLemmas.{none_with, with_other, with_same, with_some, written, IsDistinct-written}
 
 -- y stands where x stands
 pub record IsSamePlace (x y : Node) : Type 0 where
@@ -86,5 +86,8 @@ pub IsGrown-written : (f : Node → Node) → ((x : Node) → IsSamePlace x (f x
     → ((d : Node) → ys ≡ set xs i (f (get_or xs i d))) → (x : Node) → node_at xs n ≡ Some x → IsGrown ys
 IsGrown-written f keeps xs ys i n grown within found wrote x stood = record {
   distinct = IsDistinct-written f (λ z. (keeps z).number) xs ys i x grown.distinct within wrote;
+  positive =
+      let other : n ≡ 0 → ⊥ = λ e. none-some x (sym grown.positive ∙ (ap (node_at xs) (sym e) ∙ stood)) in
+      ap (λ (at : Lookup). at 0) (written f (λ z. (keeps z).number) xs ys i n grown.distinct within found wrote x stood) ∙ none_with (node_at xs) n (f x) 0 other grown.positive;
   tree = subst IsTree (sym (written f (λ z. (keeps z).number) xs ys i n grown.distinct within found wrote x stood)) (IsTree-write (node_at xs) n x (f x) stood (keeps x) grown.tree);
 }

@@ -1,5 +1,5 @@
 -- Nodes that stand in a list, in any order.
-use Rattle.std.specs.Prelude.{ℕ, ◌≡◌, ◌≤◌, ◌+◌, ◌<◌, ◌==◌, if◌then◌else◌, List, [], ◌∷◌, ◌++◌, Some, None, length, reverse, sum_by, slice_index_or, ◌⊎◌}
+use Rattle.std.specs.Prelude.{ℕ, zero, suc, is_none, ◌≡◌, ◌≤◌, ◌+◌, ◌<◌, ◌==◌, if◌then◌else◌, List, [], ◌∷◌, ◌++◌, Some, None, length, reverse, sum_by, slice_index_or, ◌⊎◌}
 use Rattle.std.specs.Ordering.{nat_cmp}
 use Rattle.std.specs.FinMap as map
 use Rattle.paths.specs.Fronts.{Name, Names, path_bytes}
@@ -22,7 +22,24 @@ IsDistinct (x ∷ xs) = (node_at xs x.number ≡ None) × IsDistinct xs
 -- the law of a list of nodes
 pub record IsGrown (xs : List Node) : Type 0 where
   pub distinct : IsDistinct xs
+  -- 0 is no node's number
+  pub positive : node_at xs 0 ≡ None
   pub tree : IsTree (node_at xs)
+
+-- the first number from n on that no node bears, or the last of so many and one
+abbrev pub free_from : List Node → ℕ → ℕ → ℕ
+free_from xs zero n = n
+free_from xs (suc more) n = if is_none (node_at xs n) then n else free_from xs more (n + 1)
+
+-- the least number above 0 that no node bears
+unfoldable pub next_of : List Node → ℕ
+next_of xs = free_from xs (length xs) 1
+
+-- the number is above 0, no node bears it, and nodes bear all between
+pub record IsLeastFree (xs : List Node) (n : ℕ) : Type 0 where
+  pub positive : 0 < n
+  pub free : node_at xs n ≡ None
+  pub taken : (k : ℕ) → 0 < k → k < n → node_at xs k ≡ None → ⊥
 
 -- the law of a tree that stands in a list
 pub record IsKept (xs : List Node) (living limit : ℕ) : Type 0 where

@@ -4,10 +4,10 @@ ghost use Rattle.std.specs.Prelude.{true, false, ◌≡◌, ◌≢◌, ◌<◌, 
 ghost use Rattle.tree.specs.declared.nodes.Node.{Node};
 ghost use Rattle.tree.specs.declared.nodes.Place.TheVariants as Place;
 ghost use Rattle.tree.specs.Places.{IsAlive, IsRooted, IsNamed, IsPathOf, HasChild, IsFree, Leads, with_node, without, born_node};
-ghost use Rattle.tree.specs.Listed.{node_at, IsDistinct, IsGrown, IsStray, IsSettled, counts_of};
+ghost use Rattle.tree.specs.Listed.{node_at, IsDistinct, IsGrown, IsLeastFree, IsStray, IsSettled, counts_of};
 ghost use Rattle.tree.specs.Moves.{IsBorn, CutsBelow, CanRelink, IsFreed, Moves, moved_node, cut_node};
 
-use crate::lookups::{climbs_to, find_in, index_of};
+use crate::lookups::{climbs_to, find_in, index_of, least_free};
 use crate::nodes::{Key, Node, Place};
 
 /// Cuts the node of that index.
@@ -152,19 +152,20 @@ pub(crate) fn drop_number(nodes: &mut Vec<Node>, number: u64)
     }
 }
 
-/// A node is born at the key's place.
-pub(crate) fn bear(nodes: &mut Vec<Node>, number: u64, generation: u64, key: Key)
+/// A node is born at the key's place, under the least number that is free, which is the result.
+pub(crate) fn bear(nodes: &mut Vec<Node>, generation: u64, key: Key) -> u64
     requires grown { IsGrown nodes.old.items }
-    requires fresh { node_at nodes.old.items number ≡ None }
     requires free { IsFree (node_at nodes.old.items) key.parent key.name }
     requires above { Leads (node_at nodes.old.items) key.parent }
     requires room { vec_len nodes.old < vec_capacity nodes.old }
+    ensures least { IsLeastFree nodes.old.items result }
     ensures grown { IsGrown nodes.new.items }
-    ensures nodes { node_at nodes.new.items ≡ with_node (node_at nodes.old.items) number (born_node number generation key.parent key.name) }
+    ensures nodes { node_at nodes.new.items ≡ with_node (node_at nodes.old.items) result (born_node result generation key.parent key.name) }
     ensures counts { counts_of nodes.new.items ≡ counts_of nodes.old.items }
     ensures len { vec_len nodes.new ≡ vec_len nodes.old + 1 }
     ensures capacity { vec_capacity nodes.new ≡ vec_capacity nodes.old }
 {
+    let number = least_free(nodes.as_slice());
     nodes.push_reserved(Node {
         number,
         generation,
@@ -172,6 +173,7 @@ pub(crate) fn bear(nodes: &mut Vec<Node>, number: u64, generation: u64, key: Key
         count: 0,
         hidden: false,
     });
+    number
 }
 
 /// Gives the node of that number another lookup count.

@@ -3,8 +3,8 @@
 ghost use Rattle.std.specs.Prelude.{true, false, ◌≡◌, ◌≢◌, ◌<◌, ◌≤◌, ◌+◌, ◌^◌, ◌↔◌, ℕ, List, [], ◌∷◌, ◌++◌, None, IfNone, IfSome, IfOk, IfErr, OnOk, IsTrue, length, slice_get, vec_len};
 ghost use Rattle.paths.specs.Fronts.{Names, path_bytes};
 ghost use Rattle.tree.specs.declared.nodes.Place.TheVariants as Place;
-ghost use Rattle.tree.specs.Places.{IsAlive, IsNamed, Reaches, IsBelow, Leads, HasChild, IsFree};
-ghost use Rattle.tree.specs.Listed.{node_at, IsDistinct, IsGrown, IsClimbed, IsClimbFault, IsNameTooLong};
+ghost use Rattle.tree.specs.Places.{IsAlive, IsNextAlive, IsNamed, Reaches, IsBelow, Leads, HasChild, IsFree};
+ghost use Rattle.tree.specs.Listed.{node_at, IsDistinct, IsGrown, IsLeastFree, IsClimbed, IsClimbFault, IsNameTooLong};
 ghost use Rattle.tree.specs.Moves.{IsFault};
 
 use crate::nodes::{Key, Node, Place, TreeFault};
@@ -110,25 +110,26 @@ pub(crate) fn has_child_in(nodes: &[Node], number: u64) -> bool
     false
 }
 
-/// No node of the list bears a greater number.
-pub(crate) fn last_in(nodes: &[Node]) -> u64
-    ensures { (n : ℕ) → IsAlive (node_at nodes.now) n → n ≤ result }
+/// The least number above that one that a node of the list bears.
+pub(crate) fn next_alive(nodes: &[Node], number: u64) -> Option<u64>
+    requires { IsDistinct nodes.now }
+    ensures none { IfNone result ((n : ℕ) → IsAlive (node_at nodes.now) n → n ≤ number) }
+    ensures some { IfSome result (IsNextAlive (node_at nodes.now) number) }
 {
-    let mut last = 0;
+    let mut next = None;
     for node in nodes {
-        if last < node.number {
-            last = node.number;
+        if number < node.number {
+            next = Some(next.unwrap_or(node.number).min(node.number));
         }
     }
-    last
+    next
 }
 
 /// The least number from 1 on that no node bears.
 pub(crate) fn least_free(nodes: &[Node]) -> u64
     requires distinct { IsDistinct nodes.now }
     requires short { length nodes.now + 2 < 2 ^ 64 }
-    ensures free { node_at nodes.now result ≡ None }
-    ensures positive { 0 < result }
+    ensures { IsLeastFree nodes.now result }
 {
     let mut number = 1;
     while let Some(_place) = index_of(nodes, number) {

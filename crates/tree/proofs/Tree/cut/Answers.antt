@@ -4,7 +4,7 @@ use Rattle.tree.specs.Listed.{node_at}
 use Rattle.tree.specs.Moves.{IsFault, CutsBelow}
 use Rattle.tree.proofs.Counting.{look, rest_is}
 use Rattle.std.proofs.lemmas.Result.{err_from_is_err_and}
-use Rattle.tree.proofs.Climbing.{climbs_alive}
+use Rattle.tree.proofs.Climbing.{climbs_alive, path_of_lead}
 use Rattle.tree.proofs.Cutting.{Changes-cut}
 use Rattle.tree.proofs.Tree.cut.Goals as goal
 
@@ -31,10 +31,12 @@ returns-clause-ok c =
     let was = subst (λ (at : Lookup). CutsBelow at (node_at c.cut_number.new.nodes.items) c.args.number) same c.cut_number.ensures.cuts in
     let below = subst (λ (at : Lookup). CutsBelow (at_in c.args.self.now) at c.args.number) (sym (look c.cut_number.new.nodes.items)) was in
     let tree = subst IsTree same c.self.invariant.grown.tree in
+    let way = path_of_lead (at_in c.args.self.now) c.args.number (subst (λ (at : Lookup). Leads at c.args.number) same leads) in
     record {
-      leads = subst (λ (at : Lookup). Leads at c.args.number) same leads;
+      path = way.0;
+      leads = way.1;
       below = below;
-      changes = λ p h. Changes-cut (at_in c.args.self.now) tree c.args.number c.requires _ below p h;
+      changes = Changes-cut (at_in c.args.self.now) tree c.args.number c.requires _ below way.0 way.1;
       rest = rest_is c.args.self.now _
           (c.cut_number.ensures.len ∙ ap (λ (t : Nodes). t.living) c.self.view_is)
           (c.cut_number.ensures.counts ∙ ap (λ (t : Nodes). t.counts) c.self.view_is)

@@ -1,7 +1,7 @@
 use Rattle.std.proofs.Common.{◌≡◌, arith, sym, ap, ◌∙◌, subst, inl, inr}
 use Rattle.tree.specs.Places.{Lookup, Nodes, at_in, without, IsTree, HasChild}
 use Rattle.tree.specs.Listed.{node_at, counts_of}
-use Rattle.tree.proofs.Counting.{look}
+use Rattle.tree.proofs.Counting.{look, limit_is}
 use Rattle.tree.proofs.LookupLemmas.{cases_option}
 use Rattle.tree.proofs.Tree.drop_node.Goals as goal
 
@@ -24,8 +24,8 @@ returns-clause-drops c =
         | inl none ↦ rw none (c.drop_number.ensures.same (now ∙ none) ∙ living, ap counts_of (c.drop_number.ensures.none (now ∙ none)) ∙ counts)
         | inr (x, stood) ↦ rw stood (c.drop_number.ensures.len x (now ∙ stood) ∙ living, c.drop_number.ensures.counts x (now ∙ stood) ∙ counts)
       ];
-      limit = ap (λ (t : Nodes). t.limit) c.self.view_is;
       room = omega (arith, ap (λ (t : Nodes). t.room) c.self.view_is, c.drop_number.ensures.shrinks, c.drop_number.ensures.capacity);
+      rest = limit_is c.args.self.now _ (ap (λ (t : Nodes). t.limit) c.self.view_is);
     }
 
 pub returns-clause-tree : goal.returns-clause-tree

@@ -30,4 +30,4 @@ returns-clause-tree c =
     subst IsTree same c.self.invariant.grown.tree
 
 pub returns-clause-census : goal.returns-clause-census
-returns-clause-census c = census_in c.self.inside.nodes c.args.self.now _ _ c.self.invariant.grown.distinct c.self.view_is
+returns-clause-census c = census_in c.self.inside.nodes c.args.self.now _ _ _ c.self.invariant.grown.distinct c.self.view_is

@@ -86,13 +86,13 @@ returns-in_err-names-clause-tree c =
     subst IsTree same c.self.invariant.grown.tree
 
 pub returns-in_err-expect_path-clause-census : goal.returns-in_err-expect_path-clause-census
-returns-in_err-expect_path-clause-census c = census_in c.self.inside.nodes c.args.self.now _ _ c.self.invariant.grown.distinct c.self.view_is
+returns-in_err-expect_path-clause-census c = census_in c.self.inside.nodes c.args.self.now _ _ _ c.self.invariant.grown.distinct c.self.view_is
 
 pub returns-in_err-bytes-clause-census : goal.returns-in_err-bytes-clause-census
-returns-in_err-bytes-clause-census c = census_in c.self.inside.nodes c.args.self.now _ _ c.self.invariant.grown.distinct c.self.view_is
+returns-in_err-bytes-clause-census c = census_in c.self.inside.nodes c.args.self.now _ _ _ c.self.invariant.grown.distinct c.self.view_is
 
 pub returns-in_err-names-clause-census : goal.returns-in_err-names-clause-census
-returns-in_err-names-clause-census c = census_in c.self.inside.nodes c.args.self.now _ _ c.self.invariant.grown.distinct c.self.view_is
+returns-in_err-names-clause-census c = census_in c.self.inside.nodes c.args.self.now _ _ _ c.self.invariant.grown.distinct c.self.view_is
 
 pub returns-clause-census : goal.returns-clause-census
-returns-clause-census c = census_in c.self.inside.nodes c.args.self.now _ _ c.self.invariant.grown.distinct c.self.view_is
+returns-clause-census c = census_in c.self.inside.nodes c.args.self.now _ _ _ c.self.invariant.grown.distinct c.self.view_is

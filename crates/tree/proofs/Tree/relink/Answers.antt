@@ -8,7 +8,7 @@ use Rattle.tree.proofs.Tree.relink.Goals as goal
 pub move_number-requires-clause-can : goal.move_number-requires-clause-can
 move_number-requires-clause-can c =
     let same : node_at c.self.inside.nodes.items ≡ at_in c.args.self.now = sym (look c.self.inside.nodes.items) ∙ ap at_in c.self.view_is in
-    subst (λ (at : Lookup). CanRelink at c.args.number c.args.key.parent c.args.key.name) (sym same) c.requires
+    subst (λ (at : Lookup). CanRelink at c.args.number c.args.key.parent c.args.key.name) (sym same) c.requires.can
 
 pub returns-clause-relinks : goal.returns-clause-relinks
 returns-clause-relinks c =

@@ -3,7 +3,7 @@ use Rattle.tree.specs.Listed.{node_at, IsStray, IsSettled}
 use Rattle.tree.specs.Moves.{cut_node}
 use Rattle.tree.proofs.LookupLemmas.{alive_at}
 use Rattle.tree.proofs.Counting.{counts_kept}
-use Rattle.tree.proofs.Cutting.{IsCutUpTo, IsCutUpTo-start, IsRooted-part, IsCutUpTo-kept, IsCutUpTo-cut, CutsBelow-all, IsTree-cut}
+use Rattle.tree.proofs.Cutting.{IsCutUpTo, IsCutUpTo-start, IsRooted-part, IsCutUpTo-kept, IsCutUpTo-cut, CutsBelow-all, IsTree-cut, cut_none}
 use Rattle.tree.proofs.changes.cut_below.Goals as goal
 use Rattle.tree.proofs.changes.cut_below.Goals.{then-is_stray, else-is_stray}
 
@@ -60,5 +60,6 @@ returns-clause-cuts c =
 pub returns-clause-grown : goal.returns-clause-grown
 returns-clause-grown c = record {
   distinct = c.loop-k.invariant.upto.distinct;
+  positive = cut_none (node_at c.args.nodes.now.items) (node_at c.loop-k.nodes.items) c.args._number (returns-clause-cuts c) 0 c.requires.grown.positive;
   tree = IsTree-cut (node_at c.args.nodes.now.items) c.requires.grown.tree c.args._number c.requires.not_root (node_at c.loop-k.nodes.items) (returns-clause-cuts c);
 }

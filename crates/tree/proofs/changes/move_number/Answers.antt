@@ -1,7 +1,9 @@
-use Rattle.std.proofs.Common.{sym, subst}
+use Rattle.std.proofs.Common.{sym, ap, ◌∙◌, subst}
+use Rattle.std.proofs.lemmas.Option.{none-some}
 use Rattle.tree.specs.Places.{Lookup, IsTree}
 use Rattle.tree.specs.Listed.{node_at}
-use Rattle.tree.specs.Moves.{Moves}
+use Rattle.tree.specs.Moves.{Moves, moved_node}
+use Rattle.tree.proofs.LookupLemmas.{none_with}
 use Rattle.tree.proofs.Climbing.{climbs_alive}
 use Rattle.tree.proofs.Moving.{Moves-same, Moves-freed, IsTree-moved}
 use Rattle.tree.proofs.changes.move_number.Goals as goal
@@ -28,5 +30,7 @@ returns-clause-grown c =
     let it = climbs_alive (node_at c.make_free.new.nodes.items) freed.movable.tree.rooted freed.movable.leads.names c.args.number freed.movable.leads.climb in
     record {
       distinct = c.place_number.ensures.distinct;
+      positive = ap (λ (at : Lookup). at 0) (c.place_number.ensures.moved it.0 it.1) ∙ none_with (node_at c.make_free.new.nodes.items) c.args.number (moved_node it.0 c.args.key.parent c.args.key.name) 0
+          (λ e. none-some it.0 (sym c.make_free.ensures.grown.positive ∙ (ap (node_at c.make_free.new.nodes.items) (sym e) ∙ it.1))) c.make_free.ensures.grown.positive;
       tree = subst IsTree (sym (c.place_number.ensures.moved it.0 it.1)) (IsTree-moved (node_at c.make_free.new.nodes.items) c.args.number c.args.key.parent c.args.key.name it.0 it.1 freed.movable);
     }

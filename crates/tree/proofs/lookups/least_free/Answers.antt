@@ -17,3 +17,10 @@ loop-place-preserved c = record {
   positive = omega arith;
   taken = taken_more c.args.nodes.now c.loop-place.number c.loop-place.invariant.taken (taken_here c.args.nodes.now c.in-Some._place c.loop-place.number (search rules) (search rules));
 }
+
+pub returns : goal.returns
+returns c = record {
+  positive = c.loop-place.invariant.positive;
+  free = search rules;
+  taken = c.loop-place.invariant.taken;
+}

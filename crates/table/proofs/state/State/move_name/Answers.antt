@@ -3,8 +3,8 @@ use Rattle.tree.specs.Places.{at_in}
 use Rattle.table.proofs.Changing.{can_move, mid_reasons, moved_by_move, moved_kept}
 use Rattle.table.proofs.state.State.move_name.Goals as goal
 
-pub move_at-requires : goal.move_at-requires
-move_at-requires c = can_move c.args.self.now c.args._held.now c.args.key.now.parent c.args.key.now.name c.args.target.parent c.args.target.name c.requires.may
+pub move_at-requires-clause-can : goal.move_at-requires-clause-can
+move_at-requires-clause-can c = can_move c.args.self.now c.args._held.now c.args.key.now.parent c.args.key.now.name c.args.target.parent c.args.target.name c.requires.may
 
 pub sweep_cut-requires-clause-below : goal.sweep_cut-requires-clause-below
 sweep_cut-requires-clause-below c =
