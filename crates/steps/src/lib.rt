@@ -3,10 +3,15 @@
 //! Each call on the parts is one atomic step, and keeps what holds of them.
 #![tactic(auto)]
 
+mod acts;
 mod begin;
 mod data;
+mod entries;
+mod finish;
 mod forget;
+mod keys;
 mod laws;
+mod places;
 mod settle;
 mod state;
 mod sweep;
