@@ -20,3 +20,5 @@ pub mod Testing
 pub mod Starting
 pub mod Refusing
 pub mod Reserving
+pub mod Entering
+pub mod Placing
