@@ -1,13 +1,22 @@
-use Rattle.std.proofs.Common.{List, length, sym, ap, ◌∙◌, rules}
+use Rattle.std.proofs.Common.{List, length, sym, subst, ap, ◌∙◌, rules}
 use Rattle.std.proofs.lemmas.List.{length-map}
 use Rattle.std.proofs.lemmas.Result.{err_from_is_err_and}
 use Rattle.paths.specs.Fronts.{Names}
 use Rattle.tree.specs.Places.{at_in}
+use Rattle.wants.specs.declared.refusal.Refusal.{Refusal}
 use Rattle.wants.specs.declared.refusal.Refusal.TheVariants.{Memory}
-use Rattle.wants.specs.Drafts.{IsShortPath, errno_of, location_of, locations_of}
-use Rattle.wants.proofs.Agreeing.{agreed, bad_refused, change_refused, enough_paths}
+use Rattle.wants.specs.Asked.{IsUnsound}
+use Rattle.wants.specs.Drafts.{IsShortPath, demand_of, errno_of, location_of, locations_of}
+use Rattle.wants.proofs.Agreeing.{agreed, bad_refused, change_refused, enough_paths, lost_refused}
 use Rattle.wants.proofs.Members.{zip_length}
 use Rattle.wants.proofs.drafts.terms_of.Goals as goal
+
+pub returns-in_err-expect_rooted-clause-err : goal.returns-in_err-expect_rooted-clause-err
+returns-in_err-expect_rooted-clause-err c =
+    let p = err_from_is_err_and c.from_residual.result c.from_residual.ensures.1 in
+    let row = c.args.row.now in
+    let it = c.in_err-expect_rooted.ensures.err in
+    rw (p.1, p.2) (λ k. subst (λ (r : Refusal). IsUnsound (at_in c.args.tree.now) (demand_of row k) (errno_of r)) (sym it.0) (lost_refused (at_in c.args.tree.now) c.expect_rooted.ensures.tree (locations_of row) row.hold row.enters row.change k it.1))
 
 pub returns-in_err-draft-clause-err : goal.returns-in_err-draft-clause-err
 returns-in_err-draft-clause-err c =
