@@ -15,3 +15,8 @@ pub mod Kept
 pub mod Settling
 pub mod Entering
 pub mod Placing
+pub mod Ends
+pub mod Rooted
+pub mod Giving
+pub mod Changing
+pub mod Answering
