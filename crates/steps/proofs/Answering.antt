@@ -68,17 +68,17 @@ module _ (s : State) (kept : IsKept s) (flights : InFlight) (id : ℕ) (work : R
     counts = kept.counts;
   }
 
-  here_now : (flying_of flights).at id ≡ Some (flying.answered a.flight)
+  pub here_now : (flying_of flights).at id ≡ Some (flying.answered a.flight)
   here_now = ap (λ (at : Recordeds). at id) a.at ∙ cond-true (id == id) (Some (flying.answered a.flight)) ((flying_of s.flights).at id) (eq-eqb id id refl)
 
   was_at_work : IsAtWork (flights_in (flying_of s.flights)) id (flight_of a.flight) (work_of work)
   was_at_work = at_work (flying_of s.flights) id a.flight work a.here a.working
 
-  was_ready : IsReady (at_in s.tree) (flight_of a.flight) (work_of work)
+  pub was_ready : IsReady (at_in s.tree) (flight_of a.flight) (work_of work)
   was_ready = kept.ready id (flight_of a.flight) (work_of work) was_at_work
 
   -- none of the others is in the way of what it held
-  clear : HoldsUp (flights_in (flying_of flights)) work.held → ⊥
+  pub clear : HoldsUp (flights_in (flying_of flights)) work.held → ⊥
   clear up =
       let was = fewer_at_work (flying_of s.flights) (flying_of flights) fewer up.id up.flight up.work up.here in
       let it = recorded_at (flying_of flights) up.id up.flight up.work up.here in

@@ -32,7 +32,7 @@ use Rattle.steps.proofs.Viewed.{are_kept}
 -- ---- rows
 
 -- a name for which an entry may be given is shared
-entries_shared : (want : Want) (c : Case) (key : Key) → Contains (row_of want c).entries key → Contains (row_of want c).shared (name_at key)
+pub entries_shared : (want : Want) (c : Case) (key : Key) → Contains (row_of want c).entries key → Contains (row_of want c).shared (name_at key)
 entries_shared (wants.Node number) c key h = absurd (none_in key h)
 entries_shared (wants.Name parent name) c key h = subst (λ (k : Key). Contains (AtName parent name ∷ []) (name_at k)) (only_in (record { parent = parent; name = name }) key h) (first_in (AtName parent name) [])
 entries_shared (wants.Remove parent name) c key h = absurd (none_in key h)
@@ -60,7 +60,7 @@ given_path at d held holds n given =
     let leads : IsPathOf at it.0.number it.0.path = All-contains (λ (lead : Lead). IsPathOf at lead.number lead.path) held.given it.0 holds.leads it.1 in
     (it.0.path, subst (λ k. IsPathOf at k it.0.path) it.2 leads)
 
-given_leads : (at : Lookup) (d : Demand) (held : Held) → Holds at d held → (n : ℕ) → Contains d.given n → Leads at n
+pub given_leads : (at : Lookup) (d : Demand) (held : Held) → Holds at d held → (n : ℕ) → Contains d.given n → Leads at n
 given_leads at d held holds n given = let up = given_path at d held holds n given in record { names = reverse up.0; climb = up.1 }
 
 -- so the names that change are under nodes that have
@@ -71,7 +71,7 @@ own_leads at d held row holds (moves s t) own = (given_leads at d held holds (ba
 
 -- ---- who shares a path, none holds it alone
 
-unowned : (at : Lookup) (flights : Flights) (d : Demand) (held : Held) (key : Key) → Holds at d held → (HoldsUp flights held → ⊥) → Contains d.shared (name_at key) → IsOwned at flights key → ⊥
+pub unowned : (at : Lookup) (flights : Flights) (d : Demand) (held : Held) (key : Key) → Holds at d held → (HoldsUp flights held → ⊥) → Contains d.shared (name_at key) → IsOwned at flights key → ⊥
 unowned at flights d held key holds clear shared o =
     let some : o.path ≡ [] → ⊥ = λ e. not_empty o.leads.above key.name (sym o.leads.whole ∙ e) in
     let prefix : IsPrefixAt at o.path (name_at key) = record { path = o.path; leads = o.leads; begins = record { some = some; begins = is_front-same o.path } } in
@@ -85,13 +85,13 @@ module _ (s : State) (id : ℕ) (work : RecordedWork) (kept : IsKept s) (e : IsE
   abbrev row : Demand
   row = row_in work
 
-  is_row : IsRow row
+  pub is_row : IsRow row
   is_row = are_rows work.want (case_in work.promise)
 
-  promised : work.promise ≡ promise_of row
+  pub promised : work.promise ≡ promise_of row
   promised = e.provided.promise
 
-  entries_standing : (row.births ≡ length row.entries) ⊎ ((key : Key) → Contains row.entries key → (n : ℕ) × IsNamed (at_in s.tree) n key.parent key.name)
+  pub entries_standing : (row.births ≡ length row.entries) ⊎ ((key : Key) → Contains row.entries key → (n : ℕ) × IsNamed (at_in s.tree) n key.parent key.name)
   entries_standing = elim e.ready.names [
     | inl one ↦ inl one
     | inr all ↦ inr (λ key h. let it = All-contains (IsStanding (at_in s.tree) (flight_of e.flight)) row.entries key all h in (it.number, it.named))
