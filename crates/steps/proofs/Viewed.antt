@@ -68,7 +68,7 @@ pub are_kept : (all : Flying) → IsFlying all → AreKept (flights_in all) all.
 are_kept all flying n = (
   λ h. let it = (flying.pins n).0 h in record { id = it.0; flight = flight_of it.1; here = ap (λ o. option_map flight_of o) it.2; pin = in_any_of it.1.pins.numbers n it.3 },
   λ h. let found = found_in (all.at h.id) h.flight h.here in
-      (flying.pins n).1 (h.id, found.0, found.1, any_of found.0.pins.numbers n (subst (λ (f : Flight). Contains f.pins n) (sym found.2) h.pin))
+      (flying.pins n).1 (h.id, found.0, found.1, any_of found.0.pins.numbers n (subst (λ (f : Flight). Contains f.pins n) (sym found.2) h.pin)),
 )
 
 -- ---- all requests

@@ -17,5 +17,8 @@ mod state;
 mod sweep;
 
 pub use data::{Answered, Begin, Limits, Outcome, Settled, Ticket};
-pub use laws::{acts_are_own, begun_are_ready, ends_are_harmless, entries_are_harmless, ledgers_are_grown, others_are_left, sweeps_are_harmless, tallies_are_fixed};
+pub use laws::{
+    acts_are_own, begun_are_ready, ends_are_harmless, entries_are_harmless, ledgers_are_grown,
+    others_are_left, sweeps_are_harmless, tallies_are_fixed,
+};
 pub use state::State;
