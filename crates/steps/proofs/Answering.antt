@@ -1,7 +1,6 @@
 -- The end of the work on a request: it holds nothing any more, and what it was promised is free for its end.
-use Rattle.std.proofs.Common.{ℕ, ◌+◌, ◌≡◌, ◌==◌, ◌++◌, Bool, true, false, List, [], ◌∷◌, append-nil, Option, Some, None, refl, sym, ap, ◌∙◌, subst, inl, inr, arith}
-use Rattle.std.specs.Prelude.{option_map}
-use Rattle.std.proofs.lemmas.Bool.{cases_eq, cond-true, eq-eqb, true≢false}
+use Rattle.std.proofs.Common.{ℕ, ◌≡◌, ◌==◌, Bool, true, List, [], append-nil, Some, refl, sym, ap, ◌∙◌, subst, inl, inr, arith}
+use Rattle.std.proofs.lemmas.Bool.{cond-true, eq-eqb, true≢false}
 use Rattle.std.proofs.lemmas.Option.{same_Some}
 use Rattle.tree.specs.Places.{at_in}
 use Rattle.flights.specs.declared.data.Flight.{Flight as Recorded}
@@ -15,13 +14,12 @@ use Rattle.steps.specs.declared.data.Outcome.{Outcome}
 use Rattle.steps.specs.declared.state.State.{State}
 use Rattle.steps.specs.Answers.{Answer}
 use Rattle.steps.specs.Ending.{IsEnding}
-use Rattle.steps.specs.Kept.{IsKept, flight_of, flights_in, stage_of, work_of, world_of}
+use Rattle.steps.specs.Kept.{IsKept, flight_of, flights_in, work_of, world_of}
 use Rattle.steps.specs.Steps.{Ends, Finishes, HoldsUp, act_of, answered}
 use Rattle.steps.specs.World.{Answered, AreReady, Flight, Flights, IsAtWork, IsReady, Work, Working, World, with_entry}
 use Rattle.steps.proofs.Ends.{ends_answered}
-use Rattle.steps.proofs.Kept.{held_ready}
 use Rattle.steps.proofs.Lawful.{lawful_pins}
-use Rattle.steps.proofs.Viewed.{IsFewer, at_work, cases_stage, fewer_at_work, fewer_held, fewer_idle, fewer_provided, fewer_ready, flights_with, recorded_at}
+use Rattle.steps.proofs.Viewed.{IsFewer, at_work, fewer_at_work, fewer_held, fewer_idle, fewer_provided, fewer_ready, flights_with, recorded_at}
 
 -- ---- none is worked on
 

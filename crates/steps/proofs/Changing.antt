@@ -1,5 +1,5 @@
 -- What is kept of a table when names are cut or moved, and what nothing keeps any more goes.
-use Rattle.std.proofs.Common.{ℕ, ◌+◌, ◌<◌, ◌≡◌, ◌≢◌, Bool, true, false, List, [], ◌∷◌, ◌++◌, Some, Contains, refl, sym, ap, ◌∙◌, subst, ◌⊎◌, inl, inr, arith}
+use Rattle.std.proofs.Common.{ℕ, ◌+◌, ◌<◌, ◌≡◌, Bool, true, false, List, Some, Contains, refl, sym, ap, ◌∙◌, subst, inl, inr, arith}
 use Rattle.std.proofs.lemmas.Bool.{true≢false}
 use Rattle.std.proofs.lemmas.Option.{same_Some}
 use Rattle.ledger.specs.declared.postings.Posting.{Posting}
@@ -8,11 +8,10 @@ use Rattle.tree.specs.declared.nodes.Key.{Key}
 use Rattle.tree.specs.declared.nodes.Node.{Node}
 use Rattle.tree.specs.declared.nodes.Place.TheVariants as place
 use Rattle.tree.specs.Places.{Lookup, Nodes, at_in, IsTree}
-use Rattle.tree.specs.Moves.{Changes, IsChanged, Stands, Where, after_cut, after_move, is_cut, is_moved, stays}
+use Rattle.tree.specs.Moves.{Changes, IsChanged, Where, after_cut, after_move, is_cut, is_moved, stays}
 use Rattle.tree.proofs.Transfers.{changed_count, changed_generation, changed_mark, changes_alive, changes_back}
 use Rattle.flights.specs.Listed.{flying_of}
 use Rattle.image.specs.Law.{HasReason, HaveReasons}
-use Rattle.wants.specs.Laws.{base_of}
 use Rattle.wants.specs.Rows as rows
 use Rattle.steps.specs.declared.state.State.{State}
 use Rattle.steps.specs.Ending.{ChangesNames, IsUnder, KeepsChildren, MayAlter}
@@ -25,7 +24,6 @@ use Rattle.steps.proofs.Booked.{IsBooked-swept}
 use Rattle.steps.proofs.Guarding.{left_where, path_stays}
 use Rattle.steps.proofs.Kept.{kept_changed, ready_swept}
 use Rattle.steps.proofs.Lawful.{booked_of, lawful_from}
-use Rattle.steps.proofs.Placing.{children_more}
 use Rattle.steps.proofs.Staying.{KeepsPaths}
 use Rattle.steps.proofs.Viewed.{are_kept}
 

@@ -1,6 +1,6 @@
 -- What a request whose work has ended may do: each node that it names has a path, and no other holds its names alone.
-use Rattle.std.proofs.Common.{ℕ, ◌≡◌, ◌++◌, List, [], ◌∷◌, Contains, Some, length, reverse, refl, sym, ap, ◌∙◌, subst, ◌⊎◌, inl, inr}
-use Rattle.std.specs.Prelude.{◌*◌, option_map}
+use Rattle.std.proofs.Common.{ℕ, ◌≡◌, [], ◌∷◌, Contains, length, reverse, sym, ap, ◌∙◌, subst, ◌⊎◌, inl, inr}
+use Rattle.std.specs.Prelude.{option_map}
 use Rattle.std.proofs.lemmas.List.Elements.{All-contains}
 use Rattle.paths.specs.Fronts.{Name, Names}
 use Rattle.paths.proofs.FrontLemmas.{is_front-same}
@@ -17,7 +17,7 @@ use Rattle.tree.specs.Places.{Lookup, IsNamed, IsPathOf, Leads, at_in}
 use Rattle.wants.specs.Asked.{Holds, IsPrefixAt, promise_of}
 use Rattle.wants.specs.Laws.{AreOwn, IsRow, base_of}
 use Rattle.wants.specs.Plans.{row_in}
-use Rattle.wants.specs.Rows.{AtName, AtNode, Case, Change, Demand, Location, case_in, cuts, moves, row_of, stays}
+use Rattle.wants.specs.Rows.{AtName, AtNode, Case, Change, Demand, case_in, cuts, moves, row_of, stays}
 use Rattle.wants.proofs.Members.{any_in, cases_in, first_in, in_map, none_in, only_in}
 use Rattle.wants.proofs.RowLemmas.{are_rows}
 use Rattle.steps.specs.declared.state.State.{State}

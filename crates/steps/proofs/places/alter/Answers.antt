@@ -1,4 +1,4 @@
-use Rattle.std.proofs.Common.{ℕ, ℤ, ◌≡◌, ap, subst, sym}
+use Rattle.std.proofs.Common.{ap, subst, sym}
 use Rattle.tree.specs.Places.{at_in}
 use Rattle.wants.specs.Asked.{IsMisplaced}
 use Rattle.wants.specs.Rows.{Change}

@@ -1,13 +1,13 @@
-use Rattle.std.proofs.Common.{◌≡◌, List, [], ◌∷◌, Option, Some, None, false, map, refl, sym, ap, ◌∙◌, subst}
+use Rattle.std.proofs.Common.{◌≡◌, List, false, refl, sym, ap, ◌∙◌, subst}
 use Rattle.std.specs.Prelude.{option_map}
 use Rattle.flights.specs.Listed.{flying_of}
 use Rattle.tree.specs.declared.nodes.Key.{Key}
 use Rattle.wants.specs.Plans.{row_in}
 use Rattle.wants.specs.Rows.{Change, case_in}
 use Rattle.steps.specs.declared.data.Outcome.{Outcome}
-use Rattle.steps.specs.declared.data.Outcome.TheVariants.{Done, Entry, Failed}
+use Rattle.steps.specs.declared.data.Outcome.TheVariants.{Done, Failed}
 use Rattle.steps.specs.Answers.{Answer}
-use Rattle.steps.specs.Ending.{ChangesNames, MayAlter, MayEnter, change_in, entering, keys_in}
+use Rattle.steps.specs.Ending.{ChangesNames, MayAlter, MayEnter, entering, keys_in}
 use Rattle.steps.specs.Kept.{flight_of, stage_of, world_of}
 use Rattle.steps.specs.Steps.{Ends, act_of}
 use Rattle.steps.proofs.Ends.{ends_changed, nothing_changes, nothing_for}

@@ -7,9 +7,6 @@ use Rattle.steps.specs.Answers.{Answer}
 use Rattle.steps.specs.Ending.{MayEnter, entering, keys_in}
 use Rattle.steps.specs.Kept.{flight_of, stage_of, world_of}
 use Rattle.steps.specs.Steps.{Ends}
-use Rattle.steps.specs.World.{World}
-use Rattle.steps.specs.declared.keys.Keys.{Keys}
-use Rattle.steps.specs.declared.state.State.{State}
 use Rattle.std.specs.Prelude.{option_map}
 use Rattle.steps.proofs.Ends.{ends_changed, nothing_changes}
 use Rattle.steps.proofs.Giving.{give_ends, give_kept, room_to_bear}
