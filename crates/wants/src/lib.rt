@@ -32,8 +32,12 @@ pub fn rows_are_grounded()
     ensures { AreRows }
 {}
 
-/// What a request with that want is to be recorded with, if the tests of the nodes alone allow it: that each node it names has a path,
-/// that no path is longer than 4,096 bytes, and that a move leads neither into itself nor onto a folder that it stands in.
+/// What a request with that want is to be recorded with, if the tests of the nodes alone allow it.
+///
+/// The tests come in this order. [`errno::ESTALE`]: a node that the want names is not alive, or is cut; no memory was asked for
+/// until then. [`errno::ENAMETOOLONG`]: a path of the ticket is longer than 4,096 bytes. [`errno::EINVAL`]: a name would be moved
+/// below itself. [`errno::ENOTEMPTY`]: a name would be moved onto a folder that it stands in. [`errno::ENOMEM`] may stand in place
+/// of any but the first, where memory is refused.
 pub fn plan(alloc: Global, tree: &Tree, want: Want) -> Result<Plan, i32>
     ensures ok { IfOk result (IsPlan (at_in tree.now) want) }
     ensures err { IfErr result (IsRefusedPlan (at_in tree.now) want) }
