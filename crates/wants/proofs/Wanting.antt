@@ -1,6 +1,8 @@
 -- What a want's row asks for, and why it is refused.
-use Rattle.std.proofs.Common.{ℕ, ℤ, ◌≡◌, List, [], ◌∷◌, Some, Contains, refl, sym, ap, ◌∙◌, subst, ◌⊎◌, inl, inr}
+use Rattle.std.proofs.Common.{ℕ, ℤ, ◌≡◌, List, [], ◌∷◌, Option, Some, None, Contains, refl, sym, ap, ◌∙◌, subst, ◌⊎◌, inl, inr}
 use Rattle.std.proofs.lemmas.Bool.{cases_Bool, cases_eq, false≢true}
+use Rattle.std.specs.Prelude.{is_some}
+use Rattle.std.proofs.lemmas.Option.{none-some, same_Some}
 use Rattle.paths.specs.Fronts.{Name, Names, is_name}
 use Rattle.paths.proofs.FrontLemmas.{is_name-true, is_name-yes}
 use Rattle.flights.specs.declared.data.Want.{Want}
@@ -40,24 +42,30 @@ named_so (place.Named key) parent name = elim (cases_eq key.parent parent) [
       elsewhere (ap (λ (k : Key). k.parent) same))
 ]
 
-among : (xs : List Node) (parent : ℕ) (name : Name)
-    → ((x : Node) × Contains xs x × (x.place ≡ place.Named (record { parent = parent; name = name }))) ⊎ ((x : Node) → Contains xs x → x.place ≡ place.Named (record { parent = parent; name = name }) → ⊥)
-among [] parent name = inr (λ x h e. none_in x h)
-among (x ∷ xs) parent name = elim (named_so x.place parent name) [
-  | inl here ↦ inl (x, first_in x xs, here)
-  | inr other ↦ elim (among xs parent name) [
-    | inl it ↦ inl (it.0, later_in x xs it.0 it.1, it.2)
-    | inr none ↦ inr (λ y h e. elim (cases_in x xs y h) [ inl same ↦ other (ap (λ (z : Node). z.place) same ∙ e) | inr more ↦ none y more e ])
+named_here : (at : Lookup) (n parent : ℕ) (name : Name) (o : Option Node) → at n ≡ o → IsNamed at n parent name ⊎ (IsNamed at n parent name → ⊥)
+named_here at n parent name None e = inr (λ named. none-some named.0 (sym e ∙ named.1))
+named_here at n parent name (Some x) e = elim (named_so x.place parent name) [
+  | inl here ↦ inl (x, e, here)
+  | inr other ↦ inr (λ named. other (ap (λ (z : Node). z.place) (same_Some x named.0 (sym e ∙ named.1)) ∙ named.2))
+]
+
+among : (at : Lookup) (ns : List ℕ) (parent : ℕ) (name : Name) → ((n : ℕ) × IsNamed at n parent name) ⊎ ((n : ℕ) → Contains ns n → IsNamed at n parent name → ⊥)
+among at [] parent name = inr (λ n h named. none_in n h)
+among at (m ∷ ns) parent name = elim (named_here at m parent name (at m) refl) [
+  | inl here ↦ inl (m, here)
+  | inr other ↦ elim (among at ns parent name) [
+    | inl it ↦ inl it
+    | inr none ↦ inr (λ n h named. elim (cases_in m ns n h) [ inl same ↦ other (subst (λ k. IsNamed at k parent name) (sym same) named) | inr more ↦ none n more named ])
   ]
 ]
 
 named_or_free : (at : Lookup) (living counts : ℕ) → IsTree at → IsCensus at living counts → (parent : ℕ) (name : Name) → ((n : ℕ) × IsNamed at n parent name) ⊎ IsFree at parent name
-named_or_free at living counts tree census parent name = elim (among census.nodes parent name) [
-  | inl it ↦ inl (it.0.number, (it.0, (census.exact it.0).0 it.1, it.2))
-  | inr none ↦ inr (λ n named.
-      let here : at named.0.number ≡ Some named.0 = ap at (tree.numbered n named.0 named.1) ∙ named.1 in
-      none named.0 ((census.exact named.0).1 here) named.2)
-]
+named_or_free at living counts tree census parent name =
+    let sum = census.living_is in
+    elim (among at sum.keys parent name) [
+      | inl it ↦ inl it
+      | inr none ↦ inr (λ n named. none n ((sum.exact n).1 (ap (λ (o : Option Node). is_some o) named.1)) named)
+    ]
 
 -- ---- cases
 

@@ -5,9 +5,16 @@ use Rattle.paths.specs.Fronts.{Names}
 use Rattle.tree.specs.Places.{at_in}
 use Rattle.wants.specs.declared.refusal.Refusal.TheVariants.{Memory}
 use Rattle.wants.specs.Drafts.{IsShortPath, errno_of, location_of, locations_of}
-use Rattle.wants.proofs.Agreeing.{agreed, bad_refused, change_refused, enough_paths}
+use Rattle.wants.proofs.Agreeing.{agreed, bad_refused, change_refused, enough_paths, lost_refused}
 use Rattle.wants.proofs.Members.{zip_length}
 use Rattle.wants.proofs.drafts.terms_of.Goals as goal
+
+pub returns-in_err-expect_rooted-clause-err : goal.returns-in_err-expect_rooted-clause-err
+returns-in_err-expect_rooted-clause-err c =
+    let p = err_from_is_err_and c.from_residual.result c.from_residual.ensures.1 in
+    let row = c.args.row.now in
+    let lost = c.in_err-expect_rooted.ensures.err in
+    rw (p.1, p.2, lost.0) (λ k. lost_refused (at_in c.args.tree.now) c.expect_rooted.ensures.tree (locations_of row) row.hold row.enters row.change k lost.1)
 
 pub returns-in_err-draft-clause-err : goal.returns-in_err-draft-clause-err
 returns-in_err-draft-clause-err c =
