@@ -22,3 +22,8 @@ pub mod Refusing
 pub mod Reserving
 pub mod Entering
 pub mod Placing
+pub mod Ends
+pub mod Rooted
+pub mod Giving
+pub mod Changing
+pub mod Answering

@@ -9,7 +9,7 @@ use Rattle.holds.specs.declared.held.Held.{Held}
 use Rattle.tree.specs.declared.nodes.Key.{Key}
 use Rattle.tree.specs.Places.{Lookup, HasChild, IsCut, IsNamed, Leads, at_in}
 use Rattle.wants.specs.Asked.{Holds, IsMisplaced}
-use Rattle.wants.specs.Laws.{AreOwn, IsRow}
+use Rattle.wants.specs.Laws.{AreOwn, IsRow, base_of}
 use Rattle.wants.specs.Plans.{IsProvided}
 use Rattle.wants.specs.Rows.{Change, Demand, AtName, Location, cuts, moves, stays}
 use Rattle.steps.specs.declared.acts.Change.{Change as Changing}
@@ -79,6 +79,17 @@ pub record MayAlter (s : State) (change : Change) : Type 0 where
   pub not_misplaced : (e : ℤ) → IsMisplaced (at_in s.tree) change e → ⊥
 
 -- ---- what it does
+
+-- the nodes that the names that change are under
+abbrev pub AreUnder : (ℕ → Type 0) → Change → Type 0
+AreUnder P stays = Unit {0}
+AreUnder P (cuts l) = P (base_of l)
+AreUnder P (moves source target) = P (base_of source) × P (base_of target)
+
+abbrev pub IsUnder : Change → ℕ → Type 0
+IsUnder stays n = ⊥
+IsUnder (cuts l) n = n ≡ base_of l
+IsUnder (moves source target) n = (n ≡ base_of source) ⊎ (n ≡ base_of target)
 
 -- names change, and what nothing keeps any more goes
 pub record ChangesNames (old : World) (change : Change) (new : World) : Type 0 where

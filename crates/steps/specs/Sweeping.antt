@@ -69,10 +69,6 @@ pub record IsEntered (old : Nodes) (made : Postings) (parent : ℕ) (name : Name
   pub none : (n : ℕ) → IsNamed (at_in old) n parent name → born ≡ 0
   pub more_is : IsOneMore born old made new more
 
--- who is named so stays named so
-abbrev pub KeepsNames : Lookup → Lookup → Type 0
-KeepsNames old new = (n p : ℕ) (name : Name) → IsNamed old n p name → IsNamed new n p name
-
 -- what is taken back: postings take the place of counts
 pub record IsTakenBack (old : Nodes) (made : Postings) (new : Nodes) (more : Postings) : Type 0 where
   pub living : new.living ≡ old.living

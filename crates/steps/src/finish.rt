@@ -10,7 +10,7 @@ use crate::acts::{Acts, Change, acts_of};
 use crate::data::{Answered, Outcome, Ticket};
 use crate::entries::enter;
 use crate::keys::Keys;
-use crate::places::{cut_at, move_at};
+use crate::places::alter;
 use crate::state::State;
 use crate::sweep::sweep_cut;
 use flights::{Givens, Work};
@@ -62,17 +62,16 @@ impl State {
     }
 
     /// Cuts or moves names, with all below them, and drops what nothing keeps any more.
-    fn alter(&mut self, change: Change)
+    fn change(&mut self, change: Change)
         requires kept { IsKept self.old }
         requires may { MayAlter self.old (change_in change) }
         ensures changes { ChangesNames (world_of self.old) (change_in change) (world_of self.new) }
         ensures kept { IsKept self.new }
     {
-        match change {
-            Change::Stays => return,
-            Change::Cuts(key) => cut_at(&mut self.tree, &key),
-            Change::Moves(key, target) => move_at(&mut self.tree, &key, target),
+        if matches!(change, Change::Stays) {
+            return;
         }
+        alter(&mut self.tree, change);
         sweep_cut(&mut self.tree, &self.flights);
     }
 
@@ -94,7 +93,7 @@ impl State {
         match outcome {
             Outcome::Failed => give_none(id, &entry, answer),
             Outcome::Done => {
-                self.alter(change);
+                self.change(change);
                 give_none(id, &entry, answer)
             }
             Outcome::Entry => self.give(id, entry, answer),

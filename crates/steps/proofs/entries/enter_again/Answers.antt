@@ -1,4 +1,4 @@
-use Rattle.std.proofs.Common.{◌+◌, sym, refl}
+use Rattle.std.proofs.Common.{sym}
 use Rattle.flights.specs.Listed.{flying_of}
 use Rattle.tree.specs.Places.{at_in}
 use Rattle.steps.proofs.Entering.{law_entered}

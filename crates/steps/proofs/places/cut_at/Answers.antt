@@ -1,4 +1,3 @@
-use Rattle.std.proofs.Common.{refl}
 use Rattle.tree.specs.Places.{at_in}
 use Rattle.steps.proofs.Placing.{cut_children, cuts_free, cuts_named}
 use Rattle.steps.proofs.places.cut_at.Goals as goal
