@@ -1,6 +1,7 @@
 //! Lists, as contracts see them.
 
-ghost use Rattle.std.specs.Prelude.{◌≡◌, ◌++◌, [], ◌∷◌, OnOk, OnErr};
+ghost use Rattle.std.specs.Prelude.{◌≡◌, ◌==◌, ◌++◌, [], ◌∷◌, OnOk, OnErr};
+ghost use Rattle.std.specs.List.{list_any};
 
 use std::alloc::{AllocError, Global};
 use std::marker::Model;
@@ -48,6 +49,15 @@ impl<T: Drop> Items<T> {
     {
         let Items { items } = self;
         items
+    }
+}
+
+impl Items<u64> {
+    /// Whether the number is one of them.
+    pub fn contains(&self, number: u64) -> bool
+        ensures { result ≡ list_any (λ m. m == number) self.now }
+    {
+        self.items.iter().any(|m| *m == number)
     }
 }
 

@@ -55,7 +55,7 @@ guard flights held p clear own some id f work here q fronts = elim (cases_Bool (
   | inr none ↦ none
 ]
 
-not_empty : (p : Names) (name : List ℕ) → p ++ name ∷ [] ≢ []
+pub not_empty : (p : Names) (name : List ℕ) → p ++ name ∷ [] ≢ []
 not_empty [] name e = cc
 not_empty (x ∷ p) name e = cc
 
@@ -98,7 +98,7 @@ reaches_named : (old new : Lookup) → ((n p : ℕ) (name : Name) → IsNamed ol
 reaches_named old new named n [] h = h
 reaches_named old new named n (name ∷ way) h = (h.0, named n h.0 name h.1, reaches_named old new named h.0 way h.2)
 
-entered_path : (at : Lookup) (ps : List Posting) (parent : ℕ) (name : Name) (g : Given) (at' : Lookup) (qs : List Posting) → Enters at ps parent name g at' qs → (n : ℕ) (q : Names) → IsPathOf at n q → IsPathOf at' n q
+pub entered_path : (at : Lookup) (ps : List Posting) (parent : ℕ) (name : Name) (g : Given) (at' : Lookup) (qs : List Posting) → Enters at ps parent name g at' qs → (n : ℕ) (q : Names) → IsPathOf at n q → IsPathOf at' n q
 entered_path at ps parent name g at' qs (inl again) n q h =
     subst (λ l. IsPathOf l n q) (sym again.nodes) (reaches_named at _ (named_written at g.number again.node (record again.node { count = again.node.count + 1 }) again.here refl) n (reverse q) h)
 entered_path at ps parent name g at' qs (inr born) n q h =

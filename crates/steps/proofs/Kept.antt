@@ -1,5 +1,5 @@
 -- What is kept of a table when its nodes and its ledger change, and the requests in flight do not.
-use Rattle.std.proofs.Common.{ℕ, ◌+◌, ◌-◌, ◌<◌, ◌≤◌, ◌≡◌, ◌≢◌, List, [], ◌∷◌, ◌++◌, Some, length, length-append, min, reverse, refl, sym, ap, ◌∙◌, subst, arith}
+use Rattle.std.proofs.Common.{ℕ, ◌+◌, ◌-◌, ◌≤◌, ◌≡◌, ◌≢◌, List, [], ◌∷◌, ◌++◌, Some, length, length-append, min, reverse, refl, sym, ap, ◌∙◌, subst, arith}
 use Rattle.std.proofs.lemmas.Option.{none-some, same_Some}
 use Rattle.paths.specs.Fronts.{Names}
 use Rattle.ledger.specs.declared.postings.Posting.{Posting}
@@ -14,10 +14,10 @@ use Rattle.flights.specs.Listed.{flying_of}
 use Rattle.image.specs.Law.{IsLawful}
 use Rattle.steps.specs.declared.state.State.{State}
 use Rattle.steps.specs.Kept.{IsKept, flights_in, world_of}
-use Rattle.steps.specs.Steps.{Forgets, Sweeps, Takes}
+use Rattle.steps.specs.Steps.{Forgets, Takes}
 use Rattle.steps.specs.Swept.{IsSwept}
 use Rattle.steps.specs.Sweeping.{HaveReasonsBut, IsPruned, IsSameRest, IsBooked}
-use Rattle.steps.specs.World.{AreHeld, AreReady, Flights, IsAtWork, World}
+use Rattle.steps.specs.World.{AreHeld, AreReady, Flights, World}
 use Rattle.steps.proofs.Guarding.{left_where, sweeps_harmless}
 use Rattle.steps.proofs.Lawful.{booked_of, booked_forget, lawful_swept}
 use Rattle.steps.proofs.Reasons.{HaveReasons-some, HaveReasons-write}

@@ -20,3 +20,10 @@ pub mod Testing
 pub mod Starting
 pub mod Refusing
 pub mod Reserving
+pub mod Entering
+pub mod Placing
+pub mod Ends
+pub mod Rooted
+pub mod Giving
+pub mod Changing
+pub mod Answering

@@ -1,15 +1,13 @@
 -- What the end of a request leaves.
-use Rattle.std.proofs.Common.{ℕ, ◌-◌, ◌≡◌, ◌==◌, Bool, true, false, List, [], ◌∷◌, ◌++◌, Option, Some, None, refl, sym, ap, ◌∙◌, subst, ◌⊎◌, inl, inr, arith}
+use Rattle.std.proofs.Common.{ℕ, ◌-◌, ◌≡◌, ◌==◌, Bool, true, false, List, [], ◌∷◌, ◌++◌, Option, Some, None, sym, ap, ◌∙◌, subst, ◌⊎◌, inl, inr, arith}
 use Rattle.std.specs.Prelude.{option_map}
 use Rattle.std.specs.List.{list_any}
 use Rattle.std.proofs.lemmas.Bool.{or_cases, or_left, true≢false, eqb-true}
-use Rattle.paths.specs.Fronts.{Names}
 use Rattle.ledger.specs.declared.postings.Posting.{Posting}
 use Rattle.ledger.specs.Postings.{Postings}
 use Rattle.tree.specs.Places.{Lookup, Nodes, at_in, IsPathOf}
 use Rattle.flights.specs.declared.data.Flight.{Flight as Recorded}
 use Rattle.flights.specs.declared.data.Given.{Given}
-use Rattle.flights.specs.declared.data.Stage.TheVariants as recorded
 use Rattle.flights.specs.Flying.{Flying, IsFlying, Goes, HasNoneAnswered, is_working}
 use Rattle.flights.specs.Listed.{InFlight, flying_of}
 use Rattle.steps.specs.declared.state.State.{State}

@@ -1,5 +1,5 @@
 -- Requests in flight as the world sees them, and what is kept where some of them are no longer worked on.
-use Rattle.std.proofs.Common.{ℕ, ◌≡◌, ◌==◌, ◌↔◌, Bool, true, false, if◌then◌else◌, List, [], ◌∷◌, Contains, Option, Some, None, refl, sym, ap, ◌∙◌, subst, ◌⊎◌, inl, inr, arith}
+use Rattle.std.proofs.Common.{ℕ, ◌≡◌, ◌==◌, Bool, true, false, if◌then◌else◌, List, [], ◌∷◌, Contains, Option, Some, None, refl, sym, ap, ◌∙◌, subst, ◌⊎◌, inl, inr}
 use Rattle.std.specs.Prelude.{option_map}
 use Rattle.std.specs.List.{list_any}
 use Rattle.std.proofs.lemmas.Bool.{or_cases, or_left, or_right, true≢false, eqb-true, eq-eqb, cases_eq, ne_eqb, cond-true, cond-false}
@@ -9,10 +9,10 @@ use Rattle.flights.specs.declared.data.Flight.{Flight as Recorded}
 use Rattle.flights.specs.declared.data.Stage.{Stage as Recording}
 use Rattle.flights.specs.declared.data.Stage.TheVariants as recorded
 use Rattle.flights.specs.declared.data.Work.{Work as RecordedWork}
-use Rattle.flights.specs.Flying.{Flights as Recordeds, Flying, IsFlying, pins_number, with_flight, without_flight}
+use Rattle.flights.specs.Flying.{Flights as Recordeds, Flying, IsFlying, with_flight, without_flight}
 use Rattle.tree.specs.Places.{Lookup}
 use Rattle.steps.specs.Kept.{AreProvided, flight_of, flights_in, stage_of, work_of}
-use Rattle.steps.specs.World.{AreHeld, AreKept, AreReady, Answered, Flight, Flights, IsAtWork, IsPinned, Stage, Work, Working, with_entry}
+use Rattle.steps.specs.World.{AreHeld, AreKept, AreReady, Flight, IsAtWork, Work, Working, with_entry}
 use Rattle.wants.proofs.Members.{cases_in, first_in, later_in, none_in}
 
 -- ---- pins
@@ -68,7 +68,7 @@ pub are_kept : (all : Flying) → IsFlying all → AreKept (flights_in all) all.
 are_kept all flying n = (
   λ h. let it = (flying.pins n).0 h in record { id = it.0; flight = flight_of it.1; here = ap (λ o. option_map flight_of o) it.2; pin = in_any_of it.1.pins.numbers n it.3 },
   λ h. let found = found_in (all.at h.id) h.flight h.here in
-      (flying.pins n).1 (h.id, found.0, found.1, any_of found.0.pins.numbers n (subst (λ (f : Flight). Contains f.pins n) (sym found.2) h.pin))
+      (flying.pins n).1 (h.id, found.0, found.1, any_of found.0.pins.numbers n (subst (λ (f : Flight). Contains f.pins n) (sym found.2) h.pin)),
 )
 
 -- ---- all requests

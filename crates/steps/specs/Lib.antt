@@ -7,3 +7,4 @@ pub mod Kept
 pub mod Sweeping
 pub mod Beginning
 pub mod Laws
+pub mod Ending

@@ -25,9 +25,9 @@ pub record IsBooked (at : Lookup) (ps : List Posting) (pinned : ℕ → Bool) : 
 abbrev pub HaveReasonsBut : Lookup → (ℕ → Bool) → List ℕ → Type 0
 HaveReasonsBut at pinned but = (n : ℕ) (x : Node) → at n ≡ Some x → n ≢ 1 → (IsAmong n but → ⊥) → HasReason at pinned n x
 
--- each node but the root has a reason, those aside that are cut and whose number is not below that one
+-- each node but the root has a reason, those aside that are cut and whose number is 0 or not below that one
 pub record HaveReasonsBelow (at : Lookup) (pinned : ℕ → Bool) (bound : ℕ) : Type 0 where
-  pub reasons : (n : ℕ) (x : Node) → at n ≡ Some x → n ≢ 1 → (x.place ≡ Cut → n < bound) → HasReason at pinned n x
+  pub reasons : (n : ℕ) (x : Node) → at n ≡ Some x → n ≢ 1 → (x.place ≡ Cut → (0 < n) × (n < bound)) → HasReason at pinned n x
 
 -- the nodes are a tree in which all have a reason, those that are left out aside
 pub record IsPruned (at : Lookup) (pinned : ℕ → Bool) (but : List ℕ) : Type 0 where
@@ -68,10 +68,6 @@ pub record IsEntered (old : Nodes) (made : Postings) (parent : ℕ) (name : Name
   pub one : born ≤ 1
   pub none : (n : ℕ) → IsNamed (at_in old) n parent name → born ≡ 0
   pub more_is : IsOneMore born old made new more
-
--- who is named so stays named so
-abbrev pub KeepsNames : Lookup → Lookup → Type 0
-KeepsNames old new = (n p : ℕ) (name : Name) → IsNamed old n p name → IsNamed new n p name
 
 -- what is taken back: postings take the place of counts
 pub record IsTakenBack (old : Nodes) (made : Postings) (new : Nodes) (more : Postings) : Type 0 where

@@ -3,14 +3,22 @@
 //! Each call on the parts is one atomic step, and keeps what holds of them.
 #![tactic(auto)]
 
+mod acts;
 mod begin;
 mod data;
+mod entries;
+mod finish;
 mod forget;
+mod keys;
 mod laws;
+mod places;
 mod settle;
 mod state;
 mod sweep;
 
 pub use data::{Answered, Begin, Limits, Outcome, Settled, Ticket};
-pub use laws::{acts_are_own, begun_are_ready, ends_are_harmless, entries_are_harmless, ledgers_are_grown, others_are_left, sweeps_are_harmless, tallies_are_fixed};
+pub use laws::{
+    acts_are_own, begun_are_ready, ends_are_harmless, entries_are_harmless, ledgers_are_grown,
+    others_are_left, sweeps_are_harmless, tallies_are_fixed,
+};
 pub use state::State;

@@ -135,7 +135,7 @@ fn drop_cut(tree: &mut Tree, flights: &Flights, number: u64)
 /// Drops each node that is cut and that nothing keeps. No node loses a child by it.
 pub fn sweep_cut(tree: &mut Tree, flights: &Flights)
     requires tree { IsTree (at_in tree.old) }
-    requires below { HaveReasonsBelow (at_in tree.old) (flying_of flights.now).pinned 0 }
+    requires below { HaveReasonsBelow (at_in tree.old) (flying_of flights.now).pinned 1 }
     ensures tree { IsTree (at_in tree.new) }
     ensures reasons { HaveReasons (at_in tree.new) (flying_of flights.now).pinned }
     ensures swept { IsSwept (flying_of flights.now).pinned (at_in tree.old) (at_in tree.new) }

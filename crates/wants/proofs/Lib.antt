@@ -1,3 +1,7 @@
 pub mod Members
 pub mod RowLemmas
 pub mod Deciding
+mod Finding
+mod Drafting
+mod Agreeing
+mod Wanting

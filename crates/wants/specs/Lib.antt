@@ -2,3 +2,4 @@ pub mod Rows
 pub mod Asked
 pub mod Laws
 pub mod Plans
+pub mod Drafts

@@ -2,15 +2,24 @@
 #![tactic(auto)]
 
 mod data;
+mod drafts;
+mod found;
+mod refusal;
+mod rows;
 
-ghost use Rattle.std.specs.Prelude.{IfOk, IfErr};
+ghost use Rattle.std.specs.Prelude.{◌≡◌, IfOk, IfErr};
 ghost use Rattle.tree.specs.Places.{at_in};
 ghost use Rattle.wants.specs.Laws.{AreDemandsFixed, AreRows};
-ghost use Rattle.wants.specs.Plans.{IsPlan, IsRefusedPlan};
+ghost use Rattle.wants.specs.Plans.{IsPlan, IsRefusedPlan, copied as name_copied};
+ghost use Rattle.wants.specs.Drafts.{IsRecord};
 
 pub use data::Plan;
-use flights::Want;
-use std::alloc::Global;
+use drafts::Terms;
+use errno::ENOMEM;
+use flights::{Want, Work};
+use paths::Name;
+use rows::terms_for;
+use std::alloc::{AllocError, Global};
 use tree::Tree;
 
 /// A want asks for one row, as the nodes stand.
@@ -23,11 +32,54 @@ pub fn rows_are_grounded()
     ensures { AreRows }
 {}
 
-/// A stub until the crate is proved: nobody may call it.
-pub fn plan(_alloc: Global, _tree: &Tree, _want: Want) -> Result<Plan, i32>
-    requires { ⊥ }
-    ensures ok { IfOk result (IsPlan (at_in _tree.now) _want) }
-    ensures err { IfErr result (IsRefusedPlan (at_in _tree.now) _want) }
+/// What a request with that want is to be recorded with, if the tests of the nodes alone allow it.
+///
+/// The tests come in this order. [`errno::ESTALE`]: a node that the want names is not alive, or is cut; no memory was asked for
+/// until then. [`errno::ENAMETOOLONG`]: a path of the ticket is longer than 4,096 bytes. [`errno::EINVAL`]: a name would be moved
+/// below itself. [`errno::ENOTEMPTY`]: a name would be moved onto a folder that it stands in. [`errno::ENOMEM`] may stand in place
+/// of any but the first, where memory is refused.
+pub fn plan(alloc: Global, tree: &Tree, want: Want) -> Result<Plan, i32>
+    ensures ok { IfOk result (IsPlan (at_in tree.now) want) }
+    ensures err { IfErr result (IsRefusedPlan (at_in tree.now) want) }
 {
-    unreachable!()
+    let terms = match terms_for(alloc, tree, &want) {
+        Ok(terms) => terms,
+        Err(refusal) => return Err(refusal.errno()),
+    };
+    match recorded(want, terms) {
+        Ok(plan) => Ok(plan),
+        Err(_) => Err(ENOMEM),
+    }
+}
+
+/// A copy of the name that the want may give to a node.
+fn copied(want: &Want) -> Result<Option<Name>, AllocError>
+    ensures { IfOk result (λ copy. copy ≡ name_copied want.now) }
+{
+    match want {
+        Want::Node { .. } | Want::Remove { .. } => Ok(None),
+        Want::Name { name, .. } | Want::Move { new_name: name, .. } => Ok(Some(name.copy()?)),
+    }
+}
+
+/// The record of a request with that want and those terms.
+fn recorded(want: Want, terms: Terms) -> Result<Plan, AllocError>
+    ensures { IfOk result (IsRecord want terms) }
+{
+    let copy = copied(&want)?;
+    let Terms {
+        held,
+        promise,
+        answer,
+        pins,
+        paths,
+    } = terms;
+    let work = Work {
+        want,
+        copy,
+        held,
+        promise,
+        answer,
+    };
+    Ok(Plan { work, pins, paths })
 }

@@ -1,9 +1,8 @@
 //! The law of the nodes and the records together.
 
-ghost use Rattle.std.specs.Prelude.{◌≡◌, ◌≢◌, ◌==◌, ◌↔◌, IsTrue, All, AllPairs};
+ghost use Rattle.std.specs.Prelude.{◌≡◌, ◌≢◌, ◌↔◌, IsTrue, All, AllPairs};
 ghost use Rattle.tree.specs.declared.nodes.Node.{Node};
 ghost use Rattle.image.specs.declared.data.Record.{Record};
-ghost use Rattle.std.specs.List.{list_any};
 ghost use Rattle.tree.specs.Places.{HasChild};
 ghost use Rattle.tree.specs.Listed.{node_at, IsDistinct};
 ghost use Rattle.image.specs.Law.{ArePinsAlive, HaveReasons, is_pinned};
@@ -39,18 +38,11 @@ pub fn are_ids_distinct(records: &[Record]) -> bool
     true
 }
 
-/// Whether the record pins the number.
-fn has_pin(holder: &Record, number: u64) -> bool
-    ensures { result ≡ list_any (λ m. m == number) holder.now.pins }
-{
-    holder.pins.as_slice().iter().any(|m| *m == number)
-}
-
 /// Whether one of the records pins the number.
 fn is_pinned(records: &[Record], number: u64) -> bool
     ensures { result ≡ is_pinned records.now number }
 {
-    records.iter().any(|record| has_pin(record, number))
+    records.iter().any(|record| record.pins.contains(number))
 }
 
 #[tactic(auto, unfolding(crate::specs::Parts::IsLiving))]

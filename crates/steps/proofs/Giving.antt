@@ -1,0 +1,125 @@
+-- What is kept of a table when a request gives an entry, and pins its node.
+use Rattle.std.proofs.Common.{ℕ, ◌+◌, ◌<◌, ◌≤◌, ◌≡◌, ◌==◌, ◌||◌, Bool, false, [], ◌∷◌, ◌++◌, Some, Contains, refl, sym, ap, ◌∙◌, inl, inr, arith}
+use Rattle.std.proofs.lemmas.Bool.{or_cases, or_left, eqb-true}
+use Rattle.ledger.specs.Postings.{Postings}
+use Rattle.tree.specs.declared.nodes.Key.{Key}
+use Rattle.tree.specs.Places.{Nodes, at_in, IsAlive, IsFree}
+use Rattle.flights.specs.declared.data.Given.{Given}
+use Rattle.flights.specs.Flying.{IsFlying, PinsMore, pinning}
+use Rattle.flights.specs.Listed.{InFlight, flying_of}
+use Rattle.image.specs.Law.{IsLawful}
+use Rattle.steps.specs.declared.state.State.{State}
+use Rattle.steps.specs.Ending.{MayEnter, entering}
+use Rattle.steps.specs.Entries.{Enters, newborn}
+use Rattle.steps.specs.Kept.{IsKept, flight_of, flights_in, stage_of, world_of}
+use Rattle.steps.specs.Steps.{Ends, IsOwned, answered}
+use Rattle.steps.specs.Sweeping.{IsEntered}
+use Rattle.steps.specs.World.{AreReady, Flight, Flights, World, with_entry}
+use Rattle.wants.proofs.Members.{first_in}
+use Rattle.steps.proofs.Ends.{working_else}
+use Rattle.steps.proofs.Entering.{alive_written}
+use Rattle.steps.proofs.Guarding.{entered_path}
+use Rattle.steps.proofs.Kept.{held_ready, ready_where}
+use Rattle.steps.proofs.Lawful.{lawful_pins}
+use Rattle.steps.proofs.Reasons.{IsSwept-refl}
+use Rattle.steps.proofs.Viewed.{IsFewer, are_kept, fewer_held, fewer_idle, fewer_provided, fewer_ready, flights_with}
+
+module _ (s : State) (id : ℕ) (key : Key) (may : MayEnter s id (key ∷ [])) where
+  mine : Contains (key ∷ []) key
+  mine = first_in key []
+
+  -- where no node stands at the name, one was promised
+  pub room_to_bear : IsFree (at_in s.tree) key.parent key.name → 0 < s.tree.room
+  room_to_bear free = elim may.births [
+    | inl one ↦ omega (arith, one, may.room.nodes)
+    | inr named ↦ let it = named key mine in absurd (free it.0 it.1)
+  ]
+
+  module _ (kept : IsKept s) (g : Given) (tree : Nodes) (ledger : Postings) (flights : InFlight) (law : IsLawful (at_in tree) ledger.made (flying_of s.flights).pinned)
+      (enters : Enters (at_in s.tree) s.ledger.made key.parent key.name g (at_in tree) ledger.made) (entered : IsEntered s.tree s.ledger key.parent key.name tree ledger)
+      (pins : PinsMore (flying_of s.flights) id may.flight g.number (flying_of flights)) (flying : IsFlying (flying_of flights)) where
+    alive : IsAlive (at_in tree) g.number
+    alive = elim enters [
+      | inl again ↦ alive_written (at_in s.tree) (at_in tree) g.number (record again.node { count = again.node.count + 1 }) again.nodes
+      | inr born ↦ alive_written (at_in s.tree) (at_in tree) g.number (newborn g key.parent key.name) born.nodes
+    ]
+
+    pinned_is : (m : ℕ) → (flying_of flights).pinned m ≡ ((flying_of s.flights).pinned m || g.number == m)
+    pinned_is m = ap (λ (f : ℕ → Bool). f m) pins.pinned
+
+    born_promised : entered.born ≤ may.promise.nodes
+    born_promised = elim may.births [
+      | inl one ↦ let b = entered.one in omega (arith, one, b)
+      | inr named ↦ let it = named key mine in let b = entered.none it.0 it.1 in omega (arith, b)
+    ]
+
+    fewer : IsFewer (flying_of s.flights) (flying_of flights)
+    fewer = fewer_idle (flying_of s.flights) (flying_of flights) id (pinning may.flight g.number) pins.at may.answered
+
+    still_ready : AreReady (at_in tree) (flights_in (flying_of flights))
+    still_ready =
+        let all = flying_of s.flights in
+        fewer_ready all (flying_of flights) fewer (at_in tree)
+        (ready_where (at_in s.tree) (at_in tree) (flights_in all) law.tree (entered_path (at_in s.tree) s.ledger.made key.parent key.name g (at_in tree) ledger.made enters) kept.ready)
+
+    pub give_kept : IsKept (record s { tree = tree; ledger = ledger; flights = flights; counts = s.counts + 1 })
+    give_kept =
+        let all = flying_of s.flights in
+        let more = entered.more_is in
+        record {
+          law = lawful_pins (at_in tree) ledger.made all.pinned (flying_of flights).pinned law
+              (λ m h. pinned_is m ∙ or_left (all.pinned m) (g.number == m) h)
+              (λ m h. elim (or_cases (all.pinned m) (g.number == m) (sym (pinned_is m) ∙ h)) [
+                | inl was ↦ law.pins m was
+                | inr here ↦ (alive.0, ap (at_in tree) (sym (eqb-true g.number m here)) ∙ alive.1)
+              ]);
+          flying = flying;
+          held = held_ready (at_in s.tree) (at_in tree) (flights_in (flying_of flights)) still_ready (fewer_held all (flying_of flights) fewer (at_in s.tree) kept.held);
+          ready = still_ready;
+          provided = fewer_provided all (flying_of flights) fewer kept.provided;
+          reserved = record {
+            nodes = omega (arith, pins.nodes, may.room.nodes, more.room, born_promised);
+            postings = omega (arith, pins.postings, may.room.postings, may.postings, more.counts, more.posting_room, entered.one);
+          };
+          limited = record {
+            nodes = omega (arith, pins.nodes, may.room.nodes_within, more.living, born_promised);
+            postings = omega (arith, pins.postings, may.room.postings_within, may.postings, more.counts, more.postings, entered.one);
+            flights = omega (arith, pins.many, kept.limited.flights);
+            node_limit = more.limit ∙ kept.limited.node_limit;
+            posting_limit = more.posting_limit ∙ kept.limited.posting_limit;
+            short = kept.limited.short;
+          };
+          counts = omega (arith, kept.counts, more.counts);
+        }
+
+    -- the same request, with one more pin
+    pinned_one : flight_of (pinning may.flight g.number) ≡ answered (flight_of may.flight) (Some g ∷ [])
+    pinned_one = ap (λ st. let f : Flight = record { unique = may.flight.unique; stage = stage_of st; pins = may.flight.pins.numbers ++ g.number ∷ [] } in f) may.answered
+
+    flights_are : flights_in (flying_of flights) ≡ with_entry (flights_in (flying_of s.flights)) id (Some (answered (flight_of may.flight) (Some g ∷ [])))
+    flights_are =
+        flights_with (flying_of s.flights) (flying_of flights) id (pinning may.flight g.number) pins.at
+        ∙ ap (λ (f : Flight). with_entry (flights_in (flying_of s.flights)) id (Some f)) pinned_one
+
+    still_unowned : IsOwned (at_in s.tree) (with_entry (flights_in (flying_of s.flights)) id (Some (answered (flight_of may.flight) []))) key → ⊥
+    still_unowned o = may.unowned key mine (record {
+      path = o.path;
+      leads = o.leads;
+      id = o.id;
+      flight = o.flight;
+      work = o.work;
+      here = working_else (flights_in (flying_of s.flights)) id (flight_of may.flight) [] o.id o.flight o.work o.here;
+      alone = o.alone;
+    })
+
+    pub give_ends : Ends (world_of s) id (flight_of may.flight) (entering (key ∷ [])) (key ∷ []) (record { id = id; given = Some g ∷ []; lost = false }) (world_of (record s { tree = tree; ledger = ledger; flights = flights; counts = s.counts + 1 }))
+    give_ends = record {
+      answer_id = refl;
+      not_lost = refl;
+      entered = at_in tree;
+      enters = (still_unowned, (at_in tree, ledger.made, enters, (refl, refl)));
+      altered = at_in tree;
+      alters = refl;
+      sweeps = record { kept = (flying_of flights).pinned; keeps = are_kept (flying_of flights) flying; swept = IsSwept-refl (flying_of flights).pinned (at_in tree) };
+      new_is = ap (λ (fs : Flights). let w : World = record (world_of s) { at = at_in tree; postings = ledger.made; flights = fs } in w) flights_are;
+    }

@@ -1,0 +1,125 @@
+-- What a request whose work has ended may do: each node that it names has a path, and no other holds its names alone.
+use Rattle.std.proofs.Common.{ℕ, ◌≡◌, [], ◌∷◌, Contains, length, reverse, sym, ap, ◌∙◌, subst, ◌⊎◌, inl, inr}
+use Rattle.std.specs.Prelude.{option_map}
+use Rattle.std.proofs.lemmas.List.Elements.{All-contains}
+use Rattle.paths.specs.Fronts.{Name, Names}
+use Rattle.paths.proofs.FrontLemmas.{is_front-same}
+use Rattle.holds.specs.Clashes.{Clash}
+use Rattle.holds.specs.declared.held.Held.{Held}
+use Rattle.holds.specs.declared.held.Lead.{Lead}
+use Rattle.flights.specs.declared.data.Promise.{Promise}
+use Rattle.flights.specs.declared.data.Want.{Want}
+use Rattle.flights.specs.declared.data.Want.TheVariants as wants
+use Rattle.flights.specs.declared.data.Work.{Work as RecordedWork}
+use Rattle.flights.specs.Listed.{flying_of}
+use Rattle.tree.specs.declared.nodes.Key.{Key}
+use Rattle.tree.specs.Places.{Lookup, IsNamed, IsPathOf, Leads, at_in}
+use Rattle.wants.specs.Asked.{Holds, IsPrefixAt, promise_of}
+use Rattle.wants.specs.Laws.{AreOwn, IsRow, base_of}
+use Rattle.wants.specs.Plans.{row_in}
+use Rattle.wants.specs.Rows.{AtName, AtNode, Case, Change, Demand, case_in, cuts, moves, row_of, stays}
+use Rattle.wants.proofs.Members.{any_in, cases_in, first_in, in_map, none_in, only_in}
+use Rattle.wants.proofs.RowLemmas.{are_rows}
+use Rattle.steps.specs.declared.state.State.{State}
+use Rattle.steps.specs.Ending.{AreUnder, IsEnding, MayAlter, MayEnter, name_at}
+use Rattle.steps.specs.Kept.{IsKept, flight_of, flights_in}
+use Rattle.steps.specs.Laws.{IsPlaced}
+use Rattle.steps.specs.Steps.{HoldsUp, IsOwned}
+use Rattle.steps.specs.World.{Flights, IsStanding}
+use Rattle.steps.proofs.Guarding.{not_empty}
+use Rattle.steps.proofs.Viewed.{are_kept}
+
+-- ---- rows
+
+-- a name for which an entry may be given is shared
+pub entries_shared : (want : Want) (c : Case) (key : Key) → Contains (row_of want c).entries key → Contains (row_of want c).shared (name_at key)
+entries_shared (wants.Node number) c key h = absurd (none_in key h)
+entries_shared (wants.Name parent name) c key h = subst (λ (k : Key). Contains (AtName parent name ∷ []) (name_at k)) (only_in (record { parent = parent; name = name }) key h) (first_in (AtName parent name) [])
+entries_shared (wants.Remove parent name) c key h = absurd (none_in key h)
+entries_shared (wants.Move parent name new_parent new_name) c key h = absurd (none_in key h)
+
+name_else : (parent : ℕ) (name : Name) → AtName parent name ≡ AtNode 1 → ⊥
+name_else parent name e = cc
+
+-- the root's path is not held alone
+rows_placed : (want : Want) (c : Case) → IsPlaced (row_of want c).alone
+rows_placed (wants.Node number) c h = none_in (AtNode 1) h
+rows_placed (wants.Name parent name) c h = none_in (AtNode 1) h
+rows_placed (wants.Remove parent name) c h = name_else parent name (only_in (AtName parent name) (AtNode 1) h)
+rows_placed (wants.Move parent name new_parent new_name) c h = elim (cases_in (AtName parent name) (AtName new_parent new_name ∷ []) (AtNode 1) h) [
+  | inl e ↦ name_else parent name e
+  | inr more ↦ name_else new_parent new_name (only_in (AtName new_parent new_name) (AtNode 1) more)
+]
+
+-- ---- paths
+
+-- a node that is given has a path
+given_path : (at : Lookup) (d : Demand) (held : Held) → Holds at d held → (n : ℕ) → Contains d.given n → (p : Names) × IsPathOf at n p
+given_path at d held holds n given =
+    let it = in_map (λ (lead : Lead). lead.number) held.given n (subst (λ ns. Contains ns n) (sym holds.numbers) given) in
+    let leads : IsPathOf at it.0.number it.0.path = All-contains (λ (lead : Lead). IsPathOf at lead.number lead.path) held.given it.0 holds.leads it.1 in
+    (it.0.path, subst (λ k. IsPathOf at k it.0.path) it.2 leads)
+
+pub given_leads : (at : Lookup) (d : Demand) (held : Held) → Holds at d held → (n : ℕ) → Contains d.given n → Leads at n
+given_leads at d held holds n given = let up = given_path at d held holds n given in record { names = reverse up.0; climb = up.1 }
+
+-- so the names that change are under nodes that have
+pub own_leads : (at : Lookup) (d : Demand) (held : Held) → IsRow d → Holds at d held → (change : Change) → AreOwn d.alone change → AreUnder (Leads at) change
+own_leads at d held row holds stays own = tt
+own_leads at d held row holds (cuts l) own = given_leads at d held holds (base_of l) (row.alone l own)
+own_leads at d held row holds (moves s t) own = (given_leads at d held holds (base_of s) (row.alone s own.0), given_leads at d held holds (base_of t) (row.alone t own.1))
+
+-- ---- who shares a path, none holds it alone
+
+pub unowned : (at : Lookup) (flights : Flights) (d : Demand) (held : Held) (key : Key) → Holds at d held → (HoldsUp flights held → ⊥) → Contains d.shared (name_at key) → IsOwned at flights key → ⊥
+unowned at flights d held key holds clear shared o =
+    let some : o.path ≡ [] → ⊥ = λ e. not_empty o.leads.above key.name (sym o.leads.whole ∙ e) in
+    let prefix : IsPrefixAt at o.path (name_at key) = record { path = o.path; leads = o.leads; begins = record { some = some; begins = is_front-same o.path } } in
+    let mine : Contains held.shared o.path = (holds.shared o.path).1 (inl (any_in (IsPrefixAt at o.path) d.shared (name_at key) shared prefix)) in
+    let clash : Clash o.work.held held = inl (inr (o.alone.0, o.path, o.alone.1, o.alone.2, mine)) in
+    clear (record { id = o.id; flight = o.flight; work = o.work; here = o.here; clash = clash })
+
+-- ---- what a request that ends may do
+
+module _ (s : State) (id : ℕ) (work : RecordedWork) (kept : IsKept s) (e : IsEnding s id work) where
+  abbrev row : Demand
+  row = row_in work
+
+  pub is_row : IsRow row
+  is_row = are_rows work.want (case_in work.promise)
+
+  pub promised : work.promise ≡ promise_of row
+  promised = e.provided.promise
+
+  pub entries_standing : (row.births ≡ length row.entries) ⊎ ((key : Key) → Contains row.entries key → (n : ℕ) × IsNamed (at_in s.tree) n key.parent key.name)
+  entries_standing = elim e.ready.names [
+    | inl one ↦ inl one
+    | inr all ↦ inr (λ key h. let it = All-contains (IsStanding (at_in s.tree) (flight_of e.flight)) row.entries key all h in (it.number, it.named))
+  ]
+
+  abbrev pub may_enter : MayEnter s id row.entries
+  may_enter = record {
+    flight = e.flight;
+    here = e.here;
+    answered = e.answered;
+    pin_room = e.provided.pin_room;
+    leads = λ key h. given_leads (at_in s.tree) row work.held e.ready.holds key.parent (is_row.shared (name_at key) (entries_shared work.want (case_in work.promise) key h));
+    unowned = λ key h. unowned (at_in s.tree) (flights_in (flying_of s.flights)) row work.held key e.ready.holds e.clear (entries_shared work.want (case_in work.promise) key h);
+    promise = work.promise;
+    births = elim entries_standing [ inl one ↦ inl (ap (λ (p : Promise). p.nodes) promised ∙ one) | inr all ↦ inr all ];
+    postings = ap (λ (p : Promise). p.postings) promised;
+    room = e.room;
+  }
+
+  pub may_alter : MayAlter s row.done
+  may_alter = record {
+    demand = row;
+    row = is_row;
+    placed = rows_placed work.want (case_in work.promise);
+    own = is_row.own;
+    held = work.held;
+    holds = e.ready.holds;
+    clear = e.clear;
+    pinned = λ n given. (are_kept (flying_of s.flights) kept.flying n).1 (record { id = id; flight = flight_of e.flight; here = ap (λ o. option_map flight_of o) e.here; pin = e.ready.pinned n given });
+    not_misplaced = e.ready.placed;
+  }

@@ -1,0 +1,15 @@
+use Rattle.std.proofs.Common.{ap, subst, sym}
+use Rattle.tree.specs.Places.{at_in}
+use Rattle.wants.specs.Asked.{IsMisplaced}
+use Rattle.wants.specs.Rows.{Change}
+use Rattle.steps.specs.Ending.{IsUnder, KeepsChildren, change_in}
+use Rattle.steps.proofs.places.alter.Goals as goal
+
+pub move_at-requires-clause-may : goal.move_at-requires-clause-may
+move_at-requires-clause-may c e refused = c.requires.may e (subst (λ (change : Change). IsMisplaced (at_in c.args.tree.now) change e) (ap change_in (sym c.in-Moves.is)) refused)
+
+pub returns-in-Cuts-clause-children : goal.returns-in-Cuts-clause-children
+returns-in-Cuts-clause-children c = subst (λ (change : Change). KeepsChildren (at_in c.args.tree.now) (IsUnder change) (at_in c.cut_at.new.tree)) (ap change_in (sym c.in-Cuts.is)) c.cut_at.ensures.children
+
+pub returns-in-Moves-clause-children : goal.returns-in-Moves-clause-children
+returns-in-Moves-clause-children c = subst (λ (change : Change). KeepsChildren (at_in c.args.tree.now) (IsUnder change) (at_in c.move_at.new.tree)) (ap change_in (sym c.in-Moves.is)) c.move_at.ensures.children

@@ -1,0 +1,39 @@
+use Rattle.std.proofs.Common.{subst, sym, ap, ◌∙◌}
+use Rattle.std.proofs.lemmas.Bool.{true≢false}
+use Rattle.tree.specs.Places.{at_in}
+use Rattle.flights.specs.Listed.{flying_of}
+use Rattle.wants.specs.Rows.{Change}
+use Rattle.steps.specs.Ending.{ChangesNames, change_in}
+use Rattle.steps.specs.Kept.{world_of}
+use Rattle.steps.proofs.Changing.{change_kept, changes_names, mid_reasons}
+use Rattle.steps.proofs.Ends.{nothing_changes}
+use Rattle.steps.proofs.Rooted.{own_leads}
+use Rattle.steps.proofs.Viewed.{are_kept}
+use Rattle.steps.proofs.state.State.change.Goals as goal
+use Rattle.steps.proofs.state.State.change.Goals.{in-Stays, in_default}
+
+pub alter-requires-clause-leads : goal.alter-requires-clause-leads
+alter-requires-clause-leads c = let may = c.requires.may in own_leads (at_in c.args.self.now.tree) may.demand may.held may.row may.holds (change_in c.args.change) may.own
+
+pub sweep_cut-requires-clause-below : goal.sweep_cut-requires-clause-below
+sweep_cut-requires-clause-below c =
+    mid_reasons c.args.self.now c.requires.kept (change_in c.args.change) c.requires.may c.alter.new.tree c.alter.ensures.alters c.alter.ensures.children c.alter.ensures.rest c.alter.ensures.tree
+
+pub returns-then-matches-clause-changes : goal.returns-then-matches-clause-changes
+returns-then-matches-clause-changes c = elim c.match-matches.branch [
+  | in-Stays w ↦
+      let old = world_of c.args.self.now in
+      let all = flying_of c.args.self.now.flights in
+      subst (λ (change : Change). ChangesNames old change old) (ap change_in (sym w.in-Stays.is)) (nothing_changes old all.pinned (are_kept all c.requires.kept.flying))
+  | in_default w ↦ absurd (true≢false (sym c.if-matches.true ∙ w.matches-is))
+]
+
+pub returns-clause-changes : goal.returns-clause-changes
+returns-clause-changes c =
+    changes_names c.args.self.now c.requires.kept (change_in c.args.change) c.requires.may c.alter.new.tree c.alter.ensures.alters c.alter.ensures.children c.alter.ensures.rest c.alter.ensures.tree
+    c.sweep_cut.new.tree c.sweep_cut.ensures.tree c.sweep_cut.ensures.reasons c.sweep_cut.ensures.swept c.sweep_cut.ensures.rest
+
+pub returns-clause-kept : goal.returns-clause-kept
+returns-clause-kept c =
+    change_kept c.args.self.now c.requires.kept (change_in c.args.change) c.requires.may c.alter.new.tree c.alter.ensures.alters c.alter.ensures.children c.alter.ensures.rest c.alter.ensures.tree
+    c.sweep_cut.new.tree c.sweep_cut.ensures.tree c.sweep_cut.ensures.reasons c.sweep_cut.ensures.swept c.sweep_cut.ensures.rest

@@ -1,0 +1,76 @@
+//! Entries of names that are given to the client.
+
+ghost use Rattle.std.specs.Prelude.{◌≡◌, ◌≤◌, ◌<◌, ◌+◌, ◌^◌, ℕ, length};
+ghost use Rattle.flights.specs.Listed.{flying_of};
+ghost use Rattle.image.specs.Law.{IsLawful};
+ghost use Rattle.steps.specs.Entries.{Bears, Enters, EntersAgain};
+ghost use Rattle.steps.specs.Sweeping.{IsEntered, IsOneMore};
+ghost use Rattle.tree.specs.Places.{at_in, IsFree, IsNamed, IsTree, Leads};
+
+use crate::keys::Keys;
+use flights::{Flights, Given};
+use ledger::{Ledger, Posting};
+use tree::{Key, Tree};
+
+/// Counts one more entry of the node that is named so, and posts it.
+fn enter_again(
+    tree: &mut Tree,
+    ledger: &mut Ledger,
+    _flights: &Flights,
+    number: u64,
+    _key: &Key,
+) -> Given
+    requires law { IsLawful (at_in tree.old) ledger.old.made (flying_of _flights.now).pinned }
+    requires named { IsNamed (at_in tree.old) number _key.now.parent _key.now.name }
+    requires room { 0 < ledger.old.room }
+    requires short { length ledger.old.made + 1 < 2 ^ 64 }
+    ensures enters { EntersAgain (at_in tree.old) ledger.old.made _key.now.parent _key.now.name result (at_in tree.new) ledger.new.made }
+    ensures law { IsLawful (at_in tree.new) ledger.new.made (flying_of _flights.now).pinned }
+    ensures more { IsOneMore 0 tree.old ledger.old tree.new ledger.new }
+{
+    let Some(node) = tree.at(number) else {
+        unreachable!();
+    };
+    let (generation, count) = (node.generation, node.count + 1);
+    tree.set_count(number, count);
+    ledger.post(Posting::Entry { number, generation });
+    Given { number, generation }
+}
+
+/// Bears a node at the name, and counts its first entry.
+fn bear(tree: &mut Tree, ledger: &mut Ledger, _flights: &Flights, keys: Keys) -> Given
+    requires law { IsLawful (at_in tree.old) ledger.old.made (flying_of _flights.now).pinned }
+    requires free { IsFree (at_in tree.old) keys.key.parent keys.key.name }
+    requires above { Leads (at_in tree.old) keys.key.parent }
+    requires node_room { 0 < tree.old.room }
+    requires room { 2 ≤ ledger.old.room }
+    ensures bears { Bears (at_in tree.old) ledger.old.made keys.key.parent keys.key.name result (at_in tree.new) ledger.new.made }
+    ensures law { IsLawful (at_in tree.new) ledger.new.made (flying_of _flights.now).pinned }
+    ensures more { IsOneMore 1 tree.old ledger.old tree.new ledger.new }
+{
+    let Keys { key, copy } = keys;
+    let next = tree.vacant();
+    let generation = ledger.births(next);
+    let number = tree.birth(generation, key, copy);
+    ledger.post(Posting::Born { number, generation });
+    tree.set_count(number, 1);
+    ledger.post(Posting::Entry { number, generation });
+    Given { number, generation }
+}
+
+/// Gives an entry of the name: of the node that stands there, or of one that is born.
+pub(crate) fn enter(tree: &mut Tree, ledger: &mut Ledger, flights: &Flights, keys: Keys) -> Given
+    requires law { IsLawful (at_in tree.old) ledger.old.made (flying_of flights.now).pinned }
+    requires above { Leads (at_in tree.old) keys.key.parent }
+    requires node_room { IsFree (at_in tree.old) keys.key.parent keys.key.name → 0 < tree.old.room }
+    requires room { 2 ≤ ledger.old.room }
+    requires short { length ledger.old.made + 1 < 2 ^ 64 }
+    ensures enters { Enters (at_in tree.old) ledger.old.made keys.key.parent keys.key.name result (at_in tree.new) ledger.new.made }
+    ensures law { IsLawful (at_in tree.new) ledger.new.made (flying_of flights.now).pinned }
+    ensures more { IsEntered tree.old ledger.old keys.key.parent keys.key.name tree.new ledger.new }
+{
+    match tree.find(&keys.key) {
+        Some(number) => enter_again(tree, ledger, flights, number, &keys.key),
+        None => bear(tree, ledger, flights, keys),
+    }
+}

@@ -1,0 +1,61 @@
+//! Names that are taken away or moved in the tree.
+
+ghost use Rattle.std.specs.Prelude.{◌≡◌, ◌⊎◌, ℤ};
+ghost use Rattle.steps.specs.Ending.{AreUnder, IsUnder, KeepsChildren, change_in, name_at};
+ghost use Rattle.steps.specs.Steps.{Alters, Cuts, Moves};
+ghost use Rattle.tree.specs.Places.{at_in, IsTree, Leads};
+ghost use Rattle.wants.specs.Asked.{IsMisplaced, IsRefusedAt};
+
+use crate::acts::Change;
+use crate::keys::Keys;
+use tree::{Key, Tree};
+
+/// Cuts what stands at the name, with all below it.
+fn cut_at(tree: &mut Tree, key: &Key)
+    requires { Leads (at_in tree.old) key.now.parent }
+    ensures cuts { Cuts (at_in tree.old) (name_at key.now) (at_in tree.new) }
+    ensures children { KeepsChildren (at_in tree.old) (λ n. n ≡ key.now.parent) (at_in tree.new) }
+    ensures rest { tree.new ≡ record tree.old { nodes = tree.new.nodes; next = tree.new.next } }
+    ensures tree { IsTree (at_in tree.new) }
+{
+    let Some(number) = tree.find(key) else {
+        return;
+    };
+    let Ok(()) = tree.cut(number) else {
+        unreachable!();
+    };
+}
+
+/// Moves what stands at the name to the other, with all below it, and cuts what stood there.
+/// Where nothing stands at the name, what stands at the other is cut alone.
+fn move_at(tree: &mut Tree, key: &Key, target: Keys)
+    requires leads { Leads (at_in tree.old) key.now.parent }
+    requires target_leads { Leads (at_in tree.old) target.key.parent }
+    requires may { (e : ℤ) → IsRefusedAt (at_in tree.old) (name_at key.now) (name_at target.key) e → ⊥ }
+    ensures moves { Moves (at_in tree.old) (name_at key.now) (name_at target.key) (at_in tree.new) }
+    ensures children { KeepsChildren (at_in tree.old) (λ n. (n ≡ key.now.parent) ⊎ (n ≡ target.key.parent)) (at_in tree.new) }
+    ensures rest { tree.new ≡ record tree.old { nodes = tree.new.nodes; next = tree.new.next } }
+    ensures tree { IsTree (at_in tree.new) }
+{
+    match tree.find(key) {
+        Some(number) => tree.relink(number, target.key, target.copy),
+        None => cut_at(tree, &target.key),
+    }
+}
+
+/// Cuts or moves names, with all below them.
+pub(crate) fn alter(tree: &mut Tree, change: Change)
+    requires tree { IsTree (at_in tree.old) }
+    requires leads { AreUnder (Leads (at_in tree.old)) (change_in change) }
+    requires may { (e : ℤ) → IsMisplaced (at_in tree.old) (change_in change) e → ⊥ }
+    ensures alters { Alters (at_in tree.old) (change_in change) (at_in tree.new) }
+    ensures children { KeepsChildren (at_in tree.old) (IsUnder (change_in change)) (at_in tree.new) }
+    ensures rest { tree.new ≡ record tree.old { nodes = tree.new.nodes; next = tree.new.next } }
+    ensures tree { IsTree (at_in tree.new) }
+{
+    match change {
+        Change::Stays => {}
+        Change::Cuts(key) => cut_at(tree, &key),
+        Change::Moves(key, target) => move_at(tree, &key, target),
+    }
+}

@@ -1,0 +1,117 @@
+-- What a want's row asks for, and why it is refused.
+use Rattle.std.proofs.Common.{ℕ, ℤ, ◌≡◌, List, [], ◌∷◌, Option, Some, Contains, refl, sym, ap, ◌∙◌, subst, ◌⊎◌, inl, inr}
+use Rattle.std.specs.Prelude.{IsSome}
+use Rattle.std.proofs.lemmas.Bool.{cases_Bool, cases_eq, false≢true}
+use Rattle.std.proofs.lemmas.Option.{none-some, same_Some}
+use Rattle.paths.specs.Fronts.{Name, Names, is_name}
+use Rattle.paths.proofs.FrontLemmas.{is_name-true, is_name-yes}
+use Rattle.flights.specs.declared.data.Want.{Want}
+use Rattle.flights.specs.declared.data.Want.TheVariants as wants
+use Rattle.flights.specs.declared.data.Work.{Work}
+use Rattle.flights.specs.Roomy.{Pinned}
+use Rattle.tree.specs.declared.nodes.Key.{Key}
+use Rattle.tree.specs.declared.nodes.Node.{Node}
+use Rattle.tree.specs.declared.nodes.Place.{Place}
+use Rattle.tree.specs.declared.nodes.Place.TheVariants as place
+use Rattle.tree.specs.Places.{Lookup, IsCensus, IsFree, IsNamed, IsTree}
+use Rattle.tree.proofs.LookupLemmas.{cases_option}
+use Rattle.wants.specs.Asked.{IsCase, IsEntryCase, IsUnsound}
+use Rattle.wants.specs.declared.data.Plan.{Plan}
+use Rattle.wants.specs.declared.drafts.Terms.{Terms}
+use Rattle.wants.specs.Drafts.{IsEntryAt, IsTaken, IsRecord, IsTerms, IsVacant, IsWanted}
+use Rattle.wants.specs.Plans.{IsPlan, IsRefusedPlan, copied}
+use Rattle.wants.specs.Rows.{Case, AtName, absent, case_in, name_row, plain, row_of}
+use Rattle.wants.proofs.Members.{all_in, any_only, cases_in, first_in, later_in, none_in}
+
+-- ---- whether a node stands at a name
+
+-- the name of the node, or another
+named_so : (x : Place) (parent : ℕ) (name : Name) → (x ≡ place.Named (record { parent = parent; name = name })) ⊎ (x ≡ place.Named (record { parent = parent; name = name }) → ⊥)
+named_so place.Root parent name = inr (λ e. cc)
+named_so place.Cut parent name = inr (λ e. cc)
+named_so (place.Named key) parent name = elim (cases_eq key.parent parent) [
+  | inl under ↦ elim (cases_Bool (is_name key.name name)) [
+    | inl yes' ↦
+        let spelt : key.name ≡ name = is_name-true key.name name yes' in
+        inl (ap (λ (p : ℕ). place.Named (record { parent = p; name = key.name })) under ∙ ap (λ (n : Name). place.Named (record { parent = parent; name = n })) spelt)
+    | inr no' ↦ inr (λ e.
+        let same : key ≡ record { parent = parent; name = name } = cc in
+        false≢true (sym no' ∙ is_name-yes key.name name (ap (λ (k : Key). k.name) same)))
+  ]
+  | inr elsewhere ↦ inr (λ e.
+      let same : key ≡ record { parent = parent; name = name } = cc in
+      elsewhere (ap (λ (k : Key). k.parent) same))
+]
+
+there : (at : Lookup) (k parent : ℕ) (name : Name) → IsNamed at k parent name ⊎ (IsNamed at k parent name → ⊥)
+there at k parent name = elim (cases_option (at k)) [
+  | inl none ↦ inr (λ named. none-some named.0 (sym none ∙ named.1))
+  | inr (x, stood) ↦ elim (named_so x.place parent name) [
+    | inl here ↦ inl (x, stood, here)
+    | inr other ↦ inr (λ named. other (ap (λ (z : Node). z.place) (same_Some x named.0 (sym stood ∙ named.1)) ∙ named.2))
+  ]
+]
+
+among : (at : Lookup) (ks : List ℕ) (parent : ℕ) (name : Name)
+    → ((n : ℕ) × Contains ks n × IsNamed at n parent name) ⊎ ((n : ℕ) → Contains ks n → IsNamed at n parent name → ⊥)
+among at [] parent name = inr (λ n h named. none_in n h)
+among at (k ∷ ks) parent name = elim (there at k parent name) [
+  | inl named ↦ inl (k, first_in k ks, named)
+  | inr other ↦ elim (among at ks parent name) [
+    | inl it ↦ inl (it.0, later_in k ks it.0 it.1, it.2)
+    | inr none ↦ inr (λ n h named. elim (cases_in k ks n h) [ inl same ↦ other (subst (λ m. IsNamed at m parent name) (sym same) named) | inr more ↦ none n more named ])
+  ]
+]
+
+named_or_free : (at : Lookup) (living counts : ℕ) → IsTree at → IsCensus at living counts → (parent : ℕ) (name : Name) → ((n : ℕ) × IsNamed at n parent name) ⊎ IsFree at parent name
+named_or_free at living counts tree census parent name = elim (among at census.living_is.keys parent name) [
+  | inl it ↦ inl (it.0, it.2)
+  | inr none ↦ inr (λ n named. none n ((census.living_is.exact n).1 (subst (λ (o : Option Node). IsSome o) (sym named.1) refl)) named)
+]
+
+-- ---- cases
+
+pub entry_case : (at : Lookup) (parent : ℕ) (name : Name) (c : Case) → IsEntryAt at (AtName parent name ∷ []) c → IsEntryCase at parent name c
+entry_case at parent name plain all = all_in (IsTaken at) (AtName parent name ∷ []) (AtName parent name) all (first_in (AtName parent name) [])
+entry_case at parent name absent any = any_only (IsVacant at) (AtName parent name) any
+
+-- a want has a case
+case_there : (at : Lookup) (living counts : ℕ) → IsTree at → IsCensus at living counts → (want : Want) → (c : Case) × IsCase at want c
+case_there at living counts tree census (wants.Node number) = (plain, refl)
+case_there at living counts tree census (wants.Name parent name) = elim (named_or_free at living counts tree census parent name) [ inl named ↦ (plain, named) | inr free ↦ (absent, free) ]
+case_there at living counts tree census (wants.Remove parent name) = (plain, refl)
+case_there at living counts tree census (wants.Move parent name new_parent new_name) = (plain, refl)
+
+refused : (at : Lookup) (living counts : ℕ) → IsTree at → IsCensus at living counts → (want : Want) (e : ℤ) → ((c : Case) → IsUnsound at (row_of want c) e) → IsRefusedPlan at want e
+refused at living counts tree census want e unsound =
+    let it = case_there at living counts tree census want in
+    record { demand = row_of want it.0; demanded = record { case = it.0; fits = it.1; row = refl }; unsound = unsound it.0 }
+
+pub refused_as : (at : Lookup) (living counts : ℕ) → IsTree at → IsCensus at living counts → (want w : Want) (e : ℤ) → want ≡ w → ((c : Case) → IsUnsound at (row_of w c) e) → IsRefusedPlan at want e
+refused_as at living counts tree census want w e is unsound = subst (λ (v : Want). IsRefusedPlan at v e) (sym is) (refused at living counts tree census w e unsound)
+
+-- a name for which an entry may be given
+pub named_wanted : (at : Lookup) (want : Want) (parent : ℕ) (name : Name) (t : Terms) → want ≡ wants.Name parent name → IsEntryAt at (AtName parent name ∷ []) (case_in t.promise) → IsTerms at (name_row parent name (case_in t.promise)) t → IsWanted at want t
+named_wanted at want parent name t is fits terms = subst (λ (v : Want). IsWanted at v t) (sym is) (record { fits = entry_case at parent name (case_in t.promise) fits; terms = terms })
+
+-- the record of a request as its want's row asks for it
+pub planned : (at : Lookup) (want : Want) (t : Terms) (p : Plan) → IsWanted at want t → IsRecord want t p → IsPlan at want p
+planned at want t p wanted made =
+    let row : (w : Work) → w ≡ record { want = want; copy = copied want; held = t.held; promise = t.promise; answer = t.answer } → IsPlan at want (record { work = w; pins = t.pins; paths = t.paths })
+    = λ w is. subst (λ (v : Work). IsPlan at want (record { work = v; pins = t.pins; paths = t.paths })) (sym is) (record {
+      want_is = refl;
+      fits = wanted.fits;
+      sound = wanted.terms.sound;
+      holds = wanted.terms.holds;
+      pins = wanted.terms.pins;
+      paths = wanted.terms.paths;
+      provided = record {
+        promise = wanted.terms.promise;
+        copy = refl;
+        pin_room = wanted.terms.pin_room;
+        answer_room = wanted.terms.answer_room;
+        unanswered = wanted.terms.unanswered;
+      };
+    }) in
+    subst (λ (pins : Pinned). IsPlan at want (record { work = p.work; pins = pins; paths = p.paths })) (sym made.pins)
+    (subst (λ (paths : List Names). IsPlan at want (record { work = p.work; pins = t.pins; paths = paths })) (sym made.paths) (row p.work made.work))

@@ -1,0 +1,36 @@
+use Rattle.std.proofs.lemmas.Result.{IfErr-weaker, IfOk-weaker}
+use Rattle.tree.specs.Places.{at_in}
+use Rattle.wants.specs.declared.refusal.Refusal.{Refusal}
+use Rattle.wants.specs.Drafts.{IsWanted, errno_of}
+use Rattle.wants.specs.Plans.{IsRefusedPlan}
+use Rattle.wants.proofs.Wanting.{named_wanted, refused_as}
+use Rattle.wants.proofs.rows.terms_for.Goals as goal
+
+pub returns-in-Node-clause-err : goal.returns-in-Node-clause-err
+returns-in-Node-clause-err c =
+    let at = at_in c.args.tree.now in
+    let t = c.terms_of.ensures in
+    IfErr-weaker c.terms_of.result _ (λ (r : Refusal). IsRefusedPlan at c.args.want.now (errno_of r)) (λ r unsound. refused_as at _ _ t.tree t.census c.args.want.now _ (errno_of r) c.in-Node.is unsound) t.err
+
+pub returns-in-Name-clause-ok : goal.returns-in-Name-clause-ok
+returns-in-Name-clause-ok c =
+    let at = at_in c.args.tree.now in
+    IfOk-weaker c.terms_of-in-Name.result _ (λ t. IsWanted at c.args.want.now t) (λ t agreed. named_wanted at c.args.want.now _ _ t c.in-Name.is agreed.fits agreed.terms) c.terms_of-in-Name.ensures.ok
+
+pub returns-in-Name-clause-err : goal.returns-in-Name-clause-err
+returns-in-Name-clause-err c =
+    let at = at_in c.args.tree.now in
+    let t = c.terms_of-in-Name.ensures in
+    IfErr-weaker c.terms_of-in-Name.result _ (λ (r : Refusal). IsRefusedPlan at c.args.want.now (errno_of r)) (λ r unsound. refused_as at _ _ t.tree t.census c.args.want.now _ (errno_of r) c.in-Name.is unsound) t.err
+
+pub returns-in-Remove-clause-err : goal.returns-in-Remove-clause-err
+returns-in-Remove-clause-err c =
+    let at = at_in c.args.tree.now in
+    let t = c.terms_of-in-Remove.ensures in
+    IfErr-weaker c.terms_of-in-Remove.result _ (λ (r : Refusal). IsRefusedPlan at c.args.want.now (errno_of r)) (λ r unsound. refused_as at _ _ t.tree t.census c.args.want.now _ (errno_of r) c.in-Remove.is unsound) t.err
+
+pub returns-in-Move-clause-err : goal.returns-in-Move-clause-err
+returns-in-Move-clause-err c =
+    let at = at_in c.args.tree.now in
+    let t = c.terms_of-in-Move.ensures in
+    IfErr-weaker c.terms_of-in-Move.result _ (λ (r : Refusal). IsRefusedPlan at c.args.want.now (errno_of r)) (λ r unsound. refused_as at _ _ t.tree t.census c.args.want.now _ (errno_of r) c.in-Move.is unsound) t.err

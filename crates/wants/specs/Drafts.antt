@@ -1,0 +1,284 @@
+-- What the code gathers of a row, location by location.
+use Rattle.std.specs.Prelude.{ℕ, ℤ, ◌+◌, ◌*◌, ◌<◌, ◌≤◌, ◌≡◌, ◌↔◌, ◌⊎◌, ◌||◌, Bool, true, false, if◌then◌else◌, List, [], ◌∷◌, ◌++◌, Some, All, Any, Contains, is_none, length, map}
+use Rattle.std.specs.List.{AllZip}
+use Rattle.errno.specs.declared.TheConstants.{EINVAL, ENAMETOOLONG, ENOMEM, ENOTEMPTY, ESTALE}
+use Rattle.paths.specs.Fronts.{Names, fronts, path_bytes}
+use Rattle.holds.specs.declared.held.Lead.{Lead}
+use Rattle.flights.specs.declared.data.Want.{Want}
+use Rattle.tree.specs.declared.nodes.Key.{Key}
+use Rattle.tree.specs.declared.nodes.TreeFault.{TreeFault}
+use Rattle.tree.specs.declared.nodes.TreeFault.TheVariants as fault
+use Rattle.tree.specs.Places.{Lookup, IsPathOf, Leads}
+use Rattle.wants.specs.declared.data.Plan.{Plan}
+use Rattle.wants.specs.declared.drafts.Draft.{Draft}
+use Rattle.wants.specs.declared.drafts.Terms.{Terms}
+use Rattle.wants.specs.declared.found.Found.{Found}
+use Rattle.wants.specs.declared.refusal.Refusal.{Refusal}
+use Rattle.wants.specs.declared.refusal.Refusal.TheVariants as refusal
+use Rattle.wants.specs.declared.rows.Change as told_change
+use Rattle.wants.specs.declared.rows.Change.TheVariants.{Stays, Cuts, Moves}
+use Rattle.wants.specs.declared.rows.Hold.{Hold}
+use Rattle.wants.specs.declared.rows.Hold.TheVariants.{Shared, Alone}
+use Rattle.wants.specs.declared.rows.Location as told_location
+use Rattle.wants.specs.declared.rows.Location.TheVariants as locations
+use Rattle.wants.specs.declared.rows.Row.{Row}
+use Rattle.wants.specs.Asked.{ArePaths, HasPath, Holds, IsCase, IsPin, IsPrefixAt, IsRefusedMove, IsSound, IsThere, promise_of}
+use Rattle.wants.specs.Laws.{base_of}
+use Rattle.wants.specs.Plans.{copied}
+use Rattle.wants.specs.Rows.{Case, Change, Demand, Location, AtName, AtNode, absent, births_in, case_in, cuts, moves, plain, row_of, stays}
+
+-- ---- refusals
+
+abbrev pub errno_of : Refusal → ℤ
+errno_of refusal.Stale = ESTALE
+errno_of refusal.TooLong = ENAMETOOLONG
+errno_of refusal.IntoItself = EINVAL
+errno_of refusal.OntoFolder = ENOTEMPTY
+errno_of refusal.Memory = ENOMEM
+
+abbrev pub refusal_of : TreeFault → Refusal
+refusal_of fault.Unknown = refusal.Stale
+refusal_of fault.Cut = refusal.Stale
+refusal_of fault.PathLong = refusal.TooLong
+refusal_of fault.Full = refusal.Memory
+refusal_of fault.Memory = refusal.Memory
+
+-- ---- rows of the code as rows
+
+abbrev pub location_of : told_location.Location → Location
+location_of (locations.AtNode number) = AtNode number
+location_of (locations.AtName parent name) = AtName parent name.now
+
+abbrev pub told : List told_location.Location → List Location
+told ls = map (λ l. location_of l) ls
+
+abbrev pub locations_of : Row → List Location
+locations_of row = told row.locations.now
+
+abbrev pub shared_in : Hold → List Location → List Location
+shared_in Shared ls = ls
+shared_in Alone ls = []
+
+abbrev pub alone_in : Hold → List Location → List Location
+alone_in Shared ls = []
+alone_in Alone ls = ls
+
+abbrev pub key_in : List Location → List Key
+key_in [] = []
+key_in (AtNode number ∷ ls) = []
+key_in (AtName parent name ∷ ls) = record { parent = parent; name = name } ∷ []
+
+abbrev pub change_in : told_change.Change → List Location → Change
+change_in Stays ls = stays
+change_in Cuts [] = stays
+change_in Cuts (l ∷ ls) = cuts l
+change_in Moves [] = stays
+change_in Moves (l ∷ []) = stays
+change_in Moves (l ∷ m ∷ ls) = moves l m
+
+abbrev pub demand_in : List Location → Hold → Bool → told_change.Change → Case → Demand
+demand_in ls hold enters change c = record {
+  given = map (λ l. base_of l) ls;
+  paths = ls;
+  shared = shared_in hold ls;
+  alone = alone_in hold ls;
+  entries = if enters then key_in ls else [];
+  births = if enters then births_in c else 0;
+  done = change_in change ls;
+}
+
+abbrev pub demand_of : Row → Case → Demand
+demand_of row c = demand_in (locations_of row) row.hold row.enters row.change c
+
+abbrev pub entries_of : Row → ℕ
+entries_of row = if row.enters then 1 else 0
+
+-- ---- what a row must keep
+
+abbrev pub AreNames : List Location → Type 0
+AreNames [] = Unit {0}
+AreNames (AtNode number ∷ ls) = ⊥
+AreNames (AtName parent name ∷ ls) = AreNames ls
+
+abbrev pub IsOneName : List Location → Type 0
+IsOneName [] = ⊥
+IsOneName (AtNode number ∷ ls) = ⊥
+IsOneName (AtName parent name ∷ []) = Unit {0}
+IsOneName (AtName parent name ∷ l ∷ ls) = ⊥
+
+-- an entry may be given for a name alone
+abbrev pub IsEntered : Bool → List Location → Type 0
+IsEntered true ls = IsOneName ls
+IsEntered false ls = Unit {0}
+
+-- a move has two locations
+abbrev pub AreEnough : told_change.Change → ℕ → Type 0
+AreEnough Stays n = Unit {0}
+AreEnough Cuts n = Unit {0}
+AreEnough Moves n = 2 ≤ n
+
+-- only names are held alone, and an entry is given for a name alone
+pub record IsFit (row : Row) : Type 0 where
+  pub some : 0 < length row.locations.now
+  pub few : length row.locations.now ≤ 2
+  pub names : AreNames (alone_in row.hold (locations_of row))
+  pub entry : IsEntered row.enters (locations_of row)
+  pub enough : AreEnough row.change (length row.locations.now)
+
+-- ---- what is found
+
+-- no way leads from the location's node to the root
+abbrev pub IsLost : Lookup → Location → Type 0
+IsLost at l = Leads at (base_of l) → ⊥
+
+abbrev pub IsRootedAt : Lookup → Location → Type 0
+IsRootedAt at l = Leads at (base_of l)
+
+abbrev pub AreRooted : Lookup → List Location → Type 0
+AreRooted at ls = All (IsRootedAt at) ls
+
+abbrev pub IsLongPath : Lookup → Location → Type 0
+IsLongPath at l = (path : Names) × HasPath at l path × (4096 < path_bytes path)
+
+-- why a location with a way to the root is refused, and why one of some is
+abbrev pub IsBadPath : Lookup → Location → Refusal → Type 0
+IsBadPath at l refusal.Stale = ⊥
+IsBadPath at l refusal.TooLong = IsLongPath at l
+IsBadPath at l refusal.IntoItself = ⊥
+IsBadPath at l refusal.OntoFolder = ⊥
+IsBadPath at l refusal.Memory = Unit {0}
+
+abbrev pub IsBadRow : Lookup → List Location → Refusal → Type 0
+IsBadRow at ls refusal.Stale = ⊥
+IsBadRow at ls refusal.TooLong = Any (IsLongPath at) ls
+IsBadRow at ls refusal.IntoItself = ⊥
+IsBadRow at ls refusal.OntoFolder = ⊥
+IsBadRow at ls refusal.Memory = Unit {0}
+
+pub record IsFound (at : Lookup) (l : Location) (f : Found) : Type 0 where
+  pub above : IsPathOf at (base_of l) f.above
+  pub path : HasPath at l f.path
+  pub short : path_bytes f.path ≤ 4096
+  pub node : (n : ℕ) → (f.node ≡ Some n) ↔ IsThere at l n
+
+abbrev pub CanMove : Names → Names → Type 0
+CanMove source target = (e : ℤ) → IsRefusedMove source target e → ⊥
+
+-- what the paths of a change must keep, and why they do not
+abbrev pub MayChange : told_change.Change → List Names → Type 0
+MayChange Stays paths = Unit {0}
+MayChange Cuts paths = Unit {0}
+MayChange Moves [] = Unit {0}
+MayChange Moves (p ∷ []) = Unit {0}
+MayChange Moves (p ∷ q ∷ paths) = CanMove p q
+
+abbrev pub IsWrongChange : told_change.Change → List Names → ℤ → Type 0
+IsWrongChange Stays paths e = ⊥
+IsWrongChange Cuts paths e = ⊥
+IsWrongChange Moves [] e = ⊥
+IsWrongChange Moves (p ∷ []) e = ⊥
+IsWrongChange Moves (p ∷ q ∷ paths) e = IsRefusedMove p q e
+
+-- ---- drafts
+
+-- the path whose nonempty prefixes are shared, and those that are held alone
+abbrev pub shared_path : Hold → Found → Names
+shared_path Shared f = f.path
+shared_path Alone f = f.above
+
+abbrev pub own_paths : Hold → Found → List Names
+own_paths Shared f = []
+own_paths Alone f = f.path ∷ []
+
+-- one location more
+pub record Adds (old : Draft) (number : ℕ) (f : Found) (hold : Hold) (new : Draft) : Type 0 where
+  pub given : new.given.items ≡ old.given.items ++ record { number = number; path = f.above } ∷ []
+  pub shared : new.shared.items ≡ old.shared.items ++ fronts (shared_path hold f)
+  pub exclusive : new.exclusive.items ≡ old.exclusive.items ++ own_paths hold f
+  pub paths : new.paths.items ≡ old.paths.items ++ f.path ∷ []
+  pub pins : (n : ℕ) → Contains new.pins.numbers n ↔ (Contains old.pins.numbers n ⊎ ((number ≡ n) ⊎ (f.node ≡ Some n)))
+  pub room : old.pins.room ≤ new.pins.room + 2
+  pub absent : new.absent ≡ (old.absent || is_none f.node)
+
+abbrev pub IsSharedAt : Lookup → Hold → Names → Location → Type 0
+IsSharedAt at Shared p l = IsPrefixAt at p l
+IsSharedAt at Alone p l = IsPrefixAt at p (AtNode (base_of l))
+
+abbrev pub IsOwnAt : Lookup → Hold → Names → Location → Type 0
+IsOwnAt at Shared p l = ⊥
+IsOwnAt at Alone p l = HasPath at l p
+
+abbrev pub IsPinAt : Lookup → ℕ → Location → Type 0
+IsPinAt at n l = (base_of l ≡ n) ⊎ IsThere at l n
+
+abbrev pub IsShortPath : Lookup → Location → Names → Type 0
+IsShortPath at l p = HasPath at l p × (path_bytes p ≤ 4096)
+
+-- no node stands there, and some node does
+abbrev pub IsVacant : Lookup → Location → Type 0
+IsVacant at l = (n : ℕ) → IsThere at l n → ⊥
+
+abbrev pub IsTaken : Lookup → Location → Type 0
+IsTaken at l = (n : ℕ) × IsThere at l n
+
+-- all that was found at these locations
+pub record IsDraft (at : Lookup) (hold : Hold) (ls : List Location) (x : Draft) : Type 0 where
+  pub numbers : map (λ (lead : Lead). lead.number) x.given.items ≡ map (λ l. base_of l) ls
+  pub leads : All (λ (lead : Lead). IsPathOf at lead.number lead.path) x.given.items
+  pub shared : (p : Names) → Contains x.shared.items p ↔ Any (IsSharedAt at hold p) ls
+  pub exclusive : (p : Names) → Contains x.exclusive.items p ↔ Any (IsOwnAt at hold p) ls
+  pub paths : AllZip (IsShortPath at) ls x.paths.items
+  pub pins : (n : ℕ) → Contains x.pins.numbers n ↔ Any (IsPinAt at n) ls
+  pub vacant : x.absent ≡ true → Any (IsVacant at) ls
+  pub taken : x.absent ≡ false → All (IsTaken at) ls
+
+pub record IsNoDraft (room : ℕ) (x : Draft) : Type 0 where
+  pub given : x.given.items ≡ []
+  pub shared : x.shared.items ≡ []
+  pub exclusive : x.exclusive.items ≡ []
+  pub paths : x.paths.items ≡ []
+  pub pins : x.pins ≡ record { numbers = []; room = room }
+  pub absent : x.absent ≡ false
+
+-- ---- terms
+
+pub record IsDrawn (x : Draft) (entries : ℕ) (t : Terms) : Type 0 where
+  pub held : t.held ≡ record { given = x.given.items; shared = x.shared.items; exclusive = x.exclusive.items }
+  pub promise : t.promise ≡ record { nodes = if x.absent then entries else 0; postings = 3 * entries }
+  pub answer : t.answer ≡ record { items = []; room = entries }
+  pub pins : t.pins ≡ x.pins
+  pub paths : t.paths ≡ x.paths.items
+
+-- what the row asks for
+pub record IsTerms (at : Lookup) (d : Demand) (t : Terms) : Type 0 where
+  pub sound : IsSound at d
+  pub holds : Holds at d t.held
+  pub pins : (n : ℕ) → Contains t.pins.numbers n ↔ IsPin at d n
+  pub paths : ArePaths at d.paths t.paths
+  pub promise : t.promise ≡ promise_of d
+  pub pin_room : length d.entries ≤ t.pins.room
+  pub answer_room : length d.entries ≤ t.answer.room
+  pub unanswered : t.answer.items ≡ []
+
+-- whether a node stands at the name for which an entry may be given
+abbrev pub IsEntryAt : Lookup → List Location → Case → Type 0
+IsEntryAt at ls plain = All (IsTaken at) ls
+IsEntryAt at ls absent = Any (IsVacant at) ls
+
+abbrev pub IsCaseOf : Lookup → Bool → List Location → Case → Type 0
+IsCaseOf at true ls c = IsEntryAt at ls c
+IsCaseOf at false ls c = c ≡ plain
+
+pub record IsAgreed (at : Lookup) (row : Row) (t : Terms) : Type 0 where
+  pub fits : IsCaseOf at row.enters (locations_of row) (case_in t.promise)
+  pub terms : IsTerms at (demand_of row (case_in t.promise)) t
+
+pub record IsWanted (at : Lookup) (want : Want) (t : Terms) : Type 0 where
+  pub fits : IsCase at want (case_in t.promise)
+  pub terms : IsTerms at (row_of want (case_in t.promise)) t
+
+-- the record of a request with that want and those terms
+pub record IsRecord (want : Want) (t : Terms) (p : Plan) : Type 0 where
+  pub work : p.work ≡ record { want = want; copy = copied want; held = t.held; promise = t.promise; answer = t.answer }
+  pub pins : p.pins ≡ t.pins
+  pub paths : p.paths ≡ t.paths

@@ -1,0 +1,194 @@
+//! What a row asks for, gathered location by location.
+
+ghost use Rattle.std.specs.Prelude.{ℕ, ◌+◌, ◌≤◌, ◌≡◌, ◌↔◌, ◌⊎◌, ◌++◌, Contains, Some, IfOk, IfErr, OnOk, length};
+ghost use Rattle.paths.specs.Fronts.{fronts};
+ghost use Rattle.tree.specs.Places.{IsCensus, IsTree, at_in};
+ghost use Rattle.wants.specs.Asked.{IsUnsound};
+ghost use Rattle.wants.specs.Drafts.{Adds, AreRooted, IsAgreed, IsBadRow, IsDraft, IsDrawn, IsFit, IsNoDraft, demand_of, entries_of, errno_of, locations_of, own_paths, shared_path};
+ghost use Rattle.wants.specs.Rows.{Case};
+
+use crate::found::{Found, expect_change, expect_rooted, find};
+use crate::refusal::Refusal;
+use crate::rows::{Hold, Row};
+use flights::{Givens, Pins, Promise};
+use holds::{Held, Lead, Leads, Paths, fronts_of};
+use paths::Path;
+use std::alloc::{AllocError, Global};
+use tree::Tree;
+
+/// The postings that an entry may make: a birth, the entry itself, and that by which it is taken back.
+const ENTRY_POSTINGS: u64 = 3;
+
+/// What a row asks for.
+#[derive(Drop)]
+pub(crate) struct Terms {
+    pub(crate) held: Held,
+    pub(crate) promise: Promise,
+    pub(crate) answer: Givens,
+    pub(crate) pins: Pins,
+    pub(crate) paths: Paths,
+}
+
+/// What was gathered so far.
+#[derive(Drop)]
+pub(crate) struct Draft {
+    given: Vec<Lead>,
+    shared: Vec<Path>,
+    exclusive: Vec<Path>,
+    pins: Pins,
+    paths: Vec<Path>,
+    /// Whether no node stands at one of the locations.
+    absent: bool,
+}
+
+/// Shares the nonempty prefixes of the path.
+fn share(alloc: Global, shared: &mut Vec<Path>, path: &Path) -> Result<(), AllocError>
+    ensures { OnOk result (shared.new.items ≡ shared.old.items ++ fronts path.now) }
+{
+    let mut prefixes = fronts_of(alloc, path)?.into_vec();
+    shared.append(&mut prefixes)
+}
+
+/// Pins the node, and the one that was found.
+fn pin(pins: &mut Pins, number: u64, found: Option<u64>)
+    requires { 2 ≤ pins.old.room }
+    ensures room { pins.old.room ≤ pins.new.room + 2 }
+    ensures pins { (n : ℕ) → Contains pins.new.numbers n ↔ (Contains pins.old.numbers n ⊎ ((number ≡ n) ⊎ (found ≡ Some n))) }
+{
+    pins.add(number);
+    match found {
+        Some(node) => {
+            if node != number {
+                pins.add(node);
+            }
+        }
+        None => {}
+    }
+}
+
+impl Draft {
+    /// Nothing yet, with room for so many pins.
+    fn new(alloc: Global, pins: usize) -> Result<Draft, AllocError>
+        ensures { IfOk result (IsNoDraft pins) }
+    {
+        let pins = Pins::with_capacity(alloc, pins)?;
+        Ok(Draft {
+            given: Vec::new(alloc),
+            shared: Vec::new(alloc),
+            exclusive: Vec::new(alloc),
+            pins,
+            paths: Vec::new(alloc),
+            absent: false,
+        })
+    }
+
+    /// Holds the path of what was found.
+    fn hold(&mut self, alloc: Global, found: &Found, hold: Hold) -> Result<(), AllocError>
+        ensures shared { OnOk result (self.new.shared.items ≡ self.old.shared.items ++ fronts (shared_path hold found.now)) }
+        ensures exclusive { OnOk result (self.new.exclusive.items ≡ self.old.exclusive.items ++ own_paths hold found.now) }
+        ensures given { self.new.given ≡ self.old.given }
+        ensures pins { self.new.pins ≡ self.old.pins }
+        ensures paths { self.new.paths ≡ self.old.paths }
+        ensures absent { self.new.absent ≡ self.old.absent }
+    {
+        match hold {
+            Hold::Shared => share(alloc, &mut self.shared, &found.path),
+            Hold::Alone => {
+                self.exclusive.push(found.path.copy()?)?;
+                share(alloc, &mut self.shared, &found.above)
+            }
+        }
+    }
+
+    /// Adds what was found at a location of that node.
+    fn add(
+        &mut self,
+        alloc: Global,
+        number: u64,
+        found: Found,
+        hold: Hold,
+    ) -> Result<(), AllocError>
+        requires { 2 ≤ self.old.pins.room }
+        ensures { OnOk result (Adds self.old number found hold self.new) }
+    {
+        pin(&mut self.pins, number, found.node);
+        self.absent = self.absent || found.node.is_none();
+        self.hold(alloc, &found, hold)?;
+        let Found {
+            above,
+            path,
+            node: _,
+        } = found;
+        self.given.push(Lead {
+            number,
+            path: above,
+        })?;
+        self.paths.push(path)?;
+        Ok(())
+    }
+
+    /// What is to be recorded, once all was added.
+    fn into_terms(self, alloc: Global, entries: usize) -> Result<Terms, AllocError>
+        requires { entries ≤ 1 }
+        ensures { IfOk result (IsDrawn self entries) }
+    {
+        let answer = Givens::with_capacity(alloc, entries)?;
+        let promise = Promise {
+            nodes: if self.absent { entries as u64 } else { 0 },
+            postings: ENTRY_POSTINGS * entries as u64,
+        };
+        let Draft {
+            given,
+            shared,
+            exclusive,
+            pins,
+            paths,
+            absent: _,
+        } = self;
+        let held = Held {
+            given: Leads::from_vec(given),
+            shared: Paths::from_vec(shared),
+            exclusive: Paths::from_vec(exclusive),
+        };
+        Ok(Terms {
+            held,
+            promise,
+            answer,
+            pins,
+            paths: Paths::from_vec(paths),
+        })
+    }
+}
+
+/// What is found at the row's locations, which lead to the root.
+fn draft_of(alloc: Global, tree: &Tree, row: &Row) -> Result<Draft, Refusal>
+    requires tree { IsTree (at_in tree.now) }
+    requires rooted { AreRooted (at_in tree.now) (locations_of row.now) }
+    requires few { length row.now.locations.now ≤ 2 }
+    ensures ok { IfOk result (IsDraft (at_in tree.now) row.now.hold (locations_of row.now)) }
+    ensures room { IfOk result (λ draft. entries_of row.now ≤ draft.pins.room) }
+    ensures err { IfErr result (IsBadRow (at_in tree.now) (locations_of row.now)) }
+{
+    let entries = usize::from(row.enters);
+    let mut draft = Draft::new(alloc, 2 * row.locations.len() + entries)?;
+    for location in row.locations {
+        let found = find(alloc, tree, location)?;
+        draft.add(alloc, location.base(), found, row.hold)?;
+    }
+    Ok(draft)
+}
+
+/// What the row asks for, if the tests of the nodes allow it.
+pub(crate) fn terms_of(alloc: Global, tree: &Tree, row: &Row) -> Result<Terms, Refusal>
+    requires { IsFit row.now }
+    ensures ok { IfOk result (IsAgreed (at_in tree.now) row.now) }
+    ensures err { IfErr result (λ refusal. (c : Case) → IsUnsound (at_in tree.now) (demand_of row.now c) (errno_of refusal)) }
+    ensures census { IsCensus (at_in tree.now) tree.now.living tree.now.counts }
+    ensures tree { IsTree (at_in tree.now) }
+{
+    expect_rooted(tree, row.locations)?;
+    let draft = draft_of(alloc, tree, row)?;
+    expect_change(row.change, draft.paths.as_slice())?;
+    let terms = draft.into_terms(alloc, usize::from(row.enters))?;
+    Ok(terms)
+}

@@ -1,0 +1,117 @@
+//! What each want asks for: one row of one table.
+
+ghost use Rattle.std.specs.Prelude.{◌≡◌, IfOk, IfErr};
+ghost use Rattle.tree.specs.Places.{at_in};
+ghost use Rattle.wants.specs.Drafts.{IsWanted, errno_of, location_of};
+ghost use Rattle.wants.specs.Laws.{base_of};
+ghost use Rattle.wants.specs.Plans.{IsRefusedPlan};
+
+use crate::drafts::{Terms, terms_of};
+use crate::refusal::Refusal;
+use flights::Want;
+use paths::Name;
+use std::alloc::Global;
+use tree::Tree;
+
+/// Where a node may stand, whether or not one does.
+#[derive(Clone, Copy)]
+pub(crate) enum Location<'a> {
+    /// That of the node.
+    AtNode(u64),
+    /// That of a name under the node.
+    AtName(u64, &'a Name),
+}
+
+impl Location<'_> {
+    /// The node, or the one that the name is under.
+    pub(crate) fn base(&self) -> u64
+        ensures { result ≡ base_of (location_of self.now) }
+    {
+        match self {
+            Location::AtNode(number) => *number,
+            Location::AtName(parent, _) => *parent,
+        }
+    }
+}
+
+/// How paths are held.
+#[derive(Clone, Copy)]
+pub(crate) enum Hold {
+    /// Others may hold them too, with their nonempty prefixes.
+    Shared,
+    /// Nobody else may hold them, and their proper prefixes are shared.
+    Alone,
+}
+
+/// What becomes of names.
+#[derive(Clone, Copy)]
+pub(crate) enum Change {
+    Stays,
+    /// What stands at the first location is cut.
+    Cuts,
+    /// What stands at the first location is moved to the second.
+    Moves,
+}
+
+/// What a want asks for. The node of each location, or the one that its name is under, is given.
+#[derive(Clone, Copy)]
+pub(crate) struct Row<'a> {
+    /// Whose paths the ticket tells.
+    pub(crate) locations: &'a [Location<'a>],
+    pub(crate) hold: Hold,
+    /// Whether an entry may be given for the name.
+    pub(crate) enters: bool,
+    pub(crate) change: Change,
+}
+
+/// What the want's row asks for: the table of rows.
+pub(crate) fn terms_for(alloc: Global, tree: &Tree, want: &Want) -> Result<Terms, Refusal>
+    ensures ok { IfOk result (IsWanted (at_in tree.now) want.now) }
+    ensures err { IfErr result (λ refusal. IsRefusedPlan (at_in tree.now) want.now (errno_of refusal)) }
+{
+    match want {
+        Want::Node { number } => {
+            let row = Row {
+                locations: &[Location::AtNode(*number)],
+                hold: Hold::Shared,
+                enters: false,
+                change: Change::Stays,
+            };
+            terms_of(alloc, tree, &row)
+        }
+        Want::Name { parent, name } => {
+            let row = Row {
+                locations: &[Location::AtName(*parent, name)],
+                hold: Hold::Shared,
+                enters: true,
+                change: Change::Stays,
+            };
+            terms_of(alloc, tree, &row)
+        }
+        Want::Remove { parent, name } => {
+            let row = Row {
+                locations: &[Location::AtName(*parent, name)],
+                hold: Hold::Alone,
+                enters: false,
+                change: Change::Cuts,
+            };
+            terms_of(alloc, tree, &row)
+        }
+        Want::Move {
+            parent,
+            name,
+            new_parent,
+            new_name,
+        } => {
+            let source = Location::AtName(*parent, name);
+            let target = Location::AtName(*new_parent, new_name);
+            let row = Row {
+                locations: &[source, target],
+                hold: Hold::Alone,
+                enters: false,
+                change: Change::Moves,
+            };
+            terms_of(alloc, tree, &row)
+        }
+    }
+}
