@@ -1,13 +1,14 @@
 -- One request alone in a table.
 use Rattle.std.proofs.lemmas.Option.{none-some}
-use Rattle.std.proofs.lemmas.Bool.{eq-eqb}
-use Rattle.std.proofs.Common.{◌≡◌, ◌==◌, ℕ, Bool, true, false, Option, Some, None, if◌then◌else◌, refl, sym, ap, ◌∙◌, ℤ, to_z, of_z, w32}
+use Rattle.std.proofs.lemmas.Bool.{cases_eq, eq-eqb}
+use Rattle.tree.proofs.LookupLemmas.{cases_option}
+use Rattle.std.proofs.Common.{◌≡◌, ◌==◌, ℕ, Bool, true, false, Option, Some, None, if◌then◌else◌, refl, sym, ap, ◌∙◌, inl, inr, ℤ, to_z, of_z, w32, arith}
 use Rattle.flights.specs.declared.data.Want.{Want}
 use Rattle.steps.proofs.Refusing.{refusal_bits}
 use Rattle.steps.specs.Answers.{Claim, Answer, Settlement}
 use Rattle.steps.specs.World.{Answered, Flight, Flights, IsAtWork, Work, Working, World, opened_world, with_entry}
 use Rattle.steps.specs.declared.data.Limits.{Limits}
-use Rattle.steps.specs.Steps.{Begins, Finishes, Settles, answered}
+use Rattle.steps.specs.Steps.{Begins, Finishes, Forgets, Settles, answered}
 use Rattle.steps.specs.declared.data.Outcome.{Outcome}
 use Rattle.steps.specs.declared.data.Begin.TheVariants.{Busy, Go, Refused}
 use Rattle.engine.specs.Tables.{IsIdle}
@@ -65,6 +66,16 @@ pub settles_one : (fin new : World) (id : ℕ) (a : Answer) (taken : Bool) (sett
 settles_one fin new id a taken settled ended s = λ k.
     let ends = s.found ended.not_lost (record { flight = ended.alone.flight; here = ap fin.flights ended.id_is ∙ ended.alone.here; ended = ended.alone.stage }) in
     ap (λ (w : World). w.flights k) ends.new_is ∙ gone (a.id == k) a.id k fin.flights refl (λ e. ended.alone.others k (ap (λ n. n == k) (sym ended.id_is) ∙ e))
+
+-- A forget leaves it idle.
+pub forgets_idle : (old new : World) (number n amount : ℕ) → IsIdle old → Forgets old number n amount new → IsIdle new
+forgets_idle old new number n amount idle h = λ id. elim (cases_eq amount 0) [
+  | inl none ↦ ap (λ (w : World). w.flights id) (h.nothing none) ∙ idle id
+  | inr some ↦ elim (cases_option (old.at number)) [
+    | inl gone ↦ absurd (some (h.unknown gone))
+    | inr (x, stood) ↦ ap (λ (w : World). w.flights id) (h.something x stood (omega arith)).new_is ∙ idle id
+  ]
+]
 
 -- An error number of the table is written and read as it is.
 pub refused_bits : (old new : World) (unique : ℕ) (want : Want) (errno : ℤ) → Begins old unique want (Refused errno) new → Begins old unique want (Refused (to_z w32 (of_z w32 errno))) new

@@ -1,4 +1,5 @@
-use Rattle.std.proofs.Common.{to_z, of_z, w32}
+use Rattle.std.proofs.Common.{ap, ◌∙◌, to_z, of_z, w32}
+use Rattle.steps.specs.World.{World}
 use Rattle.steps.specs.Kept.{world_of}
 use Rattle.engine.proofs.Alone.{finishes_one, refused_bits, settles_one}
 use Rattle.engine.proofs.Turns.{goes_on, table_refused}
@@ -24,3 +25,6 @@ returns-in-Refused-clause-carries g c =
     let begins = c.in-Refused.ensures.begins in
     table_refused worlds c.args.self.now.settings g.L.LinkOut.sends g.C.Calls.gives c.args.request c.args.want (to_z w32 (of_z w32 c.in-Refused.errno)) c.args.link.now c.answer.new.link c.args.calls.now
     (world_of c.args.table.now) (world_of c.begin.new.self) c.answer.result (refused_bits (world_of c.args.table.now) (world_of c.begin.new.self) c.args.request.unique c.args.want c.in-Refused.errno begins) begins.begins.1 c.answer.ensures.said
+
+pub returns-in-Refused-clause-idle : goal.returns-in-Refused-clause-idle
+returns-in-Refused-clause-idle g c = λ id. ap (λ (w : World). w.flights id) c.in-Refused.ensures.begins.begins.1 ∙ c.requires.idle id

@@ -13,8 +13,8 @@ use Rattle.engine.specs.Scripts.{Plan, Follows}
 use Rattle.engine.proofs.Turns.{sent_from}
 use Rattle.engine.proofs.session.Desk.perform.Goals as goal
 
-pub returns-in-None-clause-performs : goal.returns-in-None-clause-performs
-returns-in-None-clause-performs g c =
+pub returns-clause-performs : goal.returns-clause-performs
+returns-clause-performs g c =
     let none = c.in-None.ensures.none in
     let played = c.play-found.ensures in
     let end = end_of c.play-found.result in

@@ -1,5 +1,6 @@
 use Rattle.std.proofs.Common.{sym, ◌∙◌}
 use Rattle.steps.specs.Kept.{world_of}
+use Rattle.engine.proofs.Alone.{forgets_idle}
 use Rattle.engine.specs.Tables.{worlds}
 use Rattle.engine.proofs.Turns.{carried, fault_answered, forgot, said_at_once, unbegun}
 use Rattle.engine.proofs.session.Desk.work_off.Goals as goal
@@ -28,3 +29,7 @@ pub returns-in-Err-intent_of-clause-worked : goal.returns-in-Err-intent_of-claus
 returns-in-Err-intent_of-clause-worked g c =
     unbegun worlds c.args.self.now.settings g.L.LinkOut.sends g.C.Calls.gives c.args.frame.now c.in-Ok.request c.args.link.now c.refuse.new.link c.args.calls.now (world_of c.args.table.now) c.refuse.result
     c.in-Ok.ensures.found c.in-Err-intent_of.ensures.err c.refuse.ensures
+
+pub returns-in-Ok-Forget-clause-idle : goal.returns-in-Ok-Forget-clause-idle
+returns-in-Ok-Forget-clause-idle g c =
+    forgets_idle (world_of c.args.table.now) (world_of c.forget.new.self) c.in-Ok-Forget.number c.in-Ok-Forget.lookups c.forget.result c.requires.idle c.forget.ensures.forgets
