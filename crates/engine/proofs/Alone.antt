@@ -10,7 +10,8 @@ use Rattle.flights.specs.declared.data.Want.TheVariants as wants
 use Rattle.flights.specs.Flying.{Flying, with_flight, without_flight, pinning, answered}
 use Rattle.table.proofs.Refusing.{refusal_bits}
 use Rattle.table.specs.Answers.{Claim, Answer, Settlement}
-use Rattle.table.specs.World.{World}
+use Rattle.table.specs.World.{World, IsOpened}
+use Rattle.table.specs.declared.data.Limits.{Limits}
 use Rattle.table.specs.Steps.{Begins, GoesOn, Gives, GivesNothing, Finishes, Settles}
 use Rattle.table.specs.declared.data.Outcome.{Outcome}
 use Rattle.table.specs.declared.data.Outcome.TheVariants as outcome
@@ -101,3 +102,7 @@ settles_one fin new id a taken settled ended s = λ k.
 -- An error number of the table is written and read as it is.
 pub refused_bits : (old new : World) (unique : ℕ) (want : Want) (errno : ℤ) → Begins old unique want (Refused errno) new → Begins old unique want (Refused (to_z w32 (of_z w32 errno))) new
 refused_bits old new unique want errno b = (refusal_bits old want errno b.0, b.1)
+
+-- A table that was opened is idle.
+pub opened_idle : (limits : Limits) (w : World) → IsOpened limits w → IsIdle w
+opened_idle limits w o = λ id. ap (λ (f : Flying). f.at id) o.flying
