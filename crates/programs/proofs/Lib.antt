@@ -1,2 +1,2 @@
-pub mod Runnings
 pub mod Sampling
+pub mod Writing

@@ -1,8 +1,6 @@
 pub mod CommandLine
+pub mod Counting
 pub mod Faults
-pub mod Found
-pub mod Links
-pub mod Running
+pub mod Lines
+pub mod Runs
 pub mod Samples
-pub mod Serving
-pub mod Sessions

@@ -1,27 +1,26 @@
 //! Why a program stops before its input ends.
 
-ghost use Rattle.std.specs.Prelude.{◌≡◌, ◌⊎◌};
-ghost use Rattle.programs.specs.Faults.{status_of};
+ghost use Rattle.std.specs.Prelude.{◌≡◌, ◌⊎◌, true};
+ghost use Rattle.std.specs.Io.KnownBytes.{Appends};
+ghost use Rattle.programs.specs.Faults.{line_of, status_of};
 ghost use Rattle.programs.specs.declared.faults.Fault.TheVariants.{Link, Memory};
 
 use std::alloc::AllocError;
-use std::io;
-use thiserror::Error;
+use std::error::Error;
+use std::fmt::Display;
+use std::io::Write;
+use std::{fmt, io};
 
-/// What went wrong, worded for the one line on standard error.
-#[derive(Clone, Copy, Debug, PartialEq, Eq, Error)]
+/// What went wrong.
+#[derive(Clone, Copy, Debug, PartialEq, Eq)]
 pub enum Fault {
     /// A frame begins with a length that no frame has.
-    #[error("frame length {len} is not between 40 and 69632")]
     FrameLength { len: u32 },
     /// A line of the input, counted from 1, is not pairs of hexadecimal digits alone.
-    #[error("line {line} is not hexadecimal")]
     Line { line: u64 },
     /// A read or a write failed.
-    #[error("the link failed")]
     Link,
     /// Memory was refused.
-    #[error("out of memory")]
     Memory,
 }
 
@@ -36,6 +35,27 @@ impl Fault {
         }
     }
 }
+
+// Written out, since a contract names what it writes.
+impl Display for Fault {
+    ghost use Rattle.std.specs.Prelude.{Some};
+    ghost use Rattle.programs.specs.Faults.{message};
+
+    ghost output = { λ fault. Some (message fault) };
+
+    fn fmt<W: fmt::Write>(&self, f: &mut fmt::Formatter<W>) -> fmt::Result {
+        match self {
+            Fault::FrameLength { len } => {
+                write!(f, "frame length {len} is not between 40 and 69632")
+            }
+            Fault::Line { line } => write!(f, "line {line} is not hexadecimal"),
+            Fault::Link => f.write_str("the link failed"),
+            Fault::Memory => f.write_str("out of memory"),
+        }
+    }
+}
+
+impl Error for Fault {}
 
 impl From<AllocError> for Fault {
     ghost from_gives = { λ _ fault. fault ≡ Memory };
@@ -54,4 +74,11 @@ impl From<io::Error> for Fault {
             _ => Fault::Link,
         }
     }
+}
+
+/// Writes a fault as one line. False says that the writer failed.
+pub fn tell<F: Write>(faults: &mut F, fault: Fault) -> bool
+    ensures { result ≡ true → Appends (F.contents faults.old) (F.contents faults.new) (line_of fault) }
+{
+    writeln!(faults, "mirrord: {fault}").is_ok()
 }

@@ -1,14 +1,15 @@
 //! A link of hexadecimal lines.
 
-ghost use Rattle.std.specs.Prelude.{◌≡◌, ◌≢◌, ◌⊎◌, ◌/◌, ◌++◌, ◌∷◌, [], true, false, Ok, Err, IfSome, IfOk, IfErr, OnOk, OnErr, length};
+ghost use Rattle.std.specs.Prelude.{◌≡◌, ◌≢◌, ◌⊎◌, ◌/◌, ◌++◌, ◌∷◌, ◌≤◌, [], true, false, take, Ok, Err, Some, IfSome, IfOk, IfErr, OnOk, OnErr, length};
 ghost use Rattle.std.specs.Io.KnownBytes.{Appends, IsAtEnd, Keeps};
 ghost use Rattle.std.specs.Io.BufRead.{first_piece, DropsThrough};
 ghost use Rattle.hex.specs.Hex.{decode_of, encode_lower};
-ghost use Rattle.programs.specs.Links.{Explains, HandsOut, IsOfWriting, ReadsLine, Receives, Sends};
+ghost use Rattle.engine.specs.Links.{counted};
+ghost use Rattle.programs.specs.Lines.{line, unread, Explains, HandsOut, IsOfWriting, ReadsLine, Receives, Sends};
 ghost use Rattle.hex.specs.declared.error.FromHexError.TheVariants.{OutOfMemory};
 
 use crate::faults::Fault;
-use crate::links::{Link, Received, Sent};
+use engine::{Link, LinkIn, LinkOut, Received, Sent};
 use hex::FromHexError;
 use std::alloc::{AllocError, Global};
 use std::io;
@@ -65,11 +66,13 @@ pub struct HexLink<R: BufRead, W: Write> {
     piece: Vec<u8>,
     start: usize,
     cause: Option<Fault>,
+    /// How many of its calls have failed.
+    failures: u64,
 }
 
 impl<R: BufRead, W: Write> Model for HexLink<R, W> {
     ghost use Rattle.std.specs.Prelude.{◌≤◌, length, drop};
-    ghost use Rattle.programs.specs.Links.{Hexing};
+    ghost use Rattle.programs.specs.Lines.{Hexing};
 
     ghost Value = { Hexing };
 
@@ -79,6 +82,7 @@ impl<R: BufRead, W: Write> Model for HexLink<R, W> {
       input = R.remaining l.reader;
       output = W.contents l.writer;
       cause = l.cause;
+      failures = l.failures;
     } };
 
     ghost invariant = { λ l. l.start ≤ length l.piece.items };
@@ -87,13 +91,7 @@ impl<R: BufRead, W: Write> Model for HexLink<R, W> {
 impl<R: BufRead, W: Write> HexLink<R, W> {
     /// A link on which no line was read or written.
     pub fn new(alloc: Global, reader: R, writer: W) -> HexLink<R, W>
-        ensures { result ≡ record {
-          lines = 0;
-          kept = [];
-          input = R.remaining reader;
-          output = W.contents writer;
-          cause = None;
-        } }
+        ensures { result ≡ unread (R.remaining reader) (W.contents writer) }
     {
         HexLink {
             reader,
@@ -103,6 +101,7 @@ impl<R: BufRead, W: Write> HexLink<R, W> {
             piece: Vec::new(alloc),
             start: 0,
             cause: None,
+            failures: 0,
         }
     }
 
@@ -113,14 +112,22 @@ impl<R: BufRead, W: Write> HexLink<R, W> {
         self.cause
     }
 
+    // One failure more.
+    fn fail(&mut self, fault: Fault)
+        ensures { self.new ≡ record self.old { cause = Some fault; failures = counted self.old.failures 1 } }
+    {
+        self.cause = Some(fault);
+        self.failures = self.failures.saturating_add(1);
+    }
+
     // Keeps the bytes of the next line. False says that there is none.
     fn read_piece(&mut self) -> Result<bool, Fault>
         requires { self.old.kept ≡ [] }
         ensures more { IfOk result (λ more. more ≡ true → ReadsLine self.old self.new) }
         ensures end { IfOk result (λ more. more ≡ false → IsAtEnd self.old.input
             × (self.new ≡ record self.old { kept = []; input = self.new.input })) }
-        ensures output { self.new.output ≡ self.old.output }
-        ensures cause { IfErr result (Explains self.old self.new.lines) }
+        ensures cause { IfErr result (Explains self.old self.new) }
+        ensures others { OnErr result (self.new ≡ record self.old { lines = self.new.lines; kept = []; input = self.new.input }) }
     {
         if !read_line(&mut self.reader, &mut self.line)? {
             return Ok(false);
@@ -129,14 +136,20 @@ impl<R: BufRead, W: Write> HexLink<R, W> {
         self.start = 0;
         match spell(&self.line, &mut self.piece) {
             Ok(()) => Ok(true),
-            Err(FromHexError::OutOfMemory) => Err(Fault::Memory),
-            Err(_) => Err(Fault::Line { line: self.lines }),
+            Err(error) => {
+                self.piece.clear();
+                Err(match error {
+                    FromHexError::OutOfMemory => Fault::Memory,
+                    _ => Fault::Line { line: self.lines },
+                })
+            }
         }
     }
 
     // Moves as much of what is kept as there is room for.
     fn hand_out(&mut self, room: &mut [u8]) -> usize
-        ensures { HandsOut self.old result room.new self.new }
+        ensures within { result ≤ length room.new }
+        ensures bytes { HandsOut self.old result (take result room.new) self.new }
     {
         let kept = &self.piece[self.start..];
         let count = kept.len().min(room.len());
@@ -146,7 +159,7 @@ impl<R: BufRead, W: Write> HexLink<R, W> {
     }
 
     fn write_line(&mut self, frame: &[u8]) -> Result<(), Fault>
-        ensures ok { OnOk result (Appends self.old.output self.new.output (encode_lower frame.now ++ 10 ∷ [])) }
+        ensures ok { OnOk result (Appends self.old.output self.new.output (line frame.now)) }
         ensures stays { self.new ≡ record self.old { output = self.new.output } }
         ensures cause { IfErr result IsOfWriting }
     {
@@ -157,10 +170,33 @@ impl<R: BufRead, W: Write> HexLink<R, W> {
     }
 }
 
-impl<R: BufRead, W: Write> Link for HexLink<R, W> {
-    ghost receives = { λ old received room new. Receives old received room new };
+impl<R: BufRead + Drop, W: Write> HexLink<R, W> {
+    /// Hands the writer back.
+    pub fn into_writer(self) -> W
+        ensures { W.contents result ≡ self.output }
+    {
+        let HexLink {
+            reader: _,
+            writer,
+            lines: _,
+            line: _,
+            piece: _,
+            start: _,
+            cause: _,
+            failures: _,
+        } = self;
+        writer
+    }
+}
 
-    ghost sends = { λ old frame sent new. Sends old frame sent new };
+impl<R: BufRead, W: Write> LinkIn for HexLink<R, W> {
+    ghost use Rattle.programs.specs.Counting.{receives_counted};
+
+    ghost receives = { Receives };
+
+    ghost failed_receives = { λ l. l.failures };
+
+    ghost counts_receives = { receives_counted };
 
     fn receive(&mut self, room: &mut [u8]) -> Received {
         if self.start == self.piece.len() {
@@ -168,21 +204,37 @@ impl<R: BufRead, W: Write> Link for HexLink<R, W> {
                 Ok(true) => {}
                 Ok(false) => return Received::End,
                 Err(fault) => {
-                    self.cause = Some(fault);
+                    self.fail(fault);
                     return Received::Broken;
                 }
             }
         }
         Received::Bytes(self.hand_out(room))
     }
+}
+
+impl<R: BufRead, W: Write> LinkOut for HexLink<R, W> {
+    ghost use Rattle.programs.specs.Counting.{sends_counted};
+
+    ghost sends = { Sends };
+
+    ghost failed_sends = { λ l. l.failures };
+
+    ghost counts_sends = { sends_counted };
 
     fn send(&mut self, frame: &[u8]) -> Sent {
         match self.write_line(frame) {
             Ok(()) => Sent::Taken,
             Err(fault) => {
-                self.cause = Some(fault);
+                self.fail(fault);
                 Sent::Broken
             }
         }
     }
+}
+
+impl<R: BufRead, W: Write> Link for HexLink<R, W> {
+    ghost use Rattle.std.specs.Prelude.{refl};
+
+    ghost one_count = { λ _. refl };
 }

@@ -3,17 +3,12 @@
 
 mod command;
 mod faults;
-mod found;
 mod hexadecimal;
-mod links;
 mod runs;
 mod samples;
-mod sessions;
 
 pub use command::{Options, read_options};
-pub use faults::Fault;
+pub use faults::{Fault, tell};
 pub use hexadecimal::HexLink;
-pub use links::{Link, Received, Sent};
-pub use runs::{hex_run, report};
+pub use runs::{Ended, hex_run, run};
 pub use samples::new_tree;
-pub use sessions::{Session, SessionEnd};

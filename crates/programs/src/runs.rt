@@ -1,52 +1,75 @@
 //! Whole runs of the programs, but for the system around them.
 
-ghost use Rattle.std.specs.Prelude.{◌≡◌};
-ghost use Rattle.std.specs.Io.KnownBytes.{Keeps};
-ghost use Rattle.programs.specs.Running.{RunsHex, ServesHex, ServesLink};
-ghost use Rattle.programs.specs.Sessions.{exit_of, fault_of, IsEnding, IsStatus};
+ghost use Rattle.std.specs.Prelude.{◌≡◌, map};
+ghost use Rattle.clap.specs.Words.{kind_of};
+ghost use Rattle.programs.specs.Lines.{Receives, Sends};
+ghost use Rattle.programs.specs.Runs.{exit_of, fault_of, IsUnserved, RunsHex, RunsWords, ServesHex, ServesLink, Tells};
 
-use crate::faults::Fault;
+use crate::command::{Options, read_options};
+use crate::faults::{Fault, tell};
 use crate::hexadecimal::HexLink;
-use crate::links::Link;
 use crate::samples::new_tree;
-use crate::sessions::{Session, SessionEnd};
 use backing::{Calls, MemTree};
+use clap::error::ErrorKind;
+use engine::{Link, SessionEnd, Settings, serve};
 use ledger::{Blanks, Ledgers};
 use std::alloc::Global;
+use std::convert::AsStr;
 use std::io::{BufRead, Write};
 use std::marker::Brand;
+use std::sync::Wait;
 use table::{Limits, Table};
 
-/// How many nodes may live at once, with the root (own).
-const NODES: u64 = 65_536;
+/// Nobody owns what is mirrored.
+const NOBODY: Settings = Settings { uid: 0, gid: 0 };
+
+/// What a run leaves behind.
+#[derive(Drop)]
+pub struct Ended<O: Drop> {
+    /// The exit status.
+    pub status: u8,
+    /// Whether standard error took its line, if there was one.
+    pub told: bool,
+    /// The writer of the output, handed back.
+    pub output: O,
+}
 
 /// Serves a tree over a link with a table of its own, of one share.
-fn serve<T: Ledgers, L: Link, D: Calls + Drop>(
+fn serve_link<H: Wait, T: Ledgers, L: Link, C: Calls + Drop>(
+    rt: &H,
     alloc: Global,
     blanks: Blanks,
-    tree: D,
+    mut tree: C,
     link: &mut L,
 ) -> SessionEnd
     requires names { blanks ≡ T.names }
     requires shares { T.names.parts ≡ 1 }
-    ensures serves { ServesLink L.receives L.sends D.gives tree link.old result link.new }
-    ensures ending { IsEnding result }
+    ensures { ServesLink L.receives L.sends C.gives tree link.old result link.new }
 {
-    let limits = Limits {
-        nodes: NODES,
-        ..Limits::default()
-    };
-    let opened = Table::<T>::open(alloc, limits, blanks, 1);
-    let Ok((table, mut shares)) = opened else {
+    let opened = Table::<T>::open(alloc, Limits::default(), blanks, 1);
+    let Ok((mut table, mut shares)) = opened else {
         return SessionEnd::Memory;
     };
-    let share = shares.pop().unwrap();
+    let mut share = shares.pop().unwrap();
     shares.destroy_empty();
-    let mut session = Session::new(alloc, tree, table, share);
-    let end = session.run(link);
-    let (_, share, _) = session.end();
+    let end = serve(rt, alloc, link, &mut tree, &mut table, &mut share, NOBODY);
     share.leave();
     end
+}
+
+/// Serves a new tree in memory over a link of hexadecimal lines.
+fn serve_new<H: Wait, I: BufRead + Drop, O: Write + Drop>(
+    rt: &H,
+    alloc: Global,
+    sample: bool,
+    link: &mut HexLink<I, O>,
+) -> SessionEnd
+    ensures { ServesHex sample link.old result link.new }
+{
+    let Ok(tree) = new_tree(alloc, sample) else {
+        return SessionEnd::Memory;
+    };
+    serve_link::<H, Brand, HexLink<I, O>, MemTree>(rt, alloc, Blanks::new(1), tree, link)
 }
 
 /// The fault that a session ended with, where `cause` tells why its link broke.
@@ -61,46 +84,93 @@ fn fault_of(end: SessionEnd, cause: Option<Fault>) -> Option<Fault>
     }
 }
 
-/// Writes a fault as one line, and tells the exit status. A writer that fails leaves the status alone.
-pub fn report<F: Write>(faults: &mut F, fault: Option<Fault>) -> u8
-    ensures status { result ≡ exit_of fault }
-    ensures quiet { fault ≡ None → Keeps (F.contents faults.old) (F.contents faults.new) }
+/// The exit status after a fault, or after none.
+fn status_after(fault: Option<Fault>) -> u8
+    ensures { result ≡ exit_of fault }
 {
-    let Some(fault) = fault else {
-        return 0;
-    };
-    let _ = writeln!(faults, "mirrord: {fault}");
-    fault.status()
+    match fault {
+        Some(fault) => fault.status(),
+        None => 0,
+    }
 }
 
-/// Serves a new tree in memory over the link.
-fn serve_new<I: BufRead + Drop, O: Write + Drop>(
-    alloc: Global,
-    sample: bool,
-    link: &mut HexLink<I, O>,
-) -> SessionEnd
-    ensures serves { ServesHex sample link.old result link.new }
-    ensures ending { IsEnding result }
+/// Writes one line about a fault, if there was one. False says that the writer failed.
+fn tell_any<F: Write>(faults: &mut F, fault: Option<Fault>) -> bool
+    ensures { Tells fault result (F.contents faults.old) (F.contents faults.new) }
 {
-    let Ok(tree) = new_tree(alloc, sample) else {
-        return SessionEnd::Memory;
-    };
-    serve::<Brand, HexLink<I, O>, MemTree>(alloc, Blanks::new(1), tree, link)
+    match fault {
+        Some(fault) => tell(faults, fault),
+        None => true,
+    }
 }
 
-/// Serves a tree in memory over hexadecimal lines: the program `hex` but for its command line. Answers its exit status.
-pub fn hex_run<I: BufRead + Drop, O: Write + Drop, F: Write>(
+/// Serves a tree in memory over hexadecimal lines: the program `hex` but for its command line.
+pub fn hex_run<H: Wait, I: BufRead + Drop, O: Write + Drop, F: Write>(
+    rt: &H,
     alloc: Global,
     sample: bool,
     input: I,
     output: O,
     faults: &mut F,
-) -> u8
-    ensures runs { RunsHex sample (I.remaining input) (O.contents output) result }
-    ensures status { IsStatus result }
-    ensures quiet { result ≡ 0 → Keeps (F.contents faults.old) (F.contents faults.new) }
+) -> Ended<O>
+    ensures { RunsHex sample (I.remaining input) (O.contents output) (O.contents result.output) (F.contents faults.old) (F.contents faults.new) result.status result.told }
 {
     let mut link = HexLink::new(alloc, input, output);
-    let end = serve_new(alloc, sample, &mut link);
-    report(faults, fault_of(end, link.cause()))
+    let end = serve_new(rt, alloc, sample, &mut link);
+    let fault = fault_of(end, link.cause());
+    let told = tell_any(faults, fault);
+    Ended {
+        status: status_after(fault),
+        told,
+        output: link.into_writer(),
+    }
+}
+
+/// Says what clap has to say: help and the version go to the output, and a fault to standard error.
+fn explain<O: Write + Drop, F: Write>(
+    error: &clap::Error,
+    mut output: O,
+    faults: &mut F,
+) -> Ended<O>
+    ensures { IsUnserved (kind_of error.now) result.status }
+{
+    if error.kind() == ErrorKind::OutOfMemory {
+        let told = tell(faults, Fault::Memory);
+        return Ended {
+            status: 4,
+            told,
+            output,
+        };
+    }
+    if error.use_stderr() {
+        let told = write!(faults, "{error}").is_ok();
+        return Ended {
+            status: 2,
+            told,
+            output,
+        };
+    }
+    let told = write!(output, "{error}").is_ok();
+    Ended {
+        status: 0,
+        told,
+        output,
+    }
+}
+
+/// The program `mirrord`, whose first word names it.
+pub fn run<H: Wait, S: AsStr, I: BufRead + Drop, O: Write + Drop, F: Write>(
+    rt: &H,
+    alloc: Global,
+    words: &[S],
+    input: I,
+    output: O,
+    faults: &mut F,
+) -> Ended<O>
+    ensures { RunsWords (map S.text words.entry.now) (I.remaining input) (O.contents output) (O.contents result.output) (F.contents faults.old) (F.contents faults.new) result.status result.told }
+{
+    match read_options(alloc, words) {
+        Ok(Options::Hex { sample }) => hex_run(rt, alloc, sample, input, output, faults),
+        Err(error) => explain(&error, output, faults),
+    }
 }

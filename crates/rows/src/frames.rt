@@ -1,7 +1,8 @@
 //! The frames that the tests send and the replies that they wait for, in hexadecimal digits. Spaces are for reading.
 
-use programs::hex_run;
+use programs::{hex_run, run};
 use std::alloc::{AllocError, Global};
+use std::sync::Wait;
 
 /// LOOKUP `a` in the root, unique 7.
 pub const LOOKUP_A: &str =
@@ -69,20 +70,48 @@ pub fn lines_of(alloc: Global, lines: &[&str]) -> Result<Vec<u8>, AllocError> {
     Ok(digits)
 }
 
-/// Runs `hex` with the sample names on these bytes.
-pub fn run_on(alloc: Global, input: &[u8]) -> Run {
-    let mut output = Vec::new(alloc);
+/// Runs `hex` on these bytes, with or without the sample names.
+pub fn run_from(rt: &impl Wait, alloc: Global, sample: bool, input: &[u8]) -> Run {
     let mut faults = Vec::new(alloc);
-    let status = hex_run(alloc, true, input, &mut output, &mut faults);
+    let ended = hex_run(rt, alloc, sample, input, Vec::new(alloc), &mut faults);
     Run {
-        status,
-        output,
+        status: ended.status,
+        output: ended.output,
         faults,
     }
 }
 
+/// Runs `hex` with the sample names on these bytes.
+pub fn run_on(rt: &impl Wait, alloc: Global, input: &[u8]) -> Run {
+    run_from(rt, alloc, true, input)
+}
+
 /// Runs `hex` with the sample names on these lines.
-pub fn run_lines(alloc: Global, lines: &[&str]) -> Result<Run, AllocError> {
+pub fn run_lines(rt: &impl Wait, alloc: Global, lines: &[&str]) -> Result<Run, AllocError> {
     let input = lines_of(alloc, lines)?;
-    Ok(run_on(alloc, &input))
+    Ok(run_on(rt, alloc, &input))
+}
+
+/// Runs the program with these words on these lines.
+pub fn run_words(
+    rt: &impl Wait,
+    alloc: Global,
+    words: &[&str],
+    lines: &[&str],
+) -> Result<Run, AllocError> {
+    let input = lines_of(alloc, lines)?;
+    let mut faults = Vec::new(alloc);
+    let ended = run(
+        rt,
+        alloc,
+        words,
+        input.as_slice(),
+        Vec::new(alloc),
+        &mut faults,
+    );
+    Ok(Run {
+        status: ended.status,
+        output: ended.output,
+        faults,
+    })
 }

@@ -5,7 +5,7 @@ use std::test::Fail;
 
 #[test]
 fn empty_input(rt: HostRuntime) {
-    let run = run_on(rt.alloc(), b"");
+    let run = run_on(&rt, rt.alloc(), b"");
     assert_eq!(rt; run.status, 0);
     assert!(rt; run.output.is_empty());
     assert!(rt; run.faults.is_empty());
@@ -13,14 +13,14 @@ fn empty_input(rt: HostRuntime) {
 
 #[test]
 fn bad_length(rt: HostRuntime) -> Result<(), Fail> {
-    let short = run_lines(rt.alloc(), &["27000000"])?;
+    let short = run_lines(&rt, rt.alloc(), &["27000000"])?;
     assert_eq!(rt; short.status, 3);
     assert!(rt; short.output.is_empty());
     assert!(rt;
         short.faults.as_slice()
             == b"mirrord: frame length 39 is not between 40 and 69632\n".as_slice()
     );
-    let long = run_lines(rt.alloc(), &["01100100"])?;
+    let long = run_lines(&rt, rt.alloc(), &["01100100"])?;
     assert_eq!(rt; long.status, 3);
     assert!(rt; long.output.is_empty());
     assert!(rt;
@@ -28,7 +28,7 @@ fn bad_length(rt: HostRuntime) -> Result<(), Fail> {
             == b"mirrord: frame length 69633 is not between 40 and 69632\n".as_slice()
     );
     for line in ["28000000", "00100100"] {
-        let taken_up = run_lines(rt.alloc(), &[line])?;
+        let taken_up = run_lines(&rt, rt.alloc(), &[line])?;
         assert_eq!(rt; taken_up.status, 0);
         assert!(rt; taken_up.output.is_empty());
         assert!(rt; taken_up.faults.is_empty());
@@ -39,7 +39,7 @@ fn bad_length(rt: HostRuntime) -> Result<(), Fail> {
 // What came before a bad length is answered, and what comes after it is not.
 #[test]
 fn bad_length_between_frames(rt: HostRuntime) -> Result<(), Fail> {
-    let run = run_lines(rt.alloc(), &[LOOKUP_ZZ, "27000000", LOOKUP_ZZ])?;
+    let run = run_lines(&rt, rt.alloc(), &[LOOKUP_ZZ, "27000000", LOOKUP_ZZ])?;
     assert_eq!(rt; run.status, 3);
     assert!(rt; run.output.as_slice() == lines_of(rt.alloc(), &[ABSENT])?.as_slice());
     Ok(())
@@ -47,7 +47,7 @@ fn bad_length_between_frames(rt: HostRuntime) -> Result<(), Fail> {
 
 #[test]
 fn bad_length_before_a_bad_line(rt: HostRuntime) -> Result<(), Fail> {
-    let run = run_lines(rt.alloc(), &["27000000", "no digits"])?;
+    let run = run_lines(&rt, rt.alloc(), &["27000000", "no digits"])?;
     assert_eq!(rt; run.status, 3);
     assert!(rt;
         run.faults.as_slice()
@@ -66,7 +66,7 @@ fn frame_cut_anywhere(rt: HostRuntime) -> Result<(), Fail> {
         input.extend_from_slice(&whole[..2 * cut])?;
         input.push(b'\n')?;
         input.extend_from_slice(&whole[2 * cut..])?;
-        let run = run_on(rt.alloc(), &input);
+        let run = run_on(&rt, rt.alloc(), &input);
         assert_eq!(rt; run.status, 0, "cut at {cut}");
         assert!(rt; run.output.as_slice() == reply.as_slice(), "cut at {cut}");
     }
@@ -78,7 +78,7 @@ fn frame_cut_anywhere(rt: HostRuntime) -> Result<(), Fail> {
 fn truncated_frame(rt: HostRuntime) -> Result<(), Fail> {
     let mut line = lines_of(rt.alloc(), &[LOOKUP_A])?;
     line.truncate(82);
-    let run = run_on(rt.alloc(), &line);
+    let run = run_on(&rt, rt.alloc(), &line);
     assert_eq!(rt; run.status, 0);
     assert!(rt; run.output.is_empty());
     assert!(rt; run.faults.is_empty());
@@ -89,7 +89,7 @@ fn truncated_frame(rt: HostRuntime) -> Result<(), Fail> {
 fn last_line_without_a_break(rt: HostRuntime) -> Result<(), Fail> {
     let mut line = lines_of(rt.alloc(), &[LOOKUP_ZZ])?;
     line.truncate(86);
-    let run = run_on(rt.alloc(), &line);
+    let run = run_on(&rt, rt.alloc(), &line);
     assert_eq!(rt; run.status, 0);
     assert!(rt; run.output.as_slice() == lines_of(rt.alloc(), &[ABSENT])?.as_slice());
     Ok(())
@@ -99,7 +99,7 @@ fn last_line_without_a_break(rt: HostRuntime) -> Result<(), Fail> {
 fn empty_lines_and_digits_of_either_case(rt: HostRuntime) -> Result<(), Fail> {
     let head =
         "2B000000 01000000 0700000000000000 0100000000000000 00000000 00000000 00000000 00000000";
-    let run = run_lines(rt.alloc(), &["", head, "", "7A7a00", ""])?;
+    let run = run_lines(&rt, rt.alloc(), &["", head, "", "7A7a00", ""])?;
     assert_eq!(rt; run.status, 0);
     assert!(rt; run.output.as_slice() == lines_of(rt.alloc(), &[ABSENT])?.as_slice());
     Ok(())
@@ -115,7 +115,7 @@ fn lines_that_are_not_hexadecimal(rt: HostRuntime) -> Result<(), Fail> {
         let mut input = served.clone()?;
         input.extend_from_slice(line)?;
         input.push(b'\n')?;
-        let run = run_on(rt.alloc(), &input);
+        let run = run_on(&rt, rt.alloc(), &input);
         assert_eq!(rt; run.status, 4);
         assert!(rt; run.output.as_slice() == reply.as_slice());
         assert!(rt; run.faults.as_slice() == b"mirrord: line 3 is not hexadecimal\n".as_slice());

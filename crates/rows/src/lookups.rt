@@ -6,11 +6,17 @@ use crate::frames::{
 };
 use std::alloc::Global;
 use std::process::Abort;
+use std::sync::Wait;
 use std::test::Fail;
 
 // The run answers with these lines, and ends well.
-fn expect(rt: &impl Abort, alloc: Global, input: &[&str], output: &[&str]) -> Result<(), Fail> {
-    let run = run_lines(alloc, input)?;
+fn expect<H: Abort + Wait>(
+    rt: &H,
+    alloc: Global,
+    input: &[&str],
+    output: &[&str],
+) -> Result<(), Fail> {
+    let run = run_lines(rt, alloc, input)?;
     assert_eq!(rt; run.status, 0);
     assert!(rt; run.output.as_slice() == lines_of(alloc, output)?.as_slice());
     assert!(rt; run.faults.is_empty());

@@ -1,28 +1,38 @@
-//! A client that does not take its first reply.
+//! Clients that do not take a reply, and directories that answer strangely.
 
 ghost use Rattle.std.specs.Prelude.{◌≡◌};
 
 use crate::frames::{ENTRY_E_REBORN, LOOKUP_A, LOOKUP_E, lines_of};
+use backing::Fault;
+use engine::{Link, LinkIn, LinkOut, Received, Sent, SessionEnd, Settings, serve};
 use ledger::{Blanks, Ledgers, Totals};
-use programs::{Link, Received, Sent, Session, SessionEnd, new_tree};
+use programs::new_tree;
 use std::alloc::{AllocError, Global};
 use std::marker::Brand;
+use std::sync::Wait;
 use std::test::Fail;
 use table::{Limits, Table};
 
-// Gives its frames one after another, and takes all replies but the first.
+// Gives its frames one after another, and takes all replies but one.
 #[derive(Drop)]
 struct Choosy {
     frames: Vec<Vec<u8>>,
     given: usize,
     sends: u32,
+    /// The reply that is not taken, counted from 1.
+    declined: u32,
     taken: Vec<u8>,
+    failures: u64,
 }
 
-impl Link for Choosy {
-    ghost receives = { λ _ _ _ _. Unit {0} };
+impl LinkIn for Choosy {
+    ghost use Rattle.engine.specs.Links.{counted, lost};
 
-    ghost sends = { λ _ _ _ _. Unit {0} };
+    ghost receives = { λ old brought new. new.failures ≡ counted old.failures (lost brought) };
+
+    ghost failed_receives = { λ link. link.failures };
+
+    ghost counts_receives = { λ _ _ _ counts. counts };
 
     fn receive(&mut self, room: &mut [u8]) -> Received {
         let Some(frame) = self.frames.get(self.given) else {
@@ -30,22 +40,43 @@ impl Link for Choosy {
         };
         self.given = self.given.saturating_add(1);
         if frame.len() > room.len() {
+            self.failures = self.failures.saturating_add(1);
             return Received::Broken;
         }
         room[..frame.len()].copy_from_slice(frame);
         Received::Bytes(frame.len())
     }
+}
+
+impl LinkOut for Choosy {
+    ghost use Rattle.engine.specs.Links.{counted, missed};
+
+    ghost sends = { λ old _ sent new. new.failures ≡ counted old.failures (missed sent) };
+
+    ghost failed_sends = { λ link. link.failures };
+
+    ghost counts_sends = { λ _ _ _ _ counts. counts };
 
     fn send(&mut self, frame: &[u8]) -> Sent {
         self.sends = self.sends.saturating_add(1);
-        if self.sends == 1 {
+        if self.sends == self.declined {
+            self.failures = self.failures.saturating_add(1);
             return Sent::Untaken;
         }
         match self.taken.extend_from_slice(frame) {
             Ok(()) => Sent::Taken,
-            Err(_) => Sent::Broken,
+            Err(_) => {
+                self.failures = self.failures.saturating_add(1);
+                Sent::Broken
+            }
         }
     }
+}
+
+impl Link for Choosy {
+    ghost use Rattle.std.specs.Prelude.{refl};
+
+    ghost one_count = { λ _. refl };
 }
 
 /// What is left after a session: how it ended, what was taken, and what the session's share counts.
@@ -56,26 +87,34 @@ struct Left {
     totals: Totals,
 }
 
-// Serves the sample names to a client that is choosy.
-fn serve_choosy<L: Ledgers>(
+// Serves the sample names to a client that is choosy. The first call of their tree fails, if a fault is planned.
+fn serve_choosy<H: Wait, L: Ledgers>(
+    rt: &H,
     alloc: Global,
     blanks: Blanks,
+    planned: Option<Fault>,
     mut client: Choosy,
 ) -> Result<Left, AllocError>
     requires names { blanks ≡ L.names }
     requires shares { L.names.parts ≡ 1 }
 {
-    let tree = new_tree(alloc, true)?;
-    let limits = Limits {
-        nodes: 4,
-        ..Limits::default()
-    };
-    let (table, mut shares) = Table::<L>::open(alloc, limits, blanks, 1)?;
-    let share = shares.pop().unwrap();
+    let mut tree = new_tree(alloc, true)?;
+    if let Some(fault) = planned {
+        tree.fail_at(1, fault)?;
+    }
+    let (mut table, mut shares) = Table::<L>::open(alloc, Limits::default(), blanks, 1)?;
+    let mut share = shares.pop().unwrap();
     shares.destroy_empty();
-    let mut session = Session::new(alloc, tree, table, share);
-    let end = session.run(&mut client);
-    let (_, share, _) = session.end();
+    let settings = Settings { uid: 0, gid: 0 };
+    let end = serve(
+        rt,
+        alloc,
+        &mut client,
+        &mut tree,
+        &mut table,
+        &mut share,
+        settings,
+    );
     let totals = share.totals();
     share.leave();
     Ok(Left {
@@ -91,18 +130,27 @@ fn bytes_of(alloc: Global, line: &str) -> Result<Vec<u8>, Fail> {
     Ok(hex::decode(alloc, &digits[..end])?)
 }
 
+fn client_of(alloc: Global, lines: &[&str], declined: u32) -> Result<Choosy, Fail> {
+    let mut frames = Vec::new(alloc);
+    for line in lines {
+        frames.push(bytes_of(alloc, line)?)?;
+    }
+    Ok(Choosy {
+        frames,
+        given: 0,
+        sends: 0,
+        declined,
+        taken: Vec::new(alloc),
+        failures: 0,
+    })
+}
+
 // The entry of `a` comes back, so its node is gone; the session goes on, and its number is born again for `e`.
 #[test]
 fn untaken_lookup(rt: HostRuntime) -> Result<(), Fail> {
     let alloc = rt.alloc();
-    let frames = vec![in alloc; bytes_of(alloc, LOOKUP_A)?, bytes_of(alloc, LOOKUP_E)?]?;
-    let client = Choosy {
-        frames,
-        given: 0,
-        sends: 0,
-        taken: Vec::new(alloc),
-    };
-    let left = serve_choosy::<Brand>(alloc, Blanks::new(1), client)?;
+    let client = client_of(alloc, &[LOOKUP_A, LOOKUP_E], 1)?;
+    let left = serve_choosy::<HostRuntime, Brand>(&rt, alloc, Blanks::new(1), None, client)?;
     let totals = Totals {
         born: 2,
         entries: 2,
@@ -112,5 +160,20 @@ fn untaken_lookup(rt: HostRuntime) -> Result<(), Fail> {
     assert_eq!(rt; left.end, SessionEnd::Closed { rest: 0 });
     assert!(rt; left.taken.as_slice() == bytes_of(alloc, ENTRY_E_REBORN)?.as_slice());
     assert_eq!(rt; left.totals, totals);
+    Ok(())
+}
+
+// The directory names no error number, so the reply is EIO.
+#[test]
+fn strange_errors(rt: HostRuntime) -> Result<(), Fail> {
+    let alloc = rt.alloc();
+    let reply = bytes_of(alloc, "10000000 fbffffff 0700000000000000")?;
+    for errno in [0, -5, 4096] {
+        let client = client_of(alloc, &[LOOKUP_A], 0)?;
+        let planned = Some(Fault::Before(errno));
+        let left = serve_choosy::<HostRuntime, Brand>(&rt, alloc, Blanks::new(1), planned, client)?;
+        assert!(rt; left.taken.as_slice() == reply.as_slice(), "errno {errno}");
+        assert_eq!(rt; left.totals.entries, 0);
+    }
     Ok(())
 }

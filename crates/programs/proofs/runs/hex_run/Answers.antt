@@ -1,15 +1,17 @@
-use Rattle.std.proofs.Common.{ap, ◌∙◌, subst}
-use Rattle.programs.specs.Links.{Hexing}
-use Rattle.programs.specs.Running.{ServesHex}
-use Rattle.programs.specs.Sessions.{exit_of, fault_of}
+use Rattle.std.proofs.Common.{Option, ap, ◌∙◌, subst}
+use Rattle.programs.specs.Lines.{Hexing}
+use Rattle.programs.specs.Runs.{ServesHex, Tells, exit_of, fault_of}
+use Rattle.programs.specs.declared.faults.Fault.{Fault}
 use Rattle.programs.proofs.runs.hex_run.Goals as goal
 
-pub returns-clause-runs : goal.returns-clause-runs
-returns-clause-runs g c =
-    let P : Hexing → Type 0 = λ link. ServesHex c.args.sample link c.serve_new-end.result c.serve_new-end.new.link in
+pub returns : goal.returns
+returns g c =
+    let fault = c.fault_of-fault.ensures ∙ ap (fault_of c.serve_new-end.result) c.cause.ensures in
     record {
       over = c.serve_new-end.result;
       last = c.serve_new-end.new.link;
-      serves = subst P c.new-link.ensures c.serve_new-end.ensures.serves;
-      status_is = c.report.ensures.status ∙ ap exit_of (c.fault_of.ensures ∙ ap (fault_of c.serve_new-end.result) c.cause.ensures);
+      serves = subst (λ (link : Hexing). ServesHex c.args.sample link c.serve_new-end.result c.serve_new-end.new.link) c.new-link.ensures c.serve_new-end.ensures;
+      output_is = c.into_writer.ensures;
+      status_is = c.status_after.ensures ∙ ap exit_of fault;
+      tells = subst (λ (f : Option Fault). Tells f c.tell_any-told.result (g.F.Write.contents c.args.faults.now) (g.F.Write.contents c.tell_any-told.new.faults)) fault c.tell_any-told.ensures;
     }
