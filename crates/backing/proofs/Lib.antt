@@ -12,5 +12,6 @@ pub mod Ending
 pub mod Witnesses
 pub mod RouteLemmas
 pub mod Keeping
+pub mod Calling
 pub mod PathLemmas
 pub mod Looking

@@ -1,5 +1,5 @@
 -- When a directory whose tree is not known may tell a fault.
-use Rattle.std.specs.Prelude.{ℕ, ℤ, ◌≡◌, ◌≤◌, ◌⊎◌, List, length}
+use Rattle.std.specs.Prelude.{ℕ, ℤ, ◌≡◌, ◌≤◌, ◌⊎◌, Bool, true, false, List, length}
 use Rattle.backing.specs.declared.call.Answer.{Answer}
 use Rattle.backing.specs.declared.call.Answer.TheVariants.{Done, Stat, Names as NamesAre, Bytes, Wrote, Fault}
 use Rattle.backing.specs.declared.call.Child.{Child}
@@ -9,7 +9,7 @@ use Rattle.backing.specs.declared.folder.trouble.Reason.{Reason}
 use Rattle.backing.specs.declared.folder.trouble.Reason.TheVariants.{Root, Nothing, Taken, NoFolder, Folder, Below, Names}
 use Rattle.backing.specs.Tree.{Tree, IsTree}
 use Rattle.backing.specs.Calls.{Asked, AskStat, AskList, AskMake, AskMakeDir, AskRemove, AskRemoveDir, AskRename, AskRead, AskWrite, AskSetLen, AskSync, Test, Refuses, tests_of}
-use Rattle.backing.specs.Device.{Rises}
+use Rattle.backing.specs.Device.{IsFault, counted, one_if}
 
 abbrev pub errno_of : Reason → ℤ
 errno_of Root = EBUSY
@@ -44,8 +44,14 @@ Suits (AskWrite p offset piece) answer = answer ≡ Wrote (length piece)
 Suits (AskSetLen p size) answer = answer ≡ Done
 Suits (AskSync p) answer = answer ≡ Done
 
--- The answer suits the call; or it is a fault, which comes only where the count of failures rose, or where some tree refuses
--- the call so.
+-- what may be told of a call: where nothing failed, an answer that suits it, or a fault by which some tree refuses it; a
+-- failure is a fault
+abbrev pub Follows : Asked → Bool → Answer → Type 0
+Follows call false answer = Suits call answer ⊎ ((errno : ℤ) × (answer ≡ Fault errno) × Explains call errno)
+Follows call true answer = IsFault answer
+
+-- a call of a directory whose tree is not known: whether it failed, what it told, and one failure more exactly where it failed
 pub record Tells (before : ℕ) (call : Asked) (answer : Answer) (after : ℕ) : Type 0 where
-  pub never_falls : before ≤ after
-  pub told : Suits call answer ⊎ ((errno : ℤ) × (answer ≡ Fault errno) × (Explains call errno ⊎ Rises before 1 after))
+  pub failed : Bool
+  pub told : Follows call failed answer
+  pub count : after ≡ counted before (one_if failed)

@@ -8,11 +8,11 @@ mod walk;
 
 ghost use Rattle.std.specs.Prelude.{◌≡◌, ℕ, IfOk};
 ghost use Rattle.backing.specs.Calls.{asked};
-ghost use Rattle.backing.specs.Explained.{Suits, Tells};
+ghost use Rattle.backing.specs.Explained.{Suits, Follows, Tells};
 
 use crate::call::{Answer, Call};
 use crate::calls::Calls;
-use crate::perform::fail;
+use crate::told::{Told, count};
 use entries::{list, make, make_dir, remove, remove_dir, rename};
 use explained::is_explained;
 use files::{read, set_len, stat, sync, write};
@@ -75,11 +75,19 @@ impl<R: Files<File = File> + AllocGlobal + Clone + Drop> Folder<R> {
 }
 
 impl<R: Files<File = File> + AllocGlobal + Clone + Drop> Calls for Folder<R> {
+    ghost use Rattle.backing.specs.Known.{folder_counts};
+
     ghost gives = { Tells };
+
+    ghost faults = { λ failures. failures };
+
+    ghost counts = { folder_counts };
 
     fn call(&mut self, call: Call<'_>) -> Answer {
         let ended = perform(&self.rt, &mut self.walk, &mut self.target, call);
-        conclude(&mut self.failures, call, ended)
+        let told = conclude(call, ended);
+        count(&mut self.failures, told.failed);
+        told.answer
     }
 }
 
@@ -107,24 +115,27 @@ fn perform<R: Files<File = File> + AllocGlobal + Clone + Drop>(
     }
 }
 
-/// The answer, and one failure more unless the call was done or what was found explains its error.
-fn conclude(failures: &mut u64, call: Call<'_>, ended: Result<Answer, Trouble>) -> Answer
+/// What came of it: no failure where the call was done, or where what was found explains its error.
+fn conclude(call: Call<'_>, ended: Result<Answer, Trouble>) -> Told
     requires { IfOk ended (Suits (asked call)) }
-    ensures { Tells failures.old (asked call.entry) result failures.new }
+    ensures { Follows (asked call.entry) result.failed result.answer }
 {
     match ended {
-        Ok(answer) => answer,
-        Err(Trouble::Refused(reason)) => refuse(failures, call, reason),
-        Err(Trouble::Failed(errno)) => fail(failures, errno),
+        Ok(answer) => Told {
+            answer,
+            failed: false,
+        },
+        Err(Trouble::Refused(reason)) => refuse(call, reason),
+        Err(Trouble::Failed(errno)) => Told::failure(errno),
     }
 }
 
 /// A refusal, which is a failure unless some tree explains it.
-fn refuse(failures: &mut u64, call: Call<'_>, reason: Reason) -> Answer
-    ensures { Tells failures.old (asked call.entry) result failures.new }
+fn refuse(call: Call<'_>, reason: Reason) -> Told
+    ensures { Follows (asked call.entry) result.failed result.answer }
 {
-    if is_explained(call, reason) {
-        return Answer::Fault(reason.errno());
+    Told {
+        answer: Answer::Fault(reason.errno()),
+        failed: !is_explained(call, reason),
     }
-    fail(failures, reason.errno())
 }

@@ -17,6 +17,7 @@ mod reading;
 mod refusal;
 mod removing;
 mod shared;
+mod told;
 mod writing;
 
 pub use bytes::Bytes;
