@@ -12,6 +12,7 @@ pub mod Ending
 pub mod Witnesses
 pub mod RouteLemmas
 pub mod Keeping
+pub mod Passing
 pub mod Calling
 pub mod PathLemmas
 pub mod Looking

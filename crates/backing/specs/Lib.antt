@@ -8,6 +8,8 @@ pub mod Items
 pub mod Moves
 pub mod Memory
 pub mod Explained
+pub mod Contents
+pub mod Parts
 pub mod SharedTree
 pub mod Known
 pub mod Troubles

@@ -74,6 +74,12 @@ pub record MakesCall (old : Memory) (call : Asked) (told : Told) (new : Memory) 
   pub gives : Gives old call told.answer new
   pub failed : told.failed ≡ fails gives.device
 
+-- all but what stands in it
+pub record SameBut (old new : Memory) : Type 0 where
+  pub made : new.made ≡ old.made
+  pub plans : new.plans ≡ old.plans
+  pub failed : new.failed ≡ old.failed
+
 -- what a folder that is put there is, and why it is not
 abbrev pub PutsDir : Tree → Names → Result (Unit {0}) ℤ → Tree → Type 0
 PutsDir old p (Ok done) new = Works old (AskMakeDir p) Done new

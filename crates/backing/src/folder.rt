@@ -3,6 +3,8 @@
 mod entries;
 mod explained;
 mod files;
+mod listing;
+mod parts;
 mod trouble;
 mod walk;
 
@@ -13,9 +15,10 @@ ghost use Rattle.backing.specs.Explained.{Suits, Follows, Tells};
 use crate::call::{Answer, Call};
 use crate::calls::Calls;
 use crate::told::{Told, count};
-use entries::{list, make, make_dir, remove, remove_dir, rename};
+use entries::{make, make_dir, remove, remove_dir, rename};
 use explained::is_explained;
 use files::{read, set_len, stat, sync, write};
+use listing::list;
 use std::fs::File;
 use std::marker::Model;
 use std::rt::Files;

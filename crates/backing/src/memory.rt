@@ -1,7 +1,7 @@
 //! A directory in memory, which fails at planned calls.
 
 ghost use Rattle.std.specs.Prelude.{◌≡◌, [], ◌∷◌, OnOk, OnErr};
-ghost use Rattle.backing.specs.Memory.{Memory, Gives, MakesCall, PutsDir, PutsFile, memory_tree};
+ghost use Rattle.backing.specs.Memory.{Memory, Gives, MakesCall, PutsDir, PutsFile, SameBut, memory_tree};
 ghost use Rattle.backing.specs.Calls.{asked};
 ghost use Rattle.backing.specs.Tree.{IsTree};
 
@@ -63,7 +63,7 @@ impl MemTree {
     /// Makes an empty folder, or answers the errno that the call would. It is no call: no plan and no count speaks of it.
     pub fn put_dir(&mut self, path: &Path) -> Result<(), i32>
         ensures puts { PutsDir (memory_tree self.old) path.now result (memory_tree self.new) }
-        ensures same { self.new ≡ record self.old { entries = self.new.entries } }
+        ensures same { SameBut self.old self.new }
         ensures tree { IsTree (memory_tree self.new) }
     {
         put_dir_in(&mut self.standing, path)
@@ -73,7 +73,7 @@ impl MemTree {
     /// empty file stays. It is no call: no plan and no count speaks of it.
     pub fn put_file(&mut self, path: &Path, bytes: &[u8]) -> Result<(), i32>
         ensures puts { PutsFile (memory_tree self.old) path.now bytes.now result (memory_tree self.new) }
-        ensures same { self.new ≡ record self.old { entries = self.new.entries } }
+        ensures same { SameBut self.old self.new }
         ensures tree { IsTree (memory_tree self.new) }
     {
         put_file_in(self.alloc, &mut self.standing, path, bytes)
@@ -88,7 +88,7 @@ impl MemTree {
     }
 
     /// Makes a call: the tree's own answer and effect, or the failure that is planned for it.
-    pub fn make_call(&mut self, call: Call<'_>) -> Told
+    pub(crate) fn make_call(&mut self, call: Call<'_>) -> Told
         ensures { MakesCall self.old (asked call.entry) result self.new }
     {
         let fault = next_fault(&self.planned, self.calls);

@@ -43,12 +43,7 @@ pub fn perform(alloc: Global, entries: &mut Vec<Entry>, call: Call<'_>) -> Resul
 }
 
 /// A call as the device treats it, for which this failure is planned.
-pub fn treat(
-    alloc: Global,
-    entries: &mut Vec<Entry>,
-    fault: Option<Fault>,
-    call: Call<'_>,
-) -> Told
+pub fn treat(alloc: Global, entries: &mut Vec<Entry>, fault: Option<Fault>, call: Call<'_>) -> Told
     requires { IsLawful entries.old.items }
     ensures treated { Treated (tree_of entries.old.items) (treated_as fault) (asked call.entry) result (tree_of entries.new.items) }
     ensures lawful { IsLawful entries.new.items }
@@ -60,12 +55,7 @@ pub fn treat(
 }
 
 /// A call that fails by plan.
-fn treat_as_planned(
-    alloc: Global,
-    entries: &mut Vec<Entry>,
-    fault: Fault,
-    call: Call<'_>,
-) -> Told
+fn treat_as_planned(alloc: Global, entries: &mut Vec<Entry>, fault: Fault, call: Call<'_>) -> Told
     requires { IsLawful entries.old.items }
     ensures treated { Treated (tree_of entries.old.items) (device_of fault) (asked call.entry) result (tree_of entries.new.items) }
     ensures lawful { IsLawful entries.new.items }
@@ -104,12 +94,7 @@ fn answered(ended: Result<Answer, Refusal>) -> Option<Answer>
 }
 
 /// A call that does its work and fails.
-fn treat_and_fail(
-    alloc: Global,
-    entries: &mut Vec<Entry>,
-    errno: i32,
-    call: Call<'_>,
-) -> Told
+fn treat_and_fail(alloc: Global, entries: &mut Vec<Entry>, errno: i32, call: Call<'_>) -> Told
     requires { IsLawful entries.old.items }
     ensures treated { Treated (tree_of entries.old.items) (After errno) (asked call.entry) result (tree_of entries.new.items) }
     ensures lawful { IsLawful entries.new.items }

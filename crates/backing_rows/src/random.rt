@@ -81,6 +81,7 @@ fn both_answer_alike(rt: HostRuntime) -> Result<(), Fail> {
         assert_eq!(rt; told.as_str(), wanted.as_str(), "{words}");
     }
     assert_eq!(rt; tree.failures(), 0);
+    assert_eq!(rt; folder.failures(), 0);
     fs::remove_dir_all(&rt, root.as_str())?;
     Ok(())
 }

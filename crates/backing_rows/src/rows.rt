@@ -87,6 +87,7 @@ fn rows_on_a_real_folder(rt: HostRuntime) -> Result<(), Fail> {
         let root = sample_folder(&rt, "rows")?;
         let mut folder = Folder::open(rt, root.as_str())?;
         expect_rows(&rt, &mut folder, rows)?;
+        assert_eq!(rt; folder.failures(), 0);
         fs::remove_dir_all(&rt, root.as_str())?;
     }
     Ok(())

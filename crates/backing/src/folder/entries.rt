@@ -1,64 +1,20 @@
 //! Calls on the names of a real folder.
 
 ghost use Rattle.std.specs.Prelude.{IfOk, OnOk};
-ghost use Rattle.backing.specs.Calls.{AskList, AskMake, AskMakeDir, AskRemove, AskRemoveDir, AskRename};
+ghost use Rattle.backing.specs.Calls.{AskMake, AskMakeDir, AskRemove, AskRemoveDir, AskRename};
 ghost use Rattle.backing.specs.Explained.{Suits};
 ghost use Rattle.backing.specs.Routes.{LeadsDown};
 
-use super::files::find_file;
+use super::files::{find_file, find_folder};
+use super::listing::expect_bare;
 use super::trouble::{Reason, Trouble};
 use super::walk::{Found, Walk};
-use crate::call::{Answer, Child, Children, Kind};
+use crate::call::Answer;
 use errno::EEXIST;
-use paths::{Name, Path};
-use std::alloc::Global;
+use paths::Path;
 use std::fs;
-use std::fs::{DirEntry, File};
-use std::io::ErrorKind;
+use std::fs::File;
 use std::rt::Files;
-
-/// The names of files and folders in the folder: `open`, `getdents`, `close`, and one `lstat` for each name.
-pub fn list<R: Files + AllocGlobal + Clone + Drop>(
-    rt: &R,
-    walk: &mut Walk,
-    path: &Path,
-) -> Result<Answer, Trouble>
-    ensures { IfOk result (Suits (AskList path.now)) }
-{
-    find_folder(rt, walk, path)?;
-    let mut list = Vec::new(rt.alloc());
-    for entry in fs::read_dir(rt, walk.path())? {
-        let entry = entry?;
-        match kind_of(&entry)? {
-            Some(kind) => push_child(&mut list, rt.alloc(), entry.file_name(), kind)?,
-            None => {}
-        }
-    }
-    Ok(Answer::Names(Children::from_vec(list)))
-}
-
-/// Its kind, and none if it is neither a file nor a folder, or has gone.
-fn kind_of<R: Files>(entry: &DirEntry<R>) -> Result<Option<Kind>, Trouble> {
-    match entry.metadata() {
-        Ok(metadata) => {
-            if metadata.is_dir() {
-                Ok(Some(Kind::Folder))
-            } else if metadata.is_file() {
-                Ok(Some(Kind::File))
-            } else {
-                Ok(None)
-            }
-        }
-        Err(error) if error.kind() == ErrorKind::NotFound => Ok(None),
-        Err(error) => Err(Trouble::from(error)),
-    }
-}
-
-fn push_child(list: &mut Vec<Child>, alloc: Global, name: &str, kind: Kind) -> Result<(), Trouble> {
-    let name = Name::copy_of(alloc, name)?;
-    list.push(Child { name, kind })?;
-    Ok(())
-}
 
 /// Makes an empty file: `open` with `O_EXCL`, `close`.
 pub fn make<R: Files<File = File>>(rt: &R, walk: &mut Walk, path: &Path) -> Result<Answer, Trouble>
@@ -87,7 +43,7 @@ pub fn remove<R: Files>(rt: &R, walk: &mut Walk, path: &Path) -> Result<Answer, 
     Ok(Answer::Done)
 }
 
-/// Removes the folder: `open`, `getdents`, `close`, `rmdir`.
+/// Removes the folder: `open`, `getdents`, `close`, one `lstat` for each name, `rmdir`.
 pub fn remove_dir<R: Files + AllocGlobal + Clone + Drop>(
     rt: &R,
     walk: &mut Walk,
@@ -104,7 +60,7 @@ pub fn remove_dir<R: Files + AllocGlobal + Clone + Drop>(
     Ok(Answer::Done)
 }
 
-/// Renames: `rename`; if a folder is replaced, `open`, `getdents` and `close` before it.
+/// Renames: `rename`; if a folder is replaced, `open`, `getdents`, `close` and one `lstat` for each name before it.
 pub fn rename<R: Files + AllocGlobal + Clone + Drop>(
     rt: &R,
     walk: &mut Walk,
@@ -170,17 +126,6 @@ fn expect_fitting<R: Files + AllocGlobal + Clone + Drop>(
     }
 }
 
-/// A folder stands there.
-fn find_folder<R: Files>(rt: &R, walk: &mut Walk, path: &Path) -> Result<(), Trouble>
-    ensures { OnOk result (LeadsDown walk.old.root walk.new.path path.now) }
-{
-    match walk.find(rt, path.names())? {
-        Found::Folder(_) => Ok(()),
-        Found::File(_) => Err(Trouble::Refused(Reason::NoFolder)),
-        Found::Nothing | Found::Hidden => Err(Trouble::Refused(Reason::Nothing)),
-    }
-}
-
 /// A folder stands at the path's parent, where something is to be made.
 fn find_place<R: Files>(rt: &R, walk: &mut Walk, path: &Path) -> Result<(), Trouble>
     ensures { OnOk result (LeadsDown walk.old.root walk.new.path path.now) }
@@ -193,13 +138,4 @@ fn find_place<R: Files>(rt: &R, walk: &mut Walk, path: &Path) -> Result<(), Trou
         Found::File(_) => Err(Trouble::Refused(Reason::NoFolder)),
         Found::Nothing | Found::Hidden => Err(Trouble::Refused(Reason::Nothing)),
     }
-}
-
-/// Nothing stands in the folder, hidden or not.
-fn expect_bare<R: Files + AllocGlobal + Clone + Drop>(rt: &R, path: &str) -> Result<(), Trouble> {
-    for entry in fs::read_dir(rt, path)? {
-        entry?;
-        return Err(Trouble::Refused(Reason::Names));
-    }
-    Ok(())
 }

@@ -5,6 +5,7 @@ ghost use Rattle.backing.specs.Calls.{AskStat, AskRead, AskWrite, AskSetLen, Ask
 ghost use Rattle.backing.specs.Explained.{Suits};
 ghost use Rattle.backing.specs.Routes.{LeadsDown};
 
+use super::parts::{read_all, write_all};
 use super::trouble::{Reason, Trouble};
 use super::walk::{Found, Identity, Walk};
 use crate::bytes::Bytes;
@@ -12,7 +13,6 @@ use crate::call::{Answer, Kind};
 use errno::EIO;
 use paths::Path;
 use std::fs::{File, OpenOptions};
-use std::os::unix::fs::FileExt;
 use std::rt::Files;
 
 /// What stands at the path.
@@ -47,22 +47,9 @@ pub fn read<R: Files<File = File> + AllocGlobal>(
     let len = expect_same(&file, &identity)?;
     let size = u64::from(size).min(len.saturating_sub(offset)) as usize;
     let mut buffer = vec![in rt.alloc(); 0u8; size]?;
-    let count = read_all_at(&file, buffer.as_mut_slice(), offset)?;
+    let count = read_all(&file, buffer.as_mut_slice(), offset)?;
     buffer.truncate(count);
     Ok(Answer::Bytes(Bytes::from_vec(buffer)))
-}
-
-/// Reads until the buffer is full or the file ends.
-fn read_all_at(file: &File, buffer: &mut [u8], offset: u64) -> Result<usize, Trouble> {
-    let mut count = 0usize;
-    while count < buffer.len() {
-        let more = file.read_at(&mut buffer[count..], offset.saturating_add(count as u64))?;
-        if more == 0 {
-            break;
-        }
-        count += more;
-    }
-    Ok(count)
 }
 
 /// Writes the piece at `offset`: `open`, `fstat`, `pwrite` until all is written, `close`. No bytes need none of these.
@@ -81,7 +68,10 @@ pub fn write<R: Files<File = File>>(
     }
     let file = open_to_write(rt, walk.path())?;
     expect_same(&file, &identity)?;
-    file.write_all_at(piece, offset)?;
+    let Some(_end) = offset.checked_add(piece.len() as u64) else {
+        return Err(Trouble::Failed(EIO));
+    };
+    write_all(&file, piece, offset)?;
     Ok(Answer::Wrote(piece.len()))
 }
 
@@ -123,6 +113,17 @@ pub fn find_file<R: Files>(rt: &R, walk: &mut Walk, path: &Path) -> Result<Ident
     match walk.find(rt, path.names())? {
         Found::File(identity) => Ok(identity),
         Found::Folder(_) => Err(Trouble::Refused(Reason::Folder)),
+        Found::Nothing | Found::Hidden => Err(Trouble::Refused(Reason::Nothing)),
+    }
+}
+
+/// A folder stands there.
+pub fn find_folder<R: Files>(rt: &R, walk: &mut Walk, path: &Path) -> Result<(), Trouble>
+    ensures { OnOk result (LeadsDown walk.old.root walk.new.path path.now) }
+{
+    match walk.find(rt, path.names())? {
+        Found::Folder(_) => Ok(()),
+        Found::File(_) => Err(Trouble::Refused(Reason::NoFolder)),
         Found::Nothing | Found::Hidden => Err(Trouble::Refused(Reason::Nothing)),
     }
 }

@@ -163,7 +163,8 @@ pub fn look<R: Files>(rt: &R, path: &str) -> Result<Found, Trouble> {
     }
 }
 
-fn found_of(metadata: &Metadata) -> Found {
+/// What that is.
+pub fn found_of(metadata: &Metadata) -> Found {
     if metadata.is_dir() {
         Found::Folder(Identity::of(metadata))
     } else if metadata.is_file() {

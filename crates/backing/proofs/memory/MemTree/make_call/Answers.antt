@@ -17,4 +17,4 @@ returns c =
     let old : Memory = record { entries = inside.standing.items; made = inside.calls; plans = inside.planned.items; failed = inside.failures } in
     let new : Memory = record { entries = c.treat-told.new.entries.items; made = c.saturating_add-self-inside.result; plans = inside.planned.items; failed = c.count.new.failures } in
     subst (λ (m : Memory). MakesCall m (asked c.args.call) told new) c.self.view_is
-      (made_call old new (asked c.args.call) told treated c.self.invariant.tree c.treat-told.ensures.lawful.tree (c.saturating_add-self-inside.ensures ∙ omega arith) refl c.count.ensures)
+    (made_call old new (asked c.args.call) told treated c.self.invariant.tree c.treat-told.ensures.lawful.tree (c.saturating_add-self-inside.ensures ∙ omega arith) refl c.count.ensures)
