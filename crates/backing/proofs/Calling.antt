@@ -1,5 +1,5 @@
 -- A call of a memory tree, with its counts.
-use Rattle.std.proofs.Common.{ℕ, ◌≡◌, List, Bool, refl, ap, ◌∙◌}
+use Rattle.std.proofs.Common.{ℕ, ◌≡◌, List, Bool, ap, ◌∙◌}
 use Rattle.backing.specs.declared.entries.Entry.{Entry}
 use Rattle.backing.specs.declared.plans.Plan.{Plan}
 use Rattle.backing.specs.declared.told.Told.{Told}

@@ -221,6 +221,12 @@ move_lost (x ∷ s) t other within =
     let more = unless (is_path p t) (room_tests p t) in
     behind_root p (BelowRoot t ∷ Reached p ∷ Present p ∷ more) ENOENT (omega arith) (behind_root t (Reached p ∷ Present p ∷ more) ENOENT within (lost_absent p more (omega arith)))
 
+-- a file stands above s
+pub move_blocked : (s t : Names) → 1 < length s → 0 < length t → Explains (AskRename s t) ENOTDIR
+move_blocked s t deep within =
+    let more = Present s ∷ unless (is_path s t) (room_tests s t) in
+    behind_root s (BelowRoot t ∷ Reached s ∷ more) ENOTDIR (omega arith) (behind_root t (Reached s ∷ more) ENOTDIR within (lost_blocked s more deep))
+
 -- the tests of the source, where both paths lead through folders
 source_passes : (at : Tree) (s t : Names) → (s ≡ [] → ⊥) → (t ≡ [] → ⊥) → Leads at s → IsSome (at s) → PassesAll at (source_tests s t)
 source_passes at s t low_s low_t leads_s some = (low_s, (low_t, (leads_s, (some, tt))))

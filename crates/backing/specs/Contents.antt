@@ -1,11 +1,11 @@
--- What stands in a folder of the file system, and whether that leaves it bare.
+-- What was found in the file system, and what it explains: what is shown explains a refusal, and what is hidden is a failure.
 use Rattle.std.specs.Prelude.{Result, Ok, Err}
-use Rattle.errno.specs.declared.TheConstants.{ENOTEMPTY}
+use Rattle.errno.specs.declared.TheConstants.{EEXIST, ENOTEMPTY}
 use Rattle.backing.specs.declared.folder.walk.Found.{Found}
 use Rattle.backing.specs.declared.folder.walk.Found.TheVariants as found
 use Rattle.backing.specs.declared.folder.listing.Contents.{Contents}
 use Rattle.backing.specs.declared.folder.listing.Contents.TheVariants.{Bare, Hiding, Showing}
-use Rattle.backing.specs.declared.folder.trouble.Reason.TheVariants.{Names}
+use Rattle.backing.specs.declared.folder.trouble.Reason.TheVariants.{Names, Taken}
 use Rattle.backing.specs.declared.folder.trouble.Trouble.{Trouble}
 use Rattle.backing.specs.declared.folder.trouble.Trouble.TheVariants.{Refused, Failed}
 
@@ -17,8 +17,15 @@ joined_by found.Hidden contents = Hiding
 joined_by (found.File identity) contents = Showing
 joined_by (found.Folder identity) contents = Showing
 
--- A name that is shown explains that a folder is not bare. What is hidden explains nothing, so it is a failure.
+-- why a folder that has this is not bare
 abbrev pub bareness : Contents → Result (Unit {0}) Trouble
 bareness Bare = Ok tt
 bareness Hiding = Err (Failed ENOTEMPTY)
 bareness Showing = Err (Refused Names)
+
+-- why nothing can be made where this was found
+abbrev pub takenness : Found → Trouble
+takenness found.Nothing = Failed EEXIST
+takenness found.Hidden = Failed EEXIST
+takenness (found.File identity) = Refused Taken
+takenness (found.Folder identity) = Refused Taken

@@ -79,9 +79,9 @@ fn both_answer_alike(rt: HostRuntime) -> Result<(), Fail> {
         let wanted = ask(alloc, &mut tree, words.as_str())?;
         let told = ask(alloc, &mut folder, words.as_str())?;
         assert_eq!(rt; told.as_str(), wanted.as_str(), "{words}");
+        assert_eq!(rt; folder.failures(), 0, "{words} is told {told}");
     }
     assert_eq!(rt; tree.failures(), 0);
-    assert_eq!(rt; folder.failures(), 0);
     fs::remove_dir_all(&rt, root.as_str())?;
     Ok(())
 }

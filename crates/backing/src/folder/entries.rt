@@ -1,37 +1,64 @@
 //! Calls on the names of a real folder.
 
-ghost use Rattle.std.specs.Prelude.{IfOk, OnOk};
+ghost use Rattle.std.specs.Prelude.{◌≡◌, IfOk, OnOk};
 ghost use Rattle.backing.specs.Calls.{AskMake, AskMakeDir, AskRemove, AskRemoveDir, AskRename};
+ghost use Rattle.backing.specs.Contents.{takenness};
 ghost use Rattle.backing.specs.Explained.{Suits};
 ghost use Rattle.backing.specs.Routes.{LeadsDown};
 
 use super::files::{find_file, find_folder};
 use super::listing::expect_bare;
 use super::trouble::{Reason, Trouble};
-use super::walk::{Found, Walk};
+use super::walk::{Found, Walk, look};
 use crate::call::Answer;
 use errno::EEXIST;
 use paths::Path;
-use std::fs;
 use std::fs::File;
+use std::io::ErrorKind;
 use std::rt::Files;
+use std::{fs, io};
 
-/// Makes an empty file: `open` with `O_EXCL`, `close`.
+/// Makes an empty file: `open` with `O_EXCL`, `close`, or one `lstat` where something stands there.
 pub fn make<R: Files<File = File>>(rt: &R, walk: &mut Walk, path: &Path) -> Result<Answer, Trouble>
     ensures { IfOk result (Suits (AskMake path.now)) }
 {
     find_place(rt, walk, path)?;
-    let _made = File::create_new(rt, walk.path())?;
-    Ok(Answer::Done)
+    match File::create_new(rt, walk.path()) {
+        Ok(_made) => Ok(Answer::Done),
+        Err(error) => Err(why_not_made(rt, walk.path(), error)),
+    }
 }
 
-/// Makes an empty folder: `mkdir`.
+/// Makes an empty folder: `mkdir`, or one `lstat` more where something stands there.
 pub fn make_dir<R: Files>(rt: &R, walk: &mut Walk, path: &Path) -> Result<Answer, Trouble>
     ensures { IfOk result (Suits (AskMakeDir path.now)) }
 {
     find_place(rt, walk, path)?;
-    fs::create_dir(rt, walk.path())?;
-    Ok(Answer::Done)
+    match fs::create_dir(rt, walk.path()) {
+        Ok(()) => Ok(Answer::Done),
+        Err(error) => Err(why_not_made(rt, walk.path(), error)),
+    }
+}
+
+/// Why nothing could be made there. If something stands there, one `lstat` says what.
+fn why_not_made<R: Files>(rt: &R, path: &str, error: io::Error) -> Trouble {
+    if error.kind() != ErrorKind::AlreadyExists {
+        return Trouble::from(error);
+    }
+    match look(rt, path) {
+        Ok(found) => taken_by(found),
+        Err(trouble) => trouble,
+    }
+}
+
+/// What keeps a place from being free. What is shown explains it; what is hidden, or has gone, does not.
+fn taken_by(found: Found) -> Trouble
+    ensures { result ≡ takenness found }
+{
+    match found {
+        Found::File(_) | Found::Folder(_) => Trouble::Refused(Reason::Taken),
+        Found::Nothing | Found::Hidden => Trouble::Failed(EEXIST),
+    }
 }
 
 /// Removes the file: `unlink`.
@@ -114,7 +141,7 @@ fn expect_fitting<R: Files + AllocGlobal + Clone + Drop>(
 ) -> Result<(), Trouble> {
     match found {
         Found::Nothing => Ok(()),
-        Found::Hidden => Err(Trouble::Failed(EEXIST)),
+        Found::Hidden => Err(taken_by(found)),
         Found::File(_) => match source {
             Found::Folder(_) => Err(Trouble::Refused(Reason::NoFolder)),
             _ => Ok(()),

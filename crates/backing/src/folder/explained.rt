@@ -108,7 +108,12 @@ fn is_no_move(from: &Path, to: &Path, reason: Reason) -> bool
             }
             are_apart(from, to)
         }
-        Reason::NoFolder => are_apart(from, to),
+        Reason::NoFolder => {
+            if from.len() > 1 {
+                return to.len() > 0;
+            }
+            are_apart(from, to)
+        }
         Reason::Folder => are_apart(from, to),
         Reason::Taken => false,
     }

@@ -1,9 +1,9 @@
-use Rattle.std.proofs.Common.{ℕ, ◌<◌, sym, ◌∙◌, subst}
+use Rattle.std.proofs.Common.{ℕ, ◌<◌, length, sym, ◌∙◌, subst}
 use Rattle.std.proofs.lemmas.Bool.{ltb-true, eqb-true}
 use Rattle.backing.specs.declared.folder.trouble.Reason.{Reason}
 use Rattle.backing.specs.Calls.{AskRename}
 use Rattle.backing.specs.Explained.{Explains, errno_of}
-use Rattle.backing.proofs.Witnesses.{move_from_root, move_to_root, move_lost, move_into, move_over, move_on_names, move_folder_on_file, move_file_on_folder}
+use Rattle.backing.proofs.Witnesses.{move_from_root, move_to_root, move_lost, move_blocked, move_into, move_over, move_on_names, move_folder_on_file, move_file_on_folder}
 use Rattle.backing.proofs.folder.explained.is_no_move.Goals as goal
 
 pub returns-then-len-eq0 : goal.returns-then-len-eq0
@@ -42,8 +42,16 @@ returns-else-leads_through c = λ yes.
     let t = c.args.to.now in
     subst (λ (r : Reason). Explains (AskRename s t) (errno_of r)) (sym c.in-Names.is) (let it = c.are_apart.ensures yes in move_on_names s t it.0 it.1 it.2 it.3)
 
-pub returns-in-NoFolder : goal.returns-in-NoFolder
-returns-in-NoFolder c = λ yes.
+pub returns-then-len-gt1 : goal.returns-then-len-gt1
+returns-then-len-gt1 c = λ yes.
+    let s = c.args.from.now in
+    let t = c.args.to.now in
+    let deep : 1 < length s = subst (λ (n : ℕ). 1 < n) c.len-in-NoFolder.ensures c.if-len-gt1.true in
+    let within : 0 < length t = subst (λ (n : ℕ). 0 < n) c.len-then-len-gt1.ensures (ltb-true 0 c.len-then-len-gt1.result yes) in
+    subst (λ (r : Reason). Explains (AskRename s t) (errno_of r)) (sym c.in-NoFolder.is) (move_blocked s t deep within)
+
+pub returns-else-len-gt1 : goal.returns-else-len-gt1
+returns-else-len-gt1 c = λ yes.
     let s = c.args.from.now in
     let t = c.args.to.now in
     subst (λ (r : Reason). Explains (AskRename s t) (errno_of r)) (sym c.in-NoFolder.is) (let it = c.are_apart-in-NoFolder.ensures yes in move_folder_on_file s t it.0 it.1 it.2 it.3)
