@@ -1,10 +1,9 @@
 -- What each directory's calls say of its count of failures, and of its tree.
-use Rattle.std.proofs.Common.{ℕ, ◌≡◌, ◌+◌, Bool, true, false, ap, ◌∙◌, inl, inr, arith}
+use Rattle.std.proofs.Common.{ℕ, ◌≡◌, ◌+◌, ap, ◌∙◌, inl, inr, arith}
 use Rattle.backing.specs.declared.call.Answer.{Answer}
 use Rattle.backing.specs.Tree.{Tree, IsTree}
 use Rattle.backing.specs.Calls.{Asked}
-use Rattle.backing.specs.Device.{Device, Sound, Before, After, Performs, Counted, Counts, counted, faulty, one_if}
-use Rattle.backing.specs.Explained.{Follows, Tells}
+use Rattle.backing.specs.Device.{Device, Sound, Before, After, Performs, Counted, Counts, counted, faulty}
 use Rattle.backing.specs.Memory.{Memory, Gives, memory_tree}
 use Rattle.backing.specs.SharedTree.{Shows}
 
@@ -32,10 +31,3 @@ memory_stands old new call answer given = (given.old_is_tree, given.new_is_tree)
 
 pub shared_counts : (before after : ℕ) (call : Asked) (answer : Answer) → Shows before call answer after → Counts before answer after
 shared_counts before after call answer shown = known_counts shown.old shown.new before after shown.counted.0 call answer shown.counted.1 shown.counted.2
-
-told_counts : (before after : ℕ) (call : Asked) (failed : Bool) (answer : Answer) → Follows call failed answer → after ≡ counted before (one_if failed) → Counts before answer after
-told_counts before after call false answer told count = inl (count ∙ counted_none before)
-told_counts before after call true answer told count = inr (count, told)
-
-pub folder_counts : (before after : ℕ) (call : Asked) (answer : Answer) → Tells before call answer after → Counts before answer after
-folder_counts before after call answer tells = told_counts before after call tells.failed answer tells.told tells.count

@@ -7,11 +7,6 @@ pub mod Refusals
 pub mod Items
 pub mod Moves
 pub mod Memory
-pub mod Explained
-pub mod Contents
-pub mod Parts
 pub mod SharedTree
 pub mod Known
-pub mod Troubles
-pub mod Routes
 pub mod Checks

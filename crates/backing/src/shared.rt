@@ -7,7 +7,6 @@ ghost use Rattle.backing.specs.SharedTree.{Shows};
 use crate::call::{Answer, Call};
 use crate::calls::Calls;
 use crate::memory::MemTree;
-use crate::told::count;
 use std::marker::Model;
 use std::sync::{Arc, Mutex, Wait};
 
@@ -66,6 +65,5 @@ fn call_under_lock(tree: &mut MemTree, failures: &mut u64, call: Call<'_>) -> An
     ensures { Shows failures.old (asked call.entry) result failures.new }
 {
     let told = tree.make_call(call);
-    count(failures, told.failed);
-    told.answer
+    told.into_answer(failures)
 }

@@ -23,6 +23,15 @@ impl Told {
             failed: true,
         }
     }
+
+    /// The answer. A failure of the device counts as one more.
+    pub fn into_answer(self, failures: &mut u64) -> Answer
+        ensures answer { result ≡ self.answer }
+        ensures count { failures.new ≡ counted failures.old (one_if self.failed) }
+    {
+        count(failures, self.failed);
+        self.answer
+    }
 }
 
 /// One failure more where the device failed. A count that is full stays.

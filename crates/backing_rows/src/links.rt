@@ -2,7 +2,7 @@
 
 use crate::asking::expect_rows;
 use crate::places::sample_folder;
-use backing::Folder;
+use real_folder::Folder;
 use std::fs;
 use std::os::unix::fs::symlink;
 use std::os::unix::net::UnixListener;

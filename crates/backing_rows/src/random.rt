@@ -2,7 +2,8 @@
 
 use crate::asking::ask;
 use crate::places::new_folder;
-use backing::{Folder, MemTree};
+use backing::MemTree;
+use real_folder::Folder;
 use std::alloc::{AllocError, Global};
 use std::fs;
 use std::test::Fail;

@@ -2,7 +2,8 @@
 
 use crate::asking::{expect_rows, path_of};
 use crate::places::{sample_folder, sample_tree};
-use backing::{Fault, Folder, Shared};
+use backing::{Fault, Shared};
+use real_folder::Folder;
 use std::fs;
 use std::sync::{Arc, Mutex};
 use std::test::Fail;
