@@ -1,23 +1,24 @@
 -- What the ends of a call say of the tree.
-use Rattle.std.proofs.Common.{ℕ, ℤ, ◌≡◌, length, List, ◌∷◌, [], Result, Ok, Err, Option, Some, None, refl, sym, ◌∙◌, subst, arith, inl, inr}
+use Rattle.std.proofs.Common.{ℕ, ℤ, ◌≡◌, length, List, ◌∷◌, [], Result, Ok, Err, Option, Some, None, true, false, refl, sym, ap, ◌∙◌, subst, inl, inr}
 use Rattle.std.proofs.lemmas.Option.{same_Some}
 use Rattle.paths.specs.Fronts.{Names}
 use Rattle.backing.specs.declared.call.Answer.{Answer}
 use Rattle.backing.specs.declared.call.Answer.TheVariants.{Done, Wrote, Fault}
 use Rattle.errno.specs.declared.TheConstants.{ENOMEM}
+use Rattle.backing.specs.declared.told.Told.{Told}
 use Rattle.backing.specs.declared.refusal.Refusal.{Refusal}
 use Rattle.backing.specs.declared.refusal.Refusal.TheVariants.{Errno, Memory}
 use Rattle.backing.specs.Tree.{Tree}
 use Rattle.backing.specs.Calls.{Asked, AskMake, AskMakeDir, AskWrite, Works, Starves, Does}
-use Rattle.backing.specs.Device.{Device, Sound, After}
-use Rattle.backing.specs.Memory.{Treated, PutsDir, PutsFile, counted}
+use Rattle.backing.specs.Device.{Device, Sound, Before, After}
+use Rattle.backing.specs.Memory.{Treated, LetsWork, PutsDir, PutsFile}
 use Rattle.backing.specs.Refusals.{Ends, answered, errno_after, settled}
 
 works_refused : (old new : Tree) (call : Asked) (errno : ℤ) → Ends old call (Err (Errno errno)) new → Works old call (Fault errno) new
 works_refused old new call errno ends = inr (errno, ends.0, refl, ends.1)
 
-pub none_counted : (n : ℕ) → n ≡ counted n 0
-none_counted n = omega arith
+abbrev pub failure : ℤ → Told
+failure errno = record { answer = Fault errno; failed = true }
 
 works_answered : (old new : Tree) (call : Asked) (ended : Result Answer Refusal) (answer : Answer) → Ends old call ended new → answered ended ≡ Some answer → Works old call answer new
 works_answered old new call (Ok own) answer ends is = subst (λ (a : Answer). Works old call a new) (same_Some own answer is) (inl ends)
@@ -29,16 +30,45 @@ unanswered old new call (Ok own) ends is = cc
 unanswered old new call (Err (Errno errno)) ends is = cc
 unanswered old new call (Err Memory) ends is = ends
 
-pub soundly_answered : (old new : Tree) (n : ℕ) (call : Asked) (ended : Result Answer Refusal) (found : Option Answer) (answer : Answer) → Ends old call ended new → found ≡ answered ended → found ≡ Some answer → Treated old n Sound call answer new n
-soundly_answered old new n call ended found answer ends is some = inl (works_answered old new call ended answer ends (sym is ∙ some), none_counted n)
+pub soundly_answered : (old new : Tree) (call : Asked) (ended : Result Answer Refusal) (found : Option Answer) (answer : Answer) → Ends old call ended new → found ≡ answered ended → found ≡ Some answer → Treated old Sound call (record { answer = answer; failed = false }) new
+soundly_answered old new call ended found answer ends is some = record { device = Sound; treats = inl refl; performs = works_answered old new call ended answer ends (sym is ∙ some); failed = refl }
 
-pub no_memory : (old new : Tree) (n m : ℕ) (device : Device) (call : Asked) (ended : Result Answer Refusal) (found : Option Answer) (answer : Answer) → Ends old call ended new → found ≡ answered ended → found ≡ None → answer ≡ Fault ENOMEM → m ≡ counted n 1 → Treated old n device call answer new m
-no_memory old new n m device call ended found answer ends is none fault count = let it = unanswered old new call ended ends (sym is ∙ none) in inr (it.0, fault, it.1, count)
+-- memory was refused for the work of a call that was let do it
+starved : (old new : Tree) (planned : Device) (call : Asked) (told : Told) → LetsWork planned → Starves old call → new ≡ old → told ≡ failure ENOMEM → Treated old planned call told new
+starved old new planned call told lets starves stays is = record {
+  device = Before ENOMEM;
+  treats = inr (lets, starves, refl);
+  performs = (ap (λ (t : Told). t.answer) is, stays);
+  failed = ap (λ (t : Told). t.failed) is;
+}
 
-pub after_work : (old new : Tree) (n m : ℕ) (call : Asked) (ended : Result Answer Refusal) (errno : ℤ) (answer : Answer) → Ends old call ended new → answer ≡ Fault (errno_after ended errno) → m ≡ counted n 1 → Treated old n (After errno) call answer new m
-after_work old new n m call (Ok own) errno answer ends is count = inl ((is, (own, inl ends)), count)
-after_work old new n m call (Err (Errno refused)) errno answer ends is count = inl ((is, (Fault refused, works_refused old new call refused ends)), count)
-after_work old new n m call (Err Memory) errno answer ends is count = inr (ends.0, is, ends.1, count)
+pub no_memory : (old new : Tree) (call : Asked) (ended : Result Answer Refusal) (found : Option Answer) (told : Told) → Ends old call ended new → found ≡ answered ended → found ≡ None → told ≡ failure ENOMEM → Treated old Sound call told new
+no_memory old new call ended found told ends is none fault =
+    let it = unanswered old new call ended ends (sym is ∙ none) in
+    starved old new Sound call told tt it.0 it.1 fault
+
+-- a call that failed before its work
+pub failed_before : (old : Tree) (call : Asked) (errno : ℤ) (told : Told) → told ≡ failure errno → Treated old (Before errno) call told old
+failed_before old call errno told is = record {
+  device = Before errno;
+  treats = inl refl;
+  performs = (ap (λ (t : Told). t.answer) is, refl);
+  failed = ap (λ (t : Told). t.failed) is;
+}
+
+-- a call that did its work, or was refused, and failed then
+failed_after : (old new : Tree) (call : Asked) (errno : ℤ) (told : Told) (own : Answer) → Works old call own new → told ≡ failure errno → Treated old (After errno) call told new
+failed_after old new call errno told own works is = record {
+  device = After errno;
+  treats = inl refl;
+  performs = (ap (λ (t : Told). t.answer) is, (own, works));
+  failed = ap (λ (t : Told). t.failed) is;
+}
+
+pub after_work : (old new : Tree) (call : Asked) (ended : Result Answer Refusal) (errno : ℤ) (told : Told) → Ends old call ended new → told ≡ failure (errno_after ended errno) → Treated old (After errno) call told new
+after_work old new call (Ok own) errno told ends is = failed_after old new call errno told own (inl ends) is
+after_work old new call (Err (Errno refused)) errno told ends is = failed_after old new call errno told (Fault refused) (works_refused old new call refused ends) is
+after_work old new call (Err Memory) errno told ends is = starved old new (After errno) call told tt ends.0 ends.1 is
 
 pub puts_dir : (old new : Tree) (p : Names) (ended : Result Answer Refusal) → Ends old (AskMakeDir p) ended new → PutsDir old p (settled ended) new
 puts_dir old new p (Ok answer) ends = inl (ends.0, (refl, ends.1.1))

@@ -9,8 +9,7 @@ pub mod Relocating
 pub mod PathSetting
 pub mod Renaming
 pub mod Ending
-pub mod Witnesses
-pub mod RouteLemmas
 pub mod Keeping
+pub mod Calling
 pub mod PathLemmas
 pub mod Looking

@@ -1,5 +1,5 @@
 -- A device that may fail, before a call's work or after it, and counts it.
-use Rattle.std.specs.Prelude.{ℕ, ℤ, ◌≡◌, ◌≤◌, ◌<◌, ◌+◌, ◌-◌, ◌^◌}
+use Rattle.std.specs.Prelude.{ℕ, ℤ, ◌≡◌, ◌⊎◌, ◌+◌, ◌-◌, ◌^◌, min, Bool, true, false}
 use Rattle.backing.specs.declared.call.Answer.{Answer}
 use Rattle.backing.specs.declared.call.Answer.TheVariants.{Fault}
 use Rattle.backing.specs.Tree.{Tree}
@@ -17,16 +17,31 @@ Performs old Sound call answer new = Works old call answer new
 Performs old (Before errno) call answer new = (answer ≡ Fault errno) × (new ≡ old)
 Performs old (After errno) call answer new = (answer ≡ Fault errno) × ((own : Answer) × Works old call own new)
 
+-- whether it fails
+abbrev pub fails : Device → Bool
+fails Sound = false
+fails (Before errno) = true
+fails (After errno) = true
+
+abbrev pub one_if : Bool → ℕ
+one_if true = 1
+one_if false = 0
+
+-- how many failures that is
 abbrev pub faulty : Device → ℕ
-faulty Sound = 0
-faulty (Before errno) = 1
-faulty (After errno) = 1
+faulty device = one_if (fails device)
 
--- a count of failures rises by so much; a count of 64 bits that is full says no more
-pub record Rises (before by after : ℕ) : Type 0 where
-  pub never_falls : before ≤ after
-  pub counts : after < 2 ^ 64 - 1 → before + by ≤ after
+-- so many more on a count of 64 bits, which stays when it is full
+abbrev pub counted : ℕ → ℕ → ℕ
+counted n by = n + min by (2 ^ 64 - 1 - n)
 
--- A call that is made is one of the tree, or of a device that fails and counts it.
+-- A call on a tree, as the device treats it, whose failure is one more, and nothing else is.
 abbrev pub Counted : Tree → ℕ → Asked → Answer → Tree → ℕ → Type 0
-Counted old before call answer new after = (device : Device) × Performs old device call answer new × Rises before (faulty device) after
+Counted old before call answer new after = (device : Device) × Performs old device call answer new × (after ≡ counted before (faulty device))
+
+abbrev pub IsFault : Answer → Type 0
+IsFault answer = (errno : ℤ) × (answer ≡ Fault errno)
+
+-- A count of failures over a call: as before, or one more, which a fault tells.
+abbrev pub Counts : ℕ → Answer → ℕ → Type 0
+Counts before answer after = (after ≡ before) ⊎ ((after ≡ counted before 1) × IsFault answer)

@@ -1,18 +1,33 @@
--- A call of a memory tree is one of a known tree.
-use Rattle.std.proofs.Common.{ℕ, ◌≡◌, inl, inr, arith}
+-- What each directory's calls say of its count of failures, and of its tree.
+use Rattle.std.proofs.Common.{ℕ, ◌≡◌, ◌+◌, ap, ◌∙◌, inl, inr, arith}
 use Rattle.backing.specs.declared.call.Answer.{Answer}
-use Rattle.errno.specs.declared.TheConstants.{ENOMEM}
-use Rattle.backing.specs.Tree.{Tree}
+use Rattle.backing.specs.Tree.{Tree, IsTree}
 use Rattle.backing.specs.Calls.{Asked}
-use Rattle.backing.specs.Device.{Device, Before, Rises, Counted, faulty}
-use Rattle.backing.specs.Memory.{Memory, Gives, Treated, memory_tree, next_device, counted}
+use Rattle.backing.specs.Device.{Device, Sound, Before, After, Performs, Counted, Counts, counted, faulty}
+use Rattle.backing.specs.Memory.{Memory, Gives, memory_tree}
+use Rattle.backing.specs.SharedTree.{Shows}
 
-rises : (before by after : ℕ) → after ≡ counted before by → Rises before by after
-rises before by after e = record { never_falls = omega arith; counts = λ room. omega arith }
+-- nothing more
+pub counted_none : (n : ℕ) → counted n 0 ≡ n
+counted_none n = omega arith
 
-treated_known : (old new : Tree) (before after : ℕ) (device : Device) (call : Asked) (answer : Answer) → Treated old before device call answer new after → Counted old before call answer new after
-treated_known old new before after device call answer (inl (performs, count)) = (device, performs, rises before (faulty device) after count)
-treated_known old new before after device call answer (inr (starves, answers, stays, count)) = (Before ENOMEM, (answers, stays), rises before 1 after count)
+-- one count after another
+pub counted_on : (n a b : ℕ) → counted (counted n a) b ≡ counted n (a + b)
+counted_on n a b = omega arith
+
+known_counts : (old new : Tree) (before after : ℕ) (device : Device) (call : Asked) (answer : Answer) → Performs old device call answer new → after ≡ counted before (faulty device) → Counts before answer after
+known_counts old new before after Sound call answer performs count = inl (count ∙ counted_none before)
+known_counts old new before after (Before errno) call answer performs count = inr (count, (errno, performs.0))
+known_counts old new before after (After errno) call answer performs count = inr (count, (errno, performs.0))
 
 pub memory_known : (old new : Memory) (call : Asked) (answer : Answer) → Gives old call answer new → Counted (memory_tree old) old.failed call answer (memory_tree new) new.failed
-memory_known old new call answer given = treated_known (memory_tree old) (memory_tree new) old.failed new.failed (next_device old.plans old.made) call answer given.treated
+memory_known old new call answer given = (given.device, given.performs, ap (λ (m : Memory). m.failed) given.kept)
+
+pub memory_counts : (old new : Memory) (call : Asked) (answer : Answer) → Gives old call answer new → Counts old.failed answer new.failed
+memory_counts old new call answer given = known_counts (memory_tree old) (memory_tree new) old.failed new.failed given.device call answer given.performs (ap (λ (m : Memory). m.failed) given.kept)
+
+pub memory_stands : (old new : Memory) (call : Asked) (answer : Answer) → Gives old call answer new → IsTree (memory_tree old) × IsTree (memory_tree new)
+memory_stands old new call answer given = (given.old_is_tree, given.new_is_tree)
+
+pub shared_counts : (before after : ℕ) (call : Asked) (answer : Answer) → Shows before call answer after → Counts before answer after
+shared_counts before after call answer shown = known_counts shown.old shown.new before after shown.counted.0 call answer shown.counted.1 shown.counted.2

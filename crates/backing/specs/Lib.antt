@@ -7,9 +7,6 @@ pub mod Refusals
 pub mod Items
 pub mod Moves
 pub mod Memory
-pub mod Known
-pub mod Explained
 pub mod SharedTree
-pub mod Troubles
-pub mod Routes
+pub mod Known
 pub mod Checks

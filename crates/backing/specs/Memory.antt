@@ -1,16 +1,17 @@
 -- A tree in memory, which fails at planned calls.
-use Rattle.std.specs.Prelude.{ℕ, ℤ, ◌≡◌, ◌+◌, ◌-◌, ◌^◌, ◌==◌, ◌⊎◌, nat_lt, min, if◌then◌else◌, List, [], ◌∷◌, Option, Some, None, Result, Ok, Err}
+use Rattle.std.specs.Prelude.{ℕ, ℤ, ◌≡◌, ◌+◌, ◌-◌, ◌^◌, ◌==◌, ◌⊎◌, nat_lt, if◌then◌else◌, List, [], ◌∷◌, Option, Some, None, Result, Ok, Err}
 use Rattle.paths.specs.Fronts.{Names}
 use Rattle.backing.specs.declared.call.Answer.{Answer}
 use Rattle.backing.specs.declared.call.Answer.TheVariants.{Done, Fault, Wrote}
 use Rattle.backing.specs.declared.entries.Entry.{Entry}
+use Rattle.backing.specs.declared.told.Told.{Told}
 use Rattle.errno.specs.declared.TheConstants.{ENOMEM}
 use Rattle.backing.specs.declared.plans.Plan.{Plan}
 use Rattle.backing.specs.declared.plans.Fault.{Fault as Planned}
 use Rattle.backing.specs.declared.plans.Fault.TheVariants as planned
 use Rattle.backing.specs.Tree.{Tree, IsTree}
 use Rattle.backing.specs.Calls.{Asked, AskMake, AskMakeDir, AskWrite, Works, Starves}
-use Rattle.backing.specs.Device.{Device, Sound, Before, After, Performs, faulty}
+use Rattle.backing.specs.Device.{Device, Sound, Before, After, Performs, counted, fails, faulty}
 use Rattle.backing.specs.Entries.{tree_of}
 
 -- what a memory tree is: what stands in it, how many calls were made, which of them are planned to fail, and how many failed
@@ -38,25 +39,40 @@ abbrev pub treated_as : Option Planned → Device
 treated_as None = Sound
 treated_as (Some fault) = device_of fault
 
--- a count of 64 bits, which stays when it is full
-abbrev pub counted : ℕ → ℕ → ℕ
-counted n by = n + min by (2 ^ 64 - 1 - n)
-
 -- how the device treats the call after so many. When the count of calls is full, no failure comes any more.
 abbrev pub next_device : List Plan → ℕ → Device
 next_device plans made = if nat_lt made (2 ^ 64 - 1) then planned_at plans (made + 1) else Sound
 
--- The call is the tree's, as the device treats it; or memory was refused for its work, which changes nothing and counts as
--- a failure.
-abbrev pub Treated : Tree → ℕ → Device → Asked → Answer → Tree → ℕ → Type 0
-Treated old before device call answer new after = (Performs old device call answer new × (after ≡ counted before (faulty device))) ⊎ (Starves old call × (answer ≡ Fault ENOMEM) × (new ≡ old) × (after ≡ counted before 1))
+-- the device lets the tree do its work, whatever it answers then
+abbrev pub LetsWork : Device → Type 0
+LetsWork Sound = Unit {0}
+LetsWork (Before errno) = ⊥
+LetsWork (After errno) = Unit {0}
 
--- a call, and what it leaves
+-- The device treats a call as planned; or memory was refused for its work, where it was let do it.
+abbrev pub Treats : Tree → Asked → Device → Device → Type 0
+Treats old call planned device = (device ≡ planned) ⊎ (LetsWork planned × Starves old call × (device ≡ Before ENOMEM))
+
+-- a call for which this was planned: how the device treated it, and whether it failed
+pub record Treated (old : Tree) (planned : Device) (call : Asked) (told : Told) (new : Tree) : Type 0 where
+  pub device : Device
+  pub treats : Treats old call planned device
+  pub performs : Performs old device call told.answer new
+  pub failed : told.failed ≡ fails device
+
+-- a call, and what it leaves: the next one by the plans, and each failure is counted
 pub record Gives (old : Memory) (call : Asked) (answer : Answer) (new : Memory) : Type 0 where
-  pub treated : Treated (memory_tree old) old.failed (next_device old.plans old.made) call answer (memory_tree new) new.failed
-  pub made : new.made ≡ counted old.made 1
-  pub plans : new.plans ≡ old.plans
-  pub is_tree : IsTree (memory_tree new)
+  pub device : Device
+  pub treats : Treats (memory_tree old) call (next_device old.plans old.made) device
+  pub performs : Performs (memory_tree old) device call answer (memory_tree new)
+  pub kept : new ≡ record old { entries = new.entries; made = counted old.made 1; failed = counted old.failed (faulty device) }
+  pub old_is_tree : IsTree (memory_tree old)
+  pub new_is_tree : IsTree (memory_tree new)
+
+-- the same call, and whether the device failed
+pub record MakesCall (old : Memory) (call : Asked) (told : Told) (new : Memory) : Type 0 where
+  pub gives : Gives old call told.answer new
+  pub failed : told.failed ≡ fails gives.device
 
 -- all but what stands in it
 pub record SameBut (old new : Memory) : Type 0 where

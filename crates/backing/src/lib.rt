@@ -1,4 +1,4 @@
-//! A directory by calls on paths: in memory, or a real folder.
+//! A directory by calls on paths, and one in memory.
 #![tactic(auto)]
 
 mod bytes;
@@ -6,7 +6,6 @@ mod call;
 mod calls;
 mod checks;
 mod entries;
-mod folder;
 mod lookups;
 mod making;
 mod memory;
@@ -17,12 +16,13 @@ mod reading;
 mod refusal;
 mod removing;
 mod shared;
+mod told;
 mod writing;
 
 pub use bytes::Bytes;
 pub use call::{Answer, Call, Child, Children, Kind, MAX_FILE_LEN};
 pub use calls::{Calls, KnownTree};
-pub use folder::Folder;
 pub use memory::MemTree;
 pub use plans::Fault;
 pub use shared::Shared;
+pub use told::Told;

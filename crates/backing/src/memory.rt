@@ -1,7 +1,8 @@
 //! A directory in memory, which fails at planned calls.
 
 ghost use Rattle.std.specs.Prelude.{◌≡◌, [], ◌∷◌, OnOk, OnErr};
-ghost use Rattle.backing.specs.Memory.{Memory, Gives, PutsDir, PutsFile, SameBut, memory_tree};
+ghost use Rattle.backing.specs.Memory.{Memory, Gives, MakesCall, PutsDir, PutsFile, SameBut, memory_tree};
+ghost use Rattle.backing.specs.Calls.{asked};
 ghost use Rattle.backing.specs.Tree.{IsTree};
 
 use crate::call::{Answer, Call};
@@ -9,6 +10,7 @@ use crate::calls::{Calls, KnownTree};
 use crate::entries::Entry;
 use crate::perform::{put_dir_in, put_file_in, treat};
 use crate::plans::{Fault, Plan, add_plan, next_fault};
+use crate::told::{Told, count};
 use paths::Path;
 use std::alloc::{AllocError, Global};
 use std::marker::Model;
@@ -84,32 +86,40 @@ impl MemTree {
     {
         self.failures
     }
+
+    /// Makes a call: the tree's own answer and effect, or the failure that is planned for it.
+    pub(crate) fn make_call(&mut self, call: Call<'_>) -> Told
+        ensures { MakesCall self.old (asked call.entry) result self.new }
+    {
+        let fault = next_fault(&self.planned, self.calls);
+        self.calls = self.calls.saturating_add(1);
+        let told = treat(self.alloc, &mut self.standing, fault, call);
+        count(&mut self.failures, told.failed);
+        told
+    }
 }
 
 impl Calls for MemTree {
+    ghost use Rattle.backing.specs.Known.{memory_counts};
+
     ghost gives = { Gives };
 
-    /// The tree's own answer and effect, or the failure that is planned for the call.
+    ghost faults = { λ m. m.failed };
+
+    ghost counts = { memory_counts };
+
     fn call(&mut self, call: Call<'_>) -> Answer {
-        let fault = next_fault(&self.planned, self.calls);
-        self.calls = self.calls.saturating_add(1);
-        treat(
-            self.alloc,
-            &mut self.standing,
-            &mut self.failures,
-            fault,
-            call,
-        )
+        self.make_call(call).answer
     }
 }
 
 impl KnownTree for MemTree {
-    ghost use Rattle.backing.specs.Memory.{Memory, memory_tree};
-    ghost use Rattle.backing.specs.Known.{memory_known};
+    ghost use Rattle.backing.specs.Memory.{memory_tree};
+    ghost use Rattle.backing.specs.Known.{memory_known, memory_stands};
 
     ghost tree = { memory_tree };
 
-    ghost faults = { λ m. m.failed };
-
     ghost known = { memory_known };
+
+    ghost stands = { memory_stands };
 }

@@ -5,8 +5,7 @@ ghost use Rattle.backing.specs.Calls.{asked};
 ghost use Rattle.backing.specs.Entries.{tree_of, IsLawful};
 ghost use Rattle.backing.specs.Refusals.{Ends, answered, errno_after, settled};
 ghost use Rattle.backing.specs.Device.{Sound, After};
-ghost use Rattle.backing.specs.Memory.{Treated, PutsDir, PutsFile, counted, device_of, treated_as};
-ghost use Rattle.backing.specs.declared.call.Answer.TheVariants as Answer;
+ghost use Rattle.backing.specs.Memory.{Treated, PutsDir, PutsFile, device_of, treated_as};
 
 use crate::call::{Answer, Call};
 use crate::entries::Entry;
@@ -16,6 +15,7 @@ use crate::plans::Fault;
 use crate::reading::{list, read, stat, sync};
 use crate::refusal::Refusal;
 use crate::removing::{remove, remove_dir};
+use crate::told::Told;
 use crate::writing::{set_len, write};
 use errno::ENOMEM;
 use paths::Path;
@@ -43,56 +43,42 @@ pub fn perform(alloc: Global, entries: &mut Vec<Entry>, call: Call<'_>) -> Resul
 }
 
 /// A call as the device treats it, for which this failure is planned.
-pub fn treat(
-    alloc: Global,
-    entries: &mut Vec<Entry>,
-    failures: &mut u64,
-    fault: Option<Fault>,
-    call: Call<'_>,
-) -> Answer
+pub fn treat(alloc: Global, entries: &mut Vec<Entry>, fault: Option<Fault>, call: Call<'_>) -> Told
     requires { IsLawful entries.old.items }
-    ensures treated { Treated (tree_of entries.old.items) failures.old (treated_as fault) (asked call.entry) result (tree_of entries.new.items) failures.new }
+    ensures treated { Treated (tree_of entries.old.items) (treated_as fault) (asked call.entry) result (tree_of entries.new.items) }
     ensures lawful { IsLawful entries.new.items }
 {
     match fault {
-        None => treat_soundly(alloc, entries, failures, call),
-        Some(fault) => treat_as_planned(alloc, entries, failures, fault, call),
+        None => treat_soundly(alloc, entries, call),
+        Some(fault) => treat_as_planned(alloc, entries, fault, call),
     }
 }
 
 /// A call that fails by plan.
-fn treat_as_planned(
-    alloc: Global,
-    entries: &mut Vec<Entry>,
-    failures: &mut u64,
-    fault: Fault,
-    call: Call<'_>,
-) -> Answer
+fn treat_as_planned(alloc: Global, entries: &mut Vec<Entry>, fault: Fault, call: Call<'_>) -> Told
     requires { IsLawful entries.old.items }
-    ensures treated { Treated (tree_of entries.old.items) failures.old (device_of fault) (asked call.entry) result (tree_of entries.new.items) failures.new }
+    ensures treated { Treated (tree_of entries.old.items) (device_of fault) (asked call.entry) result (tree_of entries.new.items) }
     ensures lawful { IsLawful entries.new.items }
 {
     match fault {
-        Fault::Before(errno) => fail(failures, errno),
-        Fault::After(errno) => treat_and_fail(alloc, entries, failures, errno, call),
+        Fault::Before(errno) => Told::failure(errno),
+        Fault::After(errno) => treat_and_fail(alloc, entries, errno, call),
     }
 }
 
 /// A call that fails only where there is no memory.
-fn treat_soundly(
-    alloc: Global,
-    entries: &mut Vec<Entry>,
-    failures: &mut u64,
-    call: Call<'_>,
-) -> Answer
+fn treat_soundly(alloc: Global, entries: &mut Vec<Entry>, call: Call<'_>) -> Told
     requires { IsLawful entries.old.items }
-    ensures treated { Treated (tree_of entries.old.items) failures.old Sound (asked call.entry) result (tree_of entries.new.items) failures.new }
+    ensures treated { Treated (tree_of entries.old.items) Sound (asked call.entry) result (tree_of entries.new.items) }
     ensures lawful { IsLawful entries.new.items }
 {
     let ended = perform(alloc, entries, call);
     match answered(ended) {
-        Some(answer) => answer,
-        None => fail(failures, ENOMEM),
+        Some(answer) => Told {
+            answer,
+            failed: false,
+        },
+        None => Told::failure(ENOMEM),
     }
 }
 
@@ -108,19 +94,13 @@ fn answered(ended: Result<Answer, Refusal>) -> Option<Answer>
 }
 
 /// A call that does its work and fails.
-fn treat_and_fail(
-    alloc: Global,
-    entries: &mut Vec<Entry>,
-    failures: &mut u64,
-    errno: i32,
-    call: Call<'_>,
-) -> Answer
+fn treat_and_fail(alloc: Global, entries: &mut Vec<Entry>, errno: i32, call: Call<'_>) -> Told
     requires { IsLawful entries.old.items }
-    ensures treated { Treated (tree_of entries.old.items) failures.old (After errno) (asked call.entry) result (tree_of entries.new.items) failures.new }
+    ensures treated { Treated (tree_of entries.old.items) (After errno) (asked call.entry) result (tree_of entries.new.items) }
     ensures lawful { IsLawful entries.new.items }
 {
     let ended = perform(alloc, entries, call);
-    fail(failures, errno_after(ended, errno))
+    Told::failure(errno_after(ended, errno))
 }
 
 /// The error number of a call that fails after its work: want of memory comes first.
@@ -132,15 +112,6 @@ fn errno_after(ended: Result<Answer, Refusal>, errno: i32) -> i32
         Err(Refusal::Errno(_)) => errno,
         Err(Refusal::Memory) => ENOMEM,
     }
-}
-
-/// The answer of a failure, which is counted.
-pub fn fail(failures: &mut u64, errno: i32) -> Answer
-    ensures answer { result ≡ Answer.Fault errno }
-    ensures counted { failures.new ≡ counted failures.old 1 }
-{
-    *failures = failures.saturating_add(1);
-    Answer::Fault(errno)
 }
 
 /// Puts a folder, as no call does.

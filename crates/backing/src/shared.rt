@@ -2,7 +2,6 @@
 
 ghost use Rattle.std.specs.Prelude.{◌≡◌, ℕ};
 ghost use Rattle.backing.specs.Calls.{asked};
-ghost use Rattle.backing.specs.Device.{Rises};
 ghost use Rattle.backing.specs.SharedTree.{Shows};
 
 use crate::call::{Answer, Call};
@@ -47,7 +46,13 @@ impl<R: Wait + Drop> Shared<R> {
 }
 
 impl<R: Wait + Drop> Calls for Shared<R> {
+    ghost use Rattle.backing.specs.Known.{shared_counts};
+
     ghost gives = { Shows };
+
+    ghost faults = { λ failures. failures };
+
+    ghost counts = { shared_counts };
 
     fn call(&mut self, call: Call<'_>) -> Answer {
         let mut tree = self.tree.lock(&self.rt);
@@ -59,21 +64,6 @@ impl<R: Wait + Drop> Calls for Shared<R> {
 fn call_under_lock(tree: &mut MemTree, failures: &mut u64, call: Call<'_>) -> Answer
     ensures { Shows failures.old (asked call.entry) result failures.new }
 {
-    let before = tree.failures();
-    let answer = tree.call(call);
-    let after = tree.failures();
-    raise(failures, before, after);
-    answer
-}
-
-/// One count rises as the other did.
-fn raise(failures: &mut u64, before: u64, after: u64)
-    ensures { (by : ℕ) → Rises before by after → Rises failures.old by failures.new }
-{
-    let more = if after == u64::MAX {
-        after
-    } else {
-        after.saturating_sub(before)
-    };
-    *failures = failures.saturating_add(more);
+    let told = tree.make_call(call);
+    told.into_answer(failures)
 }

@@ -2,7 +2,7 @@
 
 use crate::asking::ask;
 use crate::places::sample_folder;
-use backing::Folder;
+use real_folder::Folder;
 use std::alloc::{Allocator, Global};
 use std::fs::{File, Metadata, OpenOptions};
 use std::io::ErrorKind;

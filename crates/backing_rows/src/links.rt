@@ -2,7 +2,7 @@
 
 use crate::asking::expect_rows;
 use crate::places::sample_folder;
-use backing::Folder;
+use real_folder::Folder;
 use std::fs;
 use std::os::unix::fs::symlink;
 use std::os::unix::net::UnixListener;
@@ -51,6 +51,40 @@ fn links_and_sockets_are_not_shown(rt: HostRuntime) -> Result<(), Fail> {
 }
 
 #[test]
+fn a_folder_of_hidden_names_is_not_bare(rt: HostRuntime) -> Result<(), Fail> {
+    let root = sample_folder(&rt, "bare")?;
+    let alloc = rt.alloc();
+    fs::create_dir(&rt, format!(in alloc; "{root}/links")?.as_str())?;
+    symlink(&rt, "../a", format!(in alloc; "{root}/links/x")?.as_str())?;
+    fs::create_dir(&rt, format!(in alloc; "{root}/sockets")?.as_str())?;
+    let _listener = UnixListener::bind(&rt, format!(in alloc; "{root}/sockets/x")?.as_str())?;
+    fs::create_dir(&rt, format!(in alloc; "{root}/both")?.as_str())?;
+    symlink(&rt, "../a", format!(in alloc; "{root}/both/x")?.as_str())?;
+    fs::write(&rt, format!(in alloc; "{root}/both/y")?.as_str(), "y")?;
+    let mut folder = Folder::open(rt, root.as_str())?;
+    let explained: &[(&str, &str)] = &[
+        ("list links", "names"),
+        ("list sockets", "names"),
+        ("list both", "names y"),
+        ("rmdir both", "fault 39"),
+        ("rename d both", "fault 39"),
+    ];
+    expect_rows(&rt, &mut folder, explained)?;
+    assert_eq!(rt; folder.failures(), 0);
+    let counted: &[(&str, &str)] = &[
+        ("rmdir links", "fault 39"),
+        ("rmdir sockets", "fault 39"),
+        ("rename d links", "fault 39"),
+        ("rename d sockets", "fault 39"),
+    ];
+    expect_rows(&rt, &mut folder, counted)?;
+    assert_eq!(rt; folder.failures(), 4);
+    expect_rows(&rt, &mut folder, &[("stat d", "folder 0")])?;
+    fs::remove_dir_all(&rt, root.as_str())?;
+    Ok(())
+}
+
+#[test]
 fn a_file_that_became_a_link_is_not_read(rt: HostRuntime) -> Result<(), Fail> {
     let root = sample_folder(&rt, "became")?;
     let alloc = rt.alloc();
@@ -64,6 +98,7 @@ fn a_file_that_became_a_link_is_not_read(rt: HostRuntime) -> Result<(), Fail> {
         &mut folder,
         &[("read a 0 9", "fault 2"), ("write a 0 x", "fault 2")],
     )?;
+    assert_eq!(rt; folder.failures(), 0);
     fs::remove_dir_all(&rt, root.as_str())?;
     Ok(())
 }

@@ -2,7 +2,8 @@
 
 use crate::asking::ask;
 use crate::places::new_folder;
-use backing::{Folder, MemTree};
+use backing::MemTree;
+use real_folder::Folder;
 use std::alloc::{AllocError, Global};
 use std::fs;
 use std::test::Fail;
@@ -79,6 +80,7 @@ fn both_answer_alike(rt: HostRuntime) -> Result<(), Fail> {
         let wanted = ask(alloc, &mut tree, words.as_str())?;
         let told = ask(alloc, &mut folder, words.as_str())?;
         assert_eq!(rt; told.as_str(), wanted.as_str(), "{words}");
+        assert_eq!(rt; folder.failures(), 0, "{words} is told {told}");
     }
     assert_eq!(rt; tree.failures(), 0);
     fs::remove_dir_all(&rt, root.as_str())?;

@@ -2,7 +2,8 @@
 
 use crate::asking::{expect_rows, path_of};
 use crate::places::{sample_folder, sample_tree};
-use backing::{Fault, Folder, Shared};
+use backing::{Fault, Shared};
+use real_folder::Folder;
 use std::fs;
 use std::sync::{Arc, Mutex};
 use std::test::Fail;
@@ -87,6 +88,7 @@ fn rows_on_a_real_folder(rt: HostRuntime) -> Result<(), Fail> {
         let root = sample_folder(&rt, "rows")?;
         let mut folder = Folder::open(rt, root.as_str())?;
         expect_rows(&rt, &mut folder, rows)?;
+        assert_eq!(rt; folder.failures(), 0);
         fs::remove_dir_all(&rt, root.as_str())?;
     }
     Ok(())

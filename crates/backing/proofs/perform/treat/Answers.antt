@@ -6,7 +6,7 @@ use Rattle.backing.specs.Memory.{Treated, treated_as}
 use Rattle.backing.proofs.perform.treat.Goals as goal
 
 pub returns-in-None-clause-treated : goal.returns-in-None-clause-treated
-returns-in-None-clause-treated c = subst (λ (fault : Option Fault). Treated (tree_of c.args.entries.now.items) c.args.failures.now (treated_as fault) (asked c.args.call) c.treat_soundly.result (tree_of c.treat_soundly.new.entries.items) c.treat_soundly.new.failures) (sym c.in-None.is) c.treat_soundly.ensures.treated
+returns-in-None-clause-treated c = subst (λ (fault : Option Fault). Treated (tree_of c.args.entries.now.items) (treated_as fault) (asked c.args.call) c.treat_soundly.result (tree_of c.treat_soundly.new.entries.items)) (sym c.in-None.is) c.treat_soundly.ensures.treated
 
 pub returns-in-Some-clause-treated : goal.returns-in-Some-clause-treated
-returns-in-Some-clause-treated c = subst (λ (fault : Option Fault). Treated (tree_of c.args.entries.now.items) c.args.failures.now (treated_as fault) (asked c.args.call) c.treat_as_planned.result (tree_of c.treat_as_planned.new.entries.items) c.treat_as_planned.new.failures) (sym c.in-Some.is) c.treat_as_planned.ensures.treated
+returns-in-Some-clause-treated c = subst (λ (fault : Option Fault). Treated (tree_of c.args.entries.now.items) (treated_as fault) (asked c.args.call) c.treat_as_planned.result (tree_of c.treat_as_planned.new.entries.items)) (sym c.in-Some.is) c.treat_as_planned.ensures.treated

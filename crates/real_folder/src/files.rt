@@ -1,0 +1,143 @@
+//! Calls on what a real file holds.
+
+ghost use Rattle.std.specs.Prelude.{IfOk, OnOk};
+ghost use Rattle.backing.specs.Calls.{AskStat, AskRead, AskWrite, AskSetLen, AskSync};
+ghost use Rattle.real_folder.specs.Explained.{Suits};
+ghost use Rattle.real_folder.specs.Routes.{LeadsDown};
+
+use crate::parts::{read_all, write_all};
+use crate::trouble::{Reason, Trouble};
+use crate::walk::{Found, Identity, Walk};
+use backing::{Answer, Bytes, Kind};
+use errno::EIO;
+use paths::Path;
+use std::fs::{File, OpenOptions};
+use std::rt::Files;
+
+/// What stands at the path.
+pub fn stat<R: Files>(rt: &R, walk: &mut Walk, path: &Path) -> Result<Answer, Trouble>
+    ensures { IfOk result (Suits (AskStat path.now)) }
+{
+    match walk.find(rt, path.names())? {
+        Found::Folder(_) => Ok(Answer::Stat {
+            kind: Kind::Folder,
+            size: 0,
+        }),
+        Found::File(identity) => Ok(Answer::Stat {
+            kind: Kind::File,
+            size: identity.size,
+        }),
+        Found::Nothing | Found::Hidden => Err(Trouble::Refused(Reason::Nothing)),
+    }
+}
+
+/// Reads at most `size` bytes from `offset` on: `open`, `fstat`, `pread` until the end, `close`.
+pub fn read<R: Files<File = File> + AllocGlobal>(
+    rt: &R,
+    walk: &mut Walk,
+    path: &Path,
+    offset: u64,
+    size: u32,
+) -> Result<Answer, Trouble>
+    ensures { IfOk result (Suits (AskRead path.now offset size)) }
+{
+    let identity = find_file(rt, walk, path)?;
+    let file = File::open(rt, walk.path())?;
+    let len = expect_same(&file, &identity)?;
+    let size = u64::from(size).min(len.saturating_sub(offset)) as usize;
+    let mut buffer = vec![in rt.alloc(); 0u8; size]?;
+    let count = read_all(&file, buffer.as_mut_slice(), offset)?;
+    buffer.truncate(count);
+    Ok(Answer::Bytes(Bytes::from_vec(buffer)))
+}
+
+/// Writes the piece at `offset`: `open`, `fstat`, `pwrite` until all is written, `close`. No bytes need none of these.
+pub fn write<R: Files<File = File>>(
+    rt: &R,
+    walk: &mut Walk,
+    path: &Path,
+    offset: u64,
+    piece: &[u8],
+) -> Result<Answer, Trouble>
+    ensures { IfOk result (Suits (AskWrite path.now offset piece.now)) }
+{
+    let identity = find_file(rt, walk, path)?;
+    if piece.is_empty() {
+        return Ok(Answer::Wrote(0));
+    }
+    let file = open_to_write(rt, walk.path())?;
+    expect_same(&file, &identity)?;
+    let Some(_end) = offset.checked_add(piece.len() as u64) else {
+        return Err(Trouble::Failed(EIO));
+    };
+    write_all(&file, piece, offset)?;
+    Ok(Answer::Wrote(piece.len()))
+}
+
+/// Gives the file that length: `open`, `fstat`, `ftruncate`, `close`.
+pub fn set_len<R: Files<File = File>>(
+    rt: &R,
+    walk: &mut Walk,
+    path: &Path,
+    size: u64,
+) -> Result<Answer, Trouble>
+    ensures { IfOk result (Suits (AskSetLen path.now size)) }
+{
+    let identity = find_file(rt, walk, path)?;
+    let file = open_to_write(rt, walk.path())?;
+    expect_same(&file, &identity)?;
+    file.set_len(size)?;
+    Ok(Answer::Done)
+}
+
+/// Brings the file or the folder to the disk: `open`, `fstat`, `fsync`, `close`.
+pub fn sync<R: Files<File = File>>(rt: &R, walk: &mut Walk, path: &Path) -> Result<Answer, Trouble>
+    ensures { IfOk result (Suits (AskSync path.now)) }
+{
+    let identity = match walk.find(rt, path.names())? {
+        Found::Folder(identity) => identity,
+        Found::File(identity) => identity,
+        Found::Nothing | Found::Hidden => return Err(Trouble::Refused(Reason::Nothing)),
+    };
+    let file = File::open(rt, walk.path())?;
+    expect_same(&file, &identity)?;
+    file.sync_all()?;
+    Ok(Answer::Done)
+}
+
+/// A file stands there: which one it is.
+pub fn find_file<R: Files>(rt: &R, walk: &mut Walk, path: &Path) -> Result<Identity, Trouble>
+    ensures { OnOk result (LeadsDown walk.old.root walk.new.path path.now) }
+{
+    match walk.find(rt, path.names())? {
+        Found::File(identity) => Ok(identity),
+        Found::Folder(_) => Err(Trouble::Refused(Reason::Folder)),
+        Found::Nothing | Found::Hidden => Err(Trouble::Refused(Reason::Nothing)),
+    }
+}
+
+/// A folder stands there.
+pub fn find_folder<R: Files>(rt: &R, walk: &mut Walk, path: &Path) -> Result<(), Trouble>
+    ensures { OnOk result (LeadsDown walk.old.root walk.new.path path.now) }
+{
+    match walk.find(rt, path.names())? {
+        Found::Folder(_) => Ok(()),
+        Found::File(_) => Err(Trouble::Refused(Reason::NoFolder)),
+        Found::Nothing | Found::Hidden => Err(Trouble::Refused(Reason::Nothing)),
+    }
+}
+
+fn open_to_write<R: Files<File = File>>(rt: &R, path: &str) -> Result<File, Trouble> {
+    let file = OpenOptions::new().write(true).open(rt, path)?;
+    Ok(file)
+}
+
+/// The open file is the one that was found: how long it is.
+fn expect_same(file: &File, identity: &Identity) -> Result<u64, Trouble> {
+    let metadata = file.metadata()?;
+    if identity.is_of(&metadata) {
+        Ok(metadata.len())
+    } else {
+        Err(Trouble::Failed(EIO))
+    }
+}
