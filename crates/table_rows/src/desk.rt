@@ -1,242 +1,206 @@
-//! A table with two shares, and the tickets and answers that a test has not spent yet.
+//! A table at work, with its shares, and with the tickets and answers that were not spent yet.
 
-ghost use Rattle.std.specs.Prelude.{◌≡◌, ◌≤◌};
+ghost use Rattle.std.specs.Prelude.{◌<◌, vec_len};
 
-use flights::{Given, Want};
+use crate::story::{Asks, Reply, Sum, Told};
+use flights::Want;
 use image::Image;
-use ledger::{Blanks, Gather, Ledgers, Share, Totals};
+use ledger::{Gather, Ledgers, Share};
 use paths::Name;
-use std::alloc::Global;
-use std::marker::Brand;
-use std::process::Abort;
-use std::test::Fail;
-use table::{Answered, Begin, Limits, Outcome, Settled, Table, Ticket};
+use std::alloc::{AllocError, AllocFailed, Global};
+use std::mem::swap;
+use table::{Answered, Begin, Outcome, Table, Ticket};
 
-/// The number of the root.
-pub const ROOT: u64 = 1;
-
-/// How a request was taken up.
-#[derive(Clone, Copy, Debug, PartialEq, Eq, Drop)]
-pub enum Asked {
-    /// It goes on, and its ticket is the last one.
-    Go,
-    /// Another request holds a name that it needs.
-    Busy,
-    /// It may not go on.
-    Refused(i32),
+/// The ticket of the request that bears a unique number.
+pub struct Begun {
+    pub unique: u64,
+    pub ticket: Ticket,
 }
 
-/// What a finish answered for the names of its request, of which there is one at most.
-#[derive(Clone, Copy, Debug, PartialEq, Eq, Drop)]
-pub enum Gave {
-    /// An entry.
-    Entry(Given),
-    /// Nothing for the name.
-    Nothing,
-    /// The request asked for no entry.
-    Empty,
-    /// The ticket was of no request that the table works on.
-    Lost,
+/// The answer to the request that bears a unique number.
+pub struct Ended {
+    pub unique: u64,
+    pub answered: Answered,
 }
 
-impl Gave {
-    /// An entry of that node.
-    pub fn entry(number: u64, generation: u64) -> Gave {
-        Gave::Entry(Given { number, generation })
-    }
-
-    fn of(answered: &Answered) -> Option<Gave> {
-        match answered.given() {
-            [] if answered.lost() => Some(Gave::Lost),
-            [] => Some(Gave::Empty),
-            [None] if !answered.lost() => Some(Gave::Nothing),
-            [Some(given)] if !answered.lost() => Some(Gave::Entry(*given)),
-            _ => None,
-        }
-    }
-}
-
-/// What the shares of a table add up to at its end.
-#[derive(Debug, PartialEq, Eq, Drop)]
-pub struct Gathered(pub Result<Totals, Gather>);
-
-/// A table at work, with two shares.
+/// A table at work.
 pub struct Desk<L: Ledgers> {
     pub alloc: Global,
     pub table: Table<L>,
-    pub shares: Vec<Share<L>>,
-    pub tickets: Vec<Ticket>,
-    pub answers: Vec<Answered>,
+    /// The share that is passed.
+    pub share: Share<L>,
+    pub others: Vec<Share<L>>,
+    pub tickets: Vec<Begun>,
+    pub answers: Vec<Ended>,
 }
 
-/// Puts a value after the others.
-pub fn keep<T>(rt: &impl Abort, values: &mut Vec<T>, value: T) {
-    if let Err(_refused) = values.push(value) {
-        panic!(rt; "memory is ample");
+/// The want, with names of its own.
+pub fn want_of(alloc: Global, asks: Asks) -> Result<Want, AllocError> {
+    Ok(match asks {
+        Asks::Node(number) => Want::Node { number },
+        Asks::Name(parent, name) => Want::Name {
+            parent,
+            name: Name::copy_of(alloc, name)?,
+        },
+        Asks::Remove(parent, name) => Want::Remove {
+            parent,
+            name: Name::copy_of(alloc, name)?,
+        },
+        Asks::Move(parent, name, new_parent, new_name) => Want::Move {
+            parent,
+            name: Name::copy_of(alloc, name)?,
+            new_parent,
+            new_name: Name::copy_of(alloc, new_name)?,
+        },
+    })
+}
+
+/// What a finish told of a ticket with that id.
+pub fn told_by(answered: &Answered, id: u64) -> Told {
+    if answered.id() != id {
+        return Told::Otherwise;
+    }
+    match (answered.given(), answered.lost()) {
+        ([], true) => Told::Lost,
+        ([], false) => Told::Ended,
+        ([None], false) => Told::NotGiven,
+        ([Some(given)], false) => Told::Given(given.number, given.generation),
+        _ => Told::Otherwise,
     }
 }
 
 impl<L: Ledgers> Desk<L> {
-    /// Begins a request, and keeps its ticket as the last one.
-    pub fn ask(&mut self, rt: &impl Abort, unique: u64, want: Want) -> Asked {
+    /// A table with its shares, of which the first is passed.
+    pub fn new(alloc: Global, table: Table<L>, mut others: Vec<Share<L>>) -> Desk<L>
+        requires { 0 < vec_len others }
+    {
+        let share = others.remove(0);
+        Desk {
+            alloc,
+            table,
+            share,
+            others,
+            tickets: Vec::new(alloc),
+            answers: Vec::new(alloc),
+        }
+    }
+
+    /// Takes up a request, and keeps its ticket.
+    pub fn begin(&mut self, unique: u64, asks: Asks) -> Result<Told, AllocError> {
+        let want = want_of(self.alloc, asks)?;
+        self.tickets.reserve(1)?;
         match self.table.begin(unique, want) {
             Begin::Go(ticket) => {
-                keep(rt, &mut self.tickets, ticket);
-                Asked::Go
+                self.tickets.push_reserved(Begun { unique, ticket });
+                Ok(Told::Go)
             }
-            Begin::Busy => Asked::Busy,
-            Begin::Refused(errno) => Asked::Refused(errno),
+            Begin::Busy => Ok(Told::Busy),
+            Begin::Refused(errno) => Ok(Told::Refused(errno)),
         }
     }
 
-    /// Begins a request for a node.
-    pub fn node(&mut self, rt: &impl Abort, number: u64) -> Asked {
-        self.ask(rt, 7, Want::Node { number })
-    }
-
-    /// Begins a request for a name.
-    pub fn name(&mut self, rt: &impl Abort, parent: u64, name: &str) -> Asked {
-        let name = Name::copy_of(self.alloc, name).expect(rt, "memory is ample");
-        self.ask(rt, 7, Want::Name { parent, name })
-    }
-
-    /// Begins a request that removes a name.
-    pub fn remove(&mut self, rt: &impl Abort, parent: u64, name: &str) -> Asked {
-        let name = Name::copy_of(self.alloc, name).expect(rt, "memory is ample");
-        self.ask(rt, 7, Want::Remove { parent, name })
-    }
-
-    /// Begins a request that moves a name to another.
-    pub fn rename(
-        &mut self,
-        rt: &impl Abort,
-        parent: u64,
-        name: &str,
-        new_parent: u64,
-        new_name: &str,
-    ) -> Asked {
-        let name = Name::copy_of(self.alloc, name).expect(rt, "memory is ample");
-        let new_name = Name::copy_of(self.alloc, new_name).expect(rt, "memory is ample");
-        let want = Want::Move {
-            parent,
-            name,
-            new_parent,
-            new_name,
+    /// Ends the work on a request, and keeps its answer.
+    pub fn finish(&mut self, unique: u64, outcome: Outcome) -> Result<Told, AllocError> {
+        let place = self.tickets.iter().position(|begun| begun.unique == unique);
+        let Some(place) = place else {
+            return Ok(Told::Otherwise);
         };
-        self.ask(rt, 7, want)
+        self.answers.reserve(1)?;
+        let Begun { unique, ticket } = self.tickets.remove(place);
+        let id = ticket.id();
+        let answered = self.table.finish(&mut self.share, ticket, outcome);
+        let told = told_by(&answered, id);
+        self.answers.push_reserved(Ended { unique, answered });
+        Ok(told)
     }
 
-    /// Begins a request for a name that no other request holds.
-    pub fn begin(&mut self, rt: &impl Abort, parent: u64, name: &str) -> Result<(), i32> {
-        match self.name(rt, parent, name) {
-            Asked::Go => Ok(()),
-            Asked::Busy => panic!(rt; "another request holds the name"),
-            Asked::Refused(errno) => Err(errno),
+    /// Ends a request.
+    pub fn settle(&mut self, unique: u64, reply: Reply) -> Told {
+        let place = self.answers.iter().position(|ended| ended.unique == unique);
+        let Some(place) = place else {
+            return Told::Otherwise;
+        };
+        let Ended {
+            unique: _,
+            answered,
+        } = self.answers.remove(place);
+        let (id, taken) = (answered.id(), reply == Reply::Taken);
+        let settled = self.table.settle(&mut self.share, answered, taken);
+        if settled.id() != id || settled.taken() != taken {
+            return Told::Otherwise;
+        }
+        Told::Settled(settled.entries())
+    }
+
+    /// Gives lookups of a node back.
+    pub fn forget(&mut self, number: u64, n: u64) -> Told {
+        Told::Amount(self.table.forget(&mut self.share, number, n))
+    }
+
+    /// The table as plain data.
+    pub fn image(&self) -> Result<Image, AllocError> {
+        self.table.export()
+    }
+
+    /// Passes the share of that worker from now on.
+    pub fn pass(&mut self, worker: usize) -> bool {
+        if self.share.index() != worker {
+            if let Some(other) = self.others.iter_mut().find(|other| other.index() == worker) {
+                swap(&mut self.share, other);
+            }
+        }
+        self.share.index() == worker
+    }
+
+    /// Gives a share up that is not passed.
+    pub fn leave_share(&mut self) -> bool {
+        match self.others.pop() {
+            Some(other) => {
+                other.leave();
+                true
+            }
+            None => false,
         }
     }
 
-    /// Finishes the request of a ticket for a share, and keeps its answer as the last one.
-    pub fn finish(
-        &mut self,
-        rt: &impl Abort,
-        share: usize,
-        ticket: usize,
-        outcome: Outcome,
-    ) -> Gave {
-        assert!(rt; ticket < self.tickets.len());
-        assert!(rt; share < self.shares.len());
-        let ticket = self.tickets.remove(ticket);
-        let answered = self.table.finish(&mut self.shares[share], ticket, outcome);
-        let gave = Gave::of(&answered).expect(rt, "one name is answered at most");
-        keep(rt, &mut self.answers, answered);
-        gave
+    /// Takes the last ticket along, and ends the rest.
+    pub fn leave_with_ticket(mut self) -> Option<Ticket> {
+        let last = self.tickets.pop();
+        let _sum = self.end();
+        let Begun { unique: _, ticket } = last?;
+        Some(ticket)
     }
 
-    /// Settles an answer for a share.
-    pub fn settle(&mut self, rt: &impl Abort, share: usize, answer: usize, taken: bool) -> Settled {
-        assert!(rt; answer < self.answers.len());
-        assert!(rt; share < self.shares.len());
-        let answered = self.answers.remove(answer);
-        self.table.settle(&mut self.shares[share], answered, taken)
-    }
-
-    /// Gives lookups of a node back for a share.
-    pub fn forget(&mut self, rt: &impl Abort, share: usize, number: u64, n: u64) -> u64 {
-        assert!(rt; share < self.shares.len());
-        self.table.forget(&mut self.shares[share], number, n)
-    }
-
-    /// A request for a name in the root, from its begin to its end.
-    pub fn look_up(&mut self, rt: &impl Abort, name: &str, taken: bool) -> Gave {
-        assert_eq!(rt; self.begin(rt, ROOT, name), Ok(()));
-        let ticket = self.tickets.len().saturating_sub(1);
-        let gave = self.finish(rt, 0, ticket, Outcome::Entry);
-        let answer = self.answers.len().saturating_sub(1);
-        let _settled = self.settle(rt, 0, answer, taken);
-        gave
-    }
-
-    /// The table as plain data. It keeps the law.
-    pub fn image(&self, rt: &impl Abort) -> Image {
-        let image = self.table.export().expect(rt, "memory is ample");
-        assert!(rt; image.lawful());
-        image
-    }
-
-    /// Spends all that is left, and gathers the shares.
-    pub fn end(self, rt: &impl Abort) -> Gathered {
+    /// Ends all that is in flight without an entry, and gathers the shares.
+    pub fn end(self) -> Sum {
         let Desk {
             alloc: _,
-            table,
-            shares,
-            tickets,
+            mut table,
+            mut share,
+            mut others,
+            mut tickets,
             mut answers,
         } = self;
-        assert!(rt; tickets.is_empty());
+        while let Some(Begun { unique: _, ticket }) = tickets.pop() {
+            table.finish(&mut share, ticket, Outcome::Failed).leave();
+        }
         tickets.destroy_empty();
-        while let Some(answered) = answers.pop() {
+        while let Some(
+            Ended {
+                unique: _,
+                answered,
+            },
+        ) = answers.pop()
+        {
             answered.leave();
         }
         answers.destroy_empty();
-        Gathered(table.gather(shares))
+        if let Err(AllocFailed { value }) = others.push(share) {
+            value.leave();
+        }
+        match table.gather(others) {
+            Ok(totals) => totals.into(),
+            Err(Gather::ShareMissing) => Sum::ShareMissing,
+        }
     }
-}
-
-/// What is done with a table, whatever ledgers its book stands on.
-pub trait Story {
-    fn tell<L: Ledgers, R: Abort>(&mut self, rt: &R, desk: &mut Desk<L>);
-}
-
-fn tell_on<S: Story, R: Abort, L: Ledgers>(
-    rt: &R,
-    alloc: Global,
-    limits: Limits,
-    blanks: Blanks,
-    story: &mut S,
-) -> Result<Gathered, Fail>
-    requires root { 1 ≤ limits.nodes }
-    requires names { blanks ≡ L.names }
-    requires shares { L.names.parts ≡ 2 }
-{
-    let (table, shares) = Table::<L>::open(alloc, limits, blanks, 2)?;
-    let mut desk = Desk {
-        alloc,
-        table,
-        shares,
-        tickets: Vec::new(alloc),
-        answers: Vec::new(alloc),
-    };
-    story.tell(rt, &mut desk);
-    Ok(desk.end(rt))
-}
-
-/// Opens a table with two shares, does with it what the story tells, and gathers the shares.
-pub fn tell<S: Story, R: Abort>(
-    rt: &R,
-    alloc: Global,
-    limits: Limits,
-    story: &mut S,
-) -> Result<Gathered, Fail> {
-    assert!(rt; 1 <= limits.nodes);
-    tell_on::<S, R, Brand>(rt, alloc, limits, Blanks::new(2), story)
 }

@@ -1,72 +1,85 @@
-//! The law of what requests hold: images made by hand, and what a table shows.
+//! The law of what requests hold, on images made by hand.
 
-use crate::desk::{Desk, Gave, ROOT, Story, tell};
-use crate::expects::{expect_hold, path};
+use crate::shows::path_of;
+use crate::story::{Holding, ROOT};
 use holds::{Held, Lead, Leads, Paths};
+use image::Stage::{Answered, Working};
 use image::{Hold, Holds, Image, Nodes, Numbers, Postings, Record, Records, Stage};
-use ledger::{Ledgers, Posting};
+use ledger::Posting;
 use paths::Name;
 use std::alloc::{AllocError, Global};
-use std::process::Abort;
 use std::test::Fail;
-use table::{Limits, Outcome};
 use tree::{Key, Node, Place};
 
-fn paths(alloc: Global, texts: &[&str]) -> Result<Paths, AllocError> {
+/// A request that pins node 2: how far it is, a number and the path that it was given for it, the paths that it
+/// shares, and those that it holds alone.
+#[derive(Clone, Copy)]
+struct Made<'a>(Stage, u64, &'a str, &'a [&'a str], &'a [&'a str]);
+
+/// An image of these requests, of what they hold, and of the folder `a`, which is node 2 and was given once.
+struct Case<'a> {
+    says: &'a str,
+    requests: &'a [Made<'a>],
+    holds: &'a [Holding<'a>],
+    is_lawful: bool,
+}
+
+/// The law judged the image that says so otherwise.
+#[derive(Debug, Drop)]
+struct Misjudged<'a>(&'a str);
+
+fn paths_of(alloc: Global, texts: &[&str]) -> Result<Paths, AllocError> {
     let mut paths = Vec::new(alloc);
     for text in texts {
-        paths.push(path(alloc, text)?)?;
+        paths.push(path_of(alloc, text)?)?;
     }
     Ok(Paths::from_vec(paths))
 }
 
-/// How many hold the path.
-fn hold(alloc: Global, text: &str, shared: u64, exclusive: u64) -> Result<Hold, AllocError> {
-    let path = path(alloc, text)?;
-    Ok(Hold {
-        path,
-        shared,
-        exclusive,
-    })
-}
-
-/// A request that pins node 2 and was given a node with its path.
-fn request(
-    alloc: Global,
-    id: u64,
-    given: (u64, &str),
-    shared: &[&str],
-    exclusive: &[&str],
-) -> Result<Record, AllocError> {
+fn record_of(alloc: Global, id: u64, made: &Made) -> Result<Record, AllocError> {
+    let Made(stage, number, path, shared, exclusive) = *made;
     let mut pins = Numbers::new(alloc);
     pins.add(2)?;
-    let path = path(alloc, given.1)?;
-    let lead = Lead {
-        number: given.0,
-        path,
-    };
+    let path = path_of(alloc, path)?;
     Ok(Record {
         id,
         unique: 9,
-        stage: Stage::Working,
+        stage,
         pins,
         held: Held {
-            given: Leads::from_vec(vec![in alloc; lead]?),
-            shared: paths(alloc, shared)?,
-            exclusive: paths(alloc, exclusive)?,
+            given: Leads::from_vec(vec![in alloc; Lead { number, path }]?),
+            shared: paths_of(alloc, shared)?,
+            exclusive: paths_of(alloc, exclusive)?,
         },
     })
 }
 
-/// One request removes `b` in `a`, which is node 2.
-fn removal(alloc: Global) -> Result<Record, AllocError> {
-    request(alloc, 5, (2, "a"), &["a"], &["a/b"])
+fn records_of(alloc: Global, requests: &[Made]) -> Result<Records, AllocError> {
+    let mut records = Vec::new(alloc);
+    let mut id = 5u64;
+    for made in requests {
+        records.push(record_of(alloc, id, made)?)?;
+        id = id.saturating_add(1);
+    }
+    Ok(Records::from(records))
 }
 
-/// Node 2 is `a`, and was once given to the client.
-fn image(alloc: Global, records: Vec<Record>, holds: Vec<Hold>) -> Result<Image, AllocError> {
+fn holds_of(alloc: Global, holdings: &[Holding]) -> Result<Holds, AllocError> {
+    let mut holds = Vec::new(alloc);
+    for holding in holdings {
+        let Holding(text, shared, exclusive) = *holding;
+        let path = path_of(alloc, text)?;
+        holds.push(Hold {
+            path,
+            shared,
+            exclusive,
+        })?;
+    }
+    Ok(Holds::from(holds))
+}
+
+fn image_of(alloc: Global, case: &Case) -> Result<Image, AllocError> {
     let (number, generation) = (2, 0);
-    let name = Name::copy_of(alloc, "a")?;
     let root = Node {
         number: ROOT,
         generation: 0,
@@ -77,7 +90,10 @@ fn image(alloc: Global, records: Vec<Record>, holds: Vec<Hold>) -> Result<Image,
     let folder = Node {
         number,
         generation,
-        place: Place::Named(Key { parent: ROOT, name }),
+        place: Place::Named(Key {
+            parent: ROOT,
+            name: Name::copy_of(alloc, "a")?,
+        }),
         count: 1,
         hidden: false,
     };
@@ -88,134 +104,143 @@ fn image(alloc: Global, records: Vec<Record>, holds: Vec<Hold>) -> Result<Image,
     Ok(Image {
         nodes: Nodes::from(vec![in alloc; root, folder]?),
         postings: Postings::from(postings),
-        records: Records::from(records),
-        holds: Holds::from(holds),
+        records: records_of(alloc, case.requests)?,
+        holds: holds_of(alloc, case.holds)?,
     })
 }
 
-/// Whether the image of the removal with these holds is lawful.
-fn is_lawful_with(alloc: Global, holds: Vec<Hold>) -> Result<bool, AllocError> {
-    let records = vec![in alloc; removal(alloc)?]?;
-    Ok(image(alloc, records, holds)?.lawful())
+/// Fails at the first case that is judged otherwise.
+fn judge(alloc: Global, cases: &[Case]) -> Result<(), Fail> {
+    for case in cases {
+        if image_of(alloc, case)?.lawful() != case.is_lawful {
+            return Err(Misjudged(case.says).into());
+        }
+    }
+    Ok(())
 }
 
-/// Whether the image of one request with its holds is lawful. It shares at most `a`, and holds `a/b` alone.
-fn is_lawful_request(alloc: Global, holder: Record) -> Result<bool, AllocError> {
-    let mut holds = vec![in alloc; hold(alloc, "a/b", 0, 1)?]?;
-    if !holder.held.shared.as_slice().is_empty() {
-        holds.push(hold(alloc, "a", 1, 0)?)?;
-    }
-    let records = vec![in alloc; holder]?;
-    Ok(image(alloc, records, holds)?.lawful())
-}
+/// It removes `b` in `a`.
+const REMOVAL: Made = Made(Working, 2, "a", &["a"], &["a/b"]);
+
+const COUNTED: &[Case] = &[
+    Case {
+        says: "each path with its two numbers",
+        requests: &[REMOVAL],
+        holds: &[Holding("a", 1, 0), Holding("a/b", 0, 1)],
+        is_lawful: true,
+    },
+    Case {
+        says: "one request shares `a`, and not two",
+        requests: &[REMOVAL],
+        holds: &[Holding("a", 2, 0), Holding("a/b", 0, 1)],
+        is_lawful: false,
+    },
+    Case {
+        says: "`a/b` is held alone, and not shared",
+        requests: &[REMOVAL],
+        holds: &[Holding("a", 1, 0), Holding("a/b", 1, 0)],
+        is_lawful: false,
+    },
+    Case {
+        says: "`a` stands twice",
+        requests: &[REMOVAL],
+        holds: &[Holding("a", 1, 0), Holding("a/b", 0, 1), Holding("a", 1, 0)],
+        is_lawful: false,
+    },
+    Case {
+        says: "nobody holds `c`",
+        requests: &[REMOVAL],
+        holds: &[Holding("a", 1, 0), Holding("a/b", 0, 1), Holding("c", 0, 0)],
+        is_lawful: false,
+    },
+    Case {
+        says: "`a/b` is held, and not listed",
+        requests: &[REMOVAL],
+        holds: &[Holding("a", 1, 0)],
+        is_lawful: false,
+    },
+];
 
 #[test]
 fn held_names_are_counted(rt: HostRuntime) -> Result<(), Fail> {
-    let alloc = rt.alloc();
-    let exact = vec![in alloc; hold(alloc, "a", 1, 0)?, hold(alloc, "a/b", 0, 1)?]?;
-    assert!(rt; is_lawful_with(alloc, exact)?);
-    let two = vec![in alloc; hold(alloc, "a", 2, 0)?, hold(alloc, "a/b", 0, 1)?]?;
-    assert!(rt; !is_lawful_with(alloc, two)?, "one shares `a`");
-    let other = vec![in alloc; hold(alloc, "a", 1, 0)?, hold(alloc, "a/b", 1, 0)?]?;
-    assert!(rt; !is_lawful_with(alloc, other)?, "`a/b` is held alone");
-    let twice = vec![in alloc;
-        hold(alloc, "a", 1, 0)?,
-        hold(alloc, "a/b", 0, 1)?,
-        hold(alloc, "a", 1, 0)?,
-    ]?;
-    assert!(rt; !is_lawful_with(alloc, twice)?, "`a` stands twice");
-    let zeros = vec![in alloc;
-        hold(alloc, "a", 1, 0)?,
-        hold(alloc, "a/b", 0, 1)?,
-        hold(alloc, "c", 0, 0)?,
-    ]?;
-    assert!(rt; !is_lawful_with(alloc, zeros)?, "nobody holds `c`");
-    let missing = vec![in alloc; hold(alloc, "a", 1, 0)?]?;
-    assert!(rt; !is_lawful_with(alloc, missing)?, "`a/b` is held");
-    Ok(())
+    judge(rt.alloc(), COUNTED)
 }
+
+/// The removal has ended.
+const ENDED: Made = Made(Answered, 2, "a", &["a"], &["a/b"]);
+
+const ANSWERED: &[Case] = &[
+    Case {
+        says: "what is answered holds nothing",
+        requests: &[ENDED],
+        holds: &[],
+        is_lawful: true,
+    },
+    Case {
+        says: "it is listed as a holder",
+        requests: &[ENDED],
+        holds: &[Holding("a/b", 0, 1), Holding("a", 1, 0)],
+        is_lawful: false,
+    },
+];
 
 #[test]
 fn answered_request_holds_nothing(rt: HostRuntime) -> Result<(), Fail> {
-    let alloc = rt.alloc();
-    let mut done = removal(alloc)?;
-    done.stage = Stage::Answered;
-    let records = vec![in alloc; done]?;
-    assert!(rt; image(alloc, records, Vec::new(alloc))?.lawful());
-    let mut done = removal(alloc)?;
-    done.stage = Stage::Answered;
-    assert!(rt; !is_lawful_request(alloc, done)?);
-    Ok(())
+    judge(rt.alloc(), ANSWERED)
 }
+
+const CLASHES: &[Case] = &[
+    Case {
+        says: "both share `a` alone",
+        requests: &[REMOVAL, Made(Working, 2, "a", &["a"], &["a/c"])],
+        holds: &[
+            Holding("a", 2, 0),
+            Holding("a/b", 0, 1),
+            Holding("a/c", 0, 1),
+        ],
+        is_lawful: true,
+    },
+    Case {
+        says: "one holds `a/b` alone, and the other shares it",
+        requests: &[REMOVAL, Made(Working, 2, "a", &["a", "a/b"], &[])],
+        holds: &[Holding("a", 2, 0), Holding("a/b", 1, 1)],
+        is_lawful: false,
+    },
+];
 
 #[test]
 fn clashing_requests_are_not_lawful(rt: HostRuntime) -> Result<(), Fail> {
-    let alloc = rt.alloc();
-    let other = request(alloc, 6, (2, "a"), &["a"], &["a/c"])?;
-    let records = vec![in alloc; removal(alloc)?, other]?;
-    let holds = vec![in alloc;
-        hold(alloc, "a", 2, 0)?,
-        hold(alloc, "a/b", 0, 1)?,
-        hold(alloc, "a/c", 0, 1)?,
-    ]?;
-    assert!(rt; image(alloc, records, holds)?.lawful());
-    let other = request(alloc, 6, (2, "a"), &["a", "a/b"], &[])?;
-    let records = vec![in alloc; removal(alloc)?, other]?;
-    let holds = vec![in alloc; hold(alloc, "a", 2, 0)?, hold(alloc, "a/b", 1, 1)?]?;
-    assert!(rt; !image(alloc, records, holds)?.lawful());
-    Ok(())
+    judge(rt.alloc(), CLASHES)
 }
+
+const LEADS: &[Case] = &[
+    Case {
+        says: "`a` is node 2",
+        requests: &[REMOVAL],
+        holds: &[Holding("a/b", 0, 1), Holding("a", 1, 0)],
+        is_lawful: true,
+    },
+    Case {
+        says: "no node bears 3",
+        requests: &[Made(Working, 3, "a", &["a"], &["a/b"])],
+        holds: &[Holding("a/b", 0, 1), Holding("a", 1, 0)],
+        is_lawful: false,
+    },
+    Case {
+        says: "`a` is not the root's path",
+        requests: &[Made(Working, ROOT, "a", &["a"], &["a/b"])],
+        holds: &[Holding("a/b", 0, 1), Holding("a", 1, 0)],
+        is_lawful: false,
+    },
+    Case {
+        says: "`a` is a front of itself, and is not held",
+        requests: &[Made(Working, 2, "a", &[], &["a/b"])],
+        holds: &[Holding("a/b", 0, 1)],
+        is_lawful: false,
+    },
+];
 
 #[test]
 fn given_paths_lead_to_their_nodes(rt: HostRuntime) -> Result<(), Fail> {
-    let alloc = rt.alloc();
-    let exact = request(alloc, 5, (2, "a"), &["a"], &["a/b"])?;
-    assert!(rt; is_lawful_request(alloc, exact)?);
-    let dead = request(alloc, 5, (3, "a"), &["a"], &["a/b"])?;
-    assert!(rt; !is_lawful_request(alloc, dead)?, "no node bears 3");
-    let root = request(alloc, 5, (ROOT, "a"), &["a"], &["a/b"])?;
-    assert!(rt;
-        !is_lawful_request(alloc, root)?,
-        "`a` is not the root's path"
-    );
-    let unheld = request(alloc, 5, (2, "a"), &[], &["a/b"])?;
-    assert!(rt;
-        !is_lawful_request(alloc, unheld)?,
-        "`a` is a front of itself"
-    );
-    Ok(())
-}
-
-/// A removal of `d` and lookups of `a` and of `e` below it are worked on, and then fail.
-#[derive(Drop)]
-struct Holding;
-
-impl Story for Holding {
-    fn tell<L: Ledgers, R: Abort>(&mut self, rt: &R, desk: &mut Desk<L>) {
-        assert_eq!(rt; desk.image(rt).holds.as_slice().len(), 0);
-        assert_eq!(rt; desk.look_up(rt, "a", true), Gave::entry(2, 0));
-        let _removal = desk.remove(rt, ROOT, "d");
-        let image = desk.image(rt);
-        assert_eq!(rt; image.holds.as_slice().len(), 1);
-        expect_hold(rt, desk.alloc, &image, "d", 0, 1);
-        assert_eq!(rt; desk.begin(rt, 2, "e"), Ok(()));
-        assert_eq!(rt; desk.begin(rt, ROOT, "a"), Ok(()));
-        let image = desk.image(rt);
-        assert_eq!(rt; image.holds.as_slice().len(), 3);
-        expect_hold(rt, desk.alloc, &image, "d", 0, 1);
-        expect_hold(rt, desk.alloc, &image, "a", 2, 0);
-        expect_hold(rt, desk.alloc, &image, "a/e", 1, 0);
-        for _ticket in 0..3 {
-            let _gave = desk.finish(rt, 0, 0, Outcome::Failed);
-        }
-        let image = desk.image(rt);
-        assert_eq!(rt; image.records.as_slice().len(), 3);
-        assert_eq!(rt; image.holds.as_slice().len(), 0);
-    }
-}
-
-#[test]
-fn export_shows_what_is_held(rt: HostRuntime) -> Result<(), Fail> {
-    tell(&rt, rt.alloc(), Limits::default(), &mut Holding)?;
-    Ok(())
+    judge(rt.alloc(), LEADS)
 }

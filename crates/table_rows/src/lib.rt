@@ -2,11 +2,13 @@
 #![tactic(auto)]
 
 #[cfg(test)]
+mod change;
+#[cfg(test)]
 mod desk;
 #[cfg(test)]
 mod draws;
 #[cfg(test)]
-mod expects;
+mod event;
 #[cfg(test)]
 mod holding_rows;
 #[cfg(test)]
@@ -16,13 +18,15 @@ mod law_rows;
 #[cfg(test)]
 mod limit_rows;
 #[cfg(test)]
+mod long_rows;
+#[cfg(test)]
 mod long_run;
 #[cfg(test)]
 mod lookup_rows;
 #[cfg(test)]
-mod memory_rows;
-#[cfg(test)]
 mod moving_rows;
+#[cfg(test)]
+mod order_rows;
 #[cfg(test)]
 mod removal_rows;
 #[cfg(test)]
@@ -30,8 +34,12 @@ mod run_rows;
 #[cfg(test)]
 mod share_rows;
 #[cfg(test)]
+mod shows;
+#[cfg(test)]
+mod story;
+#[cfg(test)]
 mod stranger_rows;
 #[cfg(test)]
-mod tally;
+mod teller;
 #[cfg(test)]
 mod thread_rows;

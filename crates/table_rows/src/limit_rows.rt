@@ -1,178 +1,202 @@
-//! Requests that a limit refuses, and the order of the refusals.
+//! Requests that a limit refuses, at its edge.
 
-use crate::desk::{Desk, Gave, ROOT, Story, tell};
-use errno::{EAGAIN, ENAMETOOLONG, ENFILE, ESTALE};
-use ledger::Ledgers;
-use std::process::Abort;
+use crate::story::Asks::{Move, Name, Node, Remove};
+use crate::story::Told::{Amount, Ended, Given, Go, NotGiven, Refused, Settled};
+use crate::story::{DEFAULT, ROOT, Reply, Step, Story, Sum};
+use crate::teller::run;
+use errno::{EAGAIN, ENFILE};
+use std::alloc::{AllocError, Global};
 use std::test::Fail;
 use table::{Limits, Outcome};
 
-#[derive(Drop)]
-struct NodeLimit;
-
-impl Story for NodeLimit {
-    fn tell<L: Ledgers, R: Abort>(&mut self, rt: &R, desk: &mut Desk<L>) {
-        assert_eq!(rt; desk.look_up(rt, "a", true), Gave::entry(2, 0));
-        assert_eq!(rt; desk.begin(rt, ROOT, "e"), Err(ENFILE));
-        assert_eq!(rt; desk.begin(rt, ROOT, "zz"), Err(ENFILE));
-        assert_eq!(rt;
-            desk.look_up(rt, "a", true),
-            Gave::entry(2, 0),
-            "it needs no node"
-        );
-        assert_eq!(rt; desk.forget(rt, 0, 2, 2), 2);
-        assert_eq!(rt; desk.look_up(rt, "e", true), Gave::entry(2, 1));
-    }
+#[test]
+fn default_limits(rt: HostRuntime) {
+    assert_eq!(rt; Limits::default(), DEFAULT);
 }
+
+/// The root and `a` are all nodes that may be.
+const NODES: Story = Story {
+    limits: Limits {
+        nodes: 2,
+        ..DEFAULT
+    },
+    steps: &[
+        Step::LookUp(ROOT, "a", Given(2, 0)),
+        Step::Begin(1, Name(ROOT, "e"), Refused(ENFILE)),
+        Step::Begin(1, Name(ROOT, "zz"), Refused(ENFILE)),
+        Step::Begin(1, Node(2), Go),
+        Step::Finish(1, Outcome::Done, Ended),
+        Step::Settle(1, Reply::Taken, Settled(0)),
+        Step::Begin(2, Remove(ROOT, "b"), Go),
+        Step::Begin(3, Move(ROOT, "c", ROOT, "d"), Go),
+        Step::LookUp(ROOT, "a", Given(2, 0)),
+        Step::Forget(2, 2, Amount(2)),
+        Step::LookUp(ROOT, "e", Given(2, 1)),
+    ],
+    gathers: Sum::All(2, 3, 0, 2),
+};
 
 #[test]
 fn node_limit(rt: HostRuntime) -> Result<(), Fail> {
-    let limits = Limits {
-        nodes: 2,
-        ..Limits::default()
-    };
-    tell(&rt, rt.alloc(), limits, &mut NodeLimit)?;
-    Ok(())
+    run(rt.alloc(), &NODES)
 }
 
-/// A request that goes on was promised its node.
-#[derive(Drop)]
-struct NodePromised;
-
-impl Story for NodePromised {
-    fn tell<L: Ledgers, R: Abort>(&mut self, rt: &R, desk: &mut Desk<L>) {
-        assert_eq!(rt; desk.begin(rt, ROOT, "a"), Ok(()));
-        assert_eq!(rt; desk.begin(rt, ROOT, "e"), Err(ENFILE));
-        assert_eq!(rt; desk.finish(rt, 0, 0, Outcome::Failed), Gave::Nothing);
-        assert_eq!(rt; desk.look_up(rt, "e", true), Gave::entry(2, 0));
-    }
-}
+/// Each LOOKUP that goes on is promised a node where none stands, also where both are of one name.
+const PROMISED_NODES: Story = Story {
+    limits: Limits {
+        nodes: 3,
+        ..DEFAULT
+    },
+    steps: &[
+        Step::Begin(1, Name(ROOT, "a"), Go),
+        Step::Begin(2, Name(ROOT, "a"), Go),
+        Step::Begin(3, Name(ROOT, "a"), Refused(ENFILE)),
+        Step::Begin(3, Name(ROOT, "e"), Refused(ENFILE)),
+        Step::Finish(1, Outcome::Entry, Given(2, 0)),
+        Step::Begin(3, Name(ROOT, "a"), Go),
+        Step::Begin(4, Name(ROOT, "e"), Refused(ENFILE)),
+        Step::Finish(2, Outcome::Failed, NotGiven),
+        Step::Begin(4, Name(ROOT, "e"), Go),
+        Step::Finish(4, Outcome::Entry, Given(3, 0)),
+        Step::Begin(5, Name(ROOT, "zz"), Refused(ENFILE)),
+    ],
+    gathers: Sum::All(2, 2, 0, 0),
+};
 
 #[test]
 fn node_promised(rt: HostRuntime) -> Result<(), Fail> {
-    let limits = Limits {
-        nodes: 2,
-        ..Limits::default()
-    };
-    tell(&rt, rt.alloc(), limits, &mut NodePromised)?;
-    Ok(())
+    run(rt.alloc(), &PROMISED_NODES)
 }
 
-#[derive(Drop)]
-struct PostingLimit;
+/// Four postings were made, and an entry needs three.
+const POSTINGS: Story = Story {
+    limits: Limits {
+        postings: 6,
+        ..DEFAULT
+    },
+    steps: &[
+        Step::LookUp(ROOT, "a", Given(2, 0)),
+        Step::LookUp(ROOT, "a", Given(2, 0)),
+        Step::Forget(2, 2, Amount(2)),
+        Step::Begin(1, Name(ROOT, "e"), Refused(ENFILE)),
+        Step::Begin(1, Name(ROOT, "a"), Refused(ENFILE)),
+        Step::Begin(1, Remove(ROOT, "a"), Go),
+    ],
+    gathers: Sum::All(1, 2, 0, 2),
+};
 
-impl Story for PostingLimit {
-    fn tell<L: Ledgers, R: Abort>(&mut self, rt: &R, desk: &mut Desk<L>) {
-        assert_eq!(rt; desk.look_up(rt, "a", true), Gave::entry(2, 0));
-        assert_eq!(rt; desk.look_up(rt, "a", true), Gave::entry(2, 0));
-        assert_eq!(rt; desk.forget(rt, 0, 2, 2), 2);
-        assert_eq!(rt; desk.begin(rt, ROOT, "e"), Err(ENFILE));
-        assert_eq!(rt; desk.begin(rt, ROOT, "a"), Err(ENFILE));
-    }
-}
+/// One posting more is enough.
+const ENOUGH_POSTINGS: Story = Story {
+    limits: Limits {
+        postings: 7,
+        ..DEFAULT
+    },
+    steps: &[
+        Step::LookUp(ROOT, "a", Given(2, 0)),
+        Step::LookUp(ROOT, "a", Given(2, 0)),
+        Step::Forget(2, 2, Amount(2)),
+        Step::LookUp(ROOT, "e", Given(2, 1)),
+    ],
+    gathers: Sum::All(2, 3, 0, 2),
+};
+
+/// Three postings are promised for each entry, and one is kept for each count.
+const PROMISED_POSTINGS: Story = Story {
+    limits: Limits {
+        postings: 6,
+        ..DEFAULT
+    },
+    steps: &[
+        Step::Begin(1, Name(ROOT, "a"), Go),
+        Step::Begin(2, Name(ROOT, "e"), Go),
+        Step::Begin(3, Name(ROOT, "b"), Refused(ENFILE)),
+        Step::Finish(1, Outcome::Entry, Given(2, 0)),
+        Step::Begin(3, Name(ROOT, "a"), Refused(ENFILE)),
+        Step::Finish(2, Outcome::Failed, NotGiven),
+        Step::Begin(3, Name(ROOT, "a"), Go),
+        Step::Finish(3, Outcome::Entry, Given(2, 0)),
+        Step::Forget(2, 1, Amount(1)),
+        Step::Forget(2, 1, Amount(1)),
+    ],
+    gathers: Sum::All(1, 2, 0, 2),
+};
+
+/// Two postings are none too many for a birth and an entry, but the entry could not be forgotten.
+const TOO_FEW_POSTINGS: Story = Story {
+    limits: Limits {
+        postings: 2,
+        ..DEFAULT
+    },
+    steps: &[
+        Step::Begin(1, Name(ROOT, "a"), Refused(ENFILE)),
+        Step::Begin(1, Node(ROOT), Go),
+    ],
+    gathers: Sum::All(0, 0, 0, 0),
+};
 
 #[test]
 fn posting_limit(rt: HostRuntime) -> Result<(), Fail> {
-    // Each count may still be forgotten, so the second entry needs 3 beside the 2 made and the 1 counted.
-    let limits = Limits {
-        postings: 6,
-        ..Limits::default()
-    };
-    tell(&rt, rt.alloc(), limits, &mut PostingLimit)?;
+    for story in [
+        &POSTINGS,
+        &ENOUGH_POSTINGS,
+        &PROMISED_POSTINGS,
+        &TOO_FEW_POSTINGS,
+    ] {
+        run(rt.alloc(), story)?;
+    }
     Ok(())
 }
 
-#[derive(Drop)]
-struct FlightLimit;
-
-impl Story for FlightLimit {
-    fn tell<L: Ledgers, R: Abort>(&mut self, rt: &R, desk: &mut Desk<L>) {
-        assert_eq!(rt; desk.begin(rt, ROOT, "a"), Ok(()));
-        assert_eq!(rt; desk.begin(rt, ROOT, "e"), Err(EAGAIN));
-        assert_eq!(rt; desk.begin(rt, 9, "e"), Err(ESTALE), "no node bears 9");
-        assert_eq!(rt; desk.finish(rt, 0, 0, Outcome::Entry), Gave::entry(2, 0));
-        assert_eq!(rt;
-            desk.begin(rt, ROOT, "e"),
-            Err(EAGAIN),
-            "an answered one still counts"
-        );
-        let _settled = desk.settle(rt, 0, 0, true);
-        assert_eq!(rt; desk.begin(rt, ROOT, "e"), Ok(()));
-        assert_eq!(rt; desk.finish(rt, 0, 0, Outcome::Failed), Gave::Nothing);
-    }
-}
+/// One request may be in flight, and it is until it is settled.
+const FLIGHTS: Story = Story {
+    limits: Limits {
+        flights: 1,
+        ..DEFAULT
+    },
+    steps: &[
+        Step::Begin(1, Name(ROOT, "a"), Go),
+        Step::Begin(2, Name(ROOT, "e"), Refused(EAGAIN)),
+        Step::Begin(2, Node(ROOT), Refused(EAGAIN)),
+        Step::Finish(1, Outcome::Entry, Given(2, 0)),
+        Step::Begin(2, Name(ROOT, "e"), Refused(EAGAIN)),
+        Step::Settle(1, Reply::Taken, Settled(1)),
+        Step::Begin(2, Name(ROOT, "e"), Go),
+        Step::Begin(3, Name(ROOT, "a"), Refused(EAGAIN)),
+    ],
+    gathers: Sum::All(1, 1, 0, 0),
+};
 
 #[test]
 fn flight_limit(rt: HostRuntime) -> Result<(), Fail> {
-    let limits = Limits {
-        flights: 1,
-        ..Limits::default()
-    };
-    tell(&rt, rt.alloc(), limits, &mut FlightLimit)?;
-    Ok(())
+    run(rt.alloc(), &FLIGHTS)
 }
 
-/// Where nodes, postings and flights would all be passed, the first of these tests decides.
-#[derive(Drop)]
-struct NodesBeforeFlights;
+/// What the requests ask for, in turn.
+const NAMES: [&str; 4] = ["a", "b", "c", "d"];
 
-impl Story for NodesBeforeFlights {
-    fn tell<L: Ledgers, R: Abort>(&mut self, rt: &R, desk: &mut Desk<L>) {
-        assert_eq!(rt; desk.begin(rt, ROOT, "a"), Ok(()));
-        assert_eq!(rt; desk.begin(rt, ROOT, "e"), Err(ENFILE));
-        assert_eq!(rt; desk.begin(rt, 9, "e"), Err(ESTALE));
-        assert_eq!(rt; desk.finish(rt, 0, 0, Outcome::Failed), Gave::Nothing);
+/// As many requests as may be in flight at once, where memory is ample: 4 births and 64 entries.
+fn full_table(alloc: Global) -> Result<Vec<Step<'static>>, AllocError> {
+    let mut steps = Vec::new(alloc);
+    for request in 0..64u64 {
+        let name = NAMES[(request % 4) as usize];
+        steps.push(Step::Begin(request, Name(ROOT, name), Go))?;
     }
-}
-
-#[test]
-fn nodes_before_flights(rt: HostRuntime) -> Result<(), Fail> {
-    let limits = Limits {
-        nodes: 2,
-        flights: 1,
-        ..Limits::default()
-    };
-    tell(&rt, rt.alloc(), limits, &mut NodesBeforeFlights)?;
-    Ok(())
-}
-
-/// Folders whose names have 255 bytes: 16 of them one below another take 16 times 256 bytes, which is 4,096.
-#[derive(Drop)]
-struct LongPath;
-
-impl Story for LongPath {
-    fn tell<L: Ledgers, R: Abort>(&mut self, rt: &R, desk: &mut Desk<L>) {
-        let name = NAME_OF_255;
-        assert_eq!(rt; name.len(), 255);
-        for parent in 1..17 {
-            assert_eq!(rt; desk.begin(rt, parent, name), Ok(()), "below {parent}");
-            assert_eq!(rt;
-                desk.finish(rt, 0, 0, Outcome::Entry),
-                Gave::entry(parent + 1, 0)
-            );
-            let _settled = desk.settle(rt, 0, 0, true);
-        }
-        assert_eq!(rt; desk.begin(rt, 17, "e"), Err(ENAMETOOLONG));
-        assert_eq!(rt; desk.begin(rt, 18, "e"), Err(ESTALE));
+    steps.push(Step::Begin(64, Name(ROOT, "a"), Refused(EAGAIN)))?;
+    for request in 0..64u64 {
+        let told = Given(2 + request % 4, 0);
+        steps.push(Step::Finish(request, Outcome::Entry, told))?;
     }
-}
-
-const NAME_OF_255: &str =
-    "aaaaaaaaaaaaaaaaaaaaaaaaaaaaaaaaaaaaaaaaaaaaaaaaaaaaaaaaaaaaaaaaaaaaaaaaaaaaaaaaaaaaaaaaaaaaaaaaaaaaaaaaaaaaaaaaaaaaaaaaaaaaaaaaaaaaaaaaaaaaaaaaaaaaaaaaaaaaaaaaaaaaaaaaaaaaaaaaaaaaaaaaaaaaaaaaaaaaaaaaaaaaaaaaaaaaaaaaaaaaaaaaaaaaaaaaaaaaaaaaaaaaaaaaaaaaaaa";
-
-#[test]
-fn long_path(rt: HostRuntime) -> Result<(), Fail> {
-    tell(&rt, rt.alloc(), Limits::default(), &mut LongPath)?;
-    Ok(())
+    steps.push(Step::Size(5, 68, 64))?;
+    Ok(steps)
 }
 
 #[test]
-fn default_limits(rt: HostRuntime) {
-    let limits = Limits {
-        nodes: 65_536,
-        postings: 1_048_576,
-        flights: 64,
-        files: 4_096,
+fn never_out_of_memory(rt: HostRuntime) -> Result<(), Fail> {
+    let steps = full_table(rt.alloc())?;
+    let story = Story {
+        limits: DEFAULT,
+        steps: steps.as_slice(),
+        gathers: Sum::All(4, 64, 0, 0),
     };
-    assert_eq!(rt; Limits::default(), limits);
+    run(rt.alloc(), &story)
 }

@@ -1,351 +1,296 @@
-//! Some thousand steps at random, after which the table keeps its law.
+//! Ten thousand calls drawn at random, of which three in four are about what is there. Each must come to what it may come
+//! to, each kind must come often, and the table keeps its law.
 
-use crate::desk::{Asked, Desk, Gathered, Gave, ROOT, Story, keep, tell};
+use crate::change::{Change, count_of};
+use crate::desk::Desk;
 use crate::draws::Draws;
-use crate::tally::{Tally, expect_all, note};
-use errno::{EAGAIN, EINVAL, ENFILE, ENOTEMPTY, ESTALE};
+use crate::event::{Event, begun, finished, forgotten, settled};
+use crate::story::{Asks, DEFAULT, ROOT, Reply, Step, Sum, TOP, Told};
+use crate::teller::{Play, Wrong, play_new};
 use image::Image;
-use ledger::{Ledgers, Posting, Totals};
-use std::alloc::Global;
-use std::process::Abort;
+use ledger::{Ledgers, Posting};
+use std::alloc::{AllocError, Global};
 use std::test::Fail;
 use table::{Limits, Outcome};
-use tree::{Key, Place};
 
-const STEPS: u64 = 10_000;
+const STEPS: usize = 10_000;
 
-/// What a request in flight asks for.
-#[derive(Clone, Copy, Debug, PartialEq, Eq)]
-enum Kind {
-    Node,
-    Name,
-    Remove,
-    Move,
+/// Few nodes and requests, so that they run out.
+const LIMITS: Limits = Limits {
+    nodes: 5,
+    flights: 5,
+    ..DEFAULT
+};
+
+/// How often each must come at least.
+const LEAST: &[(Event, u64)] = &[
+    (Event::Begun, 1_000),
+    (Event::BusyNode, 1),
+    (Event::BusyName, 21),
+    (Event::BusyRemoval, 21),
+    (Event::BusyMove, 21),
+    (Event::Astray, 21),
+    (Event::Full, 21),
+    (Event::Crowded, 21),
+    (Event::StaleNode, 21),
+    (Event::StaleName, 21),
+    (Event::Entry, 21),
+    (Event::Birth, 1),
+    (Event::Rebirth, 21),
+    (Event::FailedName, 21),
+    (Event::MisfitName, 21),
+    (Event::Node, 21),
+    (Event::Cut, 21),
+    (Event::RemovedNothing, 21),
+    (Event::FailedRemoval, 21),
+    (Event::Moved, 21),
+    (Event::MovedNothing, 21),
+    (Event::MovedToItself, 21),
+    (Event::FailedMove, 21),
+    (Event::Settled, 21),
+    (Event::GivenBack, 21),
+    (Event::ForgottenFirst, 1),
+    (Event::Forgotten, 21),
+    (Event::Partly, 21),
+    (Event::NothingForgotten, 21),
+];
+
+/// What the table shows when all requests have ended and all lookups were given back.
+const NOTHING_LEFT: &[Step] = &[Step::Nodes(&[TOP]), Step::Requests(&[]), Step::Holds(&[])];
+
+/// How often something came.
+#[derive(Clone, Copy)]
+struct Count {
+    event: Event,
+    least: u64,
+    times: u64,
 }
 
+/// It came so often only.
+#[derive(Debug, Drop)]
+struct TooFew(Event, u64);
+
+/// A run, with the requests that are worked on, by what they ask, and those that have ended, by their entries.
 #[derive(Drop)]
 struct LongRun {
     draws: Draws,
-    tally: Tally,
-    /// Of each ticket of the desk what its request asks for.
-    kinds: Vec<Kind>,
+    working: Vec<(u64, Asks<'static>)>,
+    ended: Vec<(u64, u64)>,
+    counts: Vec<Count>,
+    sum: Sum,
 }
 
-/// How many nodes are named otherwise than before.
-fn moved_nodes(before: &Image, after: &Image) -> u64 {
-    let mut moved = 0;
-    for was in before.nodes.as_slice() {
-        let Place::Named(old) = &was.place else {
-            continue;
-        };
-        if is_named_otherwise(after, was.number, old) {
-            note(&mut moved);
+/// Takes out what stands under a unique number.
+fn take_out<T: Copy>(values: &mut Vec<(u64, T)>, unique: u64) -> Option<T> {
+    let place = values.iter().position(|(other, _)| *other == unique)?;
+    let (_, value) = values.remove(place);
+    Some(value)
+}
+
+/// What the postings add up to.
+fn sum_of(image: &Image) -> Sum {
+    let (mut born, mut entries, mut backs, mut forgotten) = (0u64, 0u64, 0u64, 0u64);
+    for posting in image.postings.as_slice() {
+        match *posting {
+            Posting::Born { .. } => born = born.saturating_add(1),
+            Posting::Entry { .. } => entries = entries.saturating_add(1),
+            Posting::Back { .. } => backs = backs.saturating_add(1),
+            Posting::Forget { amount, .. } => forgotten = forgotten.saturating_add(amount),
         }
     }
-    moved
-}
-
-/// Whether a node bears the number, and has another name than that.
-fn is_named_otherwise(image: &Image, number: u64, old: &Key) -> bool {
-    image.nodes.as_slice().iter().any(|node| {
-        node.number == number
-            && match &node.place {
-                Place::Named(new) => new.parent != old.parent || !new.name.is(&old.name),
-                _ => false,
-            }
-    })
-}
-
-/// How many nodes of the table are cut.
-fn cut_nodes<L: Ledgers>(rt: &impl Abort, desk: &Desk<L>) -> u64 {
-    let image = desk.table.export().expect(rt, "memory is ample");
-    image
-        .nodes
-        .as_slice()
-        .iter()
-        .filter(|node| matches!(node.place, Place::Cut))
-        .count() as u64
+    Sum::All(born, entries, backs, forgotten)
 }
 
 impl LongRun {
-    fn begin<L: Ledgers, R: Abort>(&mut self, rt: &R, desk: &mut Desk<L>) {
-        let parent = match self.draws.among(2) {
-            0 => ROOT,
-            _ => self.draws.among(7),
-        };
-        let (kind, asked) = match self.draws.among(8) {
-            0..=1 => (Kind::Node, desk.node(rt, self.draws.among(6))),
-            2 => (Kind::Remove, desk.remove(rt, parent, self.draws.name())),
-            3..=4 => (Kind::Move, self.rename(rt, desk, parent)),
-            _ => (Kind::Name, desk.name(rt, parent, self.draws.name())),
-        };
-        match asked {
-            Asked::Go => keep(rt, &mut self.kinds, kind),
-            Asked::Busy => note(match kind {
-                Kind::Node => &mut self.tally.busy_nodes,
-                Kind::Name => &mut self.tally.busy_names,
-                Kind::Remove => &mut self.tally.busy_removals,
-                Kind::Move => &mut self.tally.busy_moves,
-            }),
-            Asked::Refused(EINVAL) | Asked::Refused(ENOTEMPTY) => note(&mut self.tally.astray),
-            Asked::Refused(ENFILE) => note(&mut self.tally.full),
-            Asked::Refused(EAGAIN) => note(&mut self.tally.crowded),
-            Asked::Refused(ESTALE) => note(match kind {
-                Kind::Node => &mut self.tally.stale_nodes,
-                _ => &mut self.tally.stale,
-            }),
-            Asked::Refused(errno) => panic!(rt; "refused with {errno}"),
+    fn new(alloc: Global, seed: u64) -> Result<LongRun, AllocError> {
+        let mut counts = Vec::new(alloc);
+        for (event, least) in LEAST {
+            counts.push(Count {
+                event: *event,
+                least: *least,
+                times: 0,
+            })?;
         }
+        Ok(LongRun {
+            draws: Draws { x: seed },
+            working: Vec::new(alloc),
+            ended: Vec::new(alloc),
+            counts,
+            sum: Sum::ShareMissing,
+        })
     }
 
-    /// Begins a request that moves a name to another.
-    fn rename<L: Ledgers, R: Abort>(&mut self, rt: &R, desk: &mut Desk<L>, parent: u64) -> Asked {
-        let new_parent = match self.draws.among(2) {
-            0 => ROOT,
-            _ => self.draws.among(6),
-        };
-        let name = self.draws.name();
-        desk.rename(rt, parent, name, new_parent, self.draws.name())
-    }
-
-    fn finish<L: Ledgers, R: Abort>(&mut self, rt: &R, desk: &mut Desk<L>) {
-        if desk.tickets.is_empty() {
-            return;
-        }
-        let ticket = self.draws.place(desk.tickets.len());
-        let share = self.draws.place(2);
-        assert!(rt; ticket < self.kinds.len());
-        match self.kinds.remove(ticket) {
-            Kind::Node => self.finish_node(rt, desk, share, ticket),
-            Kind::Name => self.finish_name(rt, desk, share, ticket),
-            Kind::Remove => self.finish_removal(rt, desk, share, ticket),
-            Kind::Move => self.finish_move(rt, desk, share, ticket),
-        }
-    }
-
-    fn finish_node<L: Ledgers, R: Abort>(
-        &mut self,
-        rt: &R,
-        desk: &mut Desk<L>,
-        share: usize,
-        ticket: usize,
-    ) {
-        note(&mut self.tally.nodes);
-        assert_eq!(rt; desk.finish(rt, share, ticket, Outcome::Done), Gave::Empty);
-    }
-
-    fn finish_removal<L: Ledgers, R: Abort>(
-        &mut self,
-        rt: &R,
-        desk: &mut Desk<L>,
-        share: usize,
-        ticket: usize,
-    ) {
-        let cut = cut_nodes(rt, desk);
-        let outcome = match self.draws.among(8) {
-            0 => Outcome::Failed,
-            1 => Outcome::Entry,
-            _ => Outcome::Done,
-        };
-        assert_eq!(rt; desk.finish(rt, share, ticket, outcome), Gave::Empty);
-        let cut_after = cut_nodes(rt, desk);
-        match outcome {
-            Outcome::Done => {
-                note(&mut self.tally.removals);
-                if cut < cut_after {
-                    note(&mut self.tally.cuts);
-                }
-            }
-            _ => assert_eq!(rt; cut_after, cut, "nothing was removed"),
-        }
-    }
-
-    fn finish_move<L: Ledgers, R: Abort>(
-        &mut self,
-        rt: &R,
-        desk: &mut Desk<L>,
-        share: usize,
-        ticket: usize,
-    ) {
-        assert!(rt; ticket < desk.tickets.len());
-        let same = desk.tickets[ticket].same();
-        let before = desk.table.export().expect(rt, "memory is ample");
-        let outcome = match self.draws.among(8) {
-            0 => Outcome::Failed,
-            1 => Outcome::Entry,
-            _ => Outcome::Done,
-        };
-        assert_eq!(rt; desk.finish(rt, share, ticket, outcome), Gave::Empty);
-        let after = desk.table.export().expect(rt, "memory is ample");
-        let moved = moved_nodes(&before, &after);
-        assert!(rt; moved <= 1, "what is below keeps its parent");
-        self.tally.moved = self.tally.moved.saturating_add(moved);
-        match outcome {
-            Outcome::Done => note(&mut self.tally.moves),
-            _ => assert_eq!(rt; moved, 0, "nothing was moved"),
-        }
-        if same {
-            note(&mut self.tally.same);
-            assert_eq!(rt; moved, 0, "it was moved to itself");
-        }
-    }
-
-    fn finish_name<L: Ledgers, R: Abort>(
-        &mut self,
-        rt: &R,
-        desk: &mut Desk<L>,
-        share: usize,
-        ticket: usize,
-    ) {
+    fn draw_want(&mut self) -> Asks<'static> {
+        let parent = self.draws.parent(7);
         match self.draws.among(8) {
-            0 => {
-                note(&mut self.tally.failed);
-                assert_eq!(rt;
-                    desk.finish(rt, share, ticket, Outcome::Failed),
-                    Gave::Nothing
-                );
+            0..=1 => Asks::Node(self.draws.among(6)),
+            2 => Asks::Remove(parent, self.draws.name()),
+            3..=4 => {
+                let (name, new_parent) = (self.draws.name(), self.draws.parent(6));
+                Asks::Move(parent, name, new_parent, self.draws.name())
             }
-            1 => {
-                note(&mut self.tally.misfit);
-                assert_eq!(rt;
-                    desk.finish(rt, share, ticket, Outcome::Done),
-                    Gave::Nothing
-                );
-            }
-            _ => {
-                note(&mut self.tally.entries);
-                let gave = desk.finish(rt, share, ticket, Outcome::Entry);
-                assert!(rt; matches!(gave, Gave::Entry(_)));
-            }
+            _ => Asks::Name(parent, self.draws.name()),
         }
     }
 
-    fn settle<L: Ledgers, R: Abort>(&mut self, rt: &R, desk: &mut Desk<L>) {
-        if desk.answers.is_empty() {
-            return;
-        }
-        let answer = self.draws.place(desk.answers.len());
-        let share = self.draws.place(2);
-        let taken = self.draws.among(4) != 0;
-        let settled = desk.settle(rt, share, answer, taken);
-        if !taken && settled.entries() == 1 {
-            note(&mut self.tally.untaken);
-        }
+    fn draw_finish(&mut self) -> Option<Step<'static>> {
+        let place = self.draws.place(self.working.len());
+        let (unique, asks) = *self.working.get(place)?;
+        let outcome = match (asks, self.draws.among(8)) {
+            (_, 0) => Outcome::Failed,
+            (Asks::Name(..), 1) => Outcome::Done,
+            (Asks::Name(..), _) => Outcome::Entry,
+            (_, 1) => Outcome::Entry,
+            _ => Outcome::Done,
+        };
+        Some(Step::Finish(unique, outcome, Told::Shown))
     }
 
-    fn forget<L: Ledgers, R: Abort>(&mut self, rt: &R, desk: &mut Desk<L>) {
-        let number = self.draws.among(7);
-        let share = self.draws.place(2);
-        let n = self.draws.among(6);
-        let amount = desk.forget(rt, share, number, n);
-        assert!(rt; amount <= n);
-        if 0 < amount && amount < n {
-            note(&mut self.tally.partly);
-        }
-        self.tally.forgotten = self.tally.forgotten.saturating_add(amount);
+    fn draw_settle(&mut self) -> Option<Step<'static>> {
+        let place = self.draws.place(self.ended.len());
+        let (unique, _) = *self.ended.get(place)?;
+        let reply = match self.draws.among(4) {
+            0 => Reply::Untaken,
+            _ => Reply::Taken,
+        };
+        Some(Step::Settle(unique, reply, Told::Shown))
     }
 
-    fn step<L: Ledgers, R: Abort>(&mut self, rt: &R, desk: &mut Desk<L>) {
+    /// A call, or none where it would be about a request and there is none.
+    fn draw(&mut self, unique: u64) -> Option<Step<'static>> {
         match self.draws.among(10) {
-            0..=3 => self.begin(rt, desk),
-            4..=5 => self.finish(rt, desk),
-            6..=7 => self.settle(rt, desk),
-            _ => self.forget(rt, desk),
+            0..=3 => Some(Step::Begin(unique, self.draw_want(), Told::Shown)),
+            4..=5 => self.draw_finish(),
+            6..=7 => self.draw_settle(),
+            _ => {
+                let number = self.draws.among(7);
+                Some(Step::Forget(number, self.draws.among(6), Told::Shown))
+            }
         }
     }
 
-    /// Counts what stands in the ledger.
-    fn count(&mut self, image: &Image) {
-        for posting in image.postings.as_slice() {
-            match *posting {
-                Posting::Born { generation, .. } => {
-                    note(&mut self.tally.births);
-                    if 0 < generation {
-                        note(&mut self.tally.rebirths);
-                    }
+    /// What a call came to, or none where it may not come to that.
+    fn judge(
+        &mut self,
+        step: &Step<'static>,
+        told: Told,
+        before: &Image,
+        after: &Image,
+    ) -> Result<Option<Event>, AllocError> {
+        let change = Change::between(before, after);
+        match *step {
+            Step::Begin(unique, asks, _) => {
+                if told == Told::Go {
+                    self.working.push((unique, asks))?;
                 }
-                Posting::Back { .. } => note(&mut self.tally.backs),
-                _ => {}
+                Ok(begun(asks, told, change))
+            }
+            Step::Finish(unique, outcome, _) => {
+                let Some(asks) = take_out(&mut self.working, unique) else {
+                    return Ok(None);
+                };
+                let entries = matches!(&told, Told::Given(..)) as u64;
+                self.ended.push((unique, entries))?;
+                Ok(finished(asks, outcome, told, change))
+            }
+            Step::Settle(unique, reply, _) => match take_out(&mut self.ended, unique) {
+                Some(entries) => Ok(settled(reply, entries, told, change)),
+                None => Ok(None),
+            },
+            Step::Forget(number, n, _) => Ok(forgotten(n, count_of(before, number), told, change)),
+            _ => Ok(None),
+        }
+    }
+
+    fn note(&mut self, event: Event) {
+        for count in self.counts.iter_mut() {
+            if count.event == event {
+                count.times = count.times.saturating_add(1);
             }
         }
     }
 
-    /// Ends all requests and gives every lookup back, until the root alone is left.
-    fn wind_up<L: Ledgers, R: Abort>(&mut self, rt: &R, desk: &mut Desk<L>) {
-        for _ticket in 0..desk.tickets.len() {
-            assert!(rt; !self.kinds.is_empty());
-            let gave = match self.kinds.remove(0) {
-                Kind::Name => Gave::Nothing,
-                Kind::Node | Kind::Remove | Kind::Move => Gave::Empty,
-            };
-            assert_eq!(rt; desk.finish(rt, 0, 0, Outcome::Failed), gave);
+    /// Makes one call, the one at that place.
+    fn go<L: Ledgers>(
+        &mut self,
+        desk: &mut Desk<L>,
+        place: usize,
+        step: Step<'static>,
+    ) -> Result<(), Fail> {
+        let before = desk.image()?;
+        let told = desk.take(&step)?;
+        match self.judge(&step, told, &before, &desk.image()?)? {
+            Some(event) => {
+                self.note(event);
+                Ok(())
+            }
+            None => Err(Wrong::At(place, told, step).into()),
         }
-        for _answer in 0..desk.answers.len() {
-            let _settled = desk.settle(rt, 1, 0, true);
+    }
+
+    /// Ends all requests, and gives every lookup back.
+    fn last_steps(&self, alloc: Global) -> Result<Vec<Step<'static>>, AllocError> {
+        let mut steps = Vec::new(alloc);
+        for (unique, _) in &self.working {
+            steps.push(Step::Finish(*unique, Outcome::Failed, Told::Shown))?;
+            steps.push(Step::Settle(*unique, Reply::Taken, Told::Shown))?;
         }
-        for number in 0..7 {
-            let amount = desk.forget(rt, 0, number, u64::MAX);
-            self.tally.forgotten = self.tally.forgotten.saturating_add(amount);
+        for (unique, _) in &self.ended {
+            steps.push(Step::Settle(*unique, Reply::Untaken, Told::Shown))?;
         }
-        let image = desk.image(rt);
-        assert_eq!(rt; image.nodes.as_slice().len(), 1);
-        assert_eq!(rt; image.records.as_slice().len(), 0);
-        self.count(&image);
+        for number in 0..7u64 {
+            steps.push(Step::Forget(number, u64::MAX, Told::Shown))?;
+        }
+        Ok(steps)
+    }
+
+    /// What came too seldom, if anything did.
+    fn too_few(&self) -> Option<TooFew> {
+        let count = self.counts.iter().find(|count| count.times < count.least)?;
+        Some(TooFew(count.event, count.times))
     }
 }
 
-impl Story for LongRun {
-    fn tell<L: Ledgers, R: Abort>(&mut self, rt: &R, desk: &mut Desk<L>) {
-        for step in 0..STEPS {
-            self.step(rt, desk);
-            if step < 500 || step % 50 == 0 {
-                let _image = desk.image(rt);
+impl Play for LongRun {
+    fn play<L: Ledgers>(&mut self, desk: &mut Desk<L>) -> Result<(), Fail> {
+        for place in 0..STEPS {
+            let _passed = desk.pass(self.draws.place(2));
+            if let Some(step) = self.draw(place as u64) {
+                self.go(desk, place, step)?;
+            }
+            if place < 500 || place % 50 == 0 {
+                desk.attest(place)?;
             }
         }
-        self.wind_up(rt, desk);
+        for step in self.last_steps(desk.alloc)?.as_slice() {
+            self.go(desk, STEPS, *step)?;
+        }
+        desk.tell(NOTHING_LEFT)?;
+        self.sum = sum_of(&desk.image()?);
+        Ok(())
     }
 }
 
-/// A run from those draws, after which all is wound up.
-fn run_from<R: Abort>(rt: &R, alloc: Global, x: u64) -> Result<(), Fail> {
-    let limits = Limits {
-        nodes: 5,
-        flights: 5,
-        ..Limits::default()
-    };
-    let mut run = LongRun {
-        draws: Draws { x },
-        tally: Tally::default(),
-        kinds: Vec::new(alloc),
-    };
-    let gathered = tell(rt, alloc, limits, &mut run)?;
-    let LongRun {
-        draws: _,
-        tally,
-        kinds: _,
-    } = run;
-    expect_all(rt, &tally);
-    let totals = Totals {
-        born: tally.births,
-        entries: tally.entries,
-        backs: tally.backs,
-        forgotten: tally.forgotten,
-    };
-    assert_eq!(rt; gathered, Gathered(Ok(totals)));
-    assert_eq!(rt;
-        totals.entries,
-        totals.backs.saturating_add(totals.forgotten),
-        "all came back"
-    );
-    Ok(())
+/// A run from that seed. The shares add up to the postings, and all entries came back.
+fn run_from(alloc: Global, seed: u64) -> Result<(), Fail> {
+    let mut run = LongRun::new(alloc, seed)?;
+    let sum = play_new(alloc, LIMITS, &mut run)?;
+    if let Some(too_few) = run.too_few() {
+        return Err(too_few.into());
+    }
+    match sum {
+        Sum::All(_, entries, backs, forgotten)
+            if sum == run.sum && entries == backs.saturating_add(forgotten) => { Ok(()) }
+        _ => Err(Wrong::Gathers(sum).into()),
+    }
 }
 
 #[test]
 fn long_run(rt: HostRuntime) -> Result<(), Fail> {
-    run_from(&rt, rt.alloc(), 1)
+    run_from(rt.alloc(), 1)
 }
 
 #[test]
 fn another_long_run(rt: HostRuntime) -> Result<(), Fail> {
-    run_from(&rt, rt.alloc(), 2)
+    run_from(rt.alloc(), 2)
 }

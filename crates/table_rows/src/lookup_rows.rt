@@ -1,152 +1,131 @@
 //! Names looked up, forgotten, and given back.
 
-use crate::desk::{Desk, Gave, ROOT, Story, tell};
-use ledger::{Ledgers, Posting};
-use std::process::Abort;
+use crate::story::Asks::Name;
+use crate::story::Posted::{Back, Born, Entry, Forget};
+use crate::story::Spot::At;
+use crate::story::Told::{Amount, Given, Go, Settled};
+use crate::story::{DEFAULT, Living, ROOT, Reply, Step, Story, Sum, TOP};
+use crate::teller::run;
 use std::test::Fail;
-use table::{Limits, Outcome};
+use table::Outcome;
 
-/// Node 2 in its first life, and the postings of it.
-pub const BORN: Posting = Posting::Born {
-    number: 2,
-    generation: 0,
+/// A name is looked up, and its reply is taken.
+const FRESH: Story = Story {
+    limits: DEFAULT,
+    steps: &[
+        Step::Begin(7, Name(ROOT, "a"), Go),
+        Step::Finish(7, Outcome::Entry, Given(2, 0)),
+        Step::Settle(7, Reply::Taken, Settled(1)),
+        Step::Nodes(&[TOP, Living(2, 0, At(ROOT, "a"), 1)]),
+        Step::Ledger(&[Born(2, 0), Entry(2, 0)]),
+        Step::Requests(&[]),
+    ],
+    gathers: Sum::All(1, 1, 0, 0),
 };
-
-pub const ENTRY: Posting = Posting::Entry {
-    number: 2,
-    generation: 0,
-};
-
-pub const BACK: Posting = Posting::Back {
-    number: 2,
-    generation: 0,
-};
-
-/// So many lookups of node 2 in its first life are given back.
-pub const fn forgotten(amount: u64) -> Posting {
-    Posting::Forget {
-        number: 2,
-        generation: 0,
-        amount,
-    }
-}
-
-#[derive(Drop)]
-struct FreshLookup;
-
-impl Story for FreshLookup {
-    fn tell<L: Ledgers, R: Abort>(&mut self, rt: &R, desk: &mut Desk<L>) {
-        assert_eq!(rt; desk.look_up(rt, "a", true), Gave::entry(2, 0));
-        let image = desk.image(rt);
-        assert_eq!(rt; image.postings.as_slice(), [BORN, ENTRY].as_slice());
-        assert_eq!(rt; image.nodes.as_slice().len(), 2);
-    }
-}
 
 #[test]
 fn fresh_lookup(rt: HostRuntime) -> Result<(), Fail> {
-    tell(&rt, rt.alloc(), Limits::default(), &mut FreshLookup)?;
-    Ok(())
+    run(rt.alloc(), &FRESH)
 }
 
-#[derive(Drop)]
-struct ForgetAboveCount;
-
-impl Story for ForgetAboveCount {
-    fn tell<L: Ledgers, R: Abort>(&mut self, rt: &R, desk: &mut Desk<L>) {
-        assert_eq!(rt; desk.look_up(rt, "a", true), Gave::entry(2, 0));
-        assert_eq!(rt; desk.look_up(rt, "a", true), Gave::entry(2, 0));
-        assert_eq!(rt; desk.forget(rt, 0, 2, 5), 2);
-        let image = desk.image(rt);
-        assert_eq!(rt;
-            image.postings.as_slice(),
-            [BORN, ENTRY, ENTRY, forgotten(2)].as_slice()
-        );
-        assert_eq!(rt; image.nodes.as_slice().len(), 1, "the root alone");
-        assert_eq!(rt; desk.look_up(rt, "e", true), Gave::entry(2, 1));
-    }
-}
+/// A FORGET of more than the count takes the count: the node is gone, and its number is born again.
+const ABOVE_COUNT: Story = Story {
+    limits: DEFAULT,
+    steps: &[
+        Step::LookUp(ROOT, "a", Given(2, 0)),
+        Step::LookUp(ROOT, "a", Given(2, 0)),
+        Step::Forget(2, 5, Amount(2)),
+        Step::Ledger(&[Born(2, 0), Entry(2, 0), Entry(2, 0), Forget(2, 0, 2)]),
+        Step::Nodes(&[TOP]),
+        Step::LookUp(ROOT, "e", Given(2, 1)),
+        Step::Nodes(&[TOP, Living(2, 1, At(ROOT, "e"), 1)]),
+    ],
+    gathers: Sum::All(2, 3, 0, 2),
+};
 
 #[test]
 fn forget_above_count(rt: HostRuntime) -> Result<(), Fail> {
-    tell(&rt, rt.alloc(), Limits::default(), &mut ForgetAboveCount)?;
-    Ok(())
+    run(rt.alloc(), &ABOVE_COUNT)
 }
 
-#[derive(Drop)]
-struct ForgetInPieces;
-
-impl Story for ForgetInPieces {
-    fn tell<L: Ledgers, R: Abort>(&mut self, rt: &R, desk: &mut Desk<L>) {
-        for _entry in 0..3 {
-            assert_eq!(rt; desk.look_up(rt, "a", true), Gave::entry(2, 0));
-        }
-        assert_eq!(rt; desk.forget(rt, 0, 2, 1), 1);
-        assert_eq!(rt; desk.forget(rt, 0, 2, 5), 2);
-        assert_eq!(rt; desk.forget(rt, 0, 9, 1), 0);
-        assert_eq!(rt; desk.forget(rt, 0, ROOT, 1), 0);
-        let image = desk.image(rt);
-        assert_eq!(rt;
-            image.postings.as_slice(),
-            [BORN, ENTRY, ENTRY, ENTRY, forgotten(1), forgotten(2)].as_slice()
-        );
-    }
-}
+/// What is forgotten of an unknown number, of the root and of nothing is nothing.
+const IN_PIECES: Story = Story {
+    limits: DEFAULT,
+    steps: &[
+        Step::LookUp(ROOT, "a", Given(2, 0)),
+        Step::LookUp(ROOT, "a", Given(2, 0)),
+        Step::LookUp(ROOT, "a", Given(2, 0)),
+        Step::Forget(2, 0, Amount(0)),
+        Step::Forget(2, 1, Amount(1)),
+        Step::Forget(9, 1, Amount(0)),
+        Step::Forget(ROOT, 9, Amount(0)),
+        Step::Nodes(&[TOP, Living(2, 0, At(ROOT, "a"), 2)]),
+        Step::Forget(2, u64::MAX, Amount(2)),
+        Step::Forget(2, 1, Amount(0)),
+        Step::Nodes(&[TOP]),
+        Step::Ledger(&[
+            Born(2, 0),
+            Entry(2, 0),
+            Entry(2, 0),
+            Entry(2, 0),
+            Forget(2, 0, 1),
+            Forget(2, 0, 2),
+        ]),
+    ],
+    gathers: Sum::All(1, 3, 0, 3),
+};
 
 #[test]
 fn forget_in_pieces(rt: HostRuntime) -> Result<(), Fail> {
-    tell(&rt, rt.alloc(), Limits::default(), &mut ForgetInPieces)?;
-    Ok(())
+    run(rt.alloc(), &IN_PIECES)
 }
 
-#[derive(Drop)]
-struct UntakenLookup;
-
-impl Story for UntakenLookup {
-    fn tell<L: Ledgers, R: Abort>(&mut self, rt: &R, desk: &mut Desk<L>) {
-        assert_eq!(rt; desk.look_up(rt, "a", false), Gave::entry(2, 0));
-        let image = desk.image(rt);
-        assert_eq!(rt; image.postings.as_slice(), [BORN, ENTRY, BACK].as_slice());
-        assert_eq!(rt; image.nodes.as_slice().len(), 1, "the root alone");
-        assert_eq!(rt; image.records.as_slice().len(), 0);
-    }
-}
+/// The client did not take the reply.
+const UNTAKEN: Story = Story {
+    limits: DEFAULT,
+    steps: &[
+        Step::Begin(7, Name(ROOT, "a"), Go),
+        Step::Finish(7, Outcome::Entry, Given(2, 0)),
+        Step::Settle(7, Reply::Untaken, Settled(1)),
+        Step::Ledger(&[Born(2, 0), Entry(2, 0), Back(2, 0)]),
+        Step::Nodes(&[TOP]),
+        Step::Requests(&[]),
+        Step::LookUp(ROOT, "a", Given(2, 1)),
+    ],
+    gathers: Sum::All(2, 2, 1, 0),
+};
 
 #[test]
 fn untaken_lookup(rt: HostRuntime) -> Result<(), Fail> {
-    tell(&rt, rt.alloc(), Limits::default(), &mut UntakenLookup)?;
-    Ok(())
+    run(rt.alloc(), &UNTAKEN)
 }
 
-#[derive(Drop)]
-struct ForgetBeforeSettle;
-
-impl Story for ForgetBeforeSettle {
-    fn tell<L: Ledgers, R: Abort>(&mut self, rt: &R, desk: &mut Desk<L>) {
-        assert_eq!(rt; desk.begin(rt, ROOT, "a"), Ok(()));
-        assert_eq!(rt; desk.finish(rt, 0, 0, Outcome::Entry), Gave::entry(2, 0));
-        assert_eq!(rt; desk.forget(rt, 0, 2, 1), 1);
-        // The answer pins node 2, so that its number goes to nobody else.
-        assert_eq!(rt; desk.begin(rt, ROOT, "e"), Ok(()));
-        assert_eq!(rt; desk.finish(rt, 0, 0, Outcome::Entry), Gave::entry(3, 0));
-        let posted = desk.image(rt).postings.as_slice().len();
-        let settled = desk.settle(rt, 0, 0, false);
-        assert_eq!(rt; settled.entries(), 1);
-        assert!(rt; !settled.taken());
-        let image = desk.image(rt);
-        assert_eq!(rt;
-            image.postings.as_slice().len(),
-            posted,
-            "the settle posts nothing"
-        );
-        assert_eq!(rt; image.nodes.as_slice().len(), 2, "the root and node 3");
-        assert_eq!(rt; desk.begin(rt, ROOT, "a"), Ok(()));
-        assert_eq!(rt; desk.finish(rt, 0, 0, Outcome::Entry), Gave::entry(2, 1));
-    }
-}
+/// The entry is forgotten before its reply is found untaken: the settle posts nothing. Until then the request pins node 2,
+/// so that its number goes to nobody else.
+const FORGOTTEN_FIRST: Story = Story {
+    limits: DEFAULT,
+    steps: &[
+        Step::Begin(1, Name(ROOT, "a"), Go),
+        Step::Finish(1, Outcome::Entry, Given(2, 0)),
+        Step::Forget(2, 1, Amount(1)),
+        Step::Ledger(&[Born(2, 0), Entry(2, 0), Forget(2, 0, 1)]),
+        Step::Nodes(&[TOP, Living(2, 0, At(ROOT, "a"), 0)]),
+        Step::LookUp(ROOT, "e", Given(3, 0)),
+        Step::Settle(1, Reply::Untaken, Settled(1)),
+        Step::Ledger(&[
+            Born(2, 0),
+            Entry(2, 0),
+            Forget(2, 0, 1),
+            Born(3, 0),
+            Entry(3, 0),
+        ]),
+        Step::Nodes(&[TOP, Living(3, 0, At(ROOT, "e"), 1)]),
+        Step::LookUp(ROOT, "a", Given(2, 1)),
+    ],
+    gathers: Sum::All(3, 3, 0, 1),
+};
 
 #[test]
 fn forget_before_settle(rt: HostRuntime) -> Result<(), Fail> {
-    tell(&rt, rt.alloc(), Limits::default(), &mut ForgetBeforeSettle)?;
-    Ok(())
+    run(rt.alloc(), &FORGOTTEN_FIRST)
 }

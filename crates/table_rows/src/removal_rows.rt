@@ -1,174 +1,191 @@
 //! Names that are removed.
 
-use crate::desk::{Asked, Desk, Gave, ROOT, Story, tell};
-use crate::expects::{
-    expect_cut, expect_many, expect_named, expect_same, expect_same_nodes, give_folder,
-};
+use crate::story::Asks::{Name, Node, Remove};
+use crate::story::Posted::{Born, Entry, Forget};
+use crate::story::Spot::{At, Cut};
+use crate::story::Told::{Amount, Ended, Given, Go, Refused, Settled};
+use crate::story::{DEFAULT, Flying, Holding, Living, ROOT, Reply, Step, Story, Sum, TOP};
+use crate::teller::run;
 use errno::ESTALE;
-use ledger::Ledgers;
-use std::process::Abort;
+use image::Stage::{Answered, Working};
 use std::test::Fail;
-use table::{Limits, Outcome};
+use table::Outcome;
 
-#[derive(Drop)]
-struct RemovedFolder;
+/// The folder `d` is node 2, and `x` in it is node 3.
+const KNOWN: &[Living] = &[
+    TOP,
+    Living(2, 0, At(ROOT, "d"), 1),
+    Living(3, 0, At(2, "x"), 1),
+];
 
-impl Story for RemovedFolder {
-    fn tell<L: Ledgers, R: Abort>(&mut self, rt: &R, desk: &mut Desk<L>) {
-        give_folder(rt, desk);
-        assert_eq!(rt; desk.remove(rt, ROOT, "d"), Asked::Go);
-        let begun = desk.image(rt);
-        expect_named(rt, &begun, 2, 1);
-        expect_named(rt, &begun, 3, 1);
-        assert_eq!(rt; desk.finish(rt, 0, 0, Outcome::Done), Gave::Empty);
-        let removed = desk.image(rt);
-        expect_many(rt, &removed, 3, 1);
-        expect_cut(rt, &removed, 2, 1);
-        expect_cut(rt, &removed, 3, 1);
-        assert_eq!(rt; removed.postings.as_slice(), begun.postings.as_slice());
-        assert_eq!(rt; desk.node(rt, 3), Asked::Refused(ESTALE));
-        assert_eq!(rt; desk.node(rt, 2), Asked::Refused(ESTALE));
-        assert_eq!(rt; desk.name(rt, 2, "x"), Asked::Refused(ESTALE));
-        assert_eq!(rt; desk.remove(rt, 2, "x"), Asked::Refused(ESTALE));
-        expect_same(rt, &removed, &desk.image(rt));
-        let settled = desk.settle(rt, 0, 0, true);
-        assert_eq!(rt; settled.entries(), 0);
-        expect_many(rt, &desk.image(rt), 3, 0);
-        assert_eq!(rt; desk.forget(rt, 0, 2, 1), 1);
-        let without_folder = desk.image(rt);
-        expect_many(rt, &without_folder, 2, 0);
-        expect_cut(rt, &without_folder, 3, 1);
-        assert_eq!(rt; desk.forget(rt, 0, 3, 1), 1);
-        expect_many(rt, &desk.image(rt), 1, 0);
-    }
-}
+/// A removed folder is cut with what is in it, and its nodes live until they are forgotten.
+const FOLDER: Story = Story {
+    limits: DEFAULT,
+    steps: &[
+        Step::LookUp(ROOT, "d", Given(2, 0)),
+        Step::LookUp(2, "x", Given(3, 0)),
+        Step::Begin(1, Remove(ROOT, "d"), Go),
+        Step::Paths(1, &["d"]),
+        Step::Holds(&[Holding("d", 0, 1)]),
+        Step::Nodes(KNOWN),
+        Step::Requests(&[Flying(1, Working, &[1, 2])]),
+        Step::Finish(1, Outcome::Done, Ended),
+        Step::Nodes(&[TOP, Living(2, 0, Cut, 1), Living(3, 0, Cut, 1)]),
+        Step::Ledger(&[Born(2, 0), Entry(2, 0), Born(3, 0), Entry(3, 0)]),
+        Step::Begin(2, Node(3), Refused(ESTALE)),
+        Step::Begin(2, Node(2), Refused(ESTALE)),
+        Step::Begin(2, Name(2, "x"), Refused(ESTALE)),
+        Step::Begin(2, Remove(2, "x"), Refused(ESTALE)),
+        Step::Nodes(&[TOP, Living(2, 0, Cut, 1), Living(3, 0, Cut, 1)]),
+        Step::Requests(&[Flying(1, Answered, &[1, 2])]),
+        Step::Holds(&[]),
+        Step::Settle(1, Reply::Taken, Settled(0)),
+        Step::Requests(&[]),
+        Step::Forget(2, 1, Amount(1)),
+        Step::Nodes(&[TOP, Living(3, 0, Cut, 1)]),
+        Step::Forget(3, 1, Amount(1)),
+        Step::Nodes(&[TOP]),
+        Step::Ledger(&[
+            Born(2, 0),
+            Entry(2, 0),
+            Born(3, 0),
+            Entry(3, 0),
+            Forget(2, 0, 1),
+            Forget(3, 0, 1),
+        ]),
+    ],
+    gathers: Sum::All(2, 2, 0, 2),
+};
 
 #[test]
 fn removed_folder(rt: HostRuntime) -> Result<(), Fail> {
-    assert_eq!(rt; ESTALE, 116);
-    tell(&rt, rt.alloc(), Limits::default(), &mut RemovedFolder)?;
-    Ok(())
+    run(rt.alloc(), &FOLDER)
 }
 
-#[derive(Drop)]
-struct RemovalOfNothing;
-
-impl Story for RemovalOfNothing {
-    fn tell<L: Ledgers, R: Abort>(&mut self, rt: &R, desk: &mut Desk<L>) {
-        give_folder(rt, desk);
-        let before = desk.image(rt);
-        assert_eq!(rt; desk.remove(rt, ROOT, "x"), Asked::Go);
-        expect_same_nodes(rt, &before, &desk.image(rt));
-        assert_eq!(rt; desk.finish(rt, 0, 0, Outcome::Done), Gave::Empty);
-        expect_same_nodes(rt, &before, &desk.image(rt));
-        let settled = desk.settle(rt, 0, 0, false);
-        assert_eq!(rt; settled.entries(), 0);
-        expect_same(rt, &before, &desk.image(rt));
-    }
-}
+/// Where no node stands at the name, its removal changes none.
+const OF_NOTHING: Story = Story {
+    limits: DEFAULT,
+    steps: &[
+        Step::LookUp(ROOT, "d", Given(2, 0)),
+        Step::LookUp(2, "x", Given(3, 0)),
+        Step::Begin(1, Remove(ROOT, "x"), Go),
+        Step::Nodes(KNOWN),
+        Step::Finish(1, Outcome::Done, Ended),
+        Step::Nodes(KNOWN),
+        Step::Settle(1, Reply::Untaken, Settled(0)),
+        Step::Nodes(KNOWN),
+        Step::Requests(&[]),
+    ],
+    gathers: Sum::All(2, 2, 0, 0),
+};
 
 #[test]
 fn removal_of_nothing(rt: HostRuntime) -> Result<(), Fail> {
-    tell(&rt, rt.alloc(), Limits::default(), &mut RemovalOfNothing)?;
-    Ok(())
+    run(rt.alloc(), &OF_NOTHING)
 }
 
-/// A removal that ends with this outcome removes nothing.
-#[derive(Drop)]
-struct RemovalIgnored {
-    outcome: Outcome,
-}
+/// A removal that failed removes nothing.
+const FAILED: Story = Story {
+    limits: DEFAULT,
+    steps: &[
+        Step::LookUp(ROOT, "d", Given(2, 0)),
+        Step::LookUp(2, "x", Given(3, 0)),
+        Step::Begin(1, Remove(ROOT, "d"), Go),
+        Step::Finish(1, Outcome::Failed, Ended),
+        Step::Nodes(KNOWN),
+        Step::Settle(1, Reply::Taken, Settled(0)),
+        Step::Nodes(KNOWN),
+        Step::Requests(&[]),
+        Step::LookUp(ROOT, "d", Given(2, 0)),
+        Step::Begin(2, Node(3), Go),
+        Step::Finish(2, Outcome::Failed, Ended),
+    ],
+    gathers: Sum::All(2, 3, 0, 0),
+};
 
-impl Story for RemovalIgnored {
-    fn tell<L: Ledgers, R: Abort>(&mut self, rt: &R, desk: &mut Desk<L>) {
-        give_folder(rt, desk);
-        let before = desk.image(rt);
-        assert_eq!(rt; desk.remove(rt, ROOT, "d"), Asked::Go);
-        assert_eq!(rt; desk.finish(rt, 0, 0, self.outcome), Gave::Empty);
-        expect_same_nodes(rt, &before, &desk.image(rt));
-        let settled = desk.settle(rt, 0, 0, true);
-        assert_eq!(rt; settled.entries(), 0);
-        expect_same(rt, &before, &desk.image(rt));
-        assert_eq!(rt; desk.look_up(rt, "d", true), Gave::entry(2, 0));
-        assert_eq!(rt; desk.node(rt, 3), Asked::Go);
-        assert_eq!(rt; desk.finish(rt, 0, 0, self.outcome), Gave::Empty);
-    }
-}
+/// An outcome that is none of a removal removes nothing.
+const MISFIT: Story = Story {
+    limits: DEFAULT,
+    steps: &[
+        Step::LookUp(ROOT, "d", Given(2, 0)),
+        Step::LookUp(2, "x", Given(3, 0)),
+        Step::Begin(1, Remove(ROOT, "d"), Go),
+        Step::Finish(1, Outcome::Entry, Ended),
+        Step::Nodes(KNOWN),
+        Step::Settle(1, Reply::Taken, Settled(0)),
+        Step::Nodes(KNOWN),
+        Step::Requests(&[]),
+        Step::LookUp(ROOT, "d", Given(2, 0)),
+        Step::Begin(2, Node(3), Go),
+        Step::Finish(2, Outcome::Entry, Ended),
+    ],
+    gathers: Sum::All(2, 3, 0, 0),
+};
 
 #[test]
 fn removal_failed(rt: HostRuntime) -> Result<(), Fail> {
-    let mut failed = RemovalIgnored {
-        outcome: Outcome::Failed,
-    };
-    tell(&rt, rt.alloc(), Limits::default(), &mut failed)?;
-    Ok(())
+    run(rt.alloc(), &FAILED)
 }
 
 #[test]
 fn removal_misfit(rt: HostRuntime) -> Result<(), Fail> {
-    let mut misfit = RemovalIgnored {
-        outcome: Outcome::Entry,
-    };
-    tell(&rt, rt.alloc(), Limits::default(), &mut misfit)?;
-    Ok(())
+    run(rt.alloc(), &MISFIT)
 }
 
 /// The removal that cuts node 2 keeps it until it is settled.
-#[derive(Drop)]
-struct PinnedByRemoval;
-
-impl Story for PinnedByRemoval {
-    fn tell<L: Ledgers, R: Abort>(&mut self, rt: &R, desk: &mut Desk<L>) {
-        assert_eq!(rt; desk.look_up(rt, "a", true), Gave::entry(2, 0));
-        assert_eq!(rt; desk.remove(rt, ROOT, "a"), Asked::Go);
-        assert_eq!(rt; desk.forget(rt, 0, 2, 1), 1);
-        expect_named(rt, &desk.image(rt), 2, 0);
-        assert_eq!(rt; desk.finish(rt, 0, 0, Outcome::Done), Gave::Empty);
-        expect_cut(rt, &desk.image(rt), 2, 0);
-        let _settled = desk.settle(rt, 0, 0, true);
-        expect_many(rt, &desk.image(rt), 1, 0);
-    }
-}
+const PINNED_BY_REMOVAL: Story = Story {
+    limits: DEFAULT,
+    steps: &[
+        Step::LookUp(ROOT, "a", Given(2, 0)),
+        Step::Begin(1, Remove(ROOT, "a"), Go),
+        Step::Forget(2, 1, Amount(1)),
+        Step::Nodes(&[TOP, Living(2, 0, At(ROOT, "a"), 0)]),
+        Step::Finish(1, Outcome::Done, Ended),
+        Step::Nodes(&[TOP, Living(2, 0, Cut, 0)]),
+        Step::Settle(1, Reply::Taken, Settled(0)),
+        Step::Nodes(&[TOP]),
+    ],
+    gathers: Sum::All(1, 1, 0, 1),
+};
 
 /// Its count keeps node 2 when its removal is settled.
-#[derive(Drop)]
-struct KeptByCount;
-
-impl Story for KeptByCount {
-    fn tell<L: Ledgers, R: Abort>(&mut self, rt: &R, desk: &mut Desk<L>) {
-        assert_eq!(rt; desk.look_up(rt, "a", true), Gave::entry(2, 0));
-        assert_eq!(rt; desk.remove(rt, ROOT, "a"), Asked::Go);
-        assert_eq!(rt; desk.finish(rt, 0, 0, Outcome::Done), Gave::Empty);
-        let _settled = desk.settle(rt, 0, 0, true);
-        expect_cut(rt, &desk.image(rt), 2, 1);
-        assert_eq!(rt; desk.forget(rt, 0, 2, 1), 1);
-        expect_many(rt, &desk.image(rt), 1, 0);
-    }
-}
+const KEPT_BY_COUNT: Story = Story {
+    limits: DEFAULT,
+    steps: &[
+        Step::LookUp(ROOT, "a", Given(2, 0)),
+        Step::Begin(1, Remove(ROOT, "a"), Go),
+        Step::Finish(1, Outcome::Done, Ended),
+        Step::Settle(1, Reply::Taken, Settled(0)),
+        Step::Nodes(&[TOP, Living(2, 0, Cut, 1)]),
+        Step::Forget(2, 1, Amount(1)),
+        Step::Nodes(&[TOP]),
+    ],
+    gathers: Sum::All(1, 1, 0, 1),
+};
 
 /// A request for node 2 keeps it when it was cut and forgotten, and its removal settled.
-#[derive(Drop)]
-struct PinnedByNode;
-
-impl Story for PinnedByNode {
-    fn tell<L: Ledgers, R: Abort>(&mut self, rt: &R, desk: &mut Desk<L>) {
-        assert_eq!(rt; desk.look_up(rt, "a", true), Gave::entry(2, 0));
-        assert_eq!(rt; desk.node(rt, 2), Asked::Go);
-        assert_eq!(rt; desk.finish(rt, 0, 0, Outcome::Done), Gave::Empty);
-        assert_eq!(rt; desk.remove(rt, ROOT, "a"), Asked::Go);
-        assert_eq!(rt; desk.finish(rt, 0, 0, Outcome::Done), Gave::Empty);
-        let _removal = desk.settle(rt, 0, 1, true);
-        assert_eq!(rt; desk.forget(rt, 0, 2, 1), 1);
-        expect_cut(rt, &desk.image(rt), 2, 0);
-        let _node = desk.settle(rt, 0, 0, true);
-        expect_many(rt, &desk.image(rt), 1, 0);
-    }
-}
+const PINNED_BY_NODE: Story = Story {
+    limits: DEFAULT,
+    steps: &[
+        Step::LookUp(ROOT, "a", Given(2, 0)),
+        Step::Begin(1, Node(2), Go),
+        Step::Finish(1, Outcome::Done, Ended),
+        Step::Begin(2, Remove(ROOT, "a"), Go),
+        Step::Finish(2, Outcome::Done, Ended),
+        Step::Settle(2, Reply::Taken, Settled(0)),
+        Step::Forget(2, 1, Amount(1)),
+        Step::Nodes(&[TOP, Living(2, 0, Cut, 0)]),
+        Step::Requests(&[Flying(1, Answered, &[2])]),
+        Step::Settle(1, Reply::Taken, Settled(0)),
+        Step::Nodes(&[TOP]),
+    ],
+    gathers: Sum::All(1, 1, 0, 1),
+};
 
 #[test]
 fn pinned_until_settled(rt: HostRuntime) -> Result<(), Fail> {
-    tell(&rt, rt.alloc(), Limits::default(), &mut PinnedByRemoval)?;
-    tell(&rt, rt.alloc(), Limits::default(), &mut KeptByCount)?;
-    tell(&rt, rt.alloc(), Limits::default(), &mut PinnedByNode)?;
+    for story in [&PINNED_BY_REMOVAL, &KEPT_BY_COUNT, &PINNED_BY_NODE] {
+        run(rt.alloc(), story)?;
+    }
     Ok(())
 }

@@ -1,116 +1,176 @@
-//! Runs of calls with a hand.
+//! Runs: calls on what is in hand, where a ticket and an answer are named by their place.
 
-use crate::desk::{Desk, ROOT, Story, tell};
+use crate::desk::{Desk, told_by, want_of};
+use crate::story::Asks::{Name, Remove};
+use crate::story::Posted::{Back, Born, Entry, Forget};
+use crate::story::Spot::At;
+use crate::story::Told::{Amount, Busy, Ended, Given, Go, Nothing, Refused, Settled};
+use crate::story::{Asks, DEFAULT, Flying, Living, ROOT, Reply, Step, Sum, TOP, Told};
+use crate::teller::{Play, Wrong, play_new};
+use errno::ESTALE;
+use image::Stage::Answered;
 use ledger::Ledgers;
-use paths::Name;
-use std::alloc::Global;
-use std::process::Abort;
+use std::alloc::{AllocError, Global};
 use std::test::Fail;
-use table::{Call, Hand, Limits, Outcome, Told, Want};
+use table::{Begun, Call, Hand, Outcome, Told as CallTold};
 
-/// A request for the name in the root.
-fn look_up(rt: &impl Abort, alloc: Global, name: &str) -> Call {
-    let name = Name::copy_of(alloc, name).expect(rt, "memory is ample");
-    Call::Begin {
-        unique: 7,
-        want: Want::Name { parent: ROOT, name },
-    }
+/// A call on what is in hand.
+#[derive(Clone, Copy, Debug)]
+enum Made<'a> {
+    Begin(u64, Asks<'a>),
+    Finish(usize, Outcome),
+    Settle(usize, Reply),
+    Forget(u64, u64),
 }
 
-/// A request that removes the name in the root.
-fn remove(rt: &impl Abort, alloc: Global, name: &str) -> Call {
-    let name = Name::copy_of(alloc, name).expect(rt, "memory is ample");
-    Call::Begin {
-        unique: 8,
-        want: Want::Remove { parent: ROOT, name },
-    }
-}
-
-fn finish(place: usize, outcome: Outcome) -> Call {
-    Call::Finish { place, outcome }
-}
+/// A call that came otherwise: its place, and what it told.
+#[derive(Debug, Drop)]
+struct Mistold<'a>(usize, Told, Made<'a>);
 
 /// So many tickets and answers are in hand.
-fn expect_in_hand(rt: &impl Abort, hand: &Hand, tickets: usize, answers: usize) {
-    assert_eq!(rt; hand.tickets().len(), tickets);
-    assert_eq!(rt; hand.answers().len(), answers);
+#[derive(Debug, Drop)]
+struct InHand(usize, usize);
+
+/// `b` is given first, then `c` is removed, then `a` is given. Where nothing is in hand, nothing is done.
+const CALLS: &[(Made, Told)] = &[
+    (Made::Begin(1, Name(ROOT, "a")), Go),
+    (Made::Begin(2, Name(ROOT, "b")), Go),
+    (Made::Begin(3, Remove(ROOT, "c")), Go),
+    (Made::Begin(4, Remove(ROOT, "a")), Busy),
+    (Made::Begin(4, Remove(9, "a")), Refused(ESTALE)),
+    (Made::Finish(1, Outcome::Entry), Given(2, 0)),
+    (Made::Finish(1, Outcome::Done), Ended),
+    (Made::Finish(1, Outcome::Entry), Nothing),
+    (Made::Finish(0, Outcome::Entry), Given(3, 0)),
+    (Made::Finish(0, Outcome::Entry), Nothing),
+    (Made::Settle(3, Reply::Untaken), Nothing),
+    (Made::Settle(1, Reply::Taken), Settled(0)),
+    (Made::Settle(0, Reply::Untaken), Settled(1)),
+    (Made::Forget(3, 2), Amount(1)),
+];
+
+/// What the table shows after them. One answer is in hand, that of the first request.
+const AFTER: &[Step] = &[
+    Step::Nodes(&[TOP, Living(3, 0, At(ROOT, "a"), 0)]),
+    Step::Ledger(&[
+        Born(2, 0),
+        Entry(2, 0),
+        Born(3, 0),
+        Entry(3, 0),
+        Back(2, 0),
+        Forget(3, 0, 1),
+    ]),
+    Step::Requests(&[Flying(1, Answered, &[1, 3])]),
+];
+
+fn call_of(alloc: Global, made: Made) -> Result<Call, AllocError> {
+    Ok(match made {
+        Made::Begin(unique, asks) => Call::Begin {
+            unique,
+            want: want_of(alloc, asks)?,
+        },
+        Made::Finish(place, outcome) => Call::Finish { place, outcome },
+        Made::Settle(place, reply) => Call::Settle {
+            place,
+            taken: reply == Reply::Taken,
+        },
+        Made::Forget(number, n) => Call::Forget { number, n },
+    })
 }
 
-/// The lookups of `a` and `b` and a removal of `c` go on; `b` is given first, then `c` is removed, then `a` is given.
-fn first_calls(rt: &impl Abort, alloc: Global) -> Vec<Call> {
-    vec![in alloc;
-        look_up(rt, alloc, "a"),
-        look_up(rt, alloc, "b"),
-        remove(rt, alloc, "c"),
-        remove(rt, alloc, "a"),
-        finish(1, Outcome::Entry),
-        finish(1, Outcome::Done),
-        finish(1, Outcome::Entry),
-        finish(0, Outcome::Entry),
-    ]
-    .expect(rt, "memory is ample")
-}
-
-/// Gives up the answers of a hand without tickets.
-fn give_up(rt: &impl Abort, hand: Hand) {
-    let (tickets, mut answers) = hand.into_parts();
-    assert!(rt; tickets.is_empty());
-    tickets.destroy_empty();
-    while let Some(answered) = answers.pop() {
-        answered.leave();
+/// What a call told. Its answer is the last one in hand.
+fn told_of(told: CallTold, hand: &Hand) -> Told {
+    match told {
+        CallTold::Nothing => Told::Nothing,
+        CallTold::Begun => Told::Go,
+        CallTold::Busy => Told::Busy,
+        CallTold::Refused(errno) => Told::Refused(errno),
+        CallTold::Finished => match hand.answers().last() {
+            Some(answered) => told_by(answered, answered.id()),
+            None => Told::Otherwise,
+        },
+        CallTold::Settled(settled) => Told::Settled(settled.entries()),
+        CallTold::Forgot(amount) => Told::Amount(amount),
     }
-    answers.destroy_empty();
 }
 
+impl<L: Ledgers> Desk<L> {
+    /// Makes all calls in one run.
+    fn make_all(&mut self, hand: &mut Hand) -> Result<(), Fail> {
+        let mut calls = Vec::new(self.alloc);
+        for (made, _) in CALLS {
+            calls.push(call_of(self.alloc, *made)?)?;
+        }
+        self.table.run(&mut self.share, hand, calls)?;
+        Ok(())
+    }
+
+    /// Makes one call after another. Fails at the first that tells something else.
+    fn make_each(&mut self, hand: &mut Hand) -> Result<(), Fail> {
+        for (place, (made, said)) in CALLS.iter().enumerate() {
+            let call = call_of(self.alloc, *made)?;
+            let told = self.table.call(&mut self.share, hand, call)?;
+            let told = told_of(told, hand);
+            if told != *said {
+                return Err(Mistold(place, told, *made).into());
+            }
+        }
+        Ok(())
+    }
+
+    /// Ends what is worked on without an entry, and gives the answers up.
+    fn give_up(&mut self, hand: Hand) {
+        let (mut tickets, mut answers) = hand.into_parts();
+        while let Some(Begun { ticket, want: _ }) = tickets.pop() {
+            self.table
+                .finish(&mut self.share, ticket, Outcome::Failed)
+                .leave();
+        }
+        tickets.destroy_empty();
+        while let Some(answered) = answers.pop() {
+            answered.leave();
+        }
+        answers.destroy_empty();
+    }
+}
+
+/// The calls, in one run or one after another.
 #[derive(Drop)]
-struct RunStory;
+struct Calls {
+    at_once: bool,
+}
 
-impl RunStory {
-    /// One call on the first share.
-    fn call<L: Ledgers>(rt: &impl Abort, desk: &mut Desk<L>, hand: &mut Hand, call: Call) -> Told {
-        assert!(rt; !desk.shares.is_empty());
-        desk.table
-            .call(&mut desk.shares[0], hand, call)
-            .expect(rt, "memory is ample")
+impl Play for Calls {
+    fn play<L: Ledgers>(&mut self, desk: &mut Desk<L>) -> Result<(), Fail> {
+        let mut hand = Hand::new(desk.alloc);
+        let made = match self.at_once {
+            true => desk.make_all(&mut hand),
+            false => desk.make_each(&mut hand),
+        };
+        let (tickets, answers) = (hand.tickets().len(), hand.answers().len());
+        desk.give_up(hand);
+        made?;
+        if (tickets, answers) != (0, 1) {
+            return Err(InHand(tickets, answers).into());
+        }
+        desk.tell(AFTER)
     }
 }
 
-impl Story for RunStory {
-    fn tell<L: Ledgers, R: Abort>(&mut self, rt: &R, desk: &mut Desk<L>) {
-        let mut hand = Hand::new(desk.alloc);
-        assert!(rt; !desk.shares.is_empty());
-        let calls = first_calls(rt, desk.alloc);
-        let run = desk.table.run(&mut desk.shares[0], &mut hand, calls);
-        assert!(rt; run.is_ok());
-        expect_in_hand(rt, &hand, 0, 3);
-        let image = desk.image(rt);
-        assert_eq!(rt; image.nodes.as_slice().len(), 3, "the root, `b` and `a`");
-        assert_eq!(rt;
-            image.postings.as_slice().len(),
-            4,
-            "2 births and 2 entries"
-        );
-        assert_eq!(rt; image.records.as_slice().len(), 3);
-        let told = RunStory::call(rt, desk, &mut hand, finish(0, Outcome::Entry));
-        assert!(rt; matches!(&told, Told::Nothing));
-        let told = RunStory::call(
-            rt,
-            desk,
-            &mut hand,
-            Call::Settle {
-                place: 3,
-                taken: false,
-            },
-        );
-        assert!(rt; matches!(&told, Told::Nothing));
-        expect_in_hand(rt, &hand, 0, 3);
-        assert_eq!(rt; desk.image(rt).records.as_slice().len(), 3);
-        give_up(rt, hand);
+fn make(alloc: Global, at_once: bool) -> Result<(), Fail> {
+    let sum = play_new(alloc, DEFAULT, &mut Calls { at_once })?;
+    if sum != Sum::All(2, 2, 1, 1) {
+        return Err(Wrong::Gathers(sum).into());
     }
+    Ok(())
 }
 
 #[test]
 fn runs_of_calls(rt: HostRuntime) -> Result<(), Fail> {
-    tell(&rt, rt.alloc(), Limits::default(), &mut RunStory)?;
-    Ok(())
+    make(rt.alloc(), true)
+}
+
+#[test]
+fn calls_one_by_one(rt: HostRuntime) -> Result<(), Fail> {
+    make(rt.alloc(), false)
 }

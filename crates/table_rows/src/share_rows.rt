@@ -1,66 +1,42 @@
 //! What each worker posted, and the sum of it.
 
-use crate::desk::{Desk, Gathered, Gave, Story, tell};
-use ledger::{Gather, Ledgers, Totals};
-use std::process::Abort;
+use crate::story::Told::{Amount, Given};
+use crate::story::{DEFAULT, ROOT, Step, Story, Sum};
+use crate::teller::run;
 use std::test::Fail;
-use table::Limits;
 
-/// The first worker looks a name up twice, and the second forgets one of the entries. Its share may then be left.
-#[derive(Drop)]
-struct TwoShares {
-    leave: bool,
-}
+/// The first worker looks a name up twice, and the second forgets one of the entries.
+const BOTH: Story = Story {
+    limits: DEFAULT,
+    steps: &[
+        Step::LookUp(ROOT, "a", Given(2, 0)),
+        Step::LookUp(ROOT, "a", Given(2, 0)),
+        Step::Worker(1),
+        Step::Forget(2, 1, Amount(1)),
+        Step::Share(0, Sum::All(1, 2, 0, 0)),
+        Step::Share(1, Sum::All(0, 0, 0, 1)),
+    ],
+    gathers: Sum::All(1, 2, 0, 1),
+};
 
-impl Story for TwoShares {
-    fn tell<L: Ledgers, R: Abort>(&mut self, rt: &R, desk: &mut Desk<L>) {
-        assert_eq!(rt; desk.look_up(rt, "a", true), Gave::entry(2, 0));
-        assert_eq!(rt; desk.look_up(rt, "a", true), Gave::entry(2, 0));
-        assert_eq!(rt; desk.forget(rt, 1, 2, 1), 1);
-        assert_eq!(rt; desk.shares.len(), 2);
-        let first = Totals {
-            born: 1,
-            entries: 2,
-            backs: 0,
-            forgotten: 0,
-        };
-        let second = Totals {
-            born: 0,
-            entries: 0,
-            backs: 0,
-            forgotten: 1,
-        };
-        assert_eq!(rt; desk.shares[0].totals(), first);
-        assert_eq!(rt; desk.shares[1].totals(), second);
-        if self.leave {
-            if let Some(share) = desk.shares.pop() {
-                share.leave();
-            }
-        }
-    }
-}
+/// The same, and then the second worker gives its share up.
+const FIRST_ALONE: Story = Story {
+    limits: DEFAULT,
+    steps: &[
+        Step::LookUp(ROOT, "a", Given(2, 0)),
+        Step::LookUp(ROOT, "a", Given(2, 0)),
+        Step::Worker(1),
+        Step::Forget(2, 1, Amount(1)),
+        Step::Worker(0),
+        Step::LeaveShare,
+    ],
+    gathers: Sum::ShareMissing,
+};
 
 #[test]
 fn two_shares(rt: HostRuntime) -> Result<(), Fail> {
-    let totals = Totals {
-        born: 1,
-        entries: 2,
-        backs: 0,
-        forgotten: 1,
-    };
-    let all = tell(
-        &rt,
-        rt.alloc(),
-        Limits::default(),
-        &mut TwoShares { leave: false },
-    )?;
-    assert_eq!(rt; all, Gathered(Ok(totals)));
-    let first_alone = tell(
-        &rt,
-        rt.alloc(),
-        Limits::default(),
-        &mut TwoShares { leave: true },
-    )?;
-    assert_eq!(rt; first_alone, Gathered(Err(Gather::ShareMissing)));
+    for story in [&BOTH, &FIRST_ALONE] {
+        run(rt.alloc(), story)?;
+    }
     Ok(())
 }

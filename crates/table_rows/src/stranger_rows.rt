@@ -1,137 +1,79 @@
 //! Outcomes that do not fit, and tickets of another table.
 
-use crate::desk::{Desk, Gave, ROOT, Story, keep, tell};
-use image::{Image, Stage};
-use ledger::Ledgers;
-use std::alloc::Global;
-use std::process::Abort;
+use crate::story::Asks::Name;
+use crate::story::Posted::{Born, Entry};
+use crate::story::Spot::At;
+use crate::story::Told::{Given, Go, Lost, NotGiven, Settled};
+use crate::story::{DEFAULT, Flying, Living, ROOT, Reply, Step, Story, Sum, TOP};
+use crate::teller::run;
+use image::Stage::Answered;
 use std::test::Fail;
-use table::{Limits, Outcome, Ticket};
+use table::Outcome;
 
-#[derive(Drop)]
-struct MisfitOutcome;
-
-impl Story for MisfitOutcome {
-    fn tell<L: Ledgers, R: Abort>(&mut self, rt: &R, desk: &mut Desk<L>) {
-        assert_eq!(rt; desk.begin(rt, ROOT, "a"), Ok(()));
-        assert_eq!(rt; desk.finish(rt, 0, 0, Outcome::Done), Gave::Nothing);
-        expect_bare(rt, &desk.image(rt), 1);
-        let settled = desk.settle(rt, 0, 0, true);
-        assert_eq!(rt; settled.entries(), 0);
-        expect_bare(rt, &desk.image(rt), 0);
-    }
-}
-
-/// The root alone, nothing posted, and so many requests, all of them answered.
-fn expect_bare(rt: &impl Abort, image: &Image, records: usize) {
-    assert_eq!(rt; image.nodes.as_slice().len(), 1);
-    assert_eq!(rt; image.postings.as_slice().len(), 0);
-    assert_eq!(rt; image.records.as_slice().len(), records);
-    for record in image.records.as_slice() {
-        assert_eq!(rt; record.stage, Stage::Answered);
-    }
-}
+/// An outcome that is none of a LOOKUP acts as a failure.
+const MISFIT: Story = Story {
+    limits: DEFAULT,
+    steps: &[
+        Step::Begin(1, Name(ROOT, "a"), Go),
+        Step::Finish(1, Outcome::Done, NotGiven),
+        Step::Nodes(&[TOP]),
+        Step::Ledger(&[]),
+        Step::Requests(&[Flying(1, Answered, &[1])]),
+        Step::Settle(1, Reply::Taken, Settled(0)),
+        Step::Nodes(&[TOP]),
+        Step::Ledger(&[]),
+        Step::Requests(&[]),
+    ],
+    gathers: Sum::All(0, 0, 0, 0),
+};
 
 #[test]
 fn misfit_outcome(rt: HostRuntime) -> Result<(), Fail> {
-    tell(&rt, rt.alloc(), Limits::default(), &mut MisfitOutcome)?;
-    Ok(())
+    run(rt.alloc(), &MISFIT)
 }
 
-/// Begins a request, and takes its ticket along.
-struct Leaving {
-    tickets: Vec<Ticket>,
-}
-
-impl Story for Leaving {
-    fn tell<L: Ledgers, R: Abort>(&mut self, rt: &R, desk: &mut Desk<L>) {
-        assert_eq!(rt; desk.begin(rt, ROOT, "a"), Ok(()));
-        if let Some(ticket) = desk.tickets.pop() {
-            keep(rt, &mut self.tickets, ticket);
-        }
-    }
-}
-
-/// Hands tickets of another table to one that works on nothing.
-struct Coming {
-    tickets: Vec<Ticket>,
-}
-
-impl Story for Coming {
-    fn tell<L: Ledgers, R: Abort>(&mut self, rt: &R, desk: &mut Desk<L>) {
-        assert_eq!(rt; desk.look_up(rt, "b", true), Gave::entry(2, 0));
-        assert_eq!(rt; self.tickets.len(), 1);
-        if let Some(ticket) = self.tickets.pop() {
-            keep(rt, &mut desk.tickets, ticket);
-        }
-        assert_eq!(rt; desk.finish(rt, 0, 0, Outcome::Entry), Gave::Lost);
-        assert_eq!(rt; desk.image(rt).nodes.as_slice().len(), 2);
-        assert_eq!(rt; desk.image(rt).postings.as_slice().len(), 2);
-        assert_eq!(rt; desk.image(rt).records.as_slice().len(), 0);
-        let settled = desk.settle(rt, 0, 0, false);
-        assert_eq!(rt; settled.entries(), 0);
-        assert_eq!(rt; desk.image(rt).nodes.as_slice().len(), 2);
-        assert_eq!(rt; desk.image(rt).postings.as_slice().len(), 2);
-    }
-}
-
-/// Hands a ticket of another table to one that works on a request of the same id.
-struct ComingInPlace {
-    tickets: Vec<Ticket>,
-}
-
-impl Story for ComingInPlace {
-    fn tell<L: Ledgers, R: Abort>(&mut self, rt: &R, desk: &mut Desk<L>) {
-        assert_eq!(rt; desk.look_up(rt, "b", true), Gave::entry(2, 0));
-        assert_eq!(rt; desk.begin(rt, ROOT, "b"), Ok(()));
-        if let Some(ticket) = self.tickets.pop() {
-            keep(rt, &mut desk.tickets, ticket);
-        }
-        assert_eq!(rt; desk.tickets.len(), 2);
-        assert_eq!(rt; desk.tickets[0].id(), desk.tickets[1].id());
-        assert_eq!(rt;
-            desk.finish(rt, 0, 1, Outcome::Entry),
-            Gave::entry(2, 0),
-            "the name of the request decides"
-        );
-        assert_eq!(rt; desk.finish(rt, 0, 0, Outcome::Entry), Gave::Lost);
-    }
-}
-
-/// The ticket of a request for `a` of another table, which is its first.
-fn ticket_of_another(rt: &impl Abort, alloc: Global) -> Vec<Ticket> {
-    let mut leaving = Leaving {
-        tickets: Vec::new(alloc),
-    };
-    if let Err(_refused) = tell(rt, alloc, Limits::default(), &mut leaving) {
-        panic!(rt; "memory is ample");
-    }
-    let Leaving { tickets } = leaving;
-    tickets
-}
+/// A ticket of another table comes to one that works on nothing.
+const STRANGER: Story = Story {
+    limits: DEFAULT,
+    steps: &[
+        Step::LookUp(ROOT, "b", Given(2, 0)),
+        Step::Stranger(9),
+        Step::Finish(9, Outcome::Entry, Lost),
+        Step::Nodes(&[TOP, Living(2, 0, At(ROOT, "b"), 1)]),
+        Step::Ledger(&[Born(2, 0), Entry(2, 0)]),
+        Step::Requests(&[]),
+        Step::Settle(9, Reply::Untaken, Settled(0)),
+        Step::Nodes(&[TOP, Living(2, 0, At(ROOT, "b"), 1)]),
+        Step::Ledger(&[Born(2, 0), Entry(2, 0)]),
+        Step::Requests(&[]),
+    ],
+    gathers: Sum::All(1, 1, 0, 0),
+};
 
 #[test]
 fn foreign_ticket(rt: HostRuntime) -> Result<(), Fail> {
-    let mut coming = Coming {
-        tickets: ticket_of_another(&rt, rt.alloc()),
-    };
-    let gathered = tell(&rt, rt.alloc(), Limits::default(), &mut coming);
-    let Coming { tickets } = coming;
-    assert!(rt; tickets.is_empty());
-    tickets.destroy_empty();
-    gathered?;
-    Ok(())
+    run(rt.alloc(), &STRANGER)
 }
+
+/// It comes to one that works on a request of the same id: the name of that request decides, and not `a`.
+const STRANGER_OF_A_LIKE_ID: Story = Story {
+    limits: DEFAULT,
+    steps: &[
+        Step::LookUp(ROOT, "b", Given(2, 0)),
+        Step::Begin(1, Name(ROOT, "b"), Go),
+        Step::Stranger(9),
+        Step::Finish(9, Outcome::Entry, Given(2, 0)),
+        Step::Finish(1, Outcome::Entry, Lost),
+        Step::Nodes(&[TOP, Living(2, 0, At(ROOT, "b"), 2)]),
+        Step::Ledger(&[Born(2, 0), Entry(2, 0), Entry(2, 0)]),
+        Step::Requests(&[Flying(1, Answered, &[1, 2])]),
+        Step::Settle(9, Reply::Taken, Settled(1)),
+        Step::Requests(&[]),
+    ],
+    gathers: Sum::All(1, 2, 0, 0),
+};
 
 #[test]
 fn foreign_ticket_on_a_like_id(rt: HostRuntime) -> Result<(), Fail> {
-    let mut coming = ComingInPlace {
-        tickets: ticket_of_another(&rt, rt.alloc()),
-    };
-    let gathered = tell(&rt, rt.alloc(), Limits::default(), &mut coming);
-    let ComingInPlace { tickets } = coming;
-    assert!(rt; tickets.is_empty());
-    tickets.destroy_empty();
-    gathered?;
-    Ok(())
+    run(rt.alloc(), &STRANGER_OF_A_LIKE_ID)
 }

@@ -1,0 +1,167 @@
+//! Stories: the calls of a table, what each must tell, and what the table must show between them.
+
+use image::Stage;
+use ledger::Totals;
+use table::{Limits, Outcome};
+
+/// The number of the root.
+pub const ROOT: u64 = 1;
+
+/// The limits that hold where a story is not about them.
+pub const DEFAULT: Limits = Limits {
+    nodes: 65_536,
+    postings: 1_048_576,
+    flights: 64,
+    files: 4_096,
+};
+
+/// What is asked of a new table, and what its two shares add up to at the end.
+#[derive(Clone, Copy)]
+pub struct Story<'a> {
+    pub limits: Limits,
+    pub steps: &'a [Step<'a>],
+    pub gathers: Sum,
+}
+
+/// What the shares of a table add up to.
+#[derive(Clone, Copy, Debug, PartialEq, Eq)]
+pub enum Sum {
+    /// Births, entries, entries that came back, and lookups that were forgotten.
+    All(u64, u64, u64, u64),
+    /// A share was left.
+    ShareMissing,
+}
+
+impl From<Totals> for Sum {
+    fn from(totals: Totals) -> Sum {
+        Sum::All(totals.born, totals.entries, totals.backs, totals.forgotten)
+    }
+}
+
+/// What a request is for, with its names spelt.
+#[derive(Clone, Copy, Debug)]
+pub enum Asks<'a> {
+    /// A node by its number.
+    Node(u64),
+    /// A name under a parent.
+    Name(u64, &'a str),
+    /// The removal of a name under a parent.
+    Remove(u64, &'a str),
+    /// The move of a name under a parent to another name under another.
+    Move(u64, &'a str, u64, &'a str),
+}
+
+/// What a call told.
+#[derive(Clone, Copy, Debug, PartialEq, Eq)]
+pub enum Told {
+    /// The request goes on.
+    Go,
+    /// Another request holds a name that it needs.
+    Busy,
+    /// It may not go on: an error number.
+    Refused(i32),
+    /// Its name is given an entry of the node of that number and generation.
+    Given(u64, u64),
+    /// Its name is given nothing.
+    NotGiven,
+    /// It asked for no entry, and has ended.
+    Ended,
+    /// Its ticket is of no request that the table works on.
+    Lost,
+    /// It is settled, and its answer listed so many entries.
+    Settled(u64),
+    /// So many lookups were given back.
+    Amount(u64),
+    /// Nothing was in hand, so that nothing was done.
+    Nothing,
+    /// What the step says of the table is so.
+    Shown,
+    /// It is not.
+    Otherwise,
+}
+
+/// Whether the client took a reply.
+#[derive(Clone, Copy, Debug, PartialEq, Eq)]
+pub enum Reply {
+    Taken,
+    Untaken,
+}
+
+/// A posting: of which number, in which generation, and of a Forget how many lookups.
+#[derive(Clone, Copy, Debug, PartialEq, Eq)]
+pub enum Posted {
+    Born(u64, u64),
+    Entry(u64, u64),
+    Back(u64, u64),
+    Forget(u64, u64, u64),
+}
+
+/// Where a node stands.
+#[derive(Clone, Copy, Debug)]
+pub enum Spot<'a> {
+    Root,
+    /// At a name under a parent.
+    At(u64, &'a str),
+    Cut,
+}
+
+/// A living node: its number, its generation, where it stands, and its count. None is hidden.
+#[derive(Clone, Copy, Debug)]
+pub struct Living<'a>(pub u64, pub u64, pub Spot<'a>, pub u64);
+
+/// The root, which is never counted.
+pub const TOP: Living = Living(ROOT, 0, Spot::Root, 0);
+
+/// A request in flight: its unique number, how far it is, and the nodes that it pins.
+#[derive(Clone, Copy, Debug)]
+pub struct Flying<'a>(pub u64, pub Stage, pub &'a [u64]);
+
+/// A path that is held: by how many that share it, and by how many alone.
+#[derive(Clone, Copy, Debug)]
+pub struct Holding<'a>(pub &'a str, pub u64, pub u64);
+
+/// A call with what it must tell, or what the table must show. A request is named by its unique number.
+#[derive(Clone, Copy, Debug)]
+pub enum Step<'a> {
+    Begin(u64, Asks<'a>, Told),
+    Finish(u64, Outcome, Told),
+    Settle(u64, Reply, Told),
+    /// Gives so many lookups of a node back.
+    Forget(u64, u64, Told),
+    /// A LOOKUP of a name under a parent, from its begin to its settle as taken, and what its finish must tell.
+    LookUp(u64, &'a str, Told),
+    /// The share of that worker is passed from now on: the first one's is 0, and is passed first.
+    Worker(usize),
+    /// The last share is given up.
+    LeaveShare,
+    /// A ticket of another table, whose first request it is, is in hand under a unique number.
+    Stranger(u64),
+    /// The ticket of that request has these paths, of a move the old one and then the new one.
+    Paths(u64, &'a [&'a str]),
+    /// The living nodes, all of them.
+    Nodes(&'a [Living<'a>]),
+    /// The postings, all of them, the oldest first.
+    Ledger(&'a [Posted]),
+    /// The requests in flight, all of them.
+    Requests(&'a [Flying<'a>]),
+    /// The held paths, all of them.
+    Holds(&'a [Holding<'a>]),
+    /// How many nodes, postings and requests there are.
+    Size(usize, usize, usize),
+    /// What the share of that worker holds.
+    Share(usize, Sum),
+}
+
+impl Step<'_> {
+    /// What the step must come to.
+    pub fn said(&self) -> Told {
+        match *self {
+            Step::Begin(_, _, told)
+            | Step::Finish(_, _, told)
+            | Step::Settle(_, _, told)
+            | Step::Forget(_, _, told)
+            | Step::LookUp(_, _, told) => told,
+            _ => Told::Shown,
+        }
+    }
+}

@@ -1,0 +1,199 @@
+//! Stories are told to tables.
+
+ghost use Rattle.std.specs.Prelude.{◌≡◌, ◌≤◌};
+
+use crate::desk::{Begun, Desk};
+use crate::shows::{shows_holds, shows_ledger, shows_nodes, shows_paths, shows_requests};
+use crate::story::{Asks, DEFAULT, ROOT, Reply, Step, Story, Sum, Told};
+use image::Image;
+use ledger::{Blanks, Ledgers};
+use std::alloc::{AllocError, Global};
+use std::marker::Brand;
+use std::test::Fail;
+use table::{Limits, Outcome, Table, Ticket};
+
+/// The unique number of each LOOKUP that is one step.
+const LOOKUP: u64 = 0;
+
+/// What came otherwise than a story says.
+#[derive(Debug, Drop)]
+pub enum Wrong<'a> {
+    /// The step at that place, from 0, told something else.
+    At(usize, Told, Step<'a>),
+    /// After the step at that place the table did not keep its law.
+    Unlawful(usize),
+    /// The shares add up to something else.
+    Gathers(Sum),
+    /// So many lookups came back to each of two threads.
+    Amounts(u64, u64),
+    /// A table has at least one node.
+    NoNodes,
+}
+
+impl From<bool> for Told {
+    fn from(holds: bool) -> Told {
+        if holds { Told::Shown } else { Told::Otherwise }
+    }
+}
+
+/// Whether the image shows what the step says of it.
+fn shows(alloc: Global, image: &Image, step: &Step) -> Result<bool, AllocError> {
+    Ok(match *step {
+        Step::Nodes(nodes) => shows_nodes(image, nodes),
+        Step::Ledger(postings) => shows_ledger(image, postings),
+        Step::Requests(requests) => shows_requests(image, requests),
+        Step::Holds(holds) => shows_holds(alloc, image, holds)?,
+        Step::Size(nodes, postings, requests) => {
+            (nodes, postings, requests)
+                == (
+                    image.nodes.as_slice().len(),
+                    image.postings.as_slice().len(),
+                    image.records.as_slice().len(),
+                )
+        }
+        _ => false,
+    })
+}
+
+impl<L: Ledgers> Desk<L> {
+    /// A LOOKUP from its begin to its settle as taken: what its finish told, or its begin where that refused it.
+    fn look_up(&mut self, parent: u64, name: &str) -> Result<Told, AllocError> {
+        let begun = self.begin(LOOKUP, Asks::Name(parent, name))?;
+        if begun != Told::Go {
+            return Ok(begun);
+        }
+        let told = self.finish(LOOKUP, Outcome::Entry)?;
+        match self.settle(LOOKUP, Reply::Taken) {
+            Told::Settled(_) => Ok(told),
+            settled => Ok(settled),
+        }
+    }
+
+    /// Takes a ticket of another table.
+    fn take_stranger(&mut self, unique: u64) -> Result<Told, AllocError> {
+        self.tickets.reserve(1)?;
+        match stranger(self.alloc)? {
+            Some(ticket) => {
+                self.tickets.push_reserved(Begun { unique, ticket });
+                Ok(Told::Shown)
+            }
+            None => Ok(Told::Otherwise),
+        }
+    }
+
+    fn has_paths(&self, unique: u64, paths: &[&str]) -> Result<bool, AllocError> {
+        match self.tickets.iter().find(|begun| begun.unique == unique) {
+            Some(begun) => shows_paths(self.alloc, &begun.ticket, paths),
+            None => Ok(false),
+        }
+    }
+
+    fn has_share(&self, index: usize, sum: Sum) -> bool {
+        let mut shares = [&self.share].into_iter().chain(self.others.iter());
+        shares.any(|share| share.index() == index && Sum::from(share.totals()) == sum)
+    }
+
+    /// What a step came to.
+    pub fn take(&mut self, step: &Step) -> Result<Told, AllocError> {
+        Ok(match *step {
+            Step::Begin(unique, asks, _) => self.begin(unique, asks)?,
+            Step::Finish(unique, outcome, _) => self.finish(unique, outcome)?,
+            Step::Settle(unique, reply, _) => self.settle(unique, reply),
+            Step::Forget(number, n, _) => self.forget(number, n),
+            Step::LookUp(parent, name, _) => self.look_up(parent, name)?,
+            Step::Stranger(unique) => self.take_stranger(unique)?,
+            Step::Worker(worker) => self.pass(worker).into(),
+            Step::LeaveShare => self.leave_share().into(),
+            Step::Paths(unique, paths) => self.has_paths(unique, paths)?.into(),
+            Step::Share(index, sum) => self.has_share(index, sum).into(),
+            _ => shows(self.alloc, &self.image()?, step)?.into(),
+        })
+    }
+
+    /// Takes a step, after which the table keeps its law.
+    fn tell_one(&mut self, place: usize, step: &Step) -> Result<(), Fail> {
+        let told = self.take(step)?;
+        if told != step.said() {
+            return Err(Wrong::At(place, told, *step).into());
+        }
+        self.attest(place)
+    }
+
+    /// Fails where the table does not keep its law, after the step at that place.
+    pub fn attest(&self, place: usize) -> Result<(), Fail> {
+        match self.image()?.lawful() {
+            true => Ok(()),
+            false => Err(Wrong::Unlawful(place).into()),
+        }
+    }
+
+    /// Takes each step.
+    pub fn tell(&mut self, steps: &[Step]) -> Result<(), Fail> {
+        for (place, step) in steps.iter().enumerate() {
+            self.tell_one(place, step)?;
+        }
+        Ok(())
+    }
+}
+
+/// What is done with a table, whatever names its ledgers.
+pub trait Play {
+    fn play<L: Ledgers>(&mut self, desk: &mut Desk<L>) -> Result<(), Fail>;
+}
+
+impl Play for Story<'_> {
+    fn play<L: Ledgers>(&mut self, desk: &mut Desk<L>) -> Result<(), Fail> {
+        desk.tell(self.steps)
+    }
+}
+
+fn play_on<L: Ledgers, P: Play>(
+    alloc: Global,
+    limits: Limits,
+    blanks: Blanks,
+    play: &mut P,
+) -> Result<Sum, Fail>
+    requires root { 1 ≤ limits.nodes }
+    requires names { blanks ≡ L.names }
+    requires shares { L.names.parts ≡ 2 }
+{
+    let (table, shares) = Table::<L>::open(alloc, limits, blanks, 2)?;
+    let mut desk = Desk::new(alloc, table, shares);
+    let played = play.play(&mut desk);
+    let sum = desk.end();
+    played?;
+    Ok(sum)
+}
+
+/// Opens a table with two shares, plays with it, and gathers the shares.
+pub fn play_new<P: Play>(alloc: Global, limits: Limits, play: &mut P) -> Result<Sum, Fail> {
+    if limits.nodes == 0 {
+        return Err(Wrong::NoNodes.into());
+    }
+    play_on::<Brand, P>(alloc, limits, Blanks::new(2), play)
+}
+
+/// Tells a story to a new table with two shares. Fails at the first step that comes otherwise.
+pub fn run(alloc: Global, story: &Story) -> Result<(), Fail> {
+    let mut told = *story;
+    let sum = play_new(alloc, story.limits, &mut told)?;
+    if sum != story.gathers {
+        return Err(Wrong::Gathers(sum).into());
+    }
+    Ok(())
+}
+
+fn stranger_on<L: Ledgers>(alloc: Global, blanks: Blanks) -> Result<Option<Ticket>, AllocError>
+    requires names { blanks ≡ L.names }
+    requires shares { L.names.parts ≡ 1 }
+{
+    let (table, shares) = Table::<L>::open(alloc, DEFAULT, blanks, 1)?;
+    let mut desk = Desk::new(alloc, table, shares);
+    let _told = desk.begin(LOOKUP, Asks::Name(ROOT, "a"));
+    Ok(desk.leave_with_ticket())
+}
+
+/// The ticket of the first request of a table, which asks for `a` in the root.
+fn stranger(alloc: Global) -> Result<Option<Ticket>, AllocError> {
+    stranger_on::<Brand>(alloc, Blanks::new(1))
+}
