@@ -1,4 +1,4 @@
-//! Runs: calls on what is in hand, where a ticket and an answer are named by their place.
+//! Runs: calls on what is pending, where a ticket and an answer are named by their place.
 
 use crate::desk::{Desk, told_by, want_of};
 use crate::story::Asks::{Name, Remove};
@@ -10,11 +10,12 @@ use crate::teller::{Play, Wrong, play_new};
 use errno::ESTALE;
 use image::Stage::Answered;
 use ledger::Ledgers;
+use runs::{Call, Pending, Started, Told as CallTold};
 use std::alloc::{AllocError, Global};
 use std::test::Fail;
-use table::{Begun, Call, Hand, Outcome, Told as CallTold};
+use table::Outcome;
 
-/// A call on what is in hand.
+/// A call on what is pending.
 #[derive(Clone, Copy, Debug)]
 enum Made<'a> {
     Begin(u64, Asks<'a>),
@@ -27,11 +28,15 @@ enum Made<'a> {
 #[derive(Debug, Drop)]
 struct Mistold<'a>(usize, Told, Made<'a>);
 
-/// So many tickets and answers are in hand.
+/// So many tickets and answers are pending.
 #[derive(Debug, Drop)]
 struct InHand(usize, usize);
 
-/// `b` is given first, then `c` is removed, then `a` is given. Where nothing is in hand, nothing is done.
+/// A run of calls told something else, of so many of them.
+#[derive(Debug, Drop)]
+struct Unlike(usize);
+
+/// `b` is given first, then `c` is removed, then `a` is given. Where nothing is pending, nothing is done.
 const CALLS: &[(Made, Told)] = &[
     (Made::Begin(1, Name(ROOT, "a")), Go),
     (Made::Begin(2, Name(ROOT, "b")), Go),
@@ -49,7 +54,7 @@ const CALLS: &[(Made, Told)] = &[
     (Made::Forget(3, 2), Amount(1)),
 ];
 
-/// What the table shows after them. One answer is in hand, that of the first request.
+/// What the table shows after them. One answer is pending, that of the first request.
 const AFTER: &[Step] = &[
     Step::Nodes(&[TOP, Living(3, 0, At(ROOT, "a"), 0)]),
     Step::Ledger(&[
@@ -78,14 +83,14 @@ fn call_of(alloc: Global, made: Made) -> Result<Call, AllocError> {
     })
 }
 
-/// What a call told. Its answer is the last one in hand.
-fn told_of(told: CallTold, hand: &Hand) -> Told {
+/// What a call told. Its answer is the last one pending.
+fn told_of(told: CallTold, pending: &Pending) -> Told {
     match told {
         CallTold::Nothing => Told::Nothing,
         CallTold::Begun => Told::Go,
         CallTold::Busy => Told::Busy,
         CallTold::Refused(errno) => Told::Refused(errno),
-        CallTold::Finished => match hand.answers().last() {
+        CallTold::Finished => match pending.answers().last() {
             Some(answered) => told_by(answered, answered.id()),
             None => Told::Otherwise,
         },
@@ -94,23 +99,47 @@ fn told_of(told: CallTold, hand: &Hand) -> Told {
     }
 }
 
+/// Whether a call of a run told that, as far as it is told without its answer.
+fn agrees(told: &CallTold, said: Told) -> bool {
+    match (told, said) {
+        (CallTold::Nothing, Told::Nothing)
+        | (CallTold::Begun, Told::Go)
+        | (CallTold::Busy, Told::Busy)
+        | (CallTold::Finished, Told::Given(..) | Told::Ended) => true,
+        (CallTold::Refused(errno), Told::Refused(other)) => *errno == other,
+        (CallTold::Settled(settled), Told::Settled(entries)) => settled.entries() == entries,
+        (CallTold::Forgot(amount), Told::Amount(other)) => *amount == other,
+        _ => false,
+    }
+}
+
 impl<L: Ledgers> Desk<L> {
     /// Makes all calls in one run.
-    fn make_all(&mut self, hand: &mut Hand) -> Result<(), Fail> {
+    fn make_all(&mut self, pending: &mut Pending) -> Result<(), Fail> {
         let mut calls = Vec::new(self.alloc);
         for (made, _) in CALLS {
             calls.push(call_of(self.alloc, *made)?)?;
         }
-        self.table.run(&mut self.share, hand, calls)?;
-        Ok(())
+        let mut told = Vec::new(self.alloc);
+        runs::run(
+            &mut self.table,
+            &mut self.share,
+            pending,
+            calls,
+            &mut told,
+        )?;
+        match told.len() == CALLS.len() && told.iter().zip(CALLS).all(|(told, (_, said))| agrees(told, *said)) {
+            true => Ok(()),
+            false => Err(Unlike(told.len()).into()),
+        }
     }
 
     /// Makes one call after another. Fails at the first that tells something else.
-    fn make_each(&mut self, hand: &mut Hand) -> Result<(), Fail> {
+    fn make_each(&mut self, pending: &mut Pending) -> Result<(), Fail> {
         for (place, (made, said)) in CALLS.iter().enumerate() {
             let call = call_of(self.alloc, *made)?;
-            let told = self.table.call(&mut self.share, hand, call)?;
-            let told = told_of(told, hand);
+            let told = runs::make(&mut self.table, &mut self.share, pending, call)?;
+            let told = told_of(told, pending);
             if told != *said {
                 return Err(Mistold(place, told, *made).into());
             }
@@ -119,9 +148,9 @@ impl<L: Ledgers> Desk<L> {
     }
 
     /// Ends what is worked on without an entry, and gives the answers up.
-    fn give_up(&mut self, hand: Hand) {
-        let (mut tickets, mut answers) = hand.into_parts();
-        while let Some(Begun { ticket, want: _ }) = tickets.pop() {
+    fn give_up(&mut self, pending: Pending) {
+        let (mut tickets, mut answers) = pending.into_parts();
+        while let Some(Started { ticket, want: _ }) = tickets.pop() {
             self.table
                 .finish(&mut self.share, ticket, Outcome::Failed)
                 .leave();
@@ -142,13 +171,13 @@ struct Calls {
 
 impl Play for Calls {
     fn play<L: Ledgers>(&mut self, desk: &mut Desk<L>) -> Result<(), Fail> {
-        let mut hand = Hand::new(desk.alloc);
+        let mut pending = Pending::new(desk.alloc);
         let made = match self.at_once {
-            true => desk.make_all(&mut hand),
-            false => desk.make_each(&mut hand),
+            true => desk.make_all(&mut pending),
+            false => desk.make_each(&mut pending),
         };
-        let (tickets, answers) = (hand.tickets().len(), hand.answers().len());
-        desk.give_up(hand);
+        let (tickets, answers) = (pending.tickets().len(), pending.answers().len());
+        desk.give_up(pending);
         made?;
         if (tickets, answers) != (0, 1) {
             return Err(InHand(tickets, answers).into());

@@ -115,13 +115,17 @@ pub fn shows_holds(alloc: Global, image: &Image, said: &[Holding]) -> Result<boo
 
 /// Whether these are the paths of a ticket. It tells of a move to the same path, and of nothing else, that it is one.
 pub fn shows_paths(alloc: Global, ticket: &Ticket, said: &[&str]) -> Result<bool, AllocError> {
-    match (said, ticket.target()) {
-        ([text], None) => Ok(ticket.path().is(&path_of(alloc, text)?) && !ticket.same()),
-        ([text, new], Some(target)) => Ok(
-            ticket.path().is(&path_of(alloc, text)?)
-                && target.is(&path_of(alloc, new)?)
-                && ticket.same() == (*text == *new),
-        ),
-        _ => Ok(false),
+    let paths = ticket.paths();
+    if paths.len() != said.len() {
+        return Ok(false);
     }
+    for (path, text) in paths.iter().zip(said) {
+        if !path.is(&path_of(alloc, text)?) {
+            return Ok(false);
+        }
+    }
+    Ok(match said {
+        [old, new] => ticket.same() == (*old == *new),
+        _ => !ticket.same(),
+    })
 }
