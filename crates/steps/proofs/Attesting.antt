@@ -1,5 +1,5 @@
 -- What holds of the parts makes a lawful world.
-use Rattle.std.proofs.Common.{◌+◌, ◌≤◌, length, arith}
+use Rattle.std.proofs.Common.{arith}
 use Rattle.flights.specs.Flying.{IsTallied}
 use Rattle.flights.specs.Listed.{flying_of}
 use Rattle.tree.specs.Places.{IsCensus, at_in}

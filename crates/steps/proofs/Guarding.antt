@@ -1,15 +1,12 @@
 -- What one request holds alone is no prefix of a path whose prefixes another holds, so that its changes leave that path.
-use Rattle.std.proofs.Common.{ℕ, zero, suc, ◌+◌, ◌≡◌, ◌≢◌, ◌==◌, ◌&&◌, ◌||◌, Bool, true, false, if◌then◌else◌, List, length, [], ◌∷◌, ◌++◌, Option, Some, None, Contains, reverse, refl, sym, ap, ◌∙◌, subst, inl, inr}
-use Rattle.std.specs.Prelude.{map}
+use Rattle.std.proofs.Common.{ℕ, ◌+◌, ◌≡◌, ◌≢◌, Bool, true, false, List, [], ◌∷◌, ◌++◌, Option, Some, None, Contains, reverse, refl, sym, ap, ◌∙◌, subst, inl, inr}
 use Rattle.std.proofs.lemmas.Bool.{cases_Bool}
 use Rattle.paths.specs.Fronts.{Name, Names, is_front}
 use Rattle.holds.specs.declared.held.Held.{Held}
 use Rattle.holds.specs.Clashes.{Clash, IsHeld}
 use Rattle.tree.specs.declared.nodes.Node.{Node}
-use Rattle.tree.specs.Moves.{Changes, Stands, Where, after_move, at_path}
 use Rattle.tree.specs.Places.{Lookup, IsNamed, IsPathOf, IsTree, Reaches}
 use Rattle.tree.proofs.Transfers.{path_after_cut, path_after_move}
-use Rattle.tree.proofs.Writing.{reaches_now}
 use Rattle.flights.specs.declared.data.Given.{Given}
 use Rattle.ledger.specs.declared.postings.Posting.{Posting}
 use Rattle.tree.specs.declared.nodes.Key.{Key}
@@ -27,7 +24,7 @@ use Rattle.steps.specs.Laws.{AreEntriesHarmless, AreOthersLeft, AreSweepsHarmles
 use Rattle.wants.specs.Rows.{AtName, AtNode, Case, Change, Demand, Location, cuts, moves, row_of, stays}
 use Rattle.steps.specs.Steps.{Alters, EntersAll, HoldsUp, Moves, act_of}
 use Rattle.steps.specs.World.{Flight, Flights, IsAtWork, Work}
-use Rattle.wants.proofs.Members.{any_in, first_in, later_in}
+use Rattle.wants.proofs.Members.{any_in}
 use Rattle.wants.proofs.RowLemmas.{are_rows}
 use Rattle.steps.proofs.Staying.{KeepsPaths, paths_kept, ready_kept}
 

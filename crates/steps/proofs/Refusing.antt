@@ -1,5 +1,5 @@
 -- An error number is written and read as it is.
-use Rattle.std.proofs.Common.{ℤ, ◌≡◌, ap, inl, inr, to_z, of_z, w32}
+use Rattle.std.proofs.Common.{ℤ, ap, inl, inr, to_z, of_z, w32}
 use Rattle.paths.specs.Fronts.{Names}
 use Rattle.tree.specs.Places.{Lookup}
 use Rattle.wants.specs.Asked.{IsMisplaced, IsRefusedMove, IsUnsound, long, misplaced, no_memory, stale}

@@ -1,5 +1,5 @@
 -- More room changes nothing else.
-use Rattle.std.proofs.Common.{ℕ, ◌+◌, ◌≤◌, ◌≡◌, Bool, List, length, refl, sym, ap, ◌∙◌, subst, arith}
+use Rattle.std.proofs.Common.{ℕ, ◌≤◌, ◌≡◌, Bool, List, length, sym, ap, ◌∙◌, subst, arith}
 use Rattle.flights.specs.Flying.{Flying, IsFlying}
 use Rattle.flights.specs.Listed.{InFlight, flying_of}
 use Rattle.image.specs.Law.{IsLawful}

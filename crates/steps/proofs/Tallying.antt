@@ -1,21 +1,18 @@
 -- The running totals are the sums of what a world shows.
-use Rattle.std.proofs.Common.{ℕ, ◌+◌, ◌≤◌, ◌≡◌, ◌↔◌, Bool, List, [], ◌∷◌, Option, Some, None, Contains, refl, sym, ap, ◌∙◌, subst, arith}
-use Rattle.std.specs.Prelude.{IsSome, is_some, option_map, sum_by, unwrap_or}
+use Rattle.std.proofs.Common.{ℕ, ◌≡◌, Option, Some, None, refl, sym, ap, ◌∙◌}
+use Rattle.std.specs.Prelude.{is_some, option_map, sum_by, unwrap_or}
 use mathlib.Core.Path.{fun_ext}
 use Rattle.flights.specs.declared.data.Flight.{Flight as Recorded}
 use Rattle.flights.specs.declared.data.Stage.{Stage as Recording}
 use Rattle.flights.specs.declared.data.Stage.TheVariants as recorded
-use Rattle.flights.specs.declared.data.Work.{Work as RecordedWork}
 use Rattle.flights.specs.declared.data.Promise.{Promise}
 use Rattle.flights.specs.Flying.{Flying, IsTallied, nodes_promised, postings_promised}
 use Rattle.flights.specs.Listed.{flying_of}
 use Rattle.sums.specs.Sum.{IsSum}
 use Rattle.tree.specs.Places.{IsCensus, at_in}
-use Rattle.wants.specs.Plans.{row_in}
-use Rattle.wants.specs.Asked.{promise_of}
 use Rattle.steps.specs.declared.state.State.{State}
-use Rattle.steps.specs.Kept.{AreProvided, flight_of, flights_in, stage_of, tally_of, world_of}
-use Rattle.steps.specs.World.{Flight, IsTally, promised_to}
+use Rattle.steps.specs.Kept.{AreProvided, flight_of, stage_of, tally_of, world_of}
+use Rattle.steps.specs.World.{IsTally, promised_to}
 
 module _ {X Y : Type 0} where
   found_mapped : (f : X → Y) (o : Option X) → is_some (option_map f o) ≡ is_some o

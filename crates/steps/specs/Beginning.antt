@@ -1,5 +1,5 @@
 -- The parts of a beginning, as the running totals judge them.
-use Rattle.std.specs.Prelude.{ℕ, ℤ, ◌+◌, ◌<◌, ◌≤◌, ◌≡◌, ◌⊎◌, length}
+use Rattle.std.specs.Prelude.{ℤ, ◌+◌, ◌<◌, ◌≤◌, ◌≡◌, ◌⊎◌, length}
 use Rattle.errno.specs.declared.TheConstants.{EAGAIN, ENFILE}
 use Rattle.flights.specs.declared.data.Promise.{Promise}
 use Rattle.flights.specs.Listed.{flying_of}

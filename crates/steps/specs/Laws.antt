@@ -1,5 +1,5 @@
 -- What is proved of the steps, whatever the want.
-use Rattle.std.specs.Prelude.{ℕ, ◌≡◌, ◌≤◌, Bool, List, Option, None, Contains, ◌++◌}
+use Rattle.std.specs.Prelude.{ℕ, ◌≡◌, Bool, List, Option, None, Contains, ◌++◌}
 use Rattle.flights.specs.declared.data.Given.{Given}
 use Rattle.flights.specs.declared.data.Want.{Want}
 use Rattle.holds.specs.declared.held.Held.{Held}

@@ -1,5 +1,5 @@
 -- The steps of a table. Each says the whole new world.
-use Rattle.std.specs.Prelude.{ℕ, ℤ, ◌+◌, ◌-◌, ◌<◌, ◌≡◌, ◌==◌, ◌↔◌, if◌then◌else◌, Bool, true, false, List, [], ◌∷◌, ◌++◌, Option, Some, None, Contains, length, drop, map, min}
+use Rattle.std.specs.Prelude.{ℕ, ℤ, ◌+◌, ◌-◌, ◌<◌, ◌≡◌, ◌↔◌, Bool, true, false, List, [], ◌∷◌, ◌++◌, Option, Some, None, Contains, length, drop, map, min}
 use Rattle.errno.specs.declared.TheConstants.{EAGAIN, ENFILE}
 use Rattle.flights.specs.declared.data.Given.{Given}
 use Rattle.flights.specs.declared.data.Want.{Want}
