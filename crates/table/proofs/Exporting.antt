@@ -114,13 +114,17 @@ record_seen : (rs : List Record) (id : ℕ) (o : Option Flight) → ((f : Flight
     → MatchOption o (record_in rs id ≡ None) (λ f. (r : Record) × (record_in rs id ≡ Some r) × IsCopyOf f r)
     → MatchOption (option_map flight_of o) (record_in rs id ≡ None) (λ f. (r : Record) × (record_in rs id ≡ Some r) × IsRecordOf id f r)
 record_seen rs id None numbered none = none
-record_seen rs id (Some f) numbered (r, found, copy) = (r, found, record {
-  id_is = copy.id ∙ numbered f refl;
-  unique = copy.unique;
-  stage = copy.stage ∙ stage_seen f.stage;
-  pins = copy.pins;
-  held = copy.held ∙ held_seen f.stage;
-})
+record_seen rs id (Some f) numbered (r, found, copy) = (
+  r,
+  found,
+  record {
+    id_is = copy.id ∙ numbered f refl;
+    unique = copy.unique;
+    stage = copy.stage ∙ stage_seen f.stage;
+    pins = copy.pins;
+    held = copy.held ∙ held_seen f.stage;
+  },
+)
 
 -- the request that a record at a place shows while it is worked on
 record IsShown (flights : Flights) (fs : List Flight) (i : ℕ) (r : Record) : Type 0 where

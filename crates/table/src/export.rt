@@ -15,8 +15,8 @@ use flights::{Flight, Flights};
 use holds::{Held, Lead, Leads, Paths};
 use image::{Hold, Holds, Image, Nodes, Numbers, Postings, Record, Records, Stage};
 use paths::Path;
-use steps::State;
 use std::alloc::{AllocError, Global};
+use steps::State;
 use tree::{Key, Node, Place, Tree};
 
 /// The same place once more.

@@ -121,14 +121,13 @@ impl<L: Ledgers> Desk<L> {
             calls.push(call_of(self.alloc, *made)?)?;
         }
         let mut told = Vec::new(self.alloc);
-        runs::run(
-            &mut self.table,
-            &mut self.share,
-            pending,
-            calls,
-            &mut told,
-        )?;
-        match told.len() == CALLS.len() && told.iter().zip(CALLS).all(|(told, (_, said))| agrees(told, *said)) {
+        runs::run(&mut self.table, &mut self.share, pending, calls, &mut told)?;
+        match told.len() == CALLS.len()
+            && told
+                .iter()
+                .zip(CALLS)
+                .all(|(told, (_, said))| agrees(told, *said))
+        {
             true => Ok(()),
             false => Err(Unlike(told.len()).into()),
         }
