@@ -86,10 +86,15 @@ pub fn run_on(rt: &impl Wait, alloc: Global, input: &[u8]) -> Run {
     run_from(rt, alloc, true, input)
 }
 
-/// Runs `hex` with the sample names on these lines.
-pub fn run_lines(rt: &impl Wait, alloc: Global, lines: &[&str]) -> Result<Run, AllocError> {
-    let input = lines_of(alloc, lines)?;
-    Ok(run_on(rt, alloc, &input))
+/// Runs `hex` with the sample names on these bytes, with so much room for what it writes.
+pub fn run_into(rt: &impl Wait, alloc: Global, input: &[u8], room: &mut [u8]) -> Run {
+    let mut faults = Vec::new(alloc);
+    let ended = hex_run(rt, alloc, true, input, room, &mut faults);
+    Run {
+        status: ended.status,
+        output: Vec::new(alloc),
+        faults,
+    }
 }
 
 /// Runs the program with these words on these lines.

@@ -8,6 +8,8 @@ mod lines;
 #[cfg(test)]
 mod lookups;
 #[cfg(test)]
+mod row;
+#[cfg(test)]
 mod runs;
 #[cfg(test)]
 mod untaken;
