@@ -1,4 +1,4 @@
-//! Clients that do not take a reply, and directories that answer strangely.
+//! Clients that do not take a reply, directories that answer strangely, and what is left of the input at the end.
 
 ghost use Rattle.std.specs.Prelude.{◌≡◌};
 
@@ -174,6 +174,24 @@ fn strange_errors(rt: HostRuntime) -> Result<(), Fail> {
         let left = serve_choosy::<HostRuntime, Brand>(&rt, alloc, Blanks::new(1), planned, client)?;
         assert!(rt; left.taken.as_slice() == reply.as_slice(), "errno {errno}");
         assert_eq!(rt; left.totals.entries, 0);
+    }
+    Ok(())
+}
+
+/// LOOKUP `a` without the last byte of its frame.
+const TRUNCATED: &str =
+    "2a000000 01000000 0700000000000000 0100000000000000 00000000 00000000 00000000 00000000 61";
+
+// What is no whole frame at the end of the input is told, and nothing is replied to it.
+#[test]
+fn rest_of_the_input(rt: HostRuntime) -> Result<(), Fail> {
+    let alloc = rt.alloc();
+    let ends: [(&[&str], usize); 2] = [(&[], 0), (&[TRUNCATED], 41)];
+    for (lines, rest) in ends {
+        let client = client_of(alloc, lines, 0)?;
+        let left = serve_choosy::<HostRuntime, Brand>(&rt, alloc, Blanks::new(1), None, client)?;
+        assert_eq!(rt; left.end, SessionEnd::Closed { rest });
+        assert!(rt; left.taken.is_empty());
     }
     Ok(())
 }
