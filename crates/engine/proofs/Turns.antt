@@ -14,14 +14,14 @@ use Rattle.wire.specs.declared.reply.Reply.{Reply}
 use Rattle.wire.specs.declared.reply.ReplyBody.{ReplyBody}
 use Rattle.wire.specs.declared.reply.ReplyBody.TheVariants.{Failed}
 use Rattle.wire.specs.declared.request.Request.{Request}
-use Rattle.engine.specs.declared.intents.Intent.{Intent}
-use Rattle.engine.specs.declared.intents.Intent.TheVariants as intents
+use Rattle.ops.specs.declared.intents.Intent.{Intent}
+use Rattle.ops.specs.declared.intents.Intent.TheVariants as intents
 use Rattle.engine.specs.declared.links.Sent.{Sent}
-use Rattle.engine.specs.declared.replies.Settings.{Settings}
-use Rattle.engine.specs.Intents.{intent, IsBegun}
+use Rattle.ops.specs.declared.replies.Settings.{Settings}
+use Rattle.ops.specs.Intents.{intent, IsBegun}
 use Rattle.engine.specs.Reference.{Place, AtBegin, AtReply, Turn, IsSaid, Says, Serves, Carries, WorksOff, is_unanswered}
 use Rattle.engine.specs.Replies.{refusal, TakesMemory}
-use Rattle.engine.specs.Scripts.{Made}
+use Rattle.ops.specs.Scripts.{Made}
 use Rattle.engine.specs.Tables.{Table}
 use Rattle.engine.specs.Walks.{IsAnswered, WorkedOff, Performs, CarriesOut}
 

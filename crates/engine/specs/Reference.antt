@@ -14,17 +14,18 @@ use Rattle.wire.specs.declared.reply.Reply.{Reply}
 use Rattle.wire.specs.declared.reply.ReplyBody.{ReplyBody}
 use Rattle.wire.specs.declared.reply.ReplyBody.TheVariants.{Failed}
 use Rattle.wire.specs.declared.request.Request.{Request}
-use Rattle.engine.specs.declared.intents.Intent.{Intent}
-use Rattle.engine.specs.declared.intents.Intent.TheVariants as intents
+use Rattle.ops.specs.declared.intents.Intent.{Intent}
+use Rattle.ops.specs.declared.intents.Intent.TheVariants as intents
 use Rattle.engine.specs.declared.links.Sent.{Sent}
 use Rattle.engine.specs.declared.links.Sent.TheVariants.{Taken, Untaken, Broken}
-use Rattle.engine.specs.declared.replies.Settings.{Settings}
+use Rattle.ops.specs.declared.replies.Settings.{Settings}
 use Rattle.engine.specs.declared.ends.SessionEnd.{SessionEnd}
 use Rattle.engine.specs.declared.ends.SessionEnd.TheVariants as ends
 use Rattle.engine.specs.Chain.{Chain}
-use Rattle.engine.specs.Intents.{intent}
-use Rattle.engine.specs.Replies.{reply_to, TakesMemory}
-use Rattle.engine.specs.Scripts.{plan_of, End, Made, Follows}
+use Rattle.ops.specs.Intents.{intent}
+use Rattle.engine.specs.Replies.{TakesMemory}
+use Rattle.ops.specs.Replies.{reply_to}
+use Rattle.ops.specs.Scripts.{plan_of, End, Made, Follows}
 use Rattle.engine.specs.Tables.{Table}
 
 -- ---- one frame: what came of it

@@ -13,12 +13,12 @@ use Rattle.wire.specs.declared.request.Request.{Request}
 use Rattle.engine.specs.declared.ends.SessionEnd.{SessionEnd}
 use Rattle.engine.specs.declared.ends.SessionEnd.TheVariants as ends
 use Rattle.engine.specs.declared.links.Sent.{Sent}
-use Rattle.engine.specs.declared.replies.Settings.{Settings}
+use Rattle.ops.specs.declared.replies.Settings.{Settings}
 use Rattle.engine.specs.Chain.{Chain}
 use Rattle.engine.specs.Links.{Heard, Piece, Ended, Broke}
 use Rattle.engine.specs.Reference.{At, Place, Turn, Offer, IsSaid, IsTurn, Meets, WorksOff, sent_in, taken_of}
-use Rattle.engine.specs.Replies.{reply_to}
-use Rattle.engine.specs.Scripts.{plan_of, End, Made, Follows}
+use Rattle.ops.specs.Replies.{reply_to}
+use Rattle.ops.specs.Scripts.{plan_of, End, Made, Follows}
 use Rattle.engine.specs.Serving.{Step, Hears, Works, Makes}
 use Rattle.engine.specs.Tables.{Table}
 

@@ -6,10 +6,10 @@ use Rattle.steps.specs.declared.data.Outcome.{Outcome}
 use Rattle.wire.specs.Written.{reply_bytes}
 use Rattle.wire.specs.declared.reply.ReplyBody.{ReplyBody}
 use Rattle.wire.specs.declared.reply.ReplyBody.TheVariants.{Failed}
-use Rattle.engine.specs.Playing.{end_of}
+use Rattle.ops.specs.Ahead.{end_of}
 use Rattle.engine.specs.Reference.{AtReply}
 use Rattle.engine.specs.Replies.{refusal, TakesMemory}
-use Rattle.engine.specs.Scripts.{Plan, Follows}
+use Rattle.ops.specs.Scripts.{Plan, Follows}
 use Rattle.engine.proofs.Turns.{sent_from}
 use Rattle.engine.proofs.session.Desk.perform.Goals as goal
 

@@ -1,8 +1,8 @@
 //! Replies to requests.
 
 ghost use Rattle.std.specs.Prelude.{◌≡◌};
-ghost use Rattle.engine.specs.Playing.{end_of};
-ghost use Rattle.engine.specs.Replies.{entry_reply, first, kind_of, reply_to};
+ghost use Rattle.ops.specs.Ahead.{end_of};
+ghost use Rattle.ops.specs.Replies.{entry_reply, first, kind_of, reply_to};
 
 use crate::script::Finding;
 use errno::EIO;

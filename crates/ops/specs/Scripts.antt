@@ -12,8 +12,7 @@ use Rattle.steps.specs.declared.data.Outcome.{Outcome}
 use Rattle.steps.specs.declared.data.Outcome.TheVariants.{Failed, Entry}
 use Rattle.wire.specs.declared.request.Operation.{Operation}
 use Rattle.wire.specs.declared.request.Operation.TheVariants.{Lookup, Forget}
-use Rattle.engine.specs.Judged.{errno_in, judged}
-use Rattle.engine.specs.Tables.{path_of}
+use Rattle.ops.specs.Judged.{errno_in, judged}
 
 -- ---- what a script comes to
 
@@ -51,6 +50,17 @@ if_found rest answer = failed (errno_in answer)
 
 abbrev pub look : Names → (Found → Plan) → Plan
 look p rest = Ask (AskStat p) (λ answer. if_found rest answer)
+
+-- ---- the paths of a ticket
+
+-- the first of some paths; the root's where there is none
+abbrev pub first_of : List Names → Names
+first_of [] = []
+first_of (path ∷ paths) = path
+
+-- the path that a ticket is about
+abbrev pub path_of : Claim → Names
+path_of ticket = first_of ticket.paths
 
 -- ---- the table of scripts
 

@@ -7,8 +7,8 @@ use Rattle.wire.specs.declared.reply.ReplyBody.TheVariants.{Failed}
 use Rattle.wire.specs.declared.request.Request.{Request}
 use Rattle.wire.specs.declared.request.Operation.{Operation}
 use Rattle.wire.specs.declared.request.Operation.TheVariants as ops
-use Rattle.engine.specs.declared.intents.Intent.{Intent}
-use Rattle.engine.specs.declared.intents.Intent.TheVariants.{Reply, Want, Forget}
+use Rattle.ops.specs.declared.intents.Intent.{Intent}
+use Rattle.ops.specs.declared.intents.Intent.TheVariants.{Reply, Want, Forget}
 
 -- a name that the server keeps for itself
 abbrev pub is_reserved : List ℕ → Bool

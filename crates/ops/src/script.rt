@@ -4,12 +4,11 @@ ghost use Rattle.std.specs.Prelude.{◌≡◌, ◌<◌};
 ghost use Rattle.backing.specs.Calls.{AskStat};
 ghost use Rattle.paths.specs.Fronts.{Names};
 ghost use Rattle.steps.specs.Answers.{Claim};
-ghost use Rattle.engine.specs.Judged.{judged};
-ghost use Rattle.engine.specs.Playing.{calls_left, end_of, entered, plan_ahead, Played};
-ghost use Rattle.engine.specs.Scripts.{after, if_found, next_of, plan_of, AsksNext, End, Over};
-ghost use Rattle.engine.specs.Tables.{path_of};
+ghost use Rattle.ops.specs.Judged.{judged};
+ghost use Rattle.ops.specs.Ahead.{calls_left, end_of, entered, plan_ahead};
+ghost use Rattle.ops.specs.Scripts.{after, if_found, next_of, path_of, plan_of, AsksNext, End, Over};
 
-use backing::{Answer, Call, Calls, Kind};
+use backing::{Answer, Call, Kind};
 use errno::EIO;
 use paths::Path;
 use table::Outcome;
@@ -84,7 +83,7 @@ fn judge(answer: &Answer) -> Finding
 impl<'a> Script<'a> {
     /// The script of a request whose ticket is about this path.
     pub fn start(operation: Operation<'_>, path: &'a Path) -> Script<'a>
-        ensures { (ticket : Claim) → path_of ticket ≡ path.now → plan_ahead result.path.now result.stage ≡ plan_of operation.entry ticket }
+        ensures { (ticket : Claim) → path_of ticket ≡ path.now → plan_ahead result ≡ plan_of operation.entry ticket }
     {
         let stage = match operation {
             Operation::Lookup { .. } => Stage::ToLook,
@@ -95,7 +94,7 @@ impl<'a> Script<'a> {
 
     /// The next call, or none where the script is over.
     pub fn next(&self) -> Option<Call<'_>>
-        ensures { AsksNext result (next_of (plan_ahead self.now.path.now self.now.stage)) }
+        ensures { AsksNext result (next_of (plan_ahead self.now)) }
     {
         match self.stage {
             Stage::ToLook => Some(Call::Stat(self.path)),
@@ -105,8 +104,8 @@ impl<'a> Script<'a> {
 
     /// Takes the answer to the next call.
     pub fn feed(&mut self, answer: Answer)
-        ensures plan { plan_ahead self.new.path.now self.new.stage ≡ after (plan_ahead self.old.path.now self.old.stage) answer }
-        ensures fewer { 0 < calls_left self.old.stage → calls_left self.new.stage < calls_left self.old.stage }
+        ensures plan { plan_ahead self.new ≡ after (plan_ahead self.old) answer }
+        ensures fewer { 0 < calls_left self.old → calls_left self.new < calls_left self.old }
     {
         self.stage = match self.stage {
             Stage::ToLook => Stage::Ended(judge(&answer)),
@@ -116,22 +115,11 @@ impl<'a> Script<'a> {
 
     /// What it has found, once it is over.
     pub fn finding(&self) -> Finding
-        ensures { (end : End) → plan_ahead self.now.path.now self.now.stage ≡ Over end → end_of result ≡ end }
+        ensures { (end : End) → plan_ahead self.now ≡ Over end → end_of result ≡ end }
     {
         match self.stage {
             Stage::ToLook => Finding::Failed { errno: EIO },
             Stage::Ended(found) => found,
         }
     }
-}
-
-/// Makes the calls of a script, each once and in order.
-pub fn play<C: Calls>(calls: &mut C, script: &mut Script<'_>) -> Finding
-    ensures { Played C.gives calls.old (plan_ahead script.old.path.now script.old.stage) calls.new (end_of result) }
-{
-    while let Some(call) = script.next() {
-        let answer = calls.call(call);
-        script.feed(answer);
-    }
-    script.finding()
 }

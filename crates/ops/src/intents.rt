@@ -1,7 +1,7 @@
 //! What a request needs before its script.
 
 ghost use Rattle.std.specs.Prelude.{◌≡◌, IfOk, OnErr};
-ghost use Rattle.engine.specs.Intents.{intent, is_reserved, IsBegun};
+ghost use Rattle.ops.specs.Intents.{intent, is_reserved, IsBegun};
 
 use errno::ENOENT;
 use paths::Name;
