@@ -1,7 +1,7 @@
 //! Requests and replies written as frames. The length of a frame is known first, so a vector grows once at most, and the
 //! writing that follows cannot fail.
 
-ghost use Rattle.std.specs.Prelude.{◌≡◌, ℕ, List, ◌≤◌, ◌+◌, ◌^◌, ◌++◌, ◌<◌, length, vec_len, vec_capacity, OnOk, OnErr, pos};
+ghost use Rattle.std.specs.Prelude.{◌≡◌, ℕ, List, ◌≤◌, ◌+◌, ◌^◌, ◌++◌, ◌<◌, length, vec_len, vec_capacity, OnOk, OnErr, IfSome, pos};
 ghost use Rattle.wire.specs.declared.reply.ReplyBody.TheVariants.{Failed, Done};
 ghost use Rattle.wire.specs.Fields.{CanTell, IsBytes};
 ghost use Rattle.wire.specs.Requests.{IsRequest};
@@ -14,6 +14,13 @@ use crate::reply::{REPLY_HEADER_LEN, Reply, ReplyBody};
 use crate::request::{HEADER_LEN, Request};
 use crate::writing::{opcode, operation_len, put_operation};
 use std::alloc::AllocError;
+
+/// How many bytes a request has, unless that passes all numbers.
+fn request_len(request: &Request<'_>) -> Option<usize>
+    ensures { IfSome result (λ len. len ≡ HEADER_LEN + length (operation_bytes request.now.operation)) }
+{
+    operation_len(&request.operation)?.checked_add(HEADER_LEN)
+}
 
 #[tactic(auto, using(crate::proofs::Lengths::lengths), unfolding(crate::specs::Written::request_bytes))]
 fn put_request(out: &mut Vec<u8>, request: &Request<'_>, len: usize)
@@ -37,10 +44,7 @@ pub fn encode_request(request: &Request<'_>, out: &mut Vec<u8>) -> Result<(), Al
     ensures again { (frame : List ℕ) → IsBytes frame → IsRequest frame request.now → IsRequest (request_bytes request.now) request.now }
     ensures err { OnErr result (out.new.items ≡ out.old.items) }
 {
-    let Some(len) = operation_len(&request.operation) else {
-        return Err(AllocError);
-    };
-    let Some(len) = len.checked_add(HEADER_LEN) else {
+    let Some(len) = request_len(request) else {
         return Err(AllocError);
     };
     out.reserve(len)?;

@@ -5,7 +5,7 @@ ghost use Rattle.wire.specs.Fields.{text, u64, num, name};
 ghost use Rattle.wire.specs.Reading.{Gives, fields_at, operation_at, told};
 
 use crate::fault::WireFault;
-use crate::fields::{name_of, nothing_left, text_front, u32_front, u64_front, unread_front};
+use crate::fronts::{name_of, nothing_left, text_front, u32_front, u64_front, unread_front};
 use crate::opcode::{FORGET, GETATTR, LOOKUP, MKDIR, RENAME, RMDIR, SETATTR, STATFS, UNLINK};
 use crate::request::Operation;
 
