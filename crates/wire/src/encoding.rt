@@ -1,39 +1,35 @@
 //! Requests and replies written as frames. The length of a frame is known first, so a vector grows once at most, and the
 //! writing that follows cannot fail.
 
-ghost use Rattle.std.specs.Prelude.{◌≡◌, ℕ, List, ◌≤◌, ◌+◌, ◌^◌, ◌++◌, ◌<◌, length, vec_len, vec_capacity, OnOk, OnErr, IfSome, pos};
+ghost use Rattle.std.specs.Prelude.{◌≡◌, ℕ, List, ◌≤◌, ◌+◌, ◌^◌, ◌++◌, ◌<◌, length, vec_len, vec_capacity, OnOk, OnErr, pos};
 ghost use Rattle.wire.specs.declared.reply.ReplyBody.TheVariants.{Failed, Done};
 ghost use Rattle.wire.specs.Fields.{CanTell, IsBytes};
-ghost use Rattle.wire.specs.Requests.{IsRequest};
+ghost use Rattle.wire.specs.Requests.{IsRequest, opcode_of};
 ghost use Rattle.wire.specs.Replies.{IsReply, IsAnswer, IsErrno, reply_layout, reply_values};
+ghost use Rattle.wire.specs.Rows.{parts_bytes};
 ghost use Rattle.wire.specs.Written.{operation_bytes, request_bytes, reply_bytes, body_bytes, error_word, negated as negated_of};
 
 use crate::bodies::{body_len, put_body};
 use crate::put::{put_low_u32, put_u32, put_u64, put_zeros};
 use crate::reply::{REPLY_HEADER_LEN, Reply, ReplyBody};
 use crate::request::{HEADER_LEN, Request};
-use crate::writing::{opcode, operation_len, put_operation};
+use crate::writing::{Row, put_parts, request_len, row_of};
 use std::alloc::AllocError;
 
-/// How many bytes a request has, unless that passes all numbers.
-fn request_len(request: &Request<'_>) -> Option<usize>
-    ensures { IfSome result (λ len. len ≡ HEADER_LEN + length (operation_bytes request.now.operation)) }
-{
-    operation_len(&request.operation)?.checked_add(HEADER_LEN)
-}
-
 #[tactic(auto, using(crate::proofs::Lengths::lengths), unfolding(crate::specs::Written::request_bytes))]
-fn put_request(out: &mut Vec<u8>, request: &Request<'_>, len: usize)
+fn put_request(out: &mut Vec<u8>, request: &Request<'_>, row: &Row<'_>, len: usize)
+    requires opcode { row.now.opcode ≡ opcode_of request.now.operation }
+    requires parts { parts_bytes row.now.parts ≡ operation_bytes request.now.operation }
     requires room { vec_len out.old + HEADER_LEN + length (operation_bytes request.now.operation) ≤ vec_capacity out.old }
     requires len { len ≡ HEADER_LEN + length (operation_bytes request.now.operation) }
     ensures { out.new.items ≡ out.old.items ++ request_bytes request.now }
 {
     put_low_u32(out, len);
-    put_u32(out, opcode(&request.operation));
+    put_u32(out, row.opcode);
     put_u64(out, request.unique);
     put_u64(out, request.node);
     put_zeros(out, 16);
-    put_operation(out, &request.operation);
+    put_parts(out, &row.parts);
 }
 
 /// Puts a request at the end of a vector, for clients. What the server does not read of it is zero, as uid, gid and pid.
@@ -44,11 +40,12 @@ pub fn encode_request(request: &Request<'_>, out: &mut Vec<u8>) -> Result<(), Al
     ensures again { (frame : List ℕ) → IsBytes frame → IsRequest frame request.now → IsRequest (request_bytes request.now) request.now }
     ensures err { OnErr result (out.new.items ≡ out.old.items) }
 {
-    let Some(len) = request_len(request) else {
+    let row = row_of(&request.operation);
+    let Some(len) = request_len(&row.parts) else {
         return Err(AllocError);
     };
     out.reserve(len)?;
-    put_request(out, request, len);
+    put_request(out, request, &row, len);
     Ok(())
 }
 

@@ -1,80 +1,122 @@
-//! The operation of a request: its opcode, and the bytes that follow the header.
+//! The operation of a request as a row of what is written: the one table that an opcode, a length and bytes come from.
 
-ghost use Rattle.std.specs.Prelude.{◌≡◌, ◌≤◌, ◌+◌, ◌++◌, length, vec_len, vec_capacity, IfSome};
+ghost use Rattle.std.specs.Prelude.{◌≡◌, ◌≤◌, ◌+◌, ◌^◌, ◌++◌, length, vec_len, vec_capacity, IfSome};
 ghost use Rattle.wire.specs.Requests.{opcode_of};
 ghost use Rattle.wire.specs.Written.{operation_bytes};
+ghost use Rattle.wire.specs.Rows.{part_bytes, parts_bytes};
 
 use crate::opcode::{FORGET, GETATTR, LOOKUP, MKDIR, RENAME, RMDIR, SETATTR, STATFS, UNLINK};
 use crate::put::{put_text, put_u32, put_u64, put_zeros};
-use crate::request::Operation;
+use crate::request::{HEADER_LEN, Operation};
 
-pub fn opcode(operation: &Operation<'_>) -> u32
-    ensures { result ≡ opcode_of operation.now }
-{
-    match operation {
-        Operation::Lookup { .. } => LOOKUP,
-        Operation::Forget { .. } => FORGET,
-        Operation::GetAttr => GETATTR,
-        Operation::SetAttr { .. } => SETATTR,
-        Operation::MakeDir { .. } => MKDIR,
-        Operation::Unlink { .. } => UNLINK,
-        Operation::RemoveDir { .. } => RMDIR,
-        Operation::Rename { .. } => RENAME,
-        Operation::StatFs => STATFS,
-    }
+/// A part of a body.
+#[derive(Clone, Copy)]
+pub enum Part<'a> {
+    U32(u32),
+    U64(u64),
+    /// So many zero bytes.
+    Zeros(u8),
+    /// A text and a zero byte.
+    Text(&'a str),
 }
 
-/// How many bytes of the operation follow the header, unless that passes all numbers.
-#[tactic(auto, using(crate::proofs::Lengths::lengths))]
-pub fn operation_len(operation: &Operation<'_>) -> Option<usize>
-    ensures { IfSome result (λ len. len ≡ length (operation_bytes operation.now)) }
-{
-    match operation {
-        Operation::Lookup { name } => name.len().checked_add(1),
-        Operation::Forget { .. } => Some(8),
-        Operation::GetAttr => Some(16),
-        Operation::SetAttr { .. } => Some(88),
-        Operation::MakeDir { name } => name.len().checked_add(9),
-        Operation::Unlink { name } => name.len().checked_add(1),
-        Operation::RemoveDir { name } => name.len().checked_add(1),
-        Operation::Rename { name, new_name, .. } => {
-            name.len().checked_add(new_name.len())?.checked_add(10)
-        }
-        Operation::StatFs => Some(0),
-    }
+/// What is written of an operation.
+#[derive(Clone, Copy)]
+pub struct Row<'a> {
+    pub opcode: u32,
+    /// What follows the header, one after another.
+    pub parts: [Part<'a>; 5],
 }
 
-#[tactic(auto, using(crate::proofs::Lengths::lengths))]
-pub fn put_operation(out: &mut Vec<u8>, operation: &Operation<'_>)
-    requires { vec_len out.old + length (operation_bytes operation.now) ≤ vec_capacity out.old }
-    ensures { out.new.items ≡ out.old.items ++ operation_bytes operation.now }
+#[tactic(auto, using(crate::proofs::Lengths::lengths), unfolding(crate::specs::Written::zeros))]
+pub fn row_of<'a>(operation: &Operation<'a>) -> Row<'a>
+    ensures opcode { result.opcode ≡ opcode_of operation.now }
+    ensures bytes { parts_bytes result.parts ≡ operation_bytes operation.now }
 {
-    match operation {
-        Operation::Lookup { name } => put_text(out, name),
-        Operation::Forget { nlookup } => put_u64(out, *nlookup),
-        Operation::GetAttr => put_zeros(out, 16),
-        Operation::SetAttr { valid, fh, size } => {
-            put_u32(out, *valid);
-            put_zeros(out, 4);
-            put_u64(out, *fh);
-            put_u64(out, *size);
-            put_zeros(out, 64);
-        }
-        Operation::MakeDir { name } => {
-            put_zeros(out, 8);
-            put_text(out, name);
-        }
-        Operation::Unlink { name } => put_text(out, name),
-        Operation::RemoveDir { name } => put_text(out, name),
+    let none = Part::Zeros(0);
+    let (opcode, parts) = match *operation {
+        Operation::Lookup { name } => (LOOKUP, [Part::Text(name), none, none, none, none]),
+        Operation::Forget { nlookup } => (FORGET, [Part::U64(nlookup), none, none, none, none]),
+        Operation::GetAttr => (GETATTR, [Part::Zeros(16), none, none, none, none]),
+        Operation::SetAttr { valid, fh, size } => (
+            SETATTR,
+            [
+                Part::U32(valid),
+                Part::Zeros(4),
+                Part::U64(fh),
+                Part::U64(size),
+                Part::Zeros(64),
+            ],
+        ),
+        Operation::MakeDir { name } => (
+            MKDIR,
+            [Part::Zeros(8), Part::Text(name), none, none, none],
+        ),
+        Operation::Unlink { name } => (UNLINK, [Part::Text(name), none, none, none, none]),
+        Operation::RemoveDir { name } => (RMDIR, [Part::Text(name), none, none, none, none]),
         Operation::Rename {
             name,
             new_parent,
             new_name,
-        } => {
-            put_u64(out, *new_parent);
-            put_text(out, name);
-            put_text(out, new_name);
-        }
-        Operation::StatFs => {}
+        } => (
+            RENAME,
+            [
+                Part::U64(new_parent),
+                Part::Text(name),
+                Part::Text(new_name),
+                none,
+                none,
+            ],
+        ),
+        Operation::StatFs => (STATFS, [none; 5]),
+    };
+    Row { opcode, parts }
+}
+
+#[tactic(auto, using(crate::proofs::Lengths::lengths))]
+fn part_len(part: &Part<'_>) -> usize
+    ensures len { result ≡ length (part_bytes part.now) }
+    ensures short { result ≤ 2 ^ 63 }
+{
+    match part {
+        Part::U32(_) => 4,
+        Part::U64(_) => 8,
+        Part::Zeros(count) => *count as usize,
+        Part::Text(text) => text.len() + 1,
+    }
+}
+
+/// How many bytes a request of these parts has, unless that passes all numbers.
+pub fn request_len(parts: &[Part<'_>]) -> Option<usize>
+    ensures { IfSome result (λ len. len ≡ HEADER_LEN + length (parts_bytes parts.now)) }
+{
+    let mut len = HEADER_LEN;
+    for part in parts {
+        len = len.checked_add(part_len(part))?;
+    }
+    Some(len)
+}
+
+#[tactic(auto, using(crate::proofs::Lengths::lengths))]
+fn put_part(out: &mut Vec<u8>, part: &Part<'_>)
+    requires { vec_len out.old + length (part_bytes part.now) ≤ vec_capacity out.old }
+    ensures items { out.new.items ≡ out.old.items ++ part_bytes part.now }
+    ensures len { vec_len out.new ≡ vec_len out.old + length (part_bytes part.now) }
+    ensures capacity { vec_capacity out.old ≤ vec_capacity out.new }
+{
+    match part {
+        Part::U32(number) => put_u32(out, *number),
+        Part::U64(number) => put_u64(out, *number),
+        Part::Zeros(count) => put_zeros(out, *count),
+        Part::Text(text) => put_text(out, text),
+    }
+}
+
+pub fn put_parts(out: &mut Vec<u8>, parts: &[Part<'_>])
+    requires { vec_len out.old + length (parts_bytes parts.now) ≤ vec_capacity out.old }
+    ensures { out.new.items ≡ out.old.items ++ parts_bytes parts.now }
+{
+    for part in parts {
+        put_part(out, part);
     }
 }
