@@ -21,24 +21,15 @@ negated_is errno h = omega (arith, ints, h.low, h.high)
 
 word_is : (body : ReplyBody) → IsAnswer body → cast_unsigned w32 (error_of body) ≡ error_word body
 word_is (Failed errno) h = negated_is errno h
-word_is Done h = refl
-word_is (Entry _) h = refl
-word_is (Attributes _ _) h = refl
-word_is StatFs h = refl
+word_is _ h = refl
 
 word_fits : (body : ReplyBody) → IsAnswer body → error_word body < 256 ^ 4
 word_fits (Failed errno) h = omega arith
-word_fits Done h = omega arith
-word_fits (Entry _) h = omega arith
-word_fits (Attributes _ _) h = omega arith
-word_fits StatFs h = omega arith
+word_fits _ h = omega arith
 
 word_signed : (body : ReplyBody) → IsAnswer body → FitsSigned w32 (error_of body)
 word_signed (Failed errno) h = omega (arith, ints, h.low, h.high)
-word_signed Done h = search rules
-word_signed (Entry _) h = search rules
-word_signed (Attributes _ _) h = search rules
-word_signed StatFs h = search rules
+word_signed _ h = search rules
 
 word_reads : (body : ReplyBody) → IsAnswer body → cast_signed w32 (error_word body) ≡ error_of body
 word_reads body h = ap (cast_signed w32) (sym (word_is body h)) ∙ to_z-of_z w32 (error_of body) (word_signed body h)

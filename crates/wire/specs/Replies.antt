@@ -71,10 +71,7 @@ answered_in frame = little_number 8 (drop 8 frame)
 
 abbrev pub error_of : ReplyBody → ℤ
 error_of (Failed errno) = neg_ℤ errno
-error_of Done = pos 0
-error_of (Entry _) = pos 0
-error_of (Attributes _ _) = pos 0
-error_of StatFs = pos 0
+error_of _ = pos 0
 
 -- ---- what follows the header
 

@@ -61,8 +61,7 @@ fn error(body: &ReplyBody) -> u32
 {
     match body {
         ReplyBody::Failed { errno } => negated(*errno),
-        ReplyBody::Done | ReplyBody::Entry(_) | ReplyBody::Attributes { .. } | ReplyBody::StatFs =>
-            0,
+        _ => 0,
     }
 }
 

@@ -8,6 +8,7 @@ ghost use Rattle.wire.specs.Rows.{part_bytes, parts_bytes};
 use crate::opcode::{FORGET, GETATTR, LOOKUP, MKDIR, RENAME, RMDIR, SETATTR, STATFS, UNLINK};
 use crate::put::{put_text, put_u32, put_u64, put_zeros};
 use crate::request::{HEADER_LEN, Operation};
+use Part::{Text, U32, U64, Zeros};
 
 /// A part of a body.
 #[derive(Clone, Copy)]
@@ -28,47 +29,33 @@ pub struct Row<'a> {
     pub parts: [Part<'a>; 5],
 }
 
+/// The one table of what is written. A part of no bytes fills up a row.
 #[tactic(auto, using(crate::proofs::Lengths::lengths), unfolding(crate::specs::Written::zeros))]
 pub fn row_of<'a>(operation: &Operation<'a>) -> Row<'a>
     ensures opcode { result.opcode ≡ opcode_of operation.now }
     ensures bytes { parts_bytes result.parts ≡ operation_bytes operation.now }
 {
-    let none = Part::Zeros(0);
+    let end = Zeros(0);
     let (opcode, parts) = match *operation {
-        Operation::Lookup { name } => (LOOKUP, [Part::Text(name), none, none, none, none]),
-        Operation::Forget { nlookup } => (FORGET, [Part::U64(nlookup), none, none, none, none]),
-        Operation::GetAttr => (GETATTR, [Part::Zeros(16), none, none, none, none]),
+        Operation::Lookup { name } => (LOOKUP, [Text(name), end, end, end, end]),
+        Operation::Forget { nlookup } => (FORGET, [U64(nlookup), end, end, end, end]),
+        Operation::GetAttr => (GETATTR, [Zeros(16), end, end, end, end]),
         Operation::SetAttr { valid, fh, size } => (
             SETATTR,
-            [
-                Part::U32(valid),
-                Part::Zeros(4),
-                Part::U64(fh),
-                Part::U64(size),
-                Part::Zeros(64),
-            ],
+            [U32(valid), Zeros(4), U64(fh), U64(size), Zeros(64)],
         ),
-        Operation::MakeDir { name } => (
-            MKDIR,
-            [Part::Zeros(8), Part::Text(name), none, none, none],
-        ),
-        Operation::Unlink { name } => (UNLINK, [Part::Text(name), none, none, none, none]),
-        Operation::RemoveDir { name } => (RMDIR, [Part::Text(name), none, none, none, none]),
+        Operation::MakeDir { name } => (MKDIR, [Zeros(8), Text(name), end, end, end]),
+        Operation::Unlink { name } => (UNLINK, [Text(name), end, end, end, end]),
+        Operation::RemoveDir { name } => (RMDIR, [Text(name), end, end, end, end]),
         Operation::Rename {
             name,
             new_parent,
             new_name,
         } => (
             RENAME,
-            [
-                Part::U64(new_parent),
-                Part::Text(name),
-                Part::Text(new_name),
-                none,
-                none,
-            ],
+            [U64(new_parent), Text(name), Text(new_name), end, end],
         ),
-        Operation::StatFs => (STATFS, [none; 5]),
+        Operation::StatFs => (STATFS, [end; 5]),
     };
     Row { opcode, parts }
 }
@@ -79,10 +66,10 @@ fn part_len(part: &Part<'_>) -> usize
     ensures short { result ≤ 2 ^ 63 }
 {
     match part {
-        Part::U32(_) => 4,
-        Part::U64(_) => 8,
-        Part::Zeros(count) => *count as usize,
-        Part::Text(text) => text.len() + 1,
+        U32(_) => 4,
+        U64(_) => 8,
+        Zeros(count) => *count as usize,
+        Text(text) => text.len() + 1,
     }
 }
 
@@ -105,10 +92,10 @@ fn put_part(out: &mut Vec<u8>, part: &Part<'_>)
     ensures capacity { vec_capacity out.old ≤ vec_capacity out.new }
 {
     match part {
-        Part::U32(number) => put_u32(out, *number),
-        Part::U64(number) => put_u64(out, *number),
-        Part::Zeros(count) => put_zeros(out, *count),
-        Part::Text(text) => put_text(out, text),
+        U32(number) => put_u32(out, *number),
+        U64(number) => put_u64(out, *number),
+        Zeros(count) => put_zeros(out, *count),
+        Text(text) => put_text(out, text),
     }
 }
 
