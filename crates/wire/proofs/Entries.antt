@@ -1,12 +1,25 @@
--- An entry is four numbers of eight bytes, two of four, and its attributes, six of eight and ten of four.
-use Rattle.std.proofs.Common.{◌≡◌, [], ◌∷◌, ◌++◌, refl}
+-- Bodies of replies as runs of numbers of eight and of four bytes.
+use Rattle.std.proofs.Common.{◌≡◌, ℕ, [], ◌∷◌, ◌++◌, refl}
 use Rattle.wire.specs.declared.reply.Entry.{Entry}
-use Rattle.wire.specs.Replies.{mode_of, links_of, blocks_of, entry_layout, entry_values}
+use Rattle.wire.specs.declared.reply.Attributes.{Attributes}
+use Rattle.wire.specs.Replies.{mode_of, links_of, blocks_of, attributes_layout, attributes_values, entry_layout, entry_values, attr_layout, attr_values, statfs_layout, statfs_values}
 use Rattle.wire.proofs.Lengths.{cat_assoc}
 use Rattle.wire.specs.Written.{le, u32s, u64s, written}
 
-pub entry_parts : (e : Entry) → written entry_layout (entry_values e) ≡ u64s (e.node ∷ e.generation ∷ 1 ∷ 1 ∷ []) ++ (u32s (0 ∷ 0 ∷ []) ++ (u64s (e.node ∷ e.attributes.size ∷ blocks_of e.attributes.size ∷ 0 ∷ 0 ∷ 0 ∷ []) ++ u32s (0 ∷ 0 ∷ 0 ∷ mode_of e.attributes.kind ∷ links_of e.attributes.kind ∷ e.attributes.uid ∷ e.attributes.gid ∷ 0 ∷ 4096 ∷ 0 ∷ [])))
+pub attributes_parts : (node : ℕ) (a : Attributes) → written attributes_layout (attributes_values node a) ≡ u64s (node ∷ a.size ∷ blocks_of a.size ∷ 0 ∷ 0 ∷ 0 ∷ []) ++ u32s (0 ∷ 0 ∷ 0 ∷ mode_of a.kind ∷ links_of a.kind ∷ a.uid ∷ a.gid ∷ 0 ∷ 4096 ∷ 0 ∷ [])
+unfolding le u32s u64s
+attributes_parts node a = refl
+
+pub entry_parts : (e : Entry) → written entry_layout (entry_values e) ≡ u64s (e.node ∷ e.generation ∷ 1 ∷ 1 ∷ []) ++ (u32s (0 ∷ 0 ∷ []) ++ written attributes_layout (attributes_values e.node e.attributes))
 unfolding le u32s u64s
 entry_parts e = refl
 
-pub ruleset entries = (entry_parts, cat_assoc)
+pub attr_parts : (node : ℕ) (a : Attributes) → written attr_layout (attr_values node a) ≡ u64s (1 ∷ []) ++ (u32s (0 ∷ 0 ∷ []) ++ written attributes_layout (attributes_values node a))
+unfolding le u32s u64s
+attr_parts node a = refl
+
+pub statfs_parts : written statfs_layout statfs_values ≡ u64s (0 ∷ 0 ∷ 0 ∷ 0 ∷ 0 ∷ []) ++ u32s (4096 ∷ 255 ∷ 4096 ∷ 0 ∷ 0 ∷ 0 ∷ 0 ∷ 0 ∷ 0 ∷ 0 ∷ [])
+unfolding le u32s u64s
+statfs_parts = refl
+
+pub ruleset entries = (attributes_parts, entry_parts, attr_parts, statfs_parts, cat_assoc)

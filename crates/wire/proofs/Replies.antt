@@ -7,7 +7,7 @@ use Rattle.byteorder.specs.Endian.{little_number, little_bytes}
 use Rattle.byteorder.specs.Numbers.{little_number-reads_back, little_from-lt}
 use Rattle.wire.specs.declared.reply.Reply.{Reply}
 use Rattle.wire.specs.declared.reply.ReplyBody.{ReplyBody}
-use Rattle.wire.specs.declared.reply.ReplyBody.TheVariants.{Failed, Done, Entry}
+use Rattle.wire.specs.declared.reply.ReplyBody.TheVariants.{Failed, Done, Entry, Attributes, StatFs}
 use Rattle.wire.specs.Fields.{u32, u64, num, Spells, CanTell, IsBytes}
 use Rattle.wire.specs.Replies.{error_of, reply_layout, reply_values, IsErrno, IsAnswer, IsReply}
 use Rattle.wire.specs.Written.{le, negated, error_word, body_bytes, reply_bytes}
@@ -21,18 +21,15 @@ negated_is errno h = omega (arith, ints, h.low, h.high)
 
 word_is : (body : ReplyBody) → IsAnswer body → cast_unsigned w32 (error_of body) ≡ error_word body
 word_is (Failed errno) h = negated_is errno h
-word_is Done h = refl
-word_is (Entry _) h = refl
+word_is _ h = refl
 
 word_fits : (body : ReplyBody) → IsAnswer body → error_word body < 256 ^ 4
 word_fits (Failed errno) h = omega arith
-word_fits Done h = omega arith
-word_fits (Entry _) h = omega arith
+word_fits _ h = omega arith
 
 word_signed : (body : ReplyBody) → IsAnswer body → FitsSigned w32 (error_of body)
 word_signed (Failed errno) h = omega (arith, ints, h.low, h.high)
-word_signed Done h = search rules
-word_signed (Entry _) h = search rules
+word_signed _ h = search rules
 
 word_reads : (body : ReplyBody) → IsAnswer body → cast_signed w32 (error_word body) ≡ error_of body
 word_reads body h = ap (cast_signed w32) (sym (word_is body h)) ∙ to_z-of_z w32 (error_of body) (word_signed body h)
@@ -62,6 +59,8 @@ all_read : (body : ReplyBody) → AreRead (reply_layout body)
 all_read (Failed _) = tt
 all_read Done = tt
 all_read (Entry _) = tt
+all_read (Attributes _ _) = tt
+all_read StatFs = tt
 
 pub reply_only : (r : Reply) (frame : List ℕ) → IsBytes frame → IsReply frame r → frame ≡ reply_bytes r
 unfolding reply_bytes body_bytes le

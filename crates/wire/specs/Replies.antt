@@ -5,9 +5,9 @@ use Rattle.byteorder.specs.Endian.{little_number}
 use Rattle.wire.specs.declared.reply.TheConstants.{REPLY_HEADER_LEN}
 use Rattle.wire.specs.declared.reply.Reply.{Reply}
 use Rattle.wire.specs.declared.reply.ReplyBody.{ReplyBody}
-use Rattle.wire.specs.declared.reply.ReplyBody.TheVariants.{Failed, Done, Entry}
+use Rattle.wire.specs.declared.reply.ReplyBody.TheVariants.{Failed, Done, Entry, Attributes, StatFs}
 use Rattle.wire.specs.declared.reply.Entry.{Entry as GivenEntry}
-use Rattle.wire.specs.declared.reply.Attributes.{Attributes}
+use Rattle.wire.specs.declared.reply.Attributes.{Attributes as GivenAttributes}
 use Rattle.wire.specs.declared.reply.Kind.{Kind}
 use Rattle.wire.specs.declared.reply.Kind.TheVariants.{File, Folder}
 use Rattle.wire.specs.Fields.{Field, u32, u64, Value, num, Spells}
@@ -31,7 +31,7 @@ abbrev pub attributes_layout : List Field
 attributes_layout =
     u64 ∷ u64 ∷ u64 ∷ u64 ∷ u64 ∷ u64 ∷ u32 ∷ u32 ∷ u32 ∷ u32 ∷ u32 ∷ u32 ∷ u32 ∷ u32 ∷ u32 ∷ u32 ∷ []
 
-abbrev pub attributes_values : ℕ → Attributes → List Value
+abbrev pub attributes_values : ℕ → GivenAttributes → List Value
 attributes_values node a =
     num node ∷ num a.size ∷ num (blocks_of a.size) ∷ num 0 ∷ num 0 ∷ num 0
     ∷ num 0 ∷ num 0 ∷ num 0 ∷ num (mode_of a.kind) ∷ num (links_of a.kind) ∷ num a.uid ∷ num a.gid ∷ num 0 ∷ num 4096 ∷ num 0 ∷ []
@@ -43,6 +43,24 @@ entry_layout = u64 ∷ u64 ∷ u64 ∷ u64 ∷ u32 ∷ u32 ∷ attributes_layout
 abbrev pub entry_values : GivenEntry → List Value
 entry_values e = num e.node ∷ num e.generation ∷ num 1 ∷ num 1 ∷ num 0 ∷ num 0 ∷ attributes_values e.node e.attributes
 
+-- attr_valid; attr_valid_nsec, dummy; the attributes
+abbrev pub attr_layout : List Field
+attr_layout = u64 ∷ u32 ∷ u32 ∷ attributes_layout
+
+abbrev pub attr_values : ℕ → GivenAttributes → List Value
+attr_values node a = num 1 ∷ num 0 ∷ num 0 ∷ attributes_values node a
+
+-- ---- sizes of the file system
+
+-- blocks, bfree, bavail, files, ffree; bsize, namelen, frsize, padding, and six that are spare
+abbrev pub statfs_layout : List Field
+statfs_layout = u64 ∷ u64 ∷ u64 ∷ u64 ∷ u64 ∷ u32 ∷ u32 ∷ u32 ∷ u32 ∷ u32 ∷ u32 ∷ u32 ∷ u32 ∷ u32 ∷ u32 ∷ []
+
+abbrev pub statfs_values : List Value
+statfs_values =
+    num 0 ∷ num 0 ∷ num 0 ∷ num 0 ∷ num 0
+    ∷ num 4096 ∷ num 255 ∷ num 4096 ∷ num 0 ∷ num 0 ∷ num 0 ∷ num 0 ∷ num 0 ∷ num 0 ∷ num 0 ∷ []
+
 -- ---- the header: the length, the error, and the number of the request
 
 abbrev pub error_in : List ℕ → ℤ
@@ -53,8 +71,7 @@ answered_in frame = little_number 8 (drop 8 frame)
 
 abbrev pub error_of : ReplyBody → ℤ
 error_of (Failed errno) = neg_ℤ errno
-error_of Done = pos 0
-error_of (Entry _) = pos 0
+error_of _ = pos 0
 
 -- ---- what follows the header
 
@@ -62,11 +79,15 @@ abbrev pub reply_layout : ReplyBody → List Field
 reply_layout (Failed _) = []
 reply_layout Done = []
 reply_layout (Entry _) = entry_layout
+reply_layout (Attributes _ _) = attr_layout
+reply_layout StatFs = statfs_layout
 
 abbrev pub reply_values : ReplyBody → List Value
 reply_values (Failed _) = []
 reply_values Done = []
 reply_values (Entry e) = entry_values e
+reply_values (Attributes node a) = attr_values node a
+reply_values StatFs = statfs_values
 
 -- ---- replies
 
@@ -85,6 +106,8 @@ abbrev pub IsAnswer : ReplyBody → Type 0
 IsAnswer (Failed errno) = IsErrno errno
 IsAnswer Done = Unit {0}
 IsAnswer (Entry e) = IsSized e.attributes.kind e.attributes.size
+IsAnswer (Attributes node a) = IsSized a.kind a.size
+IsAnswer StatFs = Unit {0}
 
 -- The frame is this reply.
 pub record IsReply (frame : List ℕ) (r : Reply) : Type 0 where

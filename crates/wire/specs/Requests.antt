@@ -4,12 +4,12 @@ use Rattle.std.specs.Str.{IsUtf8}
 use Rattle.std.specs.List.{AllByRecursion}
 use Rattle.byteorder.specs.Endian.{little_number}
 use Rattle.wire.specs.declared.header.Header.{Header}
-use Rattle.wire.specs.declared.opcode.TheConstants.{LOOKUP, FORGET}
+use Rattle.wire.specs.declared.opcode.TheConstants.{LOOKUP, FORGET, GETATTR, SETATTR, MKDIR, UNLINK, RMDIR, RENAME, STATFS}
 use Rattle.wire.specs.declared.request.TheConstants.{HEADER_LEN, MAX_FRAME_LEN}
 use Rattle.wire.specs.declared.request.Request.{Request}
 use Rattle.wire.specs.declared.request.Operation.{Operation}
-use Rattle.wire.specs.declared.request.Operation.TheVariants.{Lookup, Forget}
-use Rattle.wire.specs.Fields.{Field, text, u64, Value, num, name, bytes, Spells}
+use Rattle.wire.specs.declared.request.Operation.TheVariants.{Lookup, Forget, GetAttr, SetAttr, MakeDir, Unlink, RemoveDir, Rename, StatFs}
+use Rattle.wire.specs.Fields.{Field, unread, text, u32, u64, Value, num, name, bytes, Spells}
 
 -- ---- the header: the length, the opcode, unique, the node's number, and sixteen bytes that are not read
 
@@ -41,16 +41,37 @@ abbrev pub layout : ℕ → Option (List Field)
 layout opcode =
     if opcode == LOOKUP then Some (text ∷ [])
     else (if opcode == FORGET then Some (u64 ∷ [])
-    else None)
+    else (if opcode == GETATTR then Some (unread 16 ∷ [])
+    else (if opcode == SETATTR then Some (u32 ∷ unread 4 ∷ u64 ∷ u64 ∷ unread 64 ∷ [])
+    else (if opcode == MKDIR then Some (unread 8 ∷ text ∷ [])
+    else (if opcode == UNLINK then Some (text ∷ [])
+    else (if opcode == RMDIR then Some (text ∷ [])
+    else (if opcode == RENAME then Some (u64 ∷ text ∷ text ∷ [])
+    else (if opcode == STATFS then Some []
+    else None))))))))
 
 abbrev pub opcode_of : Operation → ℕ
 opcode_of (Lookup _) = LOOKUP
 opcode_of (Forget _) = FORGET
+opcode_of GetAttr = GETATTR
+opcode_of (SetAttr _ _ _) = SETATTR
+opcode_of (MakeDir _) = MKDIR
+opcode_of (Unlink _) = UNLINK
+opcode_of (RemoveDir _) = RMDIR
+opcode_of (Rename _ _ _) = RENAME
+opcode_of StatFs = STATFS
 
 -- what an operation has in the fields of its layout
 abbrev pub values_of : Operation → List Value
 values_of (Lookup n) = name n.now ∷ []
 values_of (Forget nlookup) = num nlookup ∷ []
+values_of GetAttr = []
+values_of (SetAttr valid fh size) = num valid ∷ num fh ∷ num size ∷ []
+values_of (MakeDir n) = name n.now ∷ []
+values_of (Unlink n) = name n.now ∷ []
+values_of (RemoveDir n) = name n.now ∷ []
+values_of (Rename n new_parent new_name) = num new_parent ∷ name n.now ∷ name new_name.now ∷ []
+values_of StatFs = []
 
 -- the body has that layout, with these values
 abbrev pub IsLaidOut : Option (List Field) → List Value → List ℕ → Type 0

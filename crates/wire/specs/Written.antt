@@ -9,7 +9,7 @@ use Rattle.wire.specs.declared.request.Request.{Request}
 use Rattle.wire.specs.declared.request.Operation.{Operation}
 use Rattle.wire.specs.declared.reply.Reply.{Reply}
 use Rattle.wire.specs.declared.reply.ReplyBody.{ReplyBody}
-use Rattle.wire.specs.declared.reply.ReplyBody.TheVariants.{Failed, Done, Entry}
+use Rattle.wire.specs.declared.reply.ReplyBody.TheVariants.{Failed}
 use Rattle.wire.specs.Fields.{Field, number, unread, text, counted, limited, anything, Value, num, name, bytes}
 use Rattle.wire.specs.Requests.{layout, opcode_of, values_of}
 use Rattle.wire.specs.Replies.{reply_layout, reply_values}
@@ -62,8 +62,7 @@ negated errno = (2 ^ 32 - cast_unsigned w32 errno) % 2 ^ 32
 
 abbrev pub error_word : ReplyBody → ℕ
 error_word (Failed errno) = negated errno
-error_word Done = 0
-error_word (Entry _) = 0
+error_word _ = 0
 
 unfoldable pub body_bytes : ReplyBody → List ℕ
 body_bytes body = written (reply_layout body) (reply_values body)

@@ -5,59 +5,31 @@ ghost use Rattle.std.specs.Prelude.{◌≡◌, ℕ, List, ◌≤◌, ◌+◌, �
 ghost use Rattle.wire.specs.declared.reply.ReplyBody.TheVariants.{Failed, Done};
 ghost use Rattle.wire.specs.Fields.{CanTell, IsBytes};
 ghost use Rattle.wire.specs.Requests.{IsRequest, opcode_of};
-ghost use Rattle.wire.specs.Replies.{IsReply, IsAnswer, IsErrno, blocks_of, mode_of, links_of, entry_layout, entry_values, reply_layout, reply_values};
-ghost use Rattle.wire.specs.Written.{written, operation_bytes, request_bytes, reply_bytes, body_bytes, error_word, negated as negated_of};
+ghost use Rattle.wire.specs.Replies.{IsReply, IsAnswer, IsErrno, reply_layout, reply_values};
+ghost use Rattle.wire.specs.Rows.{parts_bytes};
+ghost use Rattle.wire.specs.Written.{operation_bytes, request_bytes, reply_bytes, body_bytes, error_word, negated as negated_of};
 
-use crate::opcode::{FORGET, LOOKUP};
-use crate::put::{put_low_u32, put_text, put_u32, put_u32s, put_u64, put_u64s, put_zeros};
-use crate::reply::{ENTRY_LEN, Entry, Kind, REPLY_HEADER_LEN, Reply, ReplyBody};
-use crate::request::{HEADER_LEN, Operation, Request};
+use crate::bodies::{body_len, put_body};
+use crate::put::{put_low_u32, put_u32, put_u64, put_zeros};
+use crate::reply::{REPLY_HEADER_LEN, Reply, ReplyBody};
+use crate::request::{HEADER_LEN, Request};
+use crate::writing::{Row, put_parts, request_len, row_of};
 use std::alloc::AllocError;
 
-fn opcode(operation: &Operation<'_>) -> u32
-    ensures { result ≡ opcode_of operation.now }
-{
-    match operation {
-        Operation::Lookup { .. } => LOOKUP,
-        Operation::Forget { .. } => FORGET,
-    }
-}
-
-/// How many bytes of the operation follow the header.
-#[tactic(auto, using(crate::proofs::Lengths::lengths))]
-fn operation_len(operation: &Operation<'_>) -> usize
-    ensures len { result ≡ length (operation_bytes operation.now) }
-    ensures short { result ≤ 2 ^ 63 }
-{
-    match operation {
-        Operation::Lookup { name } => name.len() + 1,
-        Operation::Forget { .. } => 8,
-    }
-}
-
-#[tactic(auto, using(crate::proofs::Lengths::lengths))]
-fn put_operation(out: &mut Vec<u8>, operation: &Operation<'_>)
-    requires { vec_len out.old + length (operation_bytes operation.now) ≤ vec_capacity out.old }
-    ensures { out.new.items ≡ out.old.items ++ operation_bytes operation.now }
-{
-    match operation {
-        Operation::Lookup { name } => put_text(out, name),
-        Operation::Forget { nlookup } => put_u64(out, *nlookup),
-    }
-}
-
 #[tactic(auto, using(crate::proofs::Lengths::lengths), unfolding(crate::specs::Written::request_bytes))]
-fn put_request(out: &mut Vec<u8>, request: &Request<'_>, len: usize)
+fn put_request(out: &mut Vec<u8>, request: &Request<'_>, row: &Row<'_>, len: usize)
+    requires opcode { row.now.opcode ≡ opcode_of request.now.operation }
+    requires parts { parts_bytes row.now.parts ≡ operation_bytes request.now.operation }
     requires room { vec_len out.old + HEADER_LEN + length (operation_bytes request.now.operation) ≤ vec_capacity out.old }
     requires len { len ≡ HEADER_LEN + length (operation_bytes request.now.operation) }
     ensures { out.new.items ≡ out.old.items ++ request_bytes request.now }
 {
     put_low_u32(out, len);
-    put_u32(out, opcode(&request.operation));
+    put_u32(out, row.opcode);
     put_u64(out, request.unique);
     put_u64(out, request.node);
     put_zeros(out, 16);
-    put_operation(out, &request.operation);
+    put_parts(out, &row.parts);
 }
 
 /// Puts a request at the end of a vector, for clients. What the server does not read of it is zero, as uid, gid and pid.
@@ -68,54 +40,13 @@ pub fn encode_request(request: &Request<'_>, out: &mut Vec<u8>) -> Result<(), Al
     ensures again { (frame : List ℕ) → IsBytes frame → IsRequest frame request.now → IsRequest (request_bytes request.now) request.now }
     ensures err { OnErr result (out.new.items ≡ out.old.items) }
 {
-    let len = HEADER_LEN + operation_len(&request.operation);
+    let row = row_of(&request.operation);
+    let Some(len) = request_len(&row.parts) else {
+        return Err(AllocError);
+    };
     out.reserve(len)?;
-    put_request(out, request, len);
+    put_request(out, request, &row, len);
     Ok(())
-}
-
-fn blocks(size: u64) -> u64
-    ensures { result ≡ blocks_of size }
-{
-    if size % 512 == 0 {
-        size / 512
-    } else {
-        size / 512 + 1
-    }
-}
-
-fn mode(kind: Kind) -> u32
-    ensures { result ≡ mode_of kind }
-{
-    match kind {
-        Kind::Folder => 0o040755,
-        Kind::File => 0o100644,
-    }
-}
-
-fn links(kind: Kind) -> u32
-    ensures { result ≡ links_of kind }
-{
-    match kind {
-        Kind::Folder => 2,
-        Kind::File => 1,
-    }
-}
-
-#[tactic(auto, using(crate::proofs::Entries::entries))]
-fn put_entry(out: &mut Vec<u8>, e: &Entry)
-    requires { vec_len out.old + ENTRY_LEN ≤ vec_capacity out.old }
-    ensures items { out.new.items ≡ out.old.items ++ written entry_layout (entry_values e.now) }
-    ensures tells { CanTell entry_layout (entry_values e.now) }
-{
-    let (node, generation) = (e.node, e.generation);
-    let a = &e.attributes;
-    let (size, uid, gid) = (a.size, a.uid, a.gid);
-    let (blocks, mode, links) = (blocks(size), mode(a.kind), links(a.kind));
-    put_u64s(out, &[node, generation, 1, 1]);
-    put_u32s(out, &[0, 0]);
-    put_u64s(out, &[node, size, blocks, 0, 0, 0]);
-    put_u32s(out, &[0, 0, 0, mode, links, uid, gid, 0, 4096, 0]);
 }
 
 /// An error number as it stands in a header: two's complement of its negation.
@@ -130,30 +61,7 @@ fn error(body: &ReplyBody) -> u32
 {
     match body {
         ReplyBody::Failed { errno } => negated(*errno),
-        ReplyBody::Done | ReplyBody::Entry(_) => 0,
-    }
-}
-
-#[tactic(auto, unfolding(crate::specs::Written::le, crate::specs::Written::body_bytes))]
-fn body_len(body: &ReplyBody) -> u32
-    ensures len { result ≡ length (body_bytes body.now) }
-    ensures short { result ≤ ENTRY_LEN }
-{
-    match body {
-        ReplyBody::Failed { .. } | ReplyBody::Done => 0,
-        ReplyBody::Entry(_) => ENTRY_LEN,
-    }
-}
-
-#[tactic(auto, unfolding(crate::specs::Written::le, crate::specs::Written::body_bytes))]
-fn put_body(out: &mut Vec<u8>, body: &ReplyBody)
-    requires { vec_len out.old + length (body_bytes body.now) ≤ vec_capacity out.old }
-    ensures items { out.new.items ≡ out.old.items ++ body_bytes body.now }
-    ensures tells { CanTell (reply_layout body.now) (reply_values body.now) }
-{
-    match body {
-        ReplyBody::Failed { .. } | ReplyBody::Done => {}
-        ReplyBody::Entry(entry) => put_entry(out, entry),
+        _ => 0,
     }
 }
 

@@ -8,6 +8,27 @@ pub const LOOKUP: u32 = 1;
 /// Gives back lookups of a node.
 pub const FORGET: u32 = 2;
 
+/// Tells the attributes of a node.
+pub const GETATTR: u32 = 3;
+
+/// Changes attributes of a node.
+pub const SETATTR: u32 = 4;
+
+/// Makes a folder.
+pub const MKDIR: u32 = 9;
+
+/// Removes the name of a file.
+pub const UNLINK: u32 = 10;
+
+/// Removes an empty folder.
+pub const RMDIR: u32 = 11;
+
+/// Gives a node another name.
+pub const RENAME: u32 = 12;
+
+/// Tells the sizes of the file system.
+pub const STATFS: u32 = 17;
+
 /// Asks to give up a request that is under way.
 pub const INTERRUPT: u32 = 36;
 

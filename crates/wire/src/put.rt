@@ -80,13 +80,12 @@ pub fn put_text(out: &mut Vec<u8>, text: &str)
 }
 
 #[tactic(auto, unfolding(crate::specs::Written::zeros))]
-pub fn put_zeros(out: &mut Vec<u8>, count: usize)
-    requires room { vec_len out.old + count ≤ vec_capacity out.old }
-    requires few { count ≤ 64 }
+pub fn put_zeros(out: &mut Vec<u8>, count: u8)
+    requires { vec_len out.old + count ≤ vec_capacity out.old }
     ensures items { out.new.items ≡ out.old.items ++ zeros count }
     ensures len { vec_len out.new ≡ vec_len out.old + count }
     ensures capacity { vec_capacity out.old ≤ vec_capacity out.new }
 {
-    let zeros = [0; 64];
-    put(out, &zeros[..count]);
+    let zeros = [0; 255];
+    put(out, &zeros[..count as usize]);
 }

@@ -6,3 +6,6 @@ returns-in_err-reserve-clause-again c frame fits is = request_written frame c.ar
 
 pub returns-clause-again : goal.returns-clause-again
 returns-clause-again c frame fits is = request_written frame c.args.request.now fits is
+
+pub returns-in_default-clause-again : goal.returns-in_default-clause-again
+returns-in_default-clause-again c frame fits is = request_written frame c.args.request.now fits is

@@ -1,0 +1,109 @@
+//! What follows the header of a reply.
+
+ghost use Rattle.std.specs.Prelude.{◌≡◌, ◌≤◌, ◌+◌, ◌++◌, length, vec_len, vec_capacity};
+ghost use Rattle.wire.specs.Fields.{CanTell};
+ghost use Rattle.wire.specs.Replies.{blocks_of, mode_of, links_of, attributes_layout, attributes_values, entry_layout, entry_values, attr_layout, attr_values, statfs_layout, statfs_values, reply_layout, reply_values};
+ghost use Rattle.wire.specs.Written.{written, body_bytes};
+
+use crate::put::{put_u32s, put_u64s};
+use crate::reply::{ATTRIBUTES_LEN, Attributes, ENTRY_LEN, Entry, Kind, ReplyBody, STATFS_LEN};
+
+fn blocks(size: u64) -> u64
+    ensures { result ≡ blocks_of size }
+{
+    if size % 512 == 0 {
+        size / 512
+    } else {
+        size / 512 + 1
+    }
+}
+
+fn mode(kind: Kind) -> u32
+    ensures { result ≡ mode_of kind }
+{
+    match kind {
+        Kind::Folder => 0o040755,
+        Kind::File => 0o100644,
+    }
+}
+
+fn links(kind: Kind) -> u32
+    ensures { result ≡ links_of kind }
+{
+    match kind {
+        Kind::Folder => 2,
+        Kind::File => 1,
+    }
+}
+
+#[tactic(auto, using(crate::proofs::Entries::entries))]
+fn put_attributes(out: &mut Vec<u8>, node: u64, a: &Attributes)
+    requires { vec_len out.old + 88 ≤ vec_capacity out.old }
+    ensures items { out.new.items ≡ out.old.items ++ written attributes_layout (attributes_values node a.now) }
+    ensures tells { CanTell attributes_layout (attributes_values node a.now) }
+{
+    let (size, uid, gid) = (a.size, a.uid, a.gid);
+    let (blocks, mode, links) = (blocks(size), mode(a.kind), links(a.kind));
+    put_u64s(out, &[node, size, blocks, 0, 0, 0]);
+    put_u32s(out, &[0, 0, 0, mode, links, uid, gid, 0, 4096, 0]);
+}
+
+#[tactic(auto, using(crate::proofs::Entries::entries))]
+fn put_entry(out: &mut Vec<u8>, e: &Entry)
+    requires { vec_len out.old + ENTRY_LEN ≤ vec_capacity out.old }
+    ensures items { out.new.items ≡ out.old.items ++ written entry_layout (entry_values e.now) }
+    ensures tells { CanTell entry_layout (entry_values e.now) }
+{
+    let (node, generation) = (e.node, e.generation);
+    put_u64s(out, &[node, generation, 1, 1]);
+    put_u32s(out, &[0, 0]);
+    put_attributes(out, node, &e.attributes);
+}
+
+#[tactic(auto, using(crate::proofs::Entries::entries))]
+fn put_attr(out: &mut Vec<u8>, node: u64, a: &Attributes)
+    requires { vec_len out.old + ATTRIBUTES_LEN ≤ vec_capacity out.old }
+    ensures items { out.new.items ≡ out.old.items ++ written attr_layout (attr_values node a.now) }
+    ensures tells { CanTell attr_layout (attr_values node a.now) }
+{
+    put_u64s(out, &[1]);
+    put_u32s(out, &[0, 0]);
+    put_attributes(out, node, a);
+}
+
+#[tactic(auto, using(crate::proofs::Entries::entries))]
+fn put_statfs(out: &mut Vec<u8>)
+    requires { vec_len out.old + STATFS_LEN ≤ vec_capacity out.old }
+    ensures items { out.new.items ≡ out.old.items ++ written statfs_layout statfs_values }
+    ensures tells { CanTell statfs_layout statfs_values }
+{
+    put_u64s(out, &[0, 0, 0, 0, 0]);
+    put_u32s(out, &[4096, 255, 4096, 0, 0, 0, 0, 0, 0, 0]);
+}
+
+#[tactic(auto, unfolding(crate::specs::Written::le, crate::specs::Written::body_bytes))]
+pub fn body_len(body: &ReplyBody) -> u32
+    ensures len { result ≡ length (body_bytes body.now) }
+    ensures short { result ≤ ENTRY_LEN }
+{
+    match body {
+        ReplyBody::Failed { .. } | ReplyBody::Done => 0,
+        ReplyBody::Entry(_) => ENTRY_LEN,
+        ReplyBody::Attributes { .. } => ATTRIBUTES_LEN,
+        ReplyBody::StatFs => STATFS_LEN,
+    }
+}
+
+#[tactic(auto, unfolding(crate::specs::Written::le, crate::specs::Written::body_bytes))]
+pub fn put_body(out: &mut Vec<u8>, body: &ReplyBody)
+    requires { vec_len out.old + length (body_bytes body.now) ≤ vec_capacity out.old }
+    ensures items { out.new.items ≡ out.old.items ++ body_bytes body.now }
+    ensures tells { CanTell (reply_layout body.now) (reply_values body.now) }
+{
+    match body {
+        ReplyBody::Failed { .. } | ReplyBody::Done => {}
+        ReplyBody::Entry(entry) => put_entry(out, entry),
+        ReplyBody::Attributes { node, attributes } => put_attr(out, *node, attributes),
+        ReplyBody::StatFs => put_statfs(out),
+    }
+}

@@ -1,0 +1,85 @@
+//! Fields at the front of a body, and names.
+
+ghost use Rattle.std.specs.Prelude.{◌≡◌, ◌==◌, ◌<◌, IfSome, length, true};
+ghost use Rattle.std.specs.List.{position};
+ghost use Rattle.wire.specs.Reading.{Gives, number_at, unread_at, text_at, ended, utf8_at, name_at};
+
+use crate::fault::WireFault;
+use byteorder::{ByteOrder, LittleEndian};
+
+pub fn u32_front(body: &[u8]) -> Result<(u32, &[u8]), WireFault>
+    ensures { Gives (λ x. (x.0, x.1.now)) result (number_at 4 body.now) }
+{
+    if body.len() < 4 {
+        return Err(WireFault::Body);
+    }
+    Ok((LittleEndian::read_u32(body), &body[4..]))
+}
+
+pub fn u64_front(body: &[u8]) -> Result<(u64, &[u8]), WireFault>
+    ensures { Gives (λ x. (x.0, x.1.now)) result (number_at 8 body.now) }
+{
+    if body.len() < 8 {
+        return Err(WireFault::Body);
+    }
+    Ok((LittleEndian::read_u64(body), &body[8..]))
+}
+
+pub fn unread_front(body: &[u8], len: usize) -> Result<&[u8], WireFault>
+    ensures { Gives (λ x. x.now) result (unread_at len body.now) }
+{
+    if body.len() < len {
+        return Err(WireFault::Body);
+    }
+    Ok(&body[len..])
+}
+
+fn zero_in(body: &[u8]) -> Option<usize>
+    ensures place { result ≡ position (λ b. b == 0) body.now }
+    ensures within { IfSome result (λ end. end < length body.now) }
+{
+    body.iter().position(|b| *b == 0)
+}
+
+pub fn text_front(body: &[u8]) -> Result<(&[u8], &[u8]), WireFault>
+    ensures { Gives (λ x. (x.0.now, x.1.now)) result (text_at body.now) }
+{
+    let Some(end) = zero_in(body) else {
+        return Err(WireFault::Body);
+    };
+    Ok((&body[..end], &body[end + 1..]))
+}
+
+pub fn nothing_left(body: &[u8]) -> Result<(), WireFault>
+    ensures { Gives (λ x. true) result (ended body.now) }
+{
+    if !body.is_empty() {
+        return Err(WireFault::Body);
+    }
+    Ok(())
+}
+
+fn utf8_of(bytes: &[u8]) -> Result<&str, WireFault>
+    ensures { Gives (λ x. x.now) result (utf8_at bytes.now) }
+{
+    match str::from_utf8(bytes) {
+        Ok(text) => Ok(text),
+        Err(_) => Err(WireFault::NameBad),
+    }
+}
+
+pub fn name_of(bytes: &[u8]) -> Result<&str, WireFault>
+    ensures { Gives (λ x. x.now) result (name_at bytes.now) }
+{
+    if bytes.is_empty() {
+        return Err(WireFault::NameBad);
+    }
+    if bytes.len() > 255 {
+        return Err(WireFault::NameLong);
+    }
+    let name = utf8_of(bytes)?;
+    if bytes == b".".as_slice() || bytes == b"..".as_slice() || bytes.contains(&b'/') {
+        return Err(WireFault::NameBad);
+    }
+    Ok(name)
+}

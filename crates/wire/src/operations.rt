@@ -1,0 +1,105 @@
+//! What follows the header of a request, read by its opcode.
+
+ghost use Rattle.std.specs.Prelude.{◌∷◌, []};
+ghost use Rattle.wire.specs.Fields.{text, u64, num, name};
+ghost use Rattle.wire.specs.Reading.{Gives, fields_at, operation_at, told};
+
+use crate::fault::WireFault;
+use crate::fronts::{name_of, nothing_left, text_front, u32_front, u64_front, unread_front};
+use crate::opcode::{FORGET, GETATTR, LOOKUP, MKDIR, RENAME, RMDIR, SETATTR, STATFS, UNLINK};
+use crate::request::Operation;
+
+fn name_alone(body: &[u8]) -> Result<&str, WireFault>
+    ensures { Gives (λ x. name x.now ∷ []) result (fields_at (text ∷ []) body.now) }
+{
+    let (name, rest) = text_front(body)?;
+    nothing_left(rest)?;
+    name_of(name)
+}
+
+#[tactic(auto, unfolding(crate::specs::Reading::operation_at))]
+fn forget(body: &[u8]) -> Result<Operation<'_>, WireFault>
+    ensures { Gives told result (operation_at FORGET body.now) }
+{
+    let (nlookup, rest) = u64_front(body)?;
+    nothing_left(rest)?;
+    Ok(Operation::Forget { nlookup })
+}
+
+#[tactic(auto, unfolding(crate::specs::Reading::operation_at))]
+fn get_attr(body: &[u8]) -> Result<Operation<'_>, WireFault>
+    ensures { Gives told result (operation_at GETATTR body.now) }
+{
+    let rest = unread_front(body, 16)?;
+    nothing_left(rest)?;
+    Ok(Operation::GetAttr)
+}
+
+#[tactic(auto, unfolding(crate::specs::Reading::operation_at))]
+fn set_attr(body: &[u8]) -> Result<Operation<'_>, WireFault>
+    ensures { Gives told result (operation_at SETATTR body.now) }
+{
+    let (valid, rest) = u32_front(body)?;
+    let rest = unread_front(rest, 4)?;
+    let (fh, rest) = u64_front(rest)?;
+    let (size, rest) = u64_front(rest)?;
+    let rest = unread_front(rest, 64)?;
+    nothing_left(rest)?;
+    Ok(Operation::SetAttr { valid, fh, size })
+}
+
+#[tactic(auto, unfolding(crate::specs::Reading::operation_at))]
+fn make_dir(body: &[u8]) -> Result<Operation<'_>, WireFault>
+    ensures { Gives told result (operation_at MKDIR body.now) }
+{
+    let rest = unread_front(body, 8)?;
+    let name = name_alone(rest)?;
+    Ok(Operation::MakeDir { name })
+}
+
+#[tactic(auto, unfolding(crate::specs::Reading::operation_at))]
+fn rename(body: &[u8]) -> Result<Operation<'_>, WireFault>
+    ensures { Gives told result (operation_at RENAME body.now) }
+{
+    let (new_parent, rest) = u64_front(body)?;
+    let (name, rest) = text_front(rest)?;
+    let (new_name, rest) = text_front(rest)?;
+    nothing_left(rest)?;
+    Ok(Operation::Rename {
+        name: name_of(name)?,
+        new_parent,
+        new_name: name_of(new_name)?,
+    })
+}
+
+#[tactic(auto, unfolding(crate::specs::Reading::operation_at))]
+fn stat_fs(body: &[u8]) -> Result<Operation<'_>, WireFault>
+    ensures { Gives told result (operation_at STATFS body.now) }
+{
+    nothing_left(body)?;
+    Ok(Operation::StatFs)
+}
+
+#[tactic(auto, unfolding(crate::specs::Reading::operation_at))]
+pub fn operation_of(opcode: u32, body: &[u8]) -> Result<Operation<'_>, WireFault>
+    ensures { Gives told result (operation_at opcode body.now) }
+{
+    match opcode {
+        LOOKUP => Ok(Operation::Lookup {
+            name: name_alone(body)?,
+        }),
+        FORGET => forget(body),
+        GETATTR => get_attr(body),
+        SETATTR => set_attr(body),
+        MKDIR => make_dir(body),
+        UNLINK => Ok(Operation::Unlink {
+            name: name_alone(body)?,
+        }),
+        RMDIR => Ok(Operation::RemoveDir {
+            name: name_alone(body)?,
+        }),
+        RENAME => rename(body),
+        STATFS => stat_fs(body),
+        _ => Err(WireFault::Opcode),
+    }
+}

@@ -1,0 +1,109 @@
+//! The operation of a request as a row of what is written: the one table that an opcode, a length and bytes come from.
+
+ghost use Rattle.std.specs.Prelude.{◌≡◌, ◌≤◌, ◌+◌, ◌^◌, ◌++◌, length, vec_len, vec_capacity, IfSome};
+ghost use Rattle.wire.specs.Requests.{opcode_of};
+ghost use Rattle.wire.specs.Written.{operation_bytes};
+ghost use Rattle.wire.specs.Rows.{part_bytes, parts_bytes};
+
+use crate::opcode::{FORGET, GETATTR, LOOKUP, MKDIR, RENAME, RMDIR, SETATTR, STATFS, UNLINK};
+use crate::put::{put_text, put_u32, put_u64, put_zeros};
+use crate::request::{HEADER_LEN, Operation};
+use Part::{Text, U32, U64, Zeros};
+
+/// A part of a body.
+#[derive(Clone, Copy)]
+pub enum Part<'a> {
+    U32(u32),
+    U64(u64),
+    /// So many zero bytes.
+    Zeros(u8),
+    /// A text and a zero byte.
+    Text(&'a str),
+}
+
+/// What is written of an operation.
+#[derive(Clone, Copy)]
+pub struct Row<'a> {
+    pub opcode: u32,
+    /// What follows the header, one after another.
+    pub parts: [Part<'a>; 5],
+}
+
+/// The one table of what is written. A part of no bytes fills up a row.
+#[tactic(auto, using(crate::proofs::Lengths::lengths), unfolding(crate::specs::Written::zeros))]
+pub fn row_of<'a>(operation: &Operation<'a>) -> Row<'a>
+    ensures opcode { result.opcode ≡ opcode_of operation.now }
+    ensures bytes { parts_bytes result.parts ≡ operation_bytes operation.now }
+{
+    let end = Zeros(0);
+    let (opcode, parts) = match *operation {
+        Operation::Lookup { name } => (LOOKUP, [Text(name), end, end, end, end]),
+        Operation::Forget { nlookup } => (FORGET, [U64(nlookup), end, end, end, end]),
+        Operation::GetAttr => (GETATTR, [Zeros(16), end, end, end, end]),
+        Operation::SetAttr { valid, fh, size } => (
+            SETATTR,
+            [U32(valid), Zeros(4), U64(fh), U64(size), Zeros(64)],
+        ),
+        Operation::MakeDir { name } => (MKDIR, [Zeros(8), Text(name), end, end, end]),
+        Operation::Unlink { name } => (UNLINK, [Text(name), end, end, end, end]),
+        Operation::RemoveDir { name } => (RMDIR, [Text(name), end, end, end, end]),
+        Operation::Rename {
+            name,
+            new_parent,
+            new_name,
+        } => (
+            RENAME,
+            [U64(new_parent), Text(name), Text(new_name), end, end],
+        ),
+        Operation::StatFs => (STATFS, [end; 5]),
+    };
+    Row { opcode, parts }
+}
+
+#[tactic(auto, using(crate::proofs::Lengths::lengths))]
+fn part_len(part: &Part<'_>) -> usize
+    ensures len { result ≡ length (part_bytes part.now) }
+    ensures short { result ≤ 2 ^ 63 }
+{
+    match part {
+        U32(_) => 4,
+        U64(_) => 8,
+        Zeros(count) => *count as usize,
+        Text(text) => text.len() + 1,
+    }
+}
+
+/// How many bytes a request of these parts has, unless that passes all numbers.
+pub fn request_len(parts: &[Part<'_>]) -> Option<usize>
+    ensures { IfSome result (λ len. len ≡ HEADER_LEN + length (parts_bytes parts.now)) }
+{
+    let mut len = HEADER_LEN;
+    for part in parts {
+        len = len.checked_add(part_len(part))?;
+    }
+    Some(len)
+}
+
+#[tactic(auto, using(crate::proofs::Lengths::lengths))]
+fn put_part(out: &mut Vec<u8>, part: &Part<'_>)
+    requires { vec_len out.old + length (part_bytes part.now) ≤ vec_capacity out.old }
+    ensures items { out.new.items ≡ out.old.items ++ part_bytes part.now }
+    ensures len { vec_len out.new ≡ vec_len out.old + length (part_bytes part.now) }
+    ensures capacity { vec_capacity out.old ≤ vec_capacity out.new }
+{
+    match part {
+        U32(number) => put_u32(out, *number),
+        U64(number) => put_u64(out, *number),
+        Zeros(count) => put_zeros(out, *count),
+        Text(text) => put_text(out, text),
+    }
+}
+
+pub fn put_parts(out: &mut Vec<u8>, parts: &[Part<'_>])
+    requires { vec_len out.old + length (parts_bytes parts.now) ≤ vec_capacity out.old }
+    ensures { out.new.items ≡ out.old.items ++ parts_bytes parts.now }
+{
+    for part in parts {
+        put_part(out, part);
+    }
+}
