@@ -106,7 +106,7 @@ module _ {W L C : Type 0} (table : Table W) (settings : Settings) (sends : L →
     pub finished : W
     pub finishes : table.finishes begun ticket.id end.outcome answer finished
     pub said : ReplyBody
-    pub said_is : IsSaid refused (reply_to settings end.findings answer) said
+    pub said_is : IsSaid refused (reply_to settings q.node end.findings answer) said
     pub offer : sends link (reply_bytes (record { unique = q.unique; body = said })) sent link'
     pub settles : table.settles finished answer (taken_of refused (Some (record { reply = record { unique = q.unique; body = said }; sent = sent }))) world'
 

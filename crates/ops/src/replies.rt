@@ -1,10 +1,9 @@
 //! Replies to requests.
 
 ghost use Rattle.std.specs.Prelude.{◌≡◌};
-ghost use Rattle.ops.specs.Ahead.{end_of};
-ghost use Rattle.ops.specs.Replies.{entry_reply, first, kind_of, reply_to};
+ghost use Rattle.ops.specs.Replies.{attributes_of, entry_reply, first, kind_of, reply_to};
 
-use crate::script::Finding;
+use crate::findings::{Finding, Found};
 use errno::EIO;
 use flights::Given;
 use table::Answered;
@@ -27,6 +26,18 @@ fn kind_of(kind: backing::Kind) -> Kind
     }
 }
 
+/// The attributes of what was found.
+fn attributes_of(settings: Settings, found: Found) -> Attributes
+    ensures { result ≡ attributes_of settings found }
+{
+    Attributes {
+        kind: kind_of(found.kind),
+        size: found.size,
+        uid: settings.uid,
+        gid: settings.gid,
+    }
+}
+
 /// What was given for the first name of a request, if anything.
 fn first_given(answered: &Answered) -> Option<Given>
     ensures { result ≡ first answered.now.given }
@@ -37,22 +48,33 @@ fn first_given(answered: &Answered) -> Option<Given>
     }
 }
 
-/// What a request is answered, by what its script found and what its table gave.
-pub fn reply_to(settings: Settings, found: Finding, answered: &Answered) -> ReplyBody
-    ensures { result ≡ reply_to settings (end_of found).findings answered.now }
+/// The entry that was given, or EIO (own) where none was.
+fn entry_reply(settings: Settings, found: Found, given: Option<Given>) -> ReplyBody
+    ensures { result ≡ entry_reply settings found given }
 {
-    match (found, first_given(answered)) {
-        (Finding::Entry { kind, size }, Some(given)) => ReplyBody::Entry(Entry {
+    match given {
+        Some(given) => ReplyBody::Entry(Entry {
             node: given.number,
             generation: given.generation,
-            attributes: Attributes {
-                kind: kind_of(kind),
-                size,
-                uid: settings.uid,
-                gid: settings.gid,
-            },
+            attributes: attributes_of(settings, found),
         }),
-        (Finding::Entry { .. }, None) => ReplyBody::Failed { errno: EIO },
-        (Finding::Failed { errno }, _) => ReplyBody::Failed { errno },
+        None => ReplyBody::Failed { errno: EIO },
+    }
+}
+
+/// What a request about a node is answered, by what its script found and what its table gave.
+///
+/// An error that its script found is told as it is. An entry that the table did not give is EIO (own).
+pub fn reply_to(settings: Settings, node: u64, finding: Finding, answered: &Answered) -> ReplyBody
+    ensures { result ≡ reply_to settings node finding answered.now }
+{
+    match finding {
+        Finding::Error { errno } => ReplyBody::Failed { errno },
+        Finding::Nothing => ReplyBody::Done,
+        Finding::NewEntry(found) => entry_reply(settings, found, first_given(answered)),
+        Finding::Attributes(found) => ReplyBody::Attributes {
+            node,
+            attributes: attributes_of(settings, found),
+        },
     }
 }

@@ -1,104 +1,160 @@
-//! The calls of one request.
+//! The calls of one request: at most one that changes something, and then at most one look at what stands there.
 
-ghost use Rattle.std.specs.Prelude.{◌≡◌, ◌<◌};
-ghost use Rattle.backing.specs.Calls.{AskStat};
-ghost use Rattle.paths.specs.Fronts.{Names};
-ghost use Rattle.steps.specs.Answers.{Claim};
-ghost use Rattle.ops.specs.Judged.{judged};
-ghost use Rattle.ops.specs.Ahead.{calls_left, end_of, entered, plan_ahead};
-ghost use Rattle.ops.specs.Scripts.{after, if_found, next_of, path_of, plan_of, AsksNext, End, Over};
+ghost use Rattle.std.specs.Prelude.{◌≡◌, ◌<◌, ◌≤◌};
+ghost use Rattle.ops.specs.Ahead.{calls_ending, calls_left, end_of, plan_ahead, plan_ending, plan_from, told_of};
+ghost use Rattle.ops.specs.Intents.{sets_size};
+ghost use Rattle.ops.specs.Scripts.{after, at_paths, if_done, if_found, next_of, plan_of, rename, set_size, AsksNext, End, Over, Plan};
 
-use backing::{Answer, Call, Kind};
+use crate::findings::{Finding, Found};
+use crate::intents::sets_size;
+use crate::judging::{errno_in, judge};
+use backing::{Answer, Call};
 use errno::EIO;
 use paths::Path;
-use table::Outcome;
+use table::Ticket;
 use wire::Operation;
 
-/// What a script has found.
+/// What is told of what stands at a path.
 #[derive(Clone, Copy, Debug, PartialEq, Eq)]
-pub enum Finding {
-    /// An entry of this is to be given. The size is in bytes, and 0 for a folder.
-    Entry { kind: Kind, size: u64 },
-    /// An error number.
-    Failed { errno: i32 },
+pub enum Telling {
+    Nothing,
+    Entry,
+    Attributes,
 }
 
-impl Finding {
-    /// The outcome that the table is told.
-    pub fn outcome(self) -> Outcome
-        ensures { result ≡ (end_of self).outcome }
-    {
-        match self {
-            Finding::Entry { .. } => Outcome::Entry,
-            Finding::Failed { .. } => Outcome::Failed,
-        }
-    }
+/// How a script ends.
+#[derive(Clone, Copy)]
+pub enum Ending<'a> {
+    /// It asks what stands at the path, and tells that of it.
+    Look { path: &'a Path, tells: Telling },
+    /// It has nothing more to ask.
+    Over(Finding),
 }
 
-/// Where a script stands.
-#[derive(Clone, Copy, Debug, PartialEq, Eq)]
-pub enum Stage {
-    /// What stands at its path is to be asked.
-    ToLook,
-    Ended(Finding),
-}
-
-/// The script of a request that began.
+/// The script of a request that began: what is still to do.
 #[derive(Clone, Copy)]
 pub struct Script<'a> {
-    path: &'a Path,
-    stage: Stage,
+    /// What is changed first.
+    change: Option<Call<'a>>,
+    ending: Ending<'a>,
 }
 
-/// What a directory's answer to a Stat counts as: one that does not fit, and an error number outside 1 to 4,095, is EIO.
-fn judge(answer: &Answer) -> Finding
-    ensures { (p : Names) → Over (end_of result) ≡ if_found entered (judged (AskStat p) answer.now) }
+/// Nothing more is asked, and there is no more to say.
+const DONE: Ending<'static> = Ending::Over(Finding::Nothing);
+
+/// A ticket that has not the paths of its request, or a request that has no script.
+const UNFIT: Ending<'static> = Ending::Over(Finding::Error { errno: EIO });
+
+impl Telling {
+    /// What is told of what was found.
+    fn of(self, found: Found) -> Finding
+        ensures { result ≡ told_of self found }
+    {
+        match self {
+            Telling::Nothing => Finding::Nothing,
+            Telling::Entry => Finding::NewEntry(found),
+            Telling::Attributes => Finding::Attributes(found),
+        }
+    }
+}
+
+/// What is told of an answer to a look.
+fn looked(tells: Telling, answer: &Answer) -> Finding
+    ensures { Over (end_of result) ≡ if_found (λ found. Over (end_of (told_of tells found))) answer.now }
 {
     match answer {
-        Answer::Stat {
-            kind: Kind::Folder,
-            size: 0,
-        } => Finding::Entry {
-            kind: Kind::Folder,
-            size: 0,
-        },
-        Answer::Stat {
-            kind: Kind::File,
-            size,
-        } => Finding::Entry {
-            kind: Kind::File,
+        Answer::Stat { kind, size } => tells.of(Found {
+            kind: *kind,
             size: *size,
+        }),
+        other => Finding::Error {
+            errno: errno_in(other),
         },
-        Answer::Fault(errno) => {
-            if 1 <= *errno && *errno <= 4095 {
-                Finding::Failed { errno: *errno }
-            } else {
-                Finding::Failed { errno: EIO }
-            }
-        }
-        _ => Finding::Failed { errno: EIO },
     }
+}
+
+/// How a script ends after the answer to its change.
+fn changed<'a>(ending: Ending<'a>, answer: &Answer) -> Ending<'a>
+    ensures plan { plan_ending result ≡ if_done (plan_ending ending.entry) answer.now }
+    ensures fewer { calls_ending result ≤ calls_ending ending.entry }
+{
+    match answer {
+        Answer::Done => ending,
+        other => Ending::Over(Finding::Error {
+            errno: errno_in(other),
+        }),
+    }
+}
+
+/// What a SETATTR changes: the size, if it asks for one.
+fn size_change(valid: u32, path: &Path, size: u64) -> Option<Call<'_>>
+    ensures { (rest : Plan) → plan_from result rest ≡ set_size (sets_size valid) path.now size rest }
+{
+    if sets_size(valid) {
+        Some(Call::SetLen { path, size })
+    } else {
+        None
+    }
+}
+
+/// The script of a RENAME, from the first path of its ticket to the second.
+fn start_rename(ticket: &Ticket) -> Script<'_>
+    ensures { plan_ahead result ≡ at_paths ticket.now.paths (λ s t. rename ticket.now.same s t) }
+{
+    let (change, ending) = match ticket.paths() {
+        [path, _, ..] if ticket.same() => (
+            None,
+            Ending::Look {
+                path,
+                tells: Telling::Nothing,
+            },
+        ),
+        [from, to, ..] => (Some(Call::Rename { from, to }), DONE),
+        _ => (None, UNFIT),
+    };
+    Script { change, ending }
 }
 
 impl<'a> Script<'a> {
-    /// The script of a request whose ticket is about this path.
-    pub fn start(operation: Operation<'_>, path: &'a Path) -> Script<'a>
-        ensures { (ticket : Claim) → path_of ticket ≡ path.now → plan_ahead result ≡ plan_of operation.entry ticket }
+    /// The script of a request that began with this ticket.
+    pub fn start(operation: Operation<'_>, ticket: &'a Ticket) -> Script<'a>
+        ensures { plan_ahead result ≡ plan_of operation.entry ticket.now }
     {
-        let stage = match operation {
-            Operation::Lookup { .. } => Stage::ToLook,
-            Operation::Forget { .. } => Stage::Ended(Finding::Failed { errno: EIO }),
+        let Some(path) = ticket.paths().first() else {
+            return Script {
+                change: None,
+                ending: UNFIT,
+            };
         };
-        Script { path, stage }
+        let entry = Ending::Look {
+            path,
+            tells: Telling::Entry,
+        };
+        let attributes = Ending::Look {
+            path,
+            tells: Telling::Attributes,
+        };
+        let (change, ending) = match operation {
+            Operation::Lookup { .. } => (None, entry),
+            Operation::GetAttr => (None, attributes),
+            Operation::SetAttr { valid, size, .. } => (size_change(valid, path, size), attributes),
+            Operation::MakeDir { .. } => (Some(Call::MakeDir(path)), entry),
+            Operation::Unlink { .. } => (Some(Call::Remove(path)), DONE),
+            Operation::RemoveDir { .. } => (Some(Call::RemoveDir(path)), DONE),
+            Operation::Rename { .. } => return start_rename(ticket),
+            Operation::Forget { .. } | Operation::StatFs => (None, UNFIT),
+        };
+        Script { change, ending }
     }
 
     /// The next call, or none where the script is over.
     pub fn next(&self) -> Option<Call<'_>>
         ensures { AsksNext result (next_of (plan_ahead self.now)) }
     {
-        match self.stage {
-            Stage::ToLook => Some(Call::Stat(self.path)),
-            Stage::Ended(_) => None,
+        match (self.change, self.ending) {
+            (Some(call), _) => Some(call),
+            (None, Ending::Look { path, .. }) => Some(Call::Stat(path)),
+            (None, Ending::Over(_)) => None,
         }
     }
 
@@ -107,19 +163,23 @@ impl<'a> Script<'a> {
         ensures plan { plan_ahead self.new ≡ after (plan_ahead self.old) answer }
         ensures fewer { 0 < calls_left self.old → calls_left self.new < calls_left self.old }
     {
-        self.stage = match self.stage {
-            Stage::ToLook => Stage::Ended(judge(&answer)),
-            Stage::Ended(found) => Stage::Ended(found),
+        self.ending = match (self.change, self.ending) {
+            (Some(call), ending) => changed(ending, &judge(call, answer)),
+            (None, Ending::Look { path, tells }) => {
+                Ending::Over(looked(tells, &judge(Call::Stat(path), answer)))
+            }
+            (None, Ending::Over(finding)) => Ending::Over(finding),
         };
+        self.change = None;
     }
 
     /// What it has found, once it is over.
     pub fn finding(&self) -> Finding
         ensures { (end : End) → plan_ahead self.now ≡ Over end → end_of result ≡ end }
     {
-        match self.stage {
-            Stage::ToLook => Finding::Failed { errno: EIO },
-            Stage::Ended(found) => found,
+        match self.ending {
+            Ending::Over(finding) => finding,
+            Ending::Look { .. } => Finding::Error { errno: EIO },
         }
     }
 }
