@@ -1,0 +1,20 @@
+//! Bytes as hexadecimal digits.
+
+use std::alloc::Global;
+use std::test::Fail;
+
+/// Sixteen bytes of zero.
+pub const SIXTEEN: &str = "00000000000000000000000000000000";
+
+/// The bytes that are spelt, one text after another. Spaces are for reading.
+pub fn bytes_of(alloc: Global, texts: &[&str]) -> Result<Vec<u8>, Fail> {
+    let mut digits = Vec::new(alloc);
+    for text in texts {
+        for byte in text.as_bytes() {
+            if *byte != b' ' {
+                digits.push(*byte)?;
+            }
+        }
+    }
+    Ok(hex::decode(alloc, digits)?)
+}

@@ -1,0 +1,49 @@
+//! A stream that is cut anywhere, and lengths that no frame has.
+
+use std::test::Fail;
+use wire::{CutFault, Cutter};
+
+/// LOOKUP of `a` in the root, unique 7.
+const LOOKUP_A: [u8; 42] = [
+    0x2a, 0, 0, 0, 0x01, 0, 0, 0, 0x07, 0, 0, 0, 0, 0, 0, 0, // len, opcode, unique
+    0x01, 0, 0, 0, 0, 0, 0, 0, 0, 0, 0, 0, 0, 0, 0, 0, 0, 0, 0, 0, 0, 0, 0, 0, // node, and what is not read
+    0x61, 0, // the name
+];
+
+#[test]
+fn frame_cut_anywhere(rt: HostRuntime) -> Result<(), Fail> {
+    for at in 1..42 {
+        let mut cutter = Cutter::new(rt.alloc());
+        let (front, back) = LOOKUP_A.split_at(at);
+        cutter.feed(front)?;
+        assert!(rt; cutter.next()?.is_none());
+        assert_eq!(rt; cutter.rest(), at);
+        cutter.feed(back)?;
+        let frame = cutter.next()?.ok_or("a frame")?;
+        assert_eq!(rt; frame.as_slice(), LOOKUP_A.as_slice());
+        assert_eq!(rt; cutter.rest(), 0);
+        assert!(rt; cutter.next()?.is_none());
+    }
+    Ok(())
+}
+
+#[test]
+fn bad_length(rt: HostRuntime) -> Result<(), Fail> {
+    for (first, len) in [([0x27, 0, 0, 0], 39), ([0x01, 0x10, 0x01, 0], 69633)] {
+        let mut cutter = Cutter::new(rt.alloc());
+        cutter.feed(&LOOKUP_A)?;
+        cutter.feed(&first)?;
+        assert!(rt; cutter.next()?.is_some());
+        for _ in 0..2 {
+            assert_eq!(rt; cutter.next().err(), Some(CutFault::BadLength { len }));
+            assert_eq!(rt; cutter.feed(&[]).err(), Some(CutFault::BadLength { len }));
+        }
+        assert_eq!(rt; cutter.rest(), 4);
+    }
+    for first in [[0x28, 0, 0, 0], [0x00, 0x10, 0x01, 0]] {
+        let mut cutter = Cutter::new(rt.alloc());
+        cutter.feed(&first)?;
+        assert!(rt; cutter.next()?.is_none());
+    }
+    Ok(())
+}

@@ -1,0 +1,169 @@
+//! Faulty frames, and which fault is told.
+
+use Piece::{Bytes, Each};
+use std::alloc::Global;
+use std::test::Fail;
+use wire::WireFault::{Body, Frame, NameBad, NameLong, Opcode};
+use wire::{
+    BATCH_FORGET, FORGET, GETATTR, HEADER_LEN, Header, INTERRUPT, LOOKUP, MKDIR, RENAME, RMDIR,
+    SETATTR, STATFS, UNLINK, WireFault, decode, has_reply, header_of,
+};
+
+/// A piece of a body.
+#[derive(Clone, Copy, Debug)]
+enum Piece<'a> {
+    Bytes(&'a [u8]),
+    /// A byte, and how often.
+    Each(u8, usize),
+}
+
+/// An opcode, what follows the header, and the fault that is told.
+#[derive(Clone, Copy, Debug)]
+struct Row<'a>(u32, &'a [Piece<'a>], Option<WireFault>);
+
+/// The length of a body is not its opcode's, or its zero bytes are not as many as its names.
+const BODIES: &[Row] = &[
+    Row(LOOKUP, &[], Some(Body)),
+    Row(FORGET, &[Each(0, 7)], Some(Body)),
+    Row(FORGET, &[Each(0, 9)], Some(Body)),
+    Row(GETATTR, &[], Some(Body)),
+    Row(GETATTR, &[Each(0, 15)], Some(Body)),
+    Row(GETATTR, &[Each(0, 17)], Some(Body)),
+    Row(SETATTR, &[Each(0, 87)], Some(Body)),
+    Row(SETATTR, &[Each(0, 89)], Some(Body)),
+    Row(MKDIR, &[Each(0, 7)], Some(Body)),
+    Row(MKDIR, &[Each(0, 8)], Some(Body)),
+    Row(MKDIR, &[Each(0, 8), Bytes(b"m")], Some(Body)),
+    Row(UNLINK, &[Bytes(b"a")], Some(Body)),
+    Row(UNLINK, &[Bytes(b"a\0b")], Some(Body)),
+    Row(RMDIR, &[Bytes(b"a\0\0")], Some(Body)),
+    Row(RENAME, &[Each(0, 7)], Some(Body)),
+    Row(RENAME, &[Each(0, 8), Bytes(b"a\0")], Some(Body)),
+    Row(RENAME, &[Each(0, 8), Bytes(b"a\0b")], Some(Body)),
+    Row(RENAME, &[Each(0, 8), Bytes(b"a\0b\0c\0")], Some(Body)),
+    Row(RENAME, &[Each(0, 8), Bytes(b"/\0")], Some(Body)),
+    Row(STATFS, &[Each(0, 1)], Some(Body)),
+];
+
+const NAMES: &[Row] = &[
+    Row(MKDIR, &[Each(0, 9)], Some(NameBad)),
+    Row(UNLINK, &[Each(0, 1)], Some(NameBad)),
+    Row(MKDIR, &[Each(0, 8), Each(b'n', 255), Each(0, 1)], None),
+    Row(
+        MKDIR,
+        &[Each(0, 8), Each(b'n', 256), Each(0, 1)],
+        Some(NameLong),
+    ),
+    Row(RMDIR, &[Each(b'/', 256), Each(0, 1)], Some(NameLong)),
+    Row(UNLINK, &[Bytes(b".\0")], Some(NameBad)),
+    Row(RMDIR, &[Bytes(b"..\0")], Some(NameBad)),
+    Row(RMDIR, &[Bytes(b"...\0")], None),
+    Row(MKDIR, &[Each(0, 8), Bytes(b"m/n\0")], Some(NameBad)),
+    Row(UNLINK, &[Bytes(b"a\xff\0")], Some(NameBad)),
+    Row(RENAME, &[Each(0, 8), Bytes(b"a\0b\0")], None),
+    Row(RENAME, &[Each(0, 8), Bytes(b"a\0..\0")], Some(NameBad)),
+    Row(
+        RENAME,
+        &[Each(0, 8), Bytes(b"a\0"), Each(b'n', 256), Each(0, 1)],
+        Some(NameLong),
+    ),
+    Row(
+        RENAME,
+        &[Each(0, 9), Each(b'n', 256), Each(0, 1)],
+        Some(NameBad),
+    ),
+    Row(
+        RENAME,
+        &[Each(0, 8), Each(b'n', 256), Each(0, 2)],
+        Some(NameLong),
+    ),
+];
+
+/// The opcodes that are not served come before a body, and a frame's length before its opcode.
+const OPCODES: &[Row] = &[
+    Row(0, &[], Some(Opcode)),
+    Row(5, &[Bytes(b"/\0")], Some(Opcode)),
+    Row(INTERRUPT, &[Each(0, 8)], Some(Opcode)),
+    Row(BATCH_FORGET, &[Each(0, 8)], Some(Opcode)),
+    Row(45, &[Each(0, 16), Bytes(b"a\0b\0")], Some(Opcode)),
+    Row(5, &[Each(0, 69592)], Some(Opcode)),
+    Row(5, &[Each(0, 69593)], Some(Frame)),
+];
+
+/// A frame of that body, of request 0 about node 0.
+fn frame_of(alloc: Global, opcode: u32, pieces: &[Piece]) -> Result<Vec<u8>, Fail> {
+    let mut body = Vec::new(alloc);
+    for piece in pieces {
+        match *piece {
+            Bytes(bytes) => body.extend_from_slice(bytes)?,
+            Each(byte, count) => {
+                for _ in 0..count {
+                    body.push(byte)?;
+                }
+            }
+        }
+    }
+    let len = HEADER_LEN.checked_add(body.len()).ok_or("a long body")?;
+    let mut frame = Vec::new(alloc);
+    frame.extend_from_slice(&len.to_le_bytes()[..4])?;
+    frame.extend_from_slice(&opcode.to_le_bytes())?;
+    frame.extend_from_slice(&[0; 32])?;
+    frame.extend_from_slice(&body)?;
+    Ok(frame)
+}
+
+fn are_told(alloc: Global, rows: &[Row]) -> Result<(), Fail> {
+    for row in rows {
+        let Row(opcode, body, told) = *row;
+        let mut frame = frame_of(alloc, opcode, body)?;
+        if decode(&frame).err() != told {
+            return Err((opcode, told).into());
+        }
+        frame.pop();
+        if decode(&frame).err() != Some(Frame) {
+            return Err((opcode, Frame).into());
+        }
+    }
+    Ok(())
+}
+
+#[test]
+fn faulty_bodies(rt: HostRuntime) -> Result<(), Fail> {
+    are_told(rt.alloc(), BODIES)
+}
+
+#[test]
+fn faulty_names(rt: HostRuntime) -> Result<(), Fail> {
+    are_told(rt.alloc(), NAMES)
+}
+
+#[test]
+fn faulty_opcodes_and_lengths(rt: HostRuntime) -> Result<(), Fail> {
+    are_told(rt.alloc(), OPCODES)
+}
+
+#[test]
+fn answers_to_faulty_frames(rt: HostRuntime) -> Result<(), Fail> {
+    for (fault, errno) in [
+        (Opcode, 38),
+        (NameLong, 36),
+        (Body, 22),
+        (NameBad, 22),
+        (Frame, 22),
+    ] {
+        assert_eq!(rt; fault.errno(), errno);
+    }
+    for (opcode, answered) in [(2, false), (5, true), (12, true), (36, false), (42, false)] {
+        let frame = frame_of(rt.alloc(), opcode, &[])?;
+        assert_eq!(rt;
+            header_of(&frame),
+            Some(Header {
+                opcode,
+                unique: 0,
+                node: 0
+            })
+        );
+        assert_eq!(rt; has_reply(opcode), answered);
+    }
+    Ok(())
+}

@@ -1,0 +1,14 @@
+//! Frames and replies of the protocol, byte for byte, what is told of faulty frames, and a stream that is cut anywhere.
+//! The bytes are typed in from the tables of `fuse.h`.
+#![tactic(auto)]
+
+#[cfg(test)]
+mod bytes;
+#[cfg(test)]
+mod cutting;
+#[cfg(test)]
+mod faults;
+#[cfg(test)]
+mod replies;
+#[cfg(test)]
+mod requests;

@@ -1,0 +1,150 @@
+//! Replies, written.
+
+use crate::bytes::{SIXTEEN, bytes_of};
+use std::alloc::Global;
+use std::test::Fail;
+use wire::ReplyBody::{Attributes as Attr, Done, Entry as Given, Failed, StatFs};
+use wire::{Attributes, Entry, Kind, Reply, ReplyBody, encode_reply, error_frame};
+
+/// The number of the request that is answered, what the reply says, and its bytes in digits.
+#[derive(Clone, Copy)]
+struct Row<'a>(u64, ReplyBody, &'a [&'a str]);
+
+/// The bytes of this reply were not as a row says.
+#[derive(Debug, Drop)]
+struct Otherwise(Reply);
+
+const FILE: Attributes = Attributes {
+    kind: Kind::File,
+    size: 3,
+    uid: 0,
+    gid: 0,
+};
+
+/// 600 bytes stand in two blocks.
+const LONG_FILE: Attributes = Attributes {
+    kind: Kind::File,
+    size: 600,
+    uid: 1000,
+    gid: 100,
+};
+
+const FOLDER: Attributes = Attributes {
+    kind: Kind::Folder,
+    size: 0,
+    uid: 0,
+    gid: 0,
+};
+
+/// Eight bytes of zero.
+const EIGHT: &str = "0000000000000000";
+
+/// Three times and their nanoseconds.
+const TIMES: &str = "0000000000000000 0000000000000000 0000000000000000 00000000 00000000 00000000";
+
+const REPLIES: &[Row] = &[
+    Row(
+        7,
+        Failed { errno: 2 },
+        &["10000000 feffffff 0700000000000000"],
+    ),
+    Row(
+        6,
+        Failed { errno: 38 },
+        &["10000000 daffffff 0600000000000000"],
+    ),
+    Row(7, Done, &["10000000 00000000 0700000000000000"]),
+    Row(
+        7,
+        Given(Entry {
+            node: 2,
+            generation: 0,
+            attributes: FILE,
+        }),
+        &[
+            "90000000 00000000 0700000000000000",
+            "0200000000000000 0000000000000000 0100000000000000 0100000000000000 00000000 00000000",
+            "0200000000000000 0300000000000000 0100000000000000",
+            TIMES,
+            "a4810000 01000000 00000000 00000000 00000000 00100000 00000000",
+        ],
+    ),
+    Row(
+        4,
+        Given(Entry {
+            node: 3,
+            generation: 1,
+            attributes: FOLDER,
+        }),
+        &[
+            "90000000 00000000 0400000000000000",
+            "0300000000000000 0100000000000000 0100000000000000 0100000000000000 00000000 00000000",
+            "0300000000000000 0000000000000000 0000000000000000",
+            TIMES,
+            "ed410000 02000000 00000000 00000000 00000000 00100000 00000000",
+        ],
+    ),
+    Row(
+        9,
+        Attr {
+            node: 2,
+            attributes: LONG_FILE,
+        },
+        &[
+            "78000000 00000000 0900000000000000 0100000000000000 00000000 00000000",
+            "0200000000000000 5802000000000000 0200000000000000",
+            TIMES,
+            "a4810000 01000000 e8030000 64000000 00000000 00100000 00000000",
+        ],
+    ),
+    Row(
+        3,
+        Attr {
+            node: 1,
+            attributes: FOLDER,
+        },
+        &[
+            "78000000 00000000 0300000000000000 0100000000000000 00000000 00000000",
+            "0100000000000000 0000000000000000 0000000000000000",
+            TIMES,
+            "ed410000 02000000 00000000 00000000 00000000 00100000 00000000",
+        ],
+    ),
+    Row(
+        8,
+        StatFs,
+        &[
+            "60000000 00000000 0800000000000000",
+            SIXTEEN,
+            SIXTEEN,
+            EIGHT,
+            "00100000 ff000000 00100000 00000000",
+            SIXTEEN,
+            EIGHT,
+        ],
+    ),
+];
+
+/// Whether `error_frame` has these bytes too, if it can say the reply.
+fn is_framed(reply: &Reply, bytes: &[u8]) -> bool {
+    match reply.body {
+        Failed { errno } => error_frame(reply.unique, errno).as_slice() == bytes,
+        Done => error_frame(reply.unique, 0).as_slice() == bytes,
+        _ => true,
+    }
+}
+
+#[test]
+fn bytes_of_replies(rt: HostRuntime) -> Result<(), Fail> {
+    for row in REPLIES {
+        let Row(unique, body, bytes) = *row;
+        let reply = Reply { unique, body };
+        let bytes = bytes_of(rt.alloc(), bytes)?;
+        let mut out = Vec::new(rt.alloc());
+        encode_reply(&reply, &mut out)?;
+        if out.as_slice() != bytes.as_slice() || !is_framed(&reply, &bytes) {
+            return Err(Otherwise(reply).into());
+        }
+    }
+    Ok(())
+}

@@ -1,0 +1,226 @@
+//! Frames of requests, read and written.
+
+use crate::bytes::{SIXTEEN, bytes_of};
+use std::alloc::Global;
+use std::test::Fail;
+use wire::Operation::{
+    Forget, GetAttr, Lookup, MakeDir, RemoveDir, Rename, SetAttr, StatFs, Unlink,
+};
+use wire::{Operation, Request, decode, encode_request};
+
+/// A frame in digits, and the request that it is: its number, its node and its operation.
+#[derive(Clone, Copy)]
+struct Row<'a>(&'a [&'a str], u64, u64, Operation<'a>);
+
+/// What was not as a row says.
+#[derive(Debug, Drop)]
+enum Otherwise<'a> {
+    Read(Request<'a>),
+    Written(Request<'a>),
+}
+
+/// What is not read.
+const ONES: &str = "ffffffff ffffffff ffffffff ffffffff";
+
+/// Frames whose bytes that are not read are zero.
+const WRITTEN: &[Row] = &[
+    Row(
+        &[
+            "2a000000 01000000 0700000000000000 0100000000000000",
+            SIXTEEN,
+            "6100",
+        ],
+        7,
+        1,
+        Lookup { name: "a" },
+    ),
+    Row(
+        &[
+            "30000000 02000000 0900000000000000 0200000000000000",
+            SIXTEEN,
+            "0500000000000000",
+        ],
+        9,
+        2,
+        Forget { nlookup: 5 },
+    ),
+    Row(
+        &[
+            "38000000 03000000 0300000000000000 0200000000000000",
+            SIXTEEN,
+            SIXTEEN,
+        ],
+        3,
+        2,
+        GetAttr,
+    ),
+    Row(
+        &[
+            "80000000 04000000 0900000000000000 0200000000000000",
+            SIXTEEN,
+            "48000000 00000000 0500000000000000 5802000000000000",
+            SIXTEEN,
+            SIXTEEN,
+            SIXTEEN,
+            SIXTEEN,
+        ],
+        9,
+        2,
+        SetAttr {
+            valid: 72,
+            fh: 5,
+            size: 600,
+        },
+    ),
+    Row(
+        &[
+            "32000000 09000000 0400000000000000 0100000000000000",
+            SIXTEEN,
+            "00000000 00000000 6d00",
+        ],
+        4,
+        1,
+        MakeDir { name: "m" },
+    ),
+    Row(
+        &[
+            "2a000000 0a000000 0600000000000000 0100000000000000",
+            SIXTEEN,
+            "6100",
+        ],
+        6,
+        1,
+        Unlink { name: "a" },
+    ),
+    Row(
+        &[
+            "2a000000 0b000000 0700000000000000 0300000000000000",
+            SIXTEEN,
+            "6d00",
+        ],
+        7,
+        3,
+        RemoveDir { name: "m" },
+    ),
+    Row(
+        &[
+            "34000000 0c000000 0500000000000000 0100000000000000",
+            SIXTEEN,
+            "0100000000000000 6100 6200",
+        ],
+        5,
+        1,
+        Rename {
+            name: "a",
+            new_parent: 1,
+            new_name: "b",
+        },
+    ),
+    Row(
+        &[
+            "37000000 0c000000 0500000000000000 0200000000000000",
+            SIXTEEN,
+            "0300000000000000 6100 6c6f6e6700",
+        ],
+        5,
+        2,
+        Rename {
+            name: "a",
+            new_parent: 3,
+            new_name: "long",
+        },
+    ),
+    Row(
+        &[
+            "28000000 11000000 0800000000000000 0100000000000000",
+            SIXTEEN,
+        ],
+        8,
+        1,
+        StatFs,
+    ),
+];
+
+/// Frames in which bytes that are not read are something else: uid, gid, pid and padding; of GETATTR the flags and the
+/// handle, of SETATTR its padding and what follows its size, of MKDIR the mode and the umask.
+const READ: &[Row] = &[
+    Row(
+        &[
+            "38000000 03000000 0300000000000000 0200000000000000",
+            ONES,
+            ONES,
+        ],
+        3,
+        2,
+        GetAttr,
+    ),
+    Row(
+        &[
+            "80000000 04000000 0900000000000000 0200000000000000",
+            ONES,
+            "01000000 ffffffff 0500000000000000 5802000000000000",
+            ONES,
+            ONES,
+            ONES,
+            ONES,
+        ],
+        9,
+        2,
+        SetAttr {
+            valid: 1,
+            fh: 5,
+            size: 600,
+        },
+    ),
+    Row(
+        &[
+            "32000000 09000000 0400000000000000 0100000000000000",
+            ONES,
+            "ed410000 12000000 6d00",
+        ],
+        4,
+        1,
+        MakeDir { name: "m" },
+    ),
+];
+
+fn are_read<'a>(alloc: Global, rows: &[Row<'a>]) -> Result<(), Fail> {
+    for row in rows {
+        let Row(frame, unique, node, operation) = *row;
+        let request = Request {
+            unique,
+            node,
+            operation,
+        };
+        let frame = bytes_of(alloc, frame)?;
+        if decode(&frame) != Ok(request) {
+            return Err(Otherwise::Read(request).into());
+        }
+    }
+    Ok(())
+}
+
+fn are_written<'a>(alloc: Global, rows: &[Row<'a>]) -> Result<(), Fail> {
+    for row in rows {
+        let Row(frame, unique, node, operation) = *row;
+        let request = Request {
+            unique,
+            node,
+            operation,
+        };
+        let frame = bytes_of(alloc, frame)?;
+        let mut out = Vec::new(alloc);
+        encode_request(&request, &mut out)?;
+        if out.as_slice() != frame.as_slice() {
+            return Err(Otherwise::Written(request).into());
+        }
+    }
+    Ok(())
+}
+
+#[test]
+fn frames_of_requests(rt: HostRuntime) -> Result<(), Fail> {
+    are_read(rt.alloc(), WRITTEN)?;
+    are_written(rt.alloc(), WRITTEN)?;
+    are_read(rt.alloc(), READ)
+}
