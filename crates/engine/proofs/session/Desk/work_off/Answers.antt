@@ -1,5 +1,6 @@
-use Rattle.std.proofs.Common.{sym, ◌∙◌}
+use Rattle.std.proofs.Common.{refl, sym, ◌∙◌}
 use Rattle.steps.specs.Kept.{world_of}
+use Rattle.table.proofs.Gaining.{gains_same}
 use Rattle.engine.proofs.Alone.{forgets_idle}
 use Rattle.engine.specs.Tables.{worlds}
 use Rattle.engine.proofs.Turns.{carried, fault_answered, forgot, said_at_once, unbegun}
@@ -33,3 +34,15 @@ returns-in-Err-intent_of-clause-worked g c =
 pub returns-in-Ok-Forget-clause-idle : goal.returns-in-Ok-Forget-clause-idle
 returns-in-Ok-Forget-clause-idle g c =
     forgets_idle (world_of c.args.table.now) (world_of c.forget.new.self) c.in-Ok-Forget.number c.in-Ok-Forget.lookups c.forget.result c.requires.idle c.forget.ensures.forgets
+
+pub returns-in-Err-clause-gains : goal.returns-in-Err-clause-gains
+returns-in-Err-clause-gains g c = gains_same (world_of c.args.table.now) (world_of c.args.table.now) c.args.share.now c.args.share.now c.attest.ensures refl refl
+
+pub returns-in-Ok-Reply-clause-gains : goal.returns-in-Ok-Reply-clause-gains
+returns-in-Ok-Reply-clause-gains g c = gains_same (world_of c.args.table.now) (world_of c.args.table.now) c.args.share.now c.args.share.now c.attest.ensures refl refl
+
+pub returns-in-Err-intent_of-clause-gains : goal.returns-in-Err-intent_of-clause-gains
+returns-in-Err-intent_of-clause-gains g c = gains_same (world_of c.args.table.now) (world_of c.args.table.now) c.args.share.now c.args.share.now c.attest.ensures refl refl
+
+pub returns-in-Ok-Forget-clause-gains : goal.returns-in-Ok-Forget-clause-gains
+returns-in-Ok-Forget-clause-gains g c = record { lawful = c.forget.ensures.lawful; grows = c.forget.ensures.grows; share = c.forget.ensures.share }
