@@ -1,0 +1,10 @@
+//! What a client sees of a folder that is open: its listing, and pages of it.
+#![tactic(auto)]
+
+mod listing;
+mod names;
+mod page;
+mod paging;
+
+pub use listing::{Listing, ListingFault};
+pub use page::{Page, PageFault};
