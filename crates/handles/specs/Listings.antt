@@ -48,3 +48,8 @@ abbrev pub IsMade : ℕ → List Child → Result OpenFolder ListingFault → Ty
 IsMade number children (Ok folder) = AreLawful children × (folder.number ≡ number) × (folder.fh ≡ 0) × Shows children folder.entries
 IsMade number children (Err Lawless) = AreLawful children → ⊥
 IsMade number children (Err Memory) = AreLawful children
+
+-- what is lent bears the handle that was asked for, and is a listing
+pub record IsLent (fh : ℕ) (folder : OpenFolder) : Type 0 where
+  pub bears : folder.fh ≡ fh
+  pub listing : IsListing folder.entries

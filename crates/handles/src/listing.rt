@@ -70,10 +70,32 @@ impl Listing {
         self.fh
     }
 
+    /// It is lawful by its type: a call that does nothing.
+    pub fn attest(&self)
+        ensures { IsListing self.now.entries }
+    {
+        let _ = &self.entries;
+    }
+
+    /// The same under a handle.
+    pub(crate) fn under(self, fh: u64) -> Listing
+        ensures { result ≡ record self { fh = fh } }
+    {
+        let Self {
+            number,
+            fh: _,
+            entries,
+        } = self;
+        Listing {
+            number,
+            fh,
+            entries,
+        }
+    }
+
     /// All that it shows, in order.
     pub fn entries(&self) -> &[Child]
-        ensures shown { result.now ≡ self.now.entries }
-        ensures lawful { IsListing self.now.entries }
+        ensures { result.now ≡ self.now.entries }
     {
         self.entries.as_slice()
     }
