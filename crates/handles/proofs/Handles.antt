@@ -1,0 +1,119 @@
+-- Open folders whose handles rise.
+use Rattle.std.proofs.Common.{◌≡◌, ℕ, suc, ◌+◌, ◌<◌, ◌≤◌, Bool, true, false, not, cond, ltb, eqb, ◌==◌, List, [], ◌∷◌, ◌++◌, Some, Result, Ok, Err, length, take, drop, map, get_or, refl, sym, ap, ◌∙◌, subst, arith, inl, inr, drop-cons}
+use Rattle.std.proofs.lemmas.Bool.{true≢false, cond-true, cond-false, eqb-true, eq-eqb, ne_eqb, le-ltb, cases_lt}
+use Rattle.std.proofs.lemmas.List.{map-append, take-map, drop-map, length-map, length-take-le, length-drop, take-append-drop, get_or-take, get_or-drop, get_or-map}
+use Rattle.std.proofs.lemmas.List.Elements.{All-head, All-tail, All-nil, All-push, All-filter, filter-append, Contains-get_or}
+use Rattle.std.proofs.lemmas.List.Kept.{AllPairs-filter}
+use Rattle.std.proofs.lemmas.List.Quantifiers.{all_pairs_push}
+use Rattle.std.proofs.lemmas.List.Sorted.{searchable_from_sorted}
+use Rattle.std.specs.declared.cmp.Ordering.{Ordering}
+use Rattle.std.specs.declared.cmp.Ordering.TheVariants.{Less, Equal, Greater}
+use Rattle.std.specs.Ordering.{nat_cmp, is_lt, is_eq}
+use Rattle.std.specs.Cmp.{nat_cmp_total, unsigned_ties}
+use Rattle.std.specs.List.{All, Contains, HoldsAt, filter, remove}
+use Rattle.std.specs.List.Sorted.{IsBinarySearchResult, IsSearchInRange, IsSortedBy}
+use Rattle.std.specs.Result.{result_ok}
+use Rattle.handles.specs.Listings.{OpenFolder}
+use Rattle.handles.specs.Shelves.{Shelf, IsKept, IsRising, IsPlace, IsFound}
+
+abbrev pub differs : ℕ → OpenFolder → Bool
+differs fh folder = not (folder.fh == fh)
+
+pub kept_none : IsKept (record { last = 0; folders = [] })
+kept_none = record { rising = λ i j d a b. absurd (omega (arith, b)); given = All-nil (λ (f : OpenFolder). f.fh ≤ 0) }
+
+-- a folder under a handle above the last
+pub kept_more : (shelf : Shelf) (folder : OpenFolder) (fh : ℕ) → IsKept shelf → shelf.last < fh → folder.fh ≡ fh → IsKept (record { last = fh; folders = shelf.folders ++ folder ∷ [] })
+kept_more shelf folder fh kept above is = record {
+  rising = all_pairs_push (λ (a b : OpenFolder). a.fh < b.fh) shelf.folders folder kept.rising (λ k d b. let under = kept.given k d b in omega (arith, under, above, is));
+  given = All-push (λ (f : OpenFolder). f.fh ≤ fh) shelf.folders folder (λ k d b. let under = kept.given k d b in omega (arith, under, above)) (omega (arith, is));
+}
+
+-- fewer folders
+pub kept_less : (shelf : Shelf) (p : OpenFolder → Bool) → IsKept shelf → IsKept (record shelf { folders = filter p shelf.folders })
+kept_less shelf p kept = record {
+  rising = AllPairs-filter (λ (a b : OpenFolder). a.fh < b.fh) p shelf.folders kept.rising;
+  given = All-filter p (λ (f : OpenFolder). f.fh ≤ shelf.last) shelf.folders kept.given;
+}
+
+passes_all : (p : OpenFolder → Bool) (xs : List OpenFolder) → All (λ x. p x ≡ true) xs → filter p xs ≡ xs
+passes_all p [] h = refl
+passes_all p (x ∷ xs) h =
+    cond-true (p x) (x ∷ filter p xs) (filter p xs) (All-head (λ (y : OpenFolder). p y ≡ true) x xs h) ∙ ap (λ (ys : List OpenFolder). x ∷ ys) (passes_all p xs (All-tail (λ (y : OpenFolder). p y ≡ true) x xs h))
+
+differs_from : (fh : ℕ) (folder : OpenFolder) → (folder.fh ≡ fh → ⊥) → differs fh folder ≡ true
+differs_from fh folder ne = ap not (ne_eqb folder.fh fh ne)
+
+at_place : (xs : List OpenFolder) (i : ℕ) (d : OpenFolder) → i < length xs → xs ≡ take i xs ++ (get_or xs i d ∷ drop (suc i) xs)
+at_place xs i d b = sym (take-append-drop i xs) ∙ ap (λ (ys : List OpenFolder). take i xs ++ ys) (drop-cons xs i d b)
+
+-- Where handles rise, the folder at a place is all that bears its handle.
+pub removed : (xs : List OpenFolder) (i fh : ℕ) (d : OpenFolder) → i < length xs → HoldsAt (λ (f : OpenFolder). f.fh ≡ fh) xs i → IsRising xs → remove xs i ≡ filter (differs fh) xs
+removed xs i fh d b is up =
+    let before : filter (differs fh) (take i xs) ≡ take i xs = passes_all (differs fh) (take i xs) (λ k e h. differs_from fh (get_or (take i xs) k e) (λ same.
+    let long = length-take-le i xs (omega (arith, b)) in
+    let there = ap (λ (f : OpenFolder). f.fh) (get_or-take i xs k e (omega (arith, h, long))) in
+    let less = up k i e (omega (arith, h, long)) b in
+    absurd (omega (arith, same, there, less, is e)))) in
+    let after : filter (differs fh) (drop (suc i) xs) ≡ drop (suc i) xs = passes_all (differs fh) (drop (suc i) xs) (λ k e h. differs_from fh (get_or (drop (suc i) xs) k e) (λ same.
+    let long = length-drop (suc i) xs in
+    let there = ap (λ (f : OpenFolder). f.fh) (get_or-drop (suc i) xs k e) in
+    let less = up i (suc i + k) e (omega arith) (omega (arith, h, long, b)) in
+    absurd (omega (arith, same, there, less, is e)))) in
+    let none : differs fh (get_or xs i d) ≡ false = ap not (eq-eqb (get_or xs i d).fh fh (is d)) in
+    let rest : filter (differs fh) (get_or xs i d ∷ drop (suc i) xs) ≡ drop (suc i) xs = cond-false (differs fh (get_or xs i d)) (get_or xs i d ∷ filter (differs fh) (drop (suc i) xs)) (filter (differs fh) (drop (suc i) xs)) none ∙ after in
+    let whole : filter (differs fh) xs ≡ filter (differs fh) (take i xs) ++ filter (differs fh) (get_or xs i d ∷ drop (suc i) xs) = ap (filter (differs fh)) (at_place xs i d b) ∙ filter-append (differs fh) (take i xs) (get_or xs i d ∷ drop (suc i) xs) in
+    sym (whole ∙ (ap (λ (ys : List OpenFolder). ys ++ filter (differs fh) (get_or xs i d ∷ drop (suc i) xs)) before ∙ ap (λ (ys : List OpenFolder). take i xs ++ ys) rest))
+
+not_less : (c : Bool) → is_lt (cond c Equal Greater) ≡ false
+not_less true = refl
+not_less false = refl
+
+not_below : (a b : ℕ) → a < b → is_lt (nat_cmp b a) ≡ false
+not_below a b h = ap is_lt (cond-false (ltb b a) Less (cond (eqb b a) Equal Greater) (le-ltb b a (omega (arith, h)))) ∙ not_less (eqb b a)
+
+tied : (a b : ℕ) → nat_cmp a b ≡ Equal → a ≡ b
+tied a b e = eqb-true a b (unsigned_ties a b ∙ ap is_eq e)
+
+apart : (a b : ℕ) (r : Ordering) → nat_cmp a b ≡ r → is_eq r ≡ false → a ≡ b → ⊥
+apart a b r told ne e = true≢false (sym (sym (unsigned_ties a b) ∙ eq-eqb a b e) ∙ (ap is_eq told ∙ ne))
+
+module _ {X : Type 0} (v : X → OpenFolder) where
+  pub map_remove : (xs : List X) (i : ℕ) → map v (remove xs i) ≡ remove (map v xs) i
+  map_remove xs i =
+      map-append v (take i xs) (drop (suc i) xs) ∙ (ap (λ (ys : List OpenFolder). ys ++ map v (drop (suc i) xs)) (sym (take-map v i xs)) ∙ ap (λ (ys : List OpenFolder). take i (map v xs) ++ ys) (sym (drop-map v (suc i) xs)))
+
+  some_of : (xs : List X) (i : ℕ) → i < length xs → X
+  some_of [] i b = absurd (omega (arith, b))
+  some_of (x ∷ xs) i b = x
+
+  sorted : (xs : List X) → IsRising (map v xs) → IsSortedBy (λ a b. is_lt (nat_cmp (v a).fh (v b).fh)) xs
+  sorted xs up k d z b =
+      let one = ap (λ (f : OpenFolder). f.fh) (get_or-map v xs k d (v d) (omega (arith, b))) in
+      let two = ap (λ (f : OpenFolder). f.fh) (get_or-map v xs (k + 1) d (v d) b) in
+      let less = up k (k + 1) (v d) (omega arith) (omega (arith, b, length-map xs v)) in
+      not_below (v (get_or xs k d)).fh (v (get_or xs (k + 1) d)).fh (omega (arith, one, two, less))
+
+  -- what a search in the rising handles finds
+  pub placed : (xs : List X) (fh : ℕ) (r : Result ℕ ℕ) → IsSearchInRange r (length xs) → IsBinarySearchResult (λ y. nat_cmp (v y).fh fh) xs r → IsRising (map v xs) → IsPlace fh (map v xs) (result_ok r)
+  placed xs fh (Ok i) within here up =
+      let x = some_of xs i within in
+      (omega (arith, within, length-map xs v), λ d. ap (λ (f : OpenFolder). f.fh) (get_or-map v xs i x d within) ∙ tied (v (get_or xs i x)).fh fh (here x))
+  placed xs fh (Err i) within here up = λ k d b same.
+      let below : k < length xs = omega (arith, b, length-map xs v) in
+      let x = some_of xs k below in
+      let own : (v (get_or xs k x)).fh ≡ fh = sym (ap (λ (f : OpenFolder). f.fh) (get_or-map v xs k x d below)) ∙ same in
+      let parts = here (searchable_from_sorted nat_cmp_total (λ y. (v y).fh) xs fh (sorted xs up)) in
+      elim (cases_lt k i) [
+        | inl less ↦ apart (v (get_or xs k x)).fh fh Less (parts.0 k x (omega arith) less) refl own
+        | inr more ↦ apart (v (get_or xs k x)).fh fh Greater (parts.1 k x more below) refl own
+      ]
+
+  -- the folder that is read at its place
+  pub found : (xs : List X) (last fh i : ℕ) (x : X) → IsPlace fh (map v xs) (Some i) → x ≡ get_or xs i x → IsFound fh (record { last = last; folders = map v xs }) (v x)
+  found xs last fh i x at is =
+      let here : get_or (map v xs) i (v x) ≡ v x = get_or-map v xs i x (v x) (omega (arith, at.0, length-map xs v)) ∙ ap v (sym is) in
+      record {
+        there = subst (λ (f : OpenFolder). Contains (map v xs) f) here (Contains-get_or (map v xs) i (v x) at.0);
+        bears = sym (ap (λ (f : OpenFolder). f.fh) here) ∙ at.1 (v x);
+      }

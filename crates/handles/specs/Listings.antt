@@ -1,0 +1,55 @@
+-- What an open folder shows.
+use Rattle.std.specs.Prelude.{ℕ, ◌≡◌, not, if◌then◌else◌, List, ◌∷◌, None, Result, Ok, Err, codes}
+use Rattle.std.specs.List.{AllPass}
+use Rattle.std.specs.List.Sorted.{IsPermutation, IsStrictlySortedBy}
+use Rattle.paths.specs.Fronts.{Name}
+use Rattle.backing.specs.declared.call.Kind.TheVariants as kinds
+use Rattle.backing.specs.declared.call.Child.{Child}
+use Rattle.backing.specs.Calls.{kind_in, EachOnce}
+use Rattle.handles.specs.Names.{is_lawful, is_reserved, by_name}
+use Rattle.handles.specs.declared.listing.ListingFault.{ListingFault}
+use Rattle.handles.specs.declared.listing.ListingFault.TheVariants.{Lawless, Memory}
+
+-- what a directory may list: lawful names, each once
+pub record AreLawful (children : List Child) : Type 0 where
+  pub lawful : AllPass (λ child. is_lawful child.name) children
+  pub once : EachOnce children
+
+-- these children, which are lawful, by rising bytes
+pub record IsInOrder (children names : List Child) : Type 0 where
+  pub lawful : AreLawful children
+  pub moved : IsPermutation children names
+  pub rising : IsStrictlySortedBy by_name names
+
+abbrev pub folder_at : Name → Child
+folder_at name = record { name = name; kind = kinds.Folder }
+
+-- `.` and `..`, then lawful names by rising bytes, none of them reserved
+pub record IsListing (entries : List Child) : Type 0 where
+  pub names : List Child
+  pub dots : entries ≡ folder_at (codes ".") ∷ folder_at (codes "..") ∷ names
+  pub lawful : AllPass (λ child. is_lawful child.name) names
+  pub shown : AllPass (λ child. not (is_reserved child.name)) names
+  pub rising : IsStrictlySortedBy by_name names
+
+-- the listing of these children shows each that is not reserved, with its kind, and nothing else
+pub record Shows (children entries : List Child) : Type 0 where
+  pub listing : IsListing entries
+  pub same : (name : Name) → kind_in listing.names name ≡ (if is_reserved name then None else kind_in children name)
+
+-- an open folder: its node, its handle and what it shows
+pub record OpenFolder : Type 0 where
+  pub number : ℕ
+  pub fh : ℕ
+  pub entries : List Child
+
+-- the listing of a node's children, which has no handle yet; a fault exactly where they are lawless
+abbrev pub IsMade : ℕ → List Child → Result OpenFolder ListingFault → Type 0
+IsMade number children (Ok folder) = AreLawful children × (folder.number ≡ number) × (folder.fh ≡ 0) × Shows children folder.entries
+IsMade number children (Err Lawless) = AreLawful children → ⊥
+IsMade number children (Err Memory) = AreLawful children
+
+-- what is lent bears the handle that was asked for, and is a listing
+pub record IsLent (fh : ℕ) (folder : OpenFolder) : Type 0 where
+  pub bears : folder.fh ≡ fh
+  pub listing : IsListing folder.entries

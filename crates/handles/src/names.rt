@@ -1,0 +1,88 @@
+//! Names in a folder: which of them are lawful, which the server keeps for itself, and their order.
+
+ghost use Rattle.std.specs.Prelude.{◌≡◌, ◌↔◌, IsTrue, MatchOption, not};
+ghost use Rattle.std.specs.List.{AllPass, filter};
+ghost use Rattle.std.specs.List.Sorted.{IsPermutation, IsSorted, IsStrictlySortedBy};
+ghost use Rattle.handles.specs.Listings.{AreLawful, IsInOrder};
+ghost use Rattle.handles.specs.Names.{is_lawful, is_reserved, by_name};
+
+use backing::{Child, Children};
+use paths::Name;
+use std::cmp::Ordering;
+
+/// The most bytes of a name (own).
+const MAX_NAME_LEN: usize = 255;
+
+/// What the names begin with that the server keeps for itself (own).
+const RESERVED: &str = ".fuse_hidden";
+
+/// Whether a folder may have the name.
+fn is_lawful(name: &Name) -> bool
+    ensures { result ≡ is_lawful name.now }
+{
+    let bytes = name.as_str().as_bytes();
+    !bytes.is_empty()
+        && bytes.len() <= MAX_NAME_LEN
+        && bytes != b".".as_slice()
+        && bytes != b"..".as_slice()
+        && !bytes.contains(&b'/')
+        && !bytes.contains(&0)
+}
+
+/// Whether the server keeps the name for itself.
+fn is_reserved(name: &Name) -> bool
+    ensures { result ≡ is_reserved name.now }
+{
+    name.as_str().as_bytes().starts_with(RESERVED.as_bytes())
+}
+
+/// By the bytes of their names.
+fn compare(a: &Child, b: &Child) -> Ordering
+    ensures { result ≡ by_name a.now b.now }
+{
+    a.name.as_str().as_bytes().cmp(b.name.as_str().as_bytes())
+}
+
+/// Whether each name is lawful.
+fn are_lawful(children: &[Child]) -> bool
+    ensures { IsTrue result ↔ AllPass (λ child. is_lawful child.name) children.now }
+{
+    children.iter().all(|child| is_lawful(&child.name))
+}
+
+/// Sorts by the bytes of the names. It takes no memory.
+fn sort(children: &mut Vec<Child>)
+    ensures moved { IsPermutation children.old.items children.new.items }
+    ensures sorted { IsSorted by_name children.new.items }
+{
+    children.sort_unstable_by(|a, b| compare(a, b));
+}
+
+/// Whether each name is below the next.
+fn are_rising(children: &[Child]) -> bool
+    ensures { IsTrue result ↔ IsStrictlySortedBy by_name children.now }
+{
+    children.is_sorted_by(|a, b| compare(a, b).is_lt())
+}
+
+/// The children by rising bytes, if each name is lawful and stands once. It takes no memory.
+pub(crate) fn in_order(children: Children) -> Option<Vec<Child>>
+    ensures { MatchOption result (AreLawful children → ⊥) (λ v. IsInOrder children v.items) }
+{
+    let mut names = children.into_vec();
+    if !are_lawful(&names) {
+        return None;
+    }
+    sort(&mut names);
+    if !are_rising(&names) {
+        return None;
+    }
+    Some(names)
+}
+
+/// Takes away the names that the server keeps for itself.
+pub(crate) fn drop_reserved(children: &mut Vec<Child>)
+    ensures { children.new.items ≡ filter (λ child. not (is_reserved child.name)) children.old.items }
+{
+    children.retain(|child| !is_reserved(&child.name));
+}

@@ -1,0 +1,64 @@
+//! Pages of a listing, by the bytes that they take.
+
+ghost use Rattle.std.specs.Prelude.{◌≡◌, ◌≤◌, drop, take, length};
+ghost use Rattle.handles.specs.Pages.{IsPage, IsLongestRun, padded};
+
+use crate::listing::Listing;
+use crate::page::{Page, PageFault};
+use backing::Child;
+
+/// The bytes before the name of an entry (the header's `fuse_dirent`).
+const HEAD_LEN: u64 = 24;
+
+/// The same where the entry's attributes stand before it (the header's `fuse_direntplus`).
+const HEAD_LEN_PLUS: u64 = 152;
+
+impl Listing {
+    /// The longest run of entries from the offset on (an index) that takes at most `size` bytes; with `plus` each has its
+    /// attributes before it. Past the end it is empty. It takes no memory, and the time of its own entries alone.
+    pub fn page(&self, offset: u64, size: u32, plus: bool) -> Result<Page<'_>, PageFault>
+        ensures { IsPage plus self.now.entries offset size result }
+    {
+        let rest = entries_from(self.entries(), offset);
+        let count = run_len(rest, size, plus);
+        if count == 0 && !rest.is_empty() {
+            return Err(PageFault::Small);
+        }
+        Ok(Page {
+            from: offset,
+            entries: &rest[..count],
+        })
+    }
+}
+
+/// The entries from the offset on.
+fn entries_from(entries: &[Child], offset: u64) -> &[Child]
+    ensures { result.now ≡ drop offset entries.now }
+{
+    let start = entries.len().min(offset as usize);
+    &entries[start..]
+}
+
+/// How many entries the longest run has.
+fn run_len(entries: &[Child], size: u32, plus: bool) -> usize
+    ensures within { result ≤ length entries.now }
+    ensures longest { IsLongestRun plus size entries.now (take result entries.now) }
+{
+    let mut left = u64::from(size);
+    for (i, entry) in entries.iter().enumerate() {
+        let len = padded_len(entry, plus);
+        if left < len {
+            return i;
+        }
+        left -= len;
+    }
+    entries.len()
+}
+
+/// The bytes of an entry: its head, its name, and zeros up to a multiple of 8.
+fn padded_len(entry: &Child, plus: bool) -> u64
+    ensures { result ≡ padded plus entry.now }
+{
+    let head = if plus { HEAD_LEN_PLUS } else { HEAD_LEN };
+    (head + entry.name.as_str().as_bytes().len() as u64 + 7) / 8 * 8
+}
