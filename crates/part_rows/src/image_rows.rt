@@ -1,7 +1,7 @@
 //! Images made by hand, lawful and not.
 
-use crate::data::{Holds, Image, Nodes, Numbers, Postings, Record, Records, Stage};
 use holds::{Held, Leads, Paths};
+use image::{Holds, Image, Nodes, Numbers, Postings, Record, Records, Stage};
 use ledger::Posting;
 use paths::Name;
 use std::alloc::{AllocError, Global};

@@ -1,6 +1,6 @@
 use Rattle.std.proofs.Common.{sym, ap, subst}
 use Rattle.tree.specs.Places.{Lookup, at_in, IsFree}
-use Rattle.tree_rows.proofs.rows.plant.Goals as goal
+use Rattle.part_rows.proofs.tree_rows.plant.Goals as goal
 
 pub birth-requires-clause-free : goal.birth-requires-clause-free
 birth-requires-clause-free c =
