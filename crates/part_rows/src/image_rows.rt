@@ -8,52 +8,27 @@ use std::alloc::{AllocError, Global};
 use std::test::Fail;
 use tree::{Key, Node, Place};
 
-/// A node without count and mark.
-fn node(number: u64, generation: u64, place: Place) -> Node {
-    Node {
-        number,
-        generation,
-        place,
-        count: 0,
-        hidden: false,
-    }
+/// Where a node stands.
+#[derive(Clone, Copy)]
+enum Spot<'a> {
+    Root,
+    /// At a name under a parent.
+    At(u64, &'a str),
+    Cut,
 }
 
-fn root() -> Node {
-    node(1, 0, Place::Root)
-}
+/// A node: its number, its generation, where it stands, and its count. None is hidden.
+#[derive(Clone, Copy)]
+struct Living<'a>(u64, u64, Spot<'a>, u64);
 
-/// The place of that name under the parent.
-fn under(alloc: Global, parent: u64, name: &str) -> Result<Place, AllocError> {
-    let name = Name::copy_of(alloc, name)?;
-    Ok(Place::Named(Key { parent, name }))
-}
+const ROOT: Living = Living(1, 0, Spot::Root, 0);
 
-/// A request whose work goes on, and that pins the number.
-fn pinning(alloc: Global, id: u64, number: u64) -> Result<Record, AllocError> {
-    let mut pins = Numbers::new(alloc);
-    pins.add(number)?;
-    Ok(Record {
-        id,
-        unique: 9,
-        stage: Stage::Working,
-        pins,
-        held: Held {
-            given: Leads::from_vec(Vec::new(alloc)),
-            shared: Paths::from_vec(Vec::new(alloc)),
-            exclusive: Paths::from_vec(Vec::new(alloc)),
-        },
-    })
-}
-
-/// The image of a table in which no name is held.
-fn image(alloc: Global, nodes: Vec<Node>, postings: Vec<Posting>, records: Vec<Record>) -> Image {
-    Image {
-        nodes: Nodes::from(nodes),
-        postings: Postings::from(postings),
-        records: Records::from(records),
-        holds: Holds::from(Vec::new(alloc)),
-    }
+/// The nodes, the postings, the oldest first, and the requests, whose work goes on: of each its id, and the number that it
+/// pins. No name is held.
+struct Sketch<'a> {
+    nodes: &'a [Living<'a>],
+    postings: &'a [Posting],
+    pinning: &'a [(u64, u64)],
 }
 
 const BORN: Posting = Posting::Born {
@@ -77,135 +52,180 @@ const FORGET_ALL: Posting = Posting::Forget {
     amount: u64::MAX,
 };
 
-#[test]
-fn root_alone_is_lawful(rt: HostRuntime) -> Result<(), Fail> {
-    let alloc = rt.alloc();
-    let table = image(
-        alloc,
-        vec![in alloc; root()]?,
-        Vec::new(alloc),
-        Vec::new(alloc),
-    );
-    assert!(rt; table.lawful());
-    Ok(())
+const BORN_AGAIN: Posting = Posting::Born {
+    number: 2,
+    generation: 1,
+};
+
+const ENTRY_AGAIN: Posting = Posting::Entry {
+    number: 2,
+    generation: 1,
+};
+
+const OTHER_BORN: Posting = Posting::Born {
+    number: 3,
+    generation: 0,
+};
+
+const LAWFUL: &[(&str, Sketch)] = &[
+    (
+        "the root alone",
+        Sketch {
+            nodes: &[ROOT],
+            postings: &[],
+            pinning: &[],
+        },
+    ),
+    (
+        "a node that is counted",
+        Sketch {
+            nodes: &[ROOT, Living(2, 0, Spot::At(1, "a"), 1)],
+            postings: &[BORN, ENTRY],
+            pinning: &[],
+        },
+    ),
+    (
+        "a cut node that lives by a pin",
+        Sketch {
+            nodes: &[ROOT, Living(2, 0, Spot::Cut, 0)],
+            postings: &[BORN, ENTRY, BACK],
+            pinning: &[(5, 2)],
+        },
+    ),
+    (
+        "a number that was born again",
+        Sketch {
+            nodes: &[Living(2, 1, Spot::At(1, "b"), 1), ROOT],
+            postings: &[BORN, ENTRY, BACK, BORN_AGAIN, ENTRY_AGAIN],
+            pinning: &[],
+        },
+    ),
+];
+
+const UNLAWFUL: &[(&str, Sketch)] = &[
+    (
+        "nothing at all",
+        Sketch {
+            nodes: &[],
+            postings: &[],
+            pinning: &[],
+        },
+    ),
+    (
+        "a node that was entered once more",
+        Sketch {
+            nodes: &[ROOT, Living(2, 0, Spot::At(1, "a"), 1)],
+            postings: &[BORN, ENTRY, ENTRY],
+            pinning: &[],
+        },
+    ),
+    (
+        "a cut node alone",
+        Sketch {
+            nodes: &[ROOT, Living(2, 0, Spot::Cut, 0)],
+            postings: &[BORN, ENTRY, BACK],
+            pinning: &[],
+        },
+    ),
+    (
+        "two requests with one id",
+        Sketch {
+            nodes: &[ROOT],
+            postings: &[],
+            pinning: &[(5, 1), (5, 1)],
+        },
+    ),
+    (
+        "parents in a circle",
+        Sketch {
+            nodes: &[
+                ROOT,
+                Living(2, 0, Spot::At(3, "a"), 0),
+                Living(3, 0, Spot::At(2, "a"), 0),
+            ],
+            postings: &[BORN, OTHER_BORN],
+            pinning: &[],
+        },
+    ),
+    (
+        "forgets whose sum has 65 bits",
+        Sketch {
+            nodes: &[ROOT],
+            postings: &[BORN, ENTRY, FORGET_ALL, FORGET_ALL],
+            pinning: &[],
+        },
+    ),
+];
+
+fn place(alloc: Global, spot: Spot) -> Result<Place, AllocError> {
+    Ok(match spot {
+        Spot::Root => Place::Root,
+        Spot::At(parent, name) => Place::Named(Key {
+            parent,
+            name: Name::copy_of(alloc, name)?,
+        }),
+        Spot::Cut => Place::Cut,
+    })
 }
 
-#[test]
-fn nothing_at_all_is_not(rt: HostRuntime) -> Result<(), Fail> {
-    let alloc = rt.alloc();
-    let table = image(alloc, Vec::new(alloc), Vec::new(alloc), Vec::new(alloc));
-    assert!(rt; !table.lawful());
-    Ok(())
+fn node(alloc: Global, living: &Living) -> Result<Node, AllocError> {
+    let Living(number, generation, spot, count) = *living;
+    Ok(Node {
+        number,
+        generation,
+        place: place(alloc, spot)?,
+        count,
+        hidden: false,
+    })
 }
 
-#[test]
-fn counted_node_is_lawful(rt: HostRuntime) -> Result<(), Fail> {
-    let alloc = rt.alloc();
-    let mut known = node(2, 0, under(alloc, 1, "a")?);
-    known.count = 1;
-    let nodes = vec![in alloc; root(), known]?;
-    let table = image(alloc, nodes, vec![in alloc; BORN, ENTRY]?, Vec::new(alloc));
-    assert!(rt; table.lawful());
-    Ok(())
+/// A request whose work goes on, and that pins the number.
+fn pinning(alloc: Global, id: u64, number: u64) -> Result<Record, AllocError> {
+    let mut pins = Numbers::new(alloc);
+    pins.add(number)?;
+    Ok(Record {
+        id,
+        unique: 9,
+        stage: Stage::Working,
+        pins,
+        held: Held {
+            given: Leads::from_vec(Vec::new(alloc)),
+            shared: Paths::from_vec(Vec::new(alloc)),
+            exclusive: Paths::from_vec(Vec::new(alloc)),
+        },
+    })
 }
 
-#[test]
-fn node_that_was_entered_once_more_is_not(rt: HostRuntime) -> Result<(), Fail> {
-    let alloc = rt.alloc();
-    let mut known = node(2, 0, under(alloc, 1, "a")?);
-    known.count = 1;
-    let nodes = vec![in alloc; root(), known]?;
-    let table = image(
-        alloc,
+/// The image that is sketched so.
+fn image(alloc: Global, sketch: &Sketch) -> Result<Image, AllocError> {
+    let mut nodes = Nodes::new(alloc);
+    for living in sketch.nodes {
+        nodes.add(node(alloc, living)?)?;
+    }
+    let mut records = Records::new(alloc);
+    for (id, number) in sketch.pinning {
+        records.add(pinning(alloc, *id, *number)?)?;
+    }
+    Ok(Image {
         nodes,
-        vec![in alloc; BORN, ENTRY, ENTRY]?,
-        Vec::new(alloc),
-    );
-    assert!(rt; !table.lawful());
+        postings: Postings::from(Vec::from_slice(alloc, sketch.postings)?),
+        records,
+        holds: Holds::from(Vec::new(alloc)),
+    })
+}
+
+#[test]
+fn images_are_lawful(rt: HostRuntime) -> Result<(), Fail> {
+    for (name, sketch) in LAWFUL {
+        assert!(rt; image(rt.alloc(), sketch)?.lawful(), "{name}");
+    }
     Ok(())
 }
 
 #[test]
-fn cut_node_lives_by_a_pin(rt: HostRuntime) -> Result<(), Fail> {
-    let alloc = rt.alloc();
-    let nodes = vec![in alloc; root(), node(2, 0, Place::Cut)]?;
-    let records = vec![in alloc; pinning(alloc, 5, 2)?]?;
-    let table = image(alloc, nodes, vec![in alloc; BORN, ENTRY, BACK]?, records);
-    assert!(rt; table.lawful());
-    Ok(())
-}
-
-#[test]
-fn cut_node_does_not_live_alone(rt: HostRuntime) -> Result<(), Fail> {
-    let alloc = rt.alloc();
-    let nodes = vec![in alloc; root(), node(2, 0, Place::Cut)]?;
-    let table = image(
-        alloc,
-        nodes,
-        vec![in alloc; BORN, ENTRY, BACK]?,
-        Vec::new(alloc),
-    );
-    assert!(rt; !table.lawful());
-    Ok(())
-}
-
-#[test]
-fn two_requests_with_one_id_are_not_lawful(rt: HostRuntime) -> Result<(), Fail> {
-    let alloc = rt.alloc();
-    let records = vec![in alloc; pinning(alloc, 5, 1)?, pinning(alloc, 5, 1)?]?;
-    let table = image(alloc, vec![in alloc; root()]?, Vec::new(alloc), records);
-    assert!(rt; !table.lawful());
-    Ok(())
-}
-
-#[test]
-fn parents_in_a_circle_are_not_lawful(rt: HostRuntime) -> Result<(), Fail> {
-    let alloc = rt.alloc();
-    let one = node(2, 0, under(alloc, 3, "a")?);
-    let two = node(3, 0, under(alloc, 2, "a")?);
-    let other = Posting::Born {
-        number: 3,
-        generation: 0,
-    };
-    let table = image(
-        alloc,
-        vec![in alloc; root(), one, two]?,
-        vec![in alloc; BORN, other]?,
-        Vec::new(alloc),
-    );
-    assert!(rt; !table.lawful());
-    Ok(())
-}
-
-#[test]
-fn forgets_whose_sum_has_65_bits_are_not_lawful(rt: HostRuntime) -> Result<(), Fail> {
-    let alloc = rt.alloc();
-    let postings = vec![in alloc; BORN, ENTRY, FORGET_ALL, FORGET_ALL]?;
-    let table = image(alloc, vec![in alloc; root()]?, postings, Vec::new(alloc));
-    assert!(rt; !table.lawful());
-    Ok(())
-}
-
-#[test]
-fn number_may_be_born_again(rt: HostRuntime) -> Result<(), Fail> {
-    let alloc = rt.alloc();
-    let again = Posting::Born {
-        number: 2,
-        generation: 1,
-    };
-    let entry = Posting::Entry {
-        number: 2,
-        generation: 1,
-    };
-    let mut known = node(2, 1, under(alloc, 1, "b")?);
-    known.count = 1;
-    let postings = vec![in alloc; BORN, ENTRY, BACK, again, entry]?;
-    let table = image(
-        alloc,
-        vec![in alloc; known, root()]?,
-        postings,
-        Vec::new(alloc),
-    );
-    assert!(rt; table.lawful());
+fn images_are_not_lawful(rt: HostRuntime) -> Result<(), Fail> {
+    for (name, sketch) in UNLAWFUL {
+        assert!(rt; !image(rt.alloc(), sketch)?.lawful(), "{name}");
+    }
     Ok(())
 }

@@ -8,4 +8,6 @@ mod ledger_rows;
 #[cfg(test)]
 mod path_rows;
 #[cfg(test)]
+mod spelling;
+#[cfg(test)]
 mod tree_rows;

@@ -1,20 +1,24 @@
 //! A path of two names.
 
+use crate::spelling::spells;
 use paths::{Name, Path};
+use std::alloc::{AllocError, Global};
 use std::test::Fail;
+
+/// The path of two names, the second of which is a copy.
+fn two_names(alloc: Global) -> Result<Path, AllocError> {
+    let mut path = Path::new(alloc);
+    path.push(Name::copy_of(alloc, "folder")?)?;
+    path.push(Name::copy_of(alloc, "x")?.copy()?)?;
+    Ok(path)
+}
 
 #[test]
 fn two_names_make_a_path(rt: HostRuntime) -> Result<(), Fail> {
-    let mut path = Path::new(rt.alloc());
-    path.push(Name::copy_of(rt.alloc(), "folder")?)?;
-    path.push(Name::copy_of(rt.alloc(), "x")?.copy()?)?;
-    assert_eq!(rt; path.len(), 2);
-    assert_eq!(rt; path.bytes(), Some(9));
+    let path = two_names(rt.alloc())?;
     let copy = path.copy()?;
-    assert!(rt; copy.is(&path));
-    let names = copy.into_names();
-    assert_eq!(rt; names.len(), 2);
-    assert_eq!(rt; names[0].as_str(), "folder");
-    assert_eq!(rt; names[1].as_str(), "x");
+    let told = (path.len(), path.bytes(), copy.is(&path));
+    assert_eq!(rt; told, (2, Some(9), true));
+    assert!(rt; spells(copy.into_names().as_slice(), &["folder", "x"]));
     Ok(())
 }

@@ -1,5 +1,6 @@
 //! A folder and a file, their paths, and a walk over them.
 
+use crate::spelling::spells;
 use paths::Name;
 use std::alloc::Global;
 use std::test::Fail;
@@ -28,14 +29,10 @@ fn path_of_a_file_in_a_folder(rt: HostRuntime) -> Result<(), Fail> {
     let mut tree = Tree::new(rt.alloc(), 3)?;
     let folder = plant(&mut tree, rt.alloc(), 1, "d")?;
     let file = plant(&mut tree, rt.alloc(), folder, "x")?;
-    assert_eq!(rt; tree.len(), 3);
     let path = tree.path(rt.alloc(), file)?;
-    assert_eq!(rt; path.bytes(), Some(4));
-    assert_eq!(rt; path.len(), 2);
-    let names = path.into_names();
-    assert_eq!(rt; names.len(), 2);
-    assert_eq!(rt; names[0].as_str(), "d");
-    assert_eq!(rt; names[1].as_str(), "x");
+    let told = (tree.len(), path.bytes(), path.len());
+    assert_eq!(rt; told, (3, Some(4), 2));
+    assert!(rt; spells(path.into_names().as_slice(), &["d", "x"]));
     assert!(rt; tree.reserve(1).is_err());
     Ok(())
 }
@@ -50,9 +47,7 @@ fn path_of_an_absent_name(rt: HostRuntime) -> Result<(), Fail> {
     };
     let path = tree.path_of_name(rt.alloc(), &key)?;
     assert_eq!(rt; path.bytes(), Some(9));
-    let names = path.into_names();
-    assert_eq!(rt; names.len(), 2);
-    assert_eq!(rt; names[1].as_str(), "absent");
+    assert!(rt; spells(path.into_names().as_slice(), &["d", "absent"]));
     Ok(())
 }
 
@@ -61,11 +56,15 @@ fn walk_meets_the_root_and_both_nodes(rt: HostRuntime) -> Result<(), Fail> {
     let mut tree = Tree::new(rt.alloc(), 3)?;
     let next = tree.vacant();
     let folder = plant(&mut tree, rt.alloc(), 1, "d")?;
-    assert_eq!(rt; folder, next);
     let file = plant(&mut tree, rt.alloc(), folder, "x")?;
-    assert_eq!(rt; tree.after(0), Some(1));
-    assert_eq!(rt; tree.after(1), Some(folder.min(file)));
-    assert_eq!(rt; tree.after(folder.min(file)), Some(folder.max(file)));
-    assert_eq!(rt; tree.after(folder.max(file)), None);
+    let (low, high) = (folder.min(file), folder.max(file));
+    let walk = [
+        tree.after(0),
+        tree.after(1),
+        tree.after(low),
+        tree.after(high),
+    ];
+    assert_eq!(rt; folder, next);
+    assert_eq!(rt; walk, [Some(1), Some(low), Some(high), None]);
     Ok(())
 }
