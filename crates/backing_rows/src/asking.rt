@@ -3,7 +3,7 @@
 use backing::{Answer, Call, Calls, Child, Kind};
 use paths::{Name, Path};
 use std::alloc::{AllocError, Global};
-use std::process::Abort;
+use std::test::Fail;
 
 /// The path that the text spells: names with `/` between them, and `.` for the root.
 pub fn path_of(alloc: Global, text: &str) -> Result<Path, AllocError> {
@@ -21,6 +21,44 @@ fn number(text: &str) -> u64 {
     text.parse::<u64>().unwrap_or(0)
 }
 
+/// The call of that name on the path. A rename is to the other path, and `first` and `second` are its numbers or bytes.
+fn call_of<'a>(
+    name: &str,
+    path: &'a Path,
+    other: &'a Path,
+    first: &str,
+    second: &'a str,
+) -> Option<Call<'a>> {
+    Some(match name {
+        "stat" => Call::Stat(path),
+        "list" => Call::List(path),
+        "make" => Call::Make(path),
+        "mkdir" => Call::MakeDir(path),
+        "remove" => Call::Remove(path),
+        "rmdir" => Call::RemoveDir(path),
+        "sync" => Call::Sync(path),
+        "rename" => Call::Rename {
+            from: path,
+            to: other,
+        },
+        "read" => Call::Read {
+            path,
+            offset: number(first),
+            size: u32::try_from(number(second)).unwrap_or(0),
+        },
+        "write" => Call::Write {
+            path,
+            offset: number(first),
+            data: second.as_bytes(),
+        },
+        "setlen" => Call::SetLen {
+            path,
+            size: number(first),
+        },
+        _ => return None,
+    })
+}
+
 /// The answer to a call that is written as its name, its paths and its numbers or bytes, with a space between them.
 pub fn ask<C: Calls>(alloc: Global, calls: &mut C, words: &str) -> Result<String, AllocError> {
     let mut parts = words.split(' ');
@@ -28,38 +66,11 @@ pub fn ask<C: Calls>(alloc: Global, calls: &mut C, words: &str) -> Result<String
     let path = path_of(alloc, parts.next().unwrap_or("."))?;
     let first = parts.next().unwrap_or("");
     let second = parts.next().unwrap_or("");
-    let answer = match name {
-        "stat" => calls.call(Call::Stat(&path)),
-        "list" => calls.call(Call::List(&path)),
-        "make" => calls.call(Call::Make(&path)),
-        "mkdir" => calls.call(Call::MakeDir(&path)),
-        "remove" => calls.call(Call::Remove(&path)),
-        "rmdir" => calls.call(Call::RemoveDir(&path)),
-        "sync" => calls.call(Call::Sync(&path)),
-        "rename" => {
-            let to = path_of(alloc, first)?;
-            calls.call(Call::Rename {
-                from: &path,
-                to: &to,
-            })
-        }
-        "read" => calls.call(Call::Read {
-            path: &path,
-            offset: number(first),
-            size: u32::try_from(number(second)).unwrap_or(0),
-        }),
-        "write" => calls.call(Call::Write {
-            path: &path,
-            offset: number(first),
-            data: second.as_bytes(),
-        }),
-        "setlen" => calls.call(Call::SetLen {
-            path: &path,
-            size: number(first),
-        }),
-        _ => Answer::Done,
-    };
-    shown(alloc, answer)
+    let other = path_of(alloc, first)?;
+    match call_of(name, &path, &other, first, second) {
+        Some(call) => shown(alloc, calls.call(call)),
+        None => String::from_str(alloc, "no call"),
+    }
 }
 
 /// The answer as text; the names of a listing in the order of their bytes.
@@ -81,14 +92,20 @@ fn word(kind: Kind) -> &'static str {
     }
 }
 
+/// A name, with a `/` after that of a folder.
+fn marked(alloc: Global, child: &Child) -> Result<String, AllocError> {
+    let mut text = String::from_str(alloc, child.name.as_str())?;
+    match child.kind {
+        Kind::Folder => text.push_str("/")?,
+        Kind::File => {}
+    }
+    Ok(text)
+}
+
 fn listed(alloc: Global, children: Vec<Child>) -> Result<String, AllocError> {
     let mut names = Vec::new(alloc);
     for child in &children {
-        let mark = match child.kind {
-            Kind::Folder => "/",
-            Kind::File => "",
-        };
-        names.push(format!(in alloc; "{}{mark}", child.name.as_str())?)?;
+        names.push(marked(alloc, child)?)?;
     }
     names.sort()?;
     let mut text = String::from_str(alloc, "names")?;
@@ -108,15 +125,36 @@ fn hexadecimal(alloc: Global, bytes: &[u8]) -> Result<String, AllocError> {
     Ok(text)
 }
 
+/// The call has its answer.
+pub fn expect<C: Calls>(
+    alloc: Global,
+    calls: &mut C,
+    words: &str,
+    wanted: &str,
+) -> Result<(), Fail> {
+    let told = ask(alloc, calls, words)?;
+    if told.as_str() == wanted {
+        return Ok(());
+    }
+    Err(Fail::from((words, told)))
+}
+
+/// So many failures were counted.
+pub fn expect_count(told: u64, wanted: u64) -> Result<(), Fail> {
+    if told == wanted {
+        return Ok(());
+    }
+    Err(Fail::from(("counted", told)))
+}
+
 /// Each call has its answer.
 pub fn expect_rows<C: Calls>(
-    rt: &(impl Abort + AllocGlobal),
+    alloc: Global,
     calls: &mut C,
     rows: &[(&str, &str)],
-) -> Result<(), AllocError> {
+) -> Result<(), Fail> {
     for (words, wanted) in rows {
-        let told = ask(rt.alloc(), calls, words)?;
-        assert_eq!(rt; told.as_str(), *wanted, "{words}");
+        expect(alloc, calls, words, wanted)?;
     }
     Ok(())
 }

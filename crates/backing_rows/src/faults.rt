@@ -1,6 +1,6 @@
 //! A real folder whose system fails, or changes between two of its calls.
 
-use crate::asking::ask;
+use crate::asking::{expect_count, expect_rows};
 use crate::places::sample_folder;
 use real_folder::Folder;
 use std::alloc::{Allocator, Global};
@@ -96,58 +96,64 @@ impl Files for Tricked {
     }
 }
 
-/// How `stat a` is answered where `lstat` fails so, and how many failures that counts.
-fn told(rt: HostRuntime, kind: ErrorKind) -> Result<String, Fail> {
-    let root = sample_folder(&rt, "looks")?;
-    let trick = Trick::Look(kind);
-    let mut folder = Folder::open(Tricked { rt, trick }, root.as_str())?;
-    let answer = ask(rt.alloc(), &mut folder, "stat a")?;
+/// The calls have these answers, and so many of them are counted as failures.
+fn ask_all(
+    alloc: Global,
+    folder: &mut Folder<Tricked>,
+    rows: &[(&str, &str)],
+    count: u64,
+) -> Result<(), Fail> {
+    expect_rows(alloc, folder, rows)?;
+    expect_count(folder.failures(), count)
+}
+
+/// The same of the folder there, whose system plays the trick.
+fn tell_at(
+    rt: HostRuntime,
+    root: &str,
+    trick: Trick,
+    rows: &[(&str, &str)],
+    count: u64,
+) -> Result<(), Fail> {
+    let mut folder = Folder::open(Tricked { rt, trick }, root)?;
+    ask_all(rt.alloc(), &mut folder, rows, count)
+}
+
+/// The same of a new sample folder.
+fn tell(
+    rt: HostRuntime,
+    name: &str,
+    trick: Trick,
+    rows: &[(&str, &str)],
+    count: u64,
+) -> Result<(), Fail> {
+    let root = sample_folder(&rt, name)?;
+    tell_at(rt, root.as_str(), trick, rows, count)?;
     fs::remove_dir_all(&rt, root.as_str())?;
-    Ok(format!(in rt.alloc(); "{answer}, {} counted", folder.failures())?)
+    Ok(())
 }
 
 #[test]
 fn a_failure_has_its_number(rt: HostRuntime) -> Result<(), Fail> {
-    assert_eq!(rt;
-        told(rt, ErrorKind::NotFound)?.as_str(),
-        "fault 2, 0 counted"
-    );
-    assert_eq!(rt;
-        told(rt, ErrorKind::PermissionDenied)?.as_str(),
-        "fault 13, 1 counted"
-    );
-    assert_eq!(rt;
-        told(rt, ErrorKind::AlreadyExists)?.as_str(),
-        "fault 17, 1 counted"
-    );
-    assert_eq!(rt;
-        told(rt, ErrorKind::OutOfMemory)?.as_str(),
-        "fault 12, 1 counted"
-    );
-    assert_eq!(rt;
-        told(rt, ErrorKind::FilesystemLoop)?.as_str(),
-        "fault 5, 1 counted"
-    );
+    let failures = [
+        (ErrorKind::NotFound, "fault 2", 0),
+        (ErrorKind::PermissionDenied, "fault 13", 1),
+        (ErrorKind::AlreadyExists, "fault 17", 1),
+        (ErrorKind::OutOfMemory, "fault 12", 1),
+        (ErrorKind::FilesystemLoop, "fault 5", 1),
+    ];
+    for (kind, fault, count) in failures {
+        tell(rt, "looks", Trick::Look(kind), &[("stat a", fault)], count)?;
+    }
     Ok(())
 }
 
-/// How the call is answered that finds `a` and opens `e` in its place, and what stands at `e` then.
-fn told_of_another(rt: HostRuntime, words: &str) -> Result<String, Fail> {
-    let root = sample_folder(&rt, "replaced")?;
-    let trick = Trick::Replace;
-    let mut folder = Folder::open(Tricked { rt, trick }, root.as_str())?;
-    let answer = ask(rt.alloc(), &mut folder, words)?;
-    let other = ask(rt.alloc(), &mut folder, "stat e")?;
-    fs::remove_dir_all(&rt, root.as_str())?;
-    Ok(format!(in rt.alloc(); "{answer}, {} counted, {other}", folder.failures())?)
-}
-
+// What stands at `e` is as it was.
 #[test]
 fn a_file_replaced_before_it_is_opened_is_not_touched(rt: HostRuntime) -> Result<(), Fail> {
-    let wanted = "fault 5, 1 counted, file 0";
-    assert_eq!(rt; told_of_another(rt, "read a 0 9")?.as_str(), wanted);
-    assert_eq!(rt; told_of_another(rt, "write a 0 xyz")?.as_str(), wanted);
-    assert_eq!(rt; told_of_another(rt, "setlen a 7")?.as_str(), wanted);
-    assert_eq!(rt; told_of_another(rt, "sync a")?.as_str(), wanted);
+    for words in ["read a 0 9", "write a 0 xyz", "setlen a 7", "sync a"] {
+        let rows = [(words, "fault 5"), ("stat e", "file 0")];
+        tell(rt, "replaced", Trick::Replace, rows.as_slice(), 1)?;
+    }
     Ok(())
 }

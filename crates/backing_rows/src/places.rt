@@ -2,21 +2,25 @@
 
 use crate::asking::path_of;
 use backing::MemTree;
-use std::alloc::AllocError;
-use std::process::Abort;
+use std::alloc::{AllocError, Global};
+use std::test::Fail;
 use std::{env, fs, io, process};
 
 /// File `a` with the bytes `abc`, folder `d` and the empty file `e`.
-pub fn sample_tree(rt: &(impl Abort + AllocGlobal)) -> Result<MemTree, AllocError> {
-    let alloc = rt.alloc();
+pub fn sample_tree(alloc: Global) -> Result<MemTree, Fail> {
     let mut tree = MemTree::new(alloc);
-    let a = path_of(alloc, "a")?;
-    let d = path_of(alloc, "d")?;
-    let e = path_of(alloc, "e")?;
-    assert_eq!(rt; tree.put_file(&a, b"abc"), Ok(()));
-    assert_eq!(rt; tree.put_dir(&d), Ok(()));
-    assert_eq!(rt; tree.put_file(&e, b""), Ok(()));
-    Ok(tree)
+    let a = tree.put_file(&path_of(alloc, "a")?, b"abc");
+    let d = tree.put_dir(&path_of(alloc, "d")?);
+    let e = tree.put_file(&path_of(alloc, "e")?, b"");
+    if (a, d, e) == (Ok(()), Ok(()), Ok(())) {
+        return Ok(tree);
+    }
+    Err(Fail::from("not all of the sample was put"))
+}
+
+/// Where the name stands in the folder.
+pub fn place_of(alloc: Global, root: &str, name: &str) -> Result<String, AllocError> {
+    format!(in alloc; "{root}/{name}")
 }
 
 /// A new empty folder for the test of that name, with nothing of an earlier run in it.
@@ -36,8 +40,8 @@ pub fn new_folder(rt: &HostRuntime, name: &str) -> io::Result<String> {
 pub fn sample_folder(rt: &HostRuntime, name: &str) -> io::Result<String> {
     let root = new_folder(rt, name)?;
     let alloc = rt.alloc();
-    fs::write(rt, format!(in alloc; "{root}/a")?.as_str(), "abc")?;
-    fs::create_dir(rt, format!(in alloc; "{root}/d")?.as_str())?;
-    fs::write(rt, format!(in alloc; "{root}/e")?.as_str(), "")?;
+    fs::write(rt, place_of(alloc, root.as_str(), "a")?.as_str(), "abc")?;
+    fs::create_dir(rt, place_of(alloc, root.as_str(), "d")?.as_str())?;
+    fs::write(rt, place_of(alloc, root.as_str(), "e")?.as_str(), "")?;
     Ok(root)
 }

@@ -1,6 +1,6 @@
 //! Random calls on a memory tree and on a real folder, side by side.
 
-use crate::asking::ask;
+use crate::asking::{ask, expect, expect_count};
 use crate::places::new_folder;
 use backing::MemTree;
 use real_folder::Folder;
@@ -45,44 +45,58 @@ fn path(alloc: Global, dice: &mut Dice) -> Result<String, AllocError> {
     Ok(text)
 }
 
-/// A call, more often one that makes something than one that removes it.
+/// More often a call that makes something than one that removes it.
+const NAMES: [&str; 20] = [
+    "stat", "stat", "list", "list", "make", "make", "mkdir", "mkdir", "mkdir", "remove", "rmdir",
+    "rename", "rename", "rename", "read", "read", "write", "write", "write", "setlen",
+];
+
 fn call(alloc: Global, dice: &mut Dice) -> Result<String, AllocError> {
     let one = path(alloc, dice)?;
     let offset = dice.below(12);
     let size = dice.below(9);
-    match dice.below(20) {
-        0 | 1 => format!(in alloc; "stat {one}"),
-        2 | 3 => format!(in alloc; "list {one}"),
-        4 | 5 => format!(in alloc; "make {one}"),
-        6 | 7 | 8 => format!(in alloc; "mkdir {one}"),
-        9 => format!(in alloc; "remove {one}"),
-        10 => format!(in alloc; "rmdir {one}"),
-        11 | 12 | 13 => {
-            let two = path(alloc, dice)?;
-            format!(in alloc; "rename {one} {two}")
-        }
-        14 | 15 => format!(in alloc; "read {one} {offset} {size}"),
-        16 => format!(in alloc; "write {one} {offset} "),
-        17 | 18 => format!(in alloc; "write {one} {offset} xyz{size}"),
-        _ => format!(in alloc; "setlen {one} {offset}"),
-    }
+    let kind = dice.below(20) as usize % 20;
+    let name = NAMES[kind];
+    let rest = match kind {
+        11 | 12 | 13 => path(alloc, dice)?,
+        14 | 15 => format!(in alloc; "{offset} {size}")?,
+        17 | 18 => format!(in alloc; "{offset} xyz{size}")?,
+        _ => format!(in alloc; "{offset} ")?,
+    };
+    format!(in alloc; "{name} {one} {rest}")
 }
 
-#[test]
-fn both_answer_alike(rt: HostRuntime) -> Result<(), Fail> {
-    let alloc = rt.alloc();
-    let root = new_folder(&rt, "random")?;
-    let mut folder = Folder::open(rt, root.as_str())?;
+/// The folder answers the call as the tree does, and counts no failure.
+fn ask_both(
+    alloc: Global,
+    tree: &mut MemTree,
+    folder: &mut Folder<HostRuntime>,
+    words: &str,
+) -> Result<(), Fail> {
+    let wanted = ask(alloc, tree, words)?;
+    expect(alloc, folder, words, wanted.as_str())?;
+    expect_count(folder.failures(), 0)
+}
+
+fn ask_many(alloc: Global, folder: &mut Folder<HostRuntime>) -> Result<(), Fail> {
     let mut tree = MemTree::new(alloc);
     let mut dice = Dice { state: 20_251_122 };
     for _ in 0..6000 {
         let words = call(alloc, &mut dice)?;
-        let wanted = ask(alloc, &mut tree, words.as_str())?;
-        let told = ask(alloc, &mut folder, words.as_str())?;
-        assert_eq!(rt; told.as_str(), wanted.as_str(), "{words}");
-        assert_eq!(rt; folder.failures(), 0, "{words} is told {told}");
+        ask_both(alloc, &mut tree, folder, words.as_str())?;
     }
-    assert_eq!(rt; tree.failures(), 0);
+    expect_count(tree.failures(), 0)
+}
+
+fn ask_at(rt: HostRuntime, root: &str) -> Result<(), Fail> {
+    let mut folder = Folder::open(rt, root)?;
+    ask_many(rt.alloc(), &mut folder)
+}
+
+#[test]
+fn both_answer_alike(rt: HostRuntime) -> Result<(), Fail> {
+    let root = new_folder(&rt, "random")?;
+    ask_at(rt, root.as_str())?;
     fs::remove_dir_all(&rt, root.as_str())?;
     Ok(())
 }

@@ -1,9 +1,10 @@
 //! The rows of the calls' definition.
 
-use crate::asking::{expect_rows, path_of};
+use crate::asking::{expect, expect_count, expect_rows, path_of};
 use crate::places::{sample_folder, sample_tree};
-use backing::{Fault, Shared};
+use backing::{Fault, MemTree, Shared};
 use real_folder::Folder;
+use std::alloc::Global;
 use std::fs;
 use std::sync::{Arc, Mutex};
 use std::test::Fail;
@@ -72,112 +73,165 @@ const GROUPS: [&[(&str, &str)]; 6] = [
     ],
 ];
 
+/// The rows on a memory tree, from the sample. No call fails.
+fn tell_tree(alloc: Global, rows: &[(&str, &str)]) -> Result<(), Fail> {
+    let mut tree = sample_tree(alloc)?;
+    expect_rows(alloc, &mut tree, rows)?;
+    expect_count(tree.failures(), 0)
+}
+
 #[test]
 fn rows_on_a_memory_tree(rt: HostRuntime) -> Result<(), Fail> {
     for rows in GROUPS {
-        let mut tree = sample_tree(&rt)?;
-        expect_rows(&rt, &mut tree, rows)?;
-        assert_eq!(rt; tree.failures(), 0);
+        tell_tree(rt.alloc(), rows)?;
     }
     Ok(())
+}
+
+/// The rows on the real folder there. No call is counted as a failure.
+fn tell_folder(rt: HostRuntime, root: &str, rows: &[(&str, &str)]) -> Result<(), Fail> {
+    let mut folder = Folder::open(rt, root)?;
+    expect_rows(rt.alloc(), &mut folder, rows)?;
+    expect_count(folder.failures(), 0)
 }
 
 #[test]
 fn rows_on_a_real_folder(rt: HostRuntime) -> Result<(), Fail> {
     for rows in GROUPS {
         let root = sample_folder(&rt, "rows")?;
-        let mut folder = Folder::open(rt, root.as_str())?;
-        expect_rows(&rt, &mut folder, rows)?;
-        assert_eq!(rt; folder.failures(), 0);
+        tell_folder(rt, root.as_str(), rows)?;
         fs::remove_dir_all(&rt, root.as_str())?;
+    }
+    Ok(())
+}
+
+/// What is done with a memory tree that starts as the sample.
+#[derive(Clone, Copy)]
+enum Step<'a> {
+    /// That call is to fail so.
+    Plan(u64, Fault),
+    /// A call, and its answer.
+    Ask(&'a str, &'a str),
+    /// So many of the calls so far have failed.
+    Failed(u64),
+}
+
+fn take(alloc: Global, tree: &mut MemTree, step: Step) -> Result<(), Fail> {
+    match step {
+        Step::Plan(call, fault) => {
+            tree.fail_at(call, fault)?;
+            Ok(())
+        }
+        Step::Ask(words, wanted) => expect(alloc, tree, words, wanted),
+        Step::Failed(count) => expect_count(tree.failures(), count),
+    }
+}
+
+/// Takes each step, from the sample.
+fn tell(alloc: Global, steps: &[Step]) -> Result<(), Fail> {
+    let mut tree = sample_tree(alloc)?;
+    for step in steps {
+        take(alloc, &mut tree, *step)?;
     }
     Ok(())
 }
 
 #[test]
 fn a_call_fails_after_its_work(rt: HostRuntime) -> Result<(), Fail> {
-    let mut tree = sample_tree(&rt)?;
-    tree.fail_at(2, Fault::After(5))?;
-    let rows: &[(&str, &str)] = &[
-        ("mkdir m", "done"),
-        ("mkdir n", "fault 5"),
-        ("stat n", "folder 0"),
+    const STEPS: &[Step] = &[
+        Step::Plan(2, Fault::After(5)),
+        Step::Ask("mkdir m", "done"),
+        Step::Ask("mkdir n", "fault 5"),
+        Step::Ask("stat n", "folder 0"),
+        Step::Failed(1),
     ];
-    expect_rows(&rt, &mut tree, rows)?;
-    assert_eq!(rt; tree.failures(), 1);
-    Ok(())
+    tell(rt.alloc(), STEPS)
 }
 
 #[test]
 fn a_call_fails_before_its_work(rt: HostRuntime) -> Result<(), Fail> {
-    let mut tree = sample_tree(&rt)?;
-    tree.fail_at(0, Fault::Before(1))?;
-    tree.fail_at(1, Fault::After(30))?;
-    tree.fail_at(1, Fault::Before(28))?;
-    tree.fail_at(3, Fault::After(28))?;
-    let rows: &[(&str, &str)] = &[
-        ("mkdir n", "fault 28"),
-        ("stat n", "fault 2"),
-        ("mkdir a", "fault 28"),
-        ("stat a", "file 3"),
+    const STEPS: &[Step] = &[
+        Step::Plan(0, Fault::Before(1)),
+        Step::Plan(1, Fault::After(30)),
+        Step::Plan(1, Fault::Before(28)),
+        Step::Plan(3, Fault::After(28)),
+        Step::Ask("mkdir n", "fault 28"),
+        Step::Ask("stat n", "fault 2"),
+        Step::Ask("mkdir a", "fault 28"),
+        Step::Ask("stat a", "file 3"),
+        Step::Plan(4, Fault::Before(1)),
+        Step::Ask("stat a", "file 3"),
+        Step::Failed(2),
     ];
-    expect_rows(&rt, &mut tree, rows)?;
-    tree.fail_at(4, Fault::Before(1))?;
-    expect_rows(&rt, &mut tree, &[("stat a", "file 3")])?;
-    assert_eq!(rt; tree.failures(), 2);
-    Ok(())
+    tell(rt.alloc(), STEPS)
 }
 
 #[test]
 fn a_file_ends_at_its_limit(rt: HostRuntime) -> Result<(), Fail> {
-    let mut tree = sample_tree(&rt)?;
-    let rows: &[(&str, &str)] = &[
-        ("write a 1048575 x", "wrote 1"),
-        ("write a 1048576 x", "fault 27"),
-        ("stat a", "file 1048576"),
-        ("write a 18446744073709551615 x", "fault 27"),
-        ("setlen a 1048577", "fault 27"),
-        ("setlen a 1048576", "done"),
-        ("setlen a 0", "done"),
-        ("stat a", "file 0"),
+    const STEPS: &[Step] = &[
+        Step::Ask("write a 1048575 x", "wrote 1"),
+        Step::Ask("write a 1048576 x", "fault 27"),
+        Step::Ask("stat a", "file 1048576"),
+        Step::Ask("write a 18446744073709551615 x", "fault 27"),
+        Step::Ask("setlen a 1048577", "fault 27"),
+        Step::Ask("setlen a 1048576", "done"),
+        Step::Ask("setlen a 0", "done"),
+        Step::Ask("stat a", "file 0"),
     ];
-    expect_rows(&rt, &mut tree, rows)?;
-    Ok(())
+    tell(rt.alloc(), STEPS)
+}
+
+/// Puts a file there, or a folder where no bytes are given, which is refused so.
+fn expect_refused(
+    alloc: Global,
+    tree: &mut MemTree,
+    path: &str,
+    bytes: Option<&[u8]>,
+    errno: i32,
+) -> Result<(), Fail> {
+    let place = path_of(alloc, path)?;
+    let put = match bytes {
+        Some(bytes) => tree.put_file(&place, bytes),
+        None => tree.put_dir(&place),
+    };
+    if put == Err(errno) {
+        return Ok(());
+    }
+    Err(Fail::from((path, put)))
+}
+
+fn put_all(alloc: Global, tree: &mut MemTree, long: &[u8]) -> Result<(), Fail> {
+    expect_refused(alloc, tree, "big", Some(long), 27)?;
+    expect_refused(alloc, tree, "a", Some(b"x"), 17)?;
+    expect_refused(alloc, tree, "a/b", Some(b"x"), 20)?;
+    expect_refused(alloc, tree, "zz/b", None, 2)?;
+    expect_refused(alloc, tree, ".", None, 17)
 }
 
 #[test]
 fn a_file_is_put_as_calls_would(rt: HostRuntime) -> Result<(), Fail> {
     let alloc = rt.alloc();
-    let mut tree = sample_tree(&rt)?;
+    let mut tree = sample_tree(alloc)?;
     let long = vec![in alloc; 7u8; 1_048_577]?;
-    assert_eq!(rt;
-        tree.put_file(&path_of(alloc, "big")?, long.as_slice()),
-        Err(27)
-    );
-    assert_eq!(rt; tree.put_file(&path_of(alloc, "a")?, b"x"), Err(17));
-    assert_eq!(rt; tree.put_file(&path_of(alloc, "a/b")?, b"x"), Err(20));
-    assert_eq!(rt; tree.put_dir(&path_of(alloc, "zz/b")?), Err(2));
-    assert_eq!(rt; tree.put_dir(&path_of(alloc, ".")?), Err(17));
+    put_all(alloc, &mut tree, long.as_slice())?;
     let rows: &[(&str, &str)] = &[("stat big", "file 0"), ("read a 0 9", "bytes 616263")];
-    expect_rows(&rt, &mut tree, rows)?;
-    Ok(())
+    expect_rows(alloc, &mut tree, rows)
 }
 
 #[test]
 fn two_holds_see_one_tree(rt: HostRuntime) -> Result<(), Fail> {
     let alloc = rt.alloc();
-    let mut tree = sample_tree(&rt)?;
+    let mut tree = sample_tree(alloc)?;
     tree.fail_at(3, Fault::Before(5))?;
     let tree = Arc::new(alloc, Mutex::new(tree))?;
     let mut one = Shared::new(rt, Arc::try_clone(&tree)?);
     let mut two = Shared::new(rt, tree);
-    expect_rows(&rt, &mut one, &[("mkdir m", "done")])?;
+    expect_rows(alloc, &mut one, &[("mkdir m", "done")])?;
     expect_rows(
-        &rt,
+        alloc,
         &mut two,
         &[("stat m", "folder 0"), ("stat m", "fault 5")],
     )?;
-    assert_eq!(rt; one.failures(), 0);
-    assert_eq!(rt; two.failures(), 1);
-    Ok(())
+    expect_count(one.failures(), 0)?;
+    expect_count(two.failures(), 1)
 }

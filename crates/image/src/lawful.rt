@@ -51,6 +51,3 @@ impl Image {
             && are_known(nodes, records)
     }
 }
-
-#[cfg(test)]
-mod tests;

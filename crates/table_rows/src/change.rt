@@ -4,7 +4,7 @@ use image::Image;
 use tree::{Node, Place};
 
 /// What a call changed.
-#[derive(Clone, Copy, Debug, PartialEq, Eq)]
+#[derive(Clone, Copy, PartialEq, Eq)]
 pub struct Change {
     /// Postings more.
     pub posted: usize,

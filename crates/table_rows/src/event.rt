@@ -6,7 +6,7 @@ use errno::{EAGAIN, EINVAL, ENFILE, ENOTEMPTY, ESTALE};
 use table::Outcome;
 
 /// What a call came to.
-#[derive(Clone, Copy, Debug, PartialEq, Eq)]
+#[derive(Clone, Copy, PartialEq, Eq)]
 pub enum Event {
     /// A request goes on.
     Begun,

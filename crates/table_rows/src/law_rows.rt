@@ -24,10 +24,6 @@ struct Case<'a> {
     is_lawful: bool,
 }
 
-/// The law judged the image that says so otherwise.
-#[derive(Debug, Drop)]
-struct Misjudged<'a>(&'a str);
-
 fn paths_of(alloc: Global, texts: &[&str]) -> Result<Paths, AllocError> {
     let mut paths = Vec::new(alloc);
     for text in texts {
@@ -113,7 +109,7 @@ fn image_of(alloc: Global, case: &Case) -> Result<Image, AllocError> {
 fn judge(alloc: Global, cases: &[Case]) -> Result<(), Fail> {
     for case in cases {
         if image_of(alloc, case)?.lawful() != case.is_lawful {
-            return Err(Misjudged(case.says).into());
+            return Err(Fail::from(("judged otherwise", case.says)));
         }
     }
     Ok(())

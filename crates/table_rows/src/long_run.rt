@@ -6,7 +6,7 @@ use crate::desk::Desk;
 use crate::draws::Draws;
 use crate::event::{Event, begun, finished, forgotten, settled};
 use crate::story::{Asks, DEFAULT, ROOT, Reply, Step, Sum, TOP, Told};
-use crate::teller::{Play, Wrong, play_new};
+use crate::teller::{Play, misgathered, mistold, play_new};
 use image::Image;
 use ledger::{Ledgers, Posting};
 use std::alloc::{AllocError, Global};
@@ -65,10 +65,6 @@ struct Count {
     least: u64,
     times: u64,
 }
-
-/// It came so often only.
-#[derive(Debug, Drop)]
-struct TooFew(Event, u64);
 
 /// A run, with the requests that are worked on, by what they ask, and those that have ended, by their entries.
 #[derive(Drop)]
@@ -224,7 +220,7 @@ impl LongRun {
                 self.note(event);
                 Ok(())
             }
-            None => Err(Wrong::At(place, told, step).into()),
+            None => Err(mistold(place, told)),
         }
     }
 
@@ -244,10 +240,11 @@ impl LongRun {
         Ok(steps)
     }
 
-    /// What came too seldom, if anything did.
-    fn too_few(&self) -> Option<TooFew> {
-        let count = self.counts.iter().find(|count| count.times < count.least)?;
-        Some(TooFew(count.event, count.times))
+    /// The place of an event that came too seldom, if one did.
+    fn too_few(&self) -> Option<usize> {
+        self.counts
+            .iter()
+            .position(|count| count.times < count.least)
     }
 }
 
@@ -275,13 +272,13 @@ impl Play for LongRun {
 fn run_from(alloc: Global, seed: u64) -> Result<(), Fail> {
     let mut run = LongRun::new(alloc, seed)?;
     let sum = play_new(alloc, LIMITS, &mut run)?;
-    if let Some(too_few) = run.too_few() {
-        return Err(too_few.into());
+    if let Some(place) = run.too_few() {
+        return Err(Fail::from(("too few", place)));
     }
     match sum {
         Sum::All(_, entries, backs, forgotten)
             if sum == run.sum && entries == backs.saturating_add(forgotten) => { Ok(()) }
-        _ => Err(Wrong::Gathers(sum).into()),
+        _ => Err(misgathered(sum)),
     }
 }
 

@@ -6,7 +6,7 @@ use crate::story::Posted::{Back, Born, Entry, Forget};
 use crate::story::Spot::At;
 use crate::story::Told::{Amount, Busy, Ended, Given, Go, Nothing, Refused, Settled};
 use crate::story::{Asks, DEFAULT, Flying, Living, ROOT, Reply, Step, Sum, TOP, Told};
-use crate::teller::{Play, Wrong, play_new};
+use crate::teller::{Play, misgathered, mistold, play_new};
 use errno::ESTALE;
 use image::Stage::Answered;
 use ledger::Ledgers;
@@ -16,25 +16,13 @@ use std::test::Fail;
 use table::Outcome;
 
 /// A call on what is pending.
-#[derive(Clone, Copy, Debug)]
+#[derive(Clone, Copy)]
 enum Made<'a> {
     Begin(u64, Asks<'a>),
     Finish(usize, Outcome),
     Settle(usize, Reply),
     Forget(u64, u64),
 }
-
-/// A call that came otherwise: its place, and what it told.
-#[derive(Debug, Drop)]
-struct Mistold<'a>(usize, Told, Made<'a>);
-
-/// So many tickets and answers are pending.
-#[derive(Debug, Drop)]
-struct InHand(usize, usize);
-
-/// A run of calls told something else, of so many of them.
-#[derive(Debug, Drop)]
-struct Unlike(usize);
 
 /// `b` is given first, then `c` is removed, then `a` is given. Where nothing is pending, nothing is done.
 const CALLS: &[(Made, Told)] = &[
@@ -129,7 +117,7 @@ impl<L: Ledgers> Desk<L> {
                 .all(|(told, (_, said))| agrees(told, *said))
         {
             true => Ok(()),
-            false => Err(Unlike(told.len()).into()),
+            false => Err(Fail::from(("the run told otherwise", told.len()))),
         }
     }
 
@@ -140,7 +128,7 @@ impl<L: Ledgers> Desk<L> {
             let told = runs::make(&mut self.table, &mut self.share, pending, call)?;
             let told = told_of(told, pending);
             if told != *said {
-                return Err(Mistold(place, told, *made).into());
+                return Err(mistold(place, told));
             }
         }
         Ok(())
@@ -179,7 +167,7 @@ impl Play for Calls {
         desk.give_up(pending);
         made?;
         if (tickets, answers) != (0, 1) {
-            return Err(InHand(tickets, answers).into());
+            return Err(Fail::from(("pending", tickets, answers)));
         }
         desk.tell(AFTER)
     }
@@ -188,7 +176,7 @@ impl Play for Calls {
 fn make(alloc: Global, at_once: bool) -> Result<(), Fail> {
     let sum = play_new(alloc, DEFAULT, &mut Calls { at_once })?;
     if sum != Sum::All(2, 2, 1, 1) {
-        return Err(Wrong::Gathers(sum).into());
+        return Err(misgathered(sum));
     }
     Ok(())
 }

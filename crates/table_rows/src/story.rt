@@ -39,7 +39,7 @@ impl From<Totals> for Sum {
 }
 
 /// What a request is for, with its names spelt.
-#[derive(Clone, Copy, Debug)]
+#[derive(Clone, Copy)]
 pub enum Asks<'a> {
     /// A node by its number.
     Node(u64),
@@ -81,14 +81,14 @@ pub enum Told {
 }
 
 /// Whether the client took a reply.
-#[derive(Clone, Copy, Debug, PartialEq, Eq)]
+#[derive(Clone, Copy, PartialEq, Eq)]
 pub enum Reply {
     Taken,
     Untaken,
 }
 
 /// A posting: of which number, in which generation, and of a Forget how many lookups.
-#[derive(Clone, Copy, Debug, PartialEq, Eq)]
+#[derive(Clone, Copy, PartialEq, Eq)]
 pub enum Posted {
     Born(u64, u64),
     Entry(u64, u64),
@@ -97,7 +97,7 @@ pub enum Posted {
 }
 
 /// Where a node stands.
-#[derive(Clone, Copy, Debug)]
+#[derive(Clone, Copy)]
 pub enum Spot<'a> {
     Root,
     /// At a name under a parent.
@@ -106,22 +106,22 @@ pub enum Spot<'a> {
 }
 
 /// A living node: its number, its generation, where it stands, and its count. None is hidden.
-#[derive(Clone, Copy, Debug)]
+#[derive(Clone, Copy)]
 pub struct Living<'a>(pub u64, pub u64, pub Spot<'a>, pub u64);
 
 /// The root, which is never counted.
 pub const TOP: Living = Living(ROOT, 0, Spot::Root, 0);
 
 /// A request in flight: its unique number, how far it is, and the nodes that it pins.
-#[derive(Clone, Copy, Debug)]
+#[derive(Clone, Copy)]
 pub struct Flying<'a>(pub u64, pub Stage, pub &'a [u64]);
 
 /// A path that is held: by how many that share it, and by how many alone.
-#[derive(Clone, Copy, Debug)]
+#[derive(Clone, Copy)]
 pub struct Holding<'a>(pub &'a str, pub u64, pub u64);
 
 /// A call with what it must tell, or what the table must show. A request is named by its unique number.
-#[derive(Clone, Copy, Debug)]
+#[derive(Clone, Copy)]
 pub enum Step<'a> {
     Begin(u64, Asks<'a>, Told),
     Finish(u64, Outcome, Told),

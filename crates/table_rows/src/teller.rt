@@ -15,19 +15,14 @@ use table::{Limits, Outcome, Table, Ticket};
 /// The unique number of each LOOKUP that is one step.
 const LOOKUP: u64 = 0;
 
-/// What came otherwise than a story says.
-#[derive(Debug, Drop)]
-pub enum Wrong<'a> {
-    /// The step at that place, from 0, told something else.
-    At(usize, Told, Step<'a>),
-    /// After the step at that place the table did not keep its law.
-    Unlawful(usize),
-    /// The shares add up to something else.
-    Gathers(Sum),
-    /// So many lookups came back to each of two threads.
-    Amounts(u64, u64),
-    /// A table has at least one node.
-    NoNodes,
+/// The step at that place, from 0, told something else, which is this.
+pub fn mistold(place: usize, told: Told) -> Fail {
+    Fail::from(("otherwise", place, told))
+}
+
+/// The shares add up to something else, which is this.
+pub fn misgathered(sum: Sum) -> Fail {
+    Fail::from(("gathers", sum))
 }
 
 impl From<bool> for Told {
@@ -114,7 +109,7 @@ impl<L: Ledgers> Desk<L> {
     fn tell_one(&mut self, place: usize, step: &Step) -> Result<(), Fail> {
         let told = self.take(step)?;
         if told != step.said() {
-            return Err(Wrong::At(place, told, *step).into());
+            return Err(mistold(place, told));
         }
         self.attest(place)
     }
@@ -123,7 +118,7 @@ impl<L: Ledgers> Desk<L> {
     pub fn attest(&self, place: usize) -> Result<(), Fail> {
         match self.image()?.lawful() {
             true => Ok(()),
-            false => Err(Wrong::Unlawful(place).into()),
+            false => Err(Fail::from(("unlawful after", place))),
         }
     }
 
@@ -168,7 +163,7 @@ fn play_on<L: Ledgers, P: Play>(
 /// Opens a table with two shares, plays with it, and gathers the shares.
 pub fn play_new<P: Play>(alloc: Global, limits: Limits, play: &mut P) -> Result<Sum, Fail> {
     if limits.nodes == 0 {
-        return Err(Wrong::NoNodes.into());
+        return Err(Fail::from("a table has at least one node"));
     }
     play_on::<Brand, P>(alloc, limits, Blanks::new(2), play)
 }
@@ -178,7 +173,7 @@ pub fn run(alloc: Global, story: &Story) -> Result<(), Fail> {
     let mut told = *story;
     let sum = play_new(alloc, story.limits, &mut told)?;
     if sum != story.gathers {
-        return Err(Wrong::Gathers(sum).into());
+        return Err(misgathered(sum));
     }
     Ok(())
 }

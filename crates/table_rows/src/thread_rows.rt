@@ -5,7 +5,7 @@ ghost use Rattle.std.specs.Prelude.{◌≡◌};
 use crate::desk::Desk;
 use crate::story::Told::Given;
 use crate::story::{DEFAULT, ROOT, Step, Sum, TOP};
-use crate::teller::Wrong;
+use crate::teller::misgathered;
 use ledger::{Blanks, Ledgers, Share};
 use std::alloc::{AllocError, Global};
 use std::marker::Brand;
@@ -80,7 +80,7 @@ fn forget_in_threads<R: Threads + Wait + Sync, L: Ledgers + Send + Sync>(
     let sum = desk.end();
     worked?;
     if amounts != (50, 50) {
-        return Err(Wrong::Amounts(amounts.0, amounts.1).into());
+        return Err(Fail::from(("came back to each", amounts.0, amounts.1)));
     }
     Ok(sum)
 }
@@ -103,7 +103,7 @@ fn tell_of_threads<R: Threads + Wait + Sync>(rt: &R, alloc: Global) -> Result<Su
 fn two_threads(rt: HostRuntime) -> Result<(), Fail> {
     let sum = tell_of_threads(&rt, rt.alloc())?;
     if sum != Sum::All(1, 100, 0, 100) {
-        return Err(Wrong::Gathers(sum).into());
+        return Err(misgathered(sum));
     }
     Ok(())
 }

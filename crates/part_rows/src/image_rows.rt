@@ -1,0 +1,231 @@
+//! Images made by hand, lawful and not.
+
+use holds::{Held, Leads, Paths};
+use image::{Holds, Image, Nodes, Numbers, Postings, Record, Records, Stage};
+use ledger::Posting;
+use paths::Name;
+use std::alloc::{AllocError, Global};
+use std::test::Fail;
+use tree::{Key, Node, Place};
+
+/// Where a node stands.
+#[derive(Clone, Copy)]
+enum Spot<'a> {
+    Root,
+    /// At a name under a parent.
+    At(u64, &'a str),
+    Cut,
+}
+
+/// A node: its number, its generation, where it stands, and its count. None is hidden.
+#[derive(Clone, Copy)]
+struct Living<'a>(u64, u64, Spot<'a>, u64);
+
+const ROOT: Living = Living(1, 0, Spot::Root, 0);
+
+/// The nodes, the postings, the oldest first, and the requests, whose work goes on: of each its id, and the number that it
+/// pins. No name is held.
+struct Sketch<'a> {
+    nodes: &'a [Living<'a>],
+    postings: &'a [Posting],
+    pinning: &'a [(u64, u64)],
+}
+
+const BORN: Posting = Posting::Born {
+    number: 2,
+    generation: 0,
+};
+
+const ENTRY: Posting = Posting::Entry {
+    number: 2,
+    generation: 0,
+};
+
+const BACK: Posting = Posting::Back {
+    number: 2,
+    generation: 0,
+};
+
+const FORGET_ALL: Posting = Posting::Forget {
+    number: 2,
+    generation: 0,
+    amount: u64::MAX,
+};
+
+const BORN_AGAIN: Posting = Posting::Born {
+    number: 2,
+    generation: 1,
+};
+
+const ENTRY_AGAIN: Posting = Posting::Entry {
+    number: 2,
+    generation: 1,
+};
+
+const OTHER_BORN: Posting = Posting::Born {
+    number: 3,
+    generation: 0,
+};
+
+const LAWFUL: &[(&str, Sketch)] = &[
+    (
+        "the root alone",
+        Sketch {
+            nodes: &[ROOT],
+            postings: &[],
+            pinning: &[],
+        },
+    ),
+    (
+        "a node that is counted",
+        Sketch {
+            nodes: &[ROOT, Living(2, 0, Spot::At(1, "a"), 1)],
+            postings: &[BORN, ENTRY],
+            pinning: &[],
+        },
+    ),
+    (
+        "a cut node that lives by a pin",
+        Sketch {
+            nodes: &[ROOT, Living(2, 0, Spot::Cut, 0)],
+            postings: &[BORN, ENTRY, BACK],
+            pinning: &[(5, 2)],
+        },
+    ),
+    (
+        "a number that was born again",
+        Sketch {
+            nodes: &[Living(2, 1, Spot::At(1, "b"), 1), ROOT],
+            postings: &[BORN, ENTRY, BACK, BORN_AGAIN, ENTRY_AGAIN],
+            pinning: &[],
+        },
+    ),
+];
+
+const UNLAWFUL: &[(&str, Sketch)] = &[
+    (
+        "nothing at all",
+        Sketch {
+            nodes: &[],
+            postings: &[],
+            pinning: &[],
+        },
+    ),
+    (
+        "a node that was entered once more",
+        Sketch {
+            nodes: &[ROOT, Living(2, 0, Spot::At(1, "a"), 1)],
+            postings: &[BORN, ENTRY, ENTRY],
+            pinning: &[],
+        },
+    ),
+    (
+        "a cut node alone",
+        Sketch {
+            nodes: &[ROOT, Living(2, 0, Spot::Cut, 0)],
+            postings: &[BORN, ENTRY, BACK],
+            pinning: &[],
+        },
+    ),
+    (
+        "two requests with one id",
+        Sketch {
+            nodes: &[ROOT],
+            postings: &[],
+            pinning: &[(5, 1), (5, 1)],
+        },
+    ),
+    (
+        "parents in a circle",
+        Sketch {
+            nodes: &[
+                ROOT,
+                Living(2, 0, Spot::At(3, "a"), 0),
+                Living(3, 0, Spot::At(2, "a"), 0),
+            ],
+            postings: &[BORN, OTHER_BORN],
+            pinning: &[],
+        },
+    ),
+    (
+        "forgets whose sum has 65 bits",
+        Sketch {
+            nodes: &[ROOT],
+            postings: &[BORN, ENTRY, FORGET_ALL, FORGET_ALL],
+            pinning: &[],
+        },
+    ),
+];
+
+fn place(alloc: Global, spot: Spot) -> Result<Place, AllocError> {
+    Ok(match spot {
+        Spot::Root => Place::Root,
+        Spot::At(parent, name) => Place::Named(Key {
+            parent,
+            name: Name::copy_of(alloc, name)?,
+        }),
+        Spot::Cut => Place::Cut,
+    })
+}
+
+fn node(alloc: Global, living: &Living) -> Result<Node, AllocError> {
+    let Living(number, generation, spot, count) = *living;
+    Ok(Node {
+        number,
+        generation,
+        place: place(alloc, spot)?,
+        count,
+        hidden: false,
+    })
+}
+
+/// A request whose work goes on, and that pins the number.
+fn pinning(alloc: Global, id: u64, number: u64) -> Result<Record, AllocError> {
+    let mut pins = Numbers::new(alloc);
+    pins.add(number)?;
+    Ok(Record {
+        id,
+        unique: 9,
+        stage: Stage::Working,
+        pins,
+        held: Held {
+            given: Leads::from_vec(Vec::new(alloc)),
+            shared: Paths::from_vec(Vec::new(alloc)),
+            exclusive: Paths::from_vec(Vec::new(alloc)),
+        },
+    })
+}
+
+/// The image that is sketched so.
+fn image(alloc: Global, sketch: &Sketch) -> Result<Image, AllocError> {
+    let mut nodes = Nodes::new(alloc);
+    for living in sketch.nodes {
+        nodes.add(node(alloc, living)?)?;
+    }
+    let mut records = Records::new(alloc);
+    for (id, number) in sketch.pinning {
+        records.add(pinning(alloc, *id, *number)?)?;
+    }
+    Ok(Image {
+        nodes,
+        postings: Postings::from(Vec::from_slice(alloc, sketch.postings)?),
+        records,
+        holds: Holds::from(Vec::new(alloc)),
+    })
+}
+
+#[test]
+fn images_are_lawful(rt: HostRuntime) -> Result<(), Fail> {
+    for (name, sketch) in LAWFUL {
+        assert!(rt; image(rt.alloc(), sketch)?.lawful(), "{name}");
+    }
+    Ok(())
+}
+
+#[test]
+fn images_are_not_lawful(rt: HostRuntime) -> Result<(), Fail> {
+    for (name, sketch) in UNLAWFUL {
+        assert!(rt; !image(rt.alloc(), sketch)?.lawful(), "{name}");
+    }
+    Ok(())
+}
