@@ -1,10 +1,15 @@
-//! Rows of the parts that stand below the table: paths, the ledger and its book, the tree of nodes, and images. The crate is of tests alone.
+//! Rows of the parts that stand below the table: paths, hidden names, the ledger and its book, the tree of nodes, open files and images. The crate is of
+//! tests alone.
 #![tactic(auto)]
 
+#[cfg(test)]
+mod handle_rows;
 #[cfg(test)]
 mod image_rows;
 #[cfg(test)]
 mod ledger_rows;
+#[cfg(test)]
+mod name_rows;
 #[cfg(test)]
 mod path_rows;
 #[cfg(test)]

@@ -1,3 +1,5 @@
 pub mod Members
 pub mod Once
+pub mod Seen
 pub mod Listing
+pub mod Keyed

@@ -1,0 +1,134 @@
+//! Open files, each under a handle of its own.
+
+ghost use Rattle.std.specs.Prelude.{◌≡◌, ◌<◌, ◌≤◌, ◌+◌, ◌^◌, ◌==◌, IfNone, IfSome, IsOk, OnOk};
+ghost use Rattle.sums.specs.Sum.{IsSum};
+ghost use Rattle.files.specs.Filed.{files_of};
+ghost use Rattle.files.specs.Handles.{IsFiled, after_close, after_open, no_files, of_node};
+
+use crate::data::OpenFile;
+use crate::listed::{Filed, index_of, openings};
+use std::alloc::{AllocError, Global};
+use std::marker::Model;
+
+/// Open files, each under a handle of its own. Handles rise from 1, and none is ever given twice.
+#[derive(Drop)]
+pub struct Files {
+    files: Vec<Filed>,
+    last: u64,
+}
+
+impl Model for Files {
+    ghost use Rattle.files.specs.Filed.{Filing, filing, IsNumbered};
+
+    ghost Value = { Filing };
+
+    ghost view = { λ a. filing a.files a.last };
+
+    ghost invariant = { λ a. IsNumbered a.files.items a.last };
+}
+
+#[tactic(auto, unfolding(crate::specs::Filed::files_of))]
+impl Files {
+    /// None is open, and no handle was given.
+    pub fn new(alloc: Global) -> Files
+        ensures at { (files_of result).at ≡ no_files }
+        ensures many { (files_of result).many ≡ 0 }
+        ensures last { (files_of result).last ≡ 0 }
+        ensures law { IsFiled (files_of result) }
+    {
+        Files {
+            files: Vec::new(alloc),
+            last: 0,
+        }
+    }
+
+    /// The file under the handle.
+    pub fn get(&self, handle: u64) -> Option<OpenFile>
+        ensures at { result ≡ (files_of self.now).at handle }
+        ensures law { IsFiled (files_of self.now) }
+    {
+        let filed = self.files.iter().find(|f| f.handle == handle)?;
+        Some(filed.file)
+    }
+
+    /// How many are open.
+    pub fn len(&self) -> usize
+        ensures many { result ≡ (files_of self.now).many }
+        ensures law { IsFiled (files_of self.now) }
+    {
+        self.files.len()
+    }
+
+    /// Whether none is open.
+    pub fn is_empty(&self) -> bool
+        ensures { result ≡ ((files_of self.now).many == 0) }
+    {
+        self.files.is_empty()
+    }
+
+    /// The last handle that was given, or 0.
+    pub fn last(&self) -> u64
+        ensures { result ≡ (files_of self.now).last }
+    {
+        self.last
+    }
+
+    /// How many handles may still be given.
+    pub fn handles_left(&self) -> u64
+        ensures { result + (files_of self.now).last + 1 ≡ 2 ^ 64 }
+    {
+        u64::MAX - self.last
+    }
+
+    /// Whether a file of the node is open.
+    pub fn is_open(&self, number: u64) -> bool
+        ensures opened { result ≡ (files_of self.now).opened number }
+        ensures law { IsFiled (files_of self.now) }
+    {
+        self.files.iter().any(|f| f.file.number == number)
+    }
+
+    /// How many files of the node are open.
+    pub fn openings(&self, number: u64) -> u64
+        ensures { IsSum (files_of self.now).at (of_node number) result }
+    {
+        openings(&self.files, number)
+    }
+
+    /// Makes room for so many. Want of memory is the only error, and then there is the room that there was.
+    pub fn reserve(&mut self, n: usize) -> Result<(), AllocError>
+        ensures ok { OnOk result (n ≤ (files_of self.new).room) }
+        ensures had_room { n ≤ (files_of self.old).room → IsOk result }
+        ensures same { files_of self.new ≡ record (files_of self.old) { room = (files_of self.new).room } }
+        ensures room { (files_of self.old).room ≤ (files_of self.new).room }
+        ensures law { IsFiled (files_of self.new) }
+    {
+        self.files.reserve(n)
+    }
+
+    /// Opens a file under the next handle, for which there is room, and gives the handle.
+    pub fn open(&mut self, file: OpenFile) -> u64
+        requires room { 0 < (files_of self.old).room }
+        requires left { (files_of self.old).last + 1 < 2 ^ 64 }
+        ensures handle { result ≡ (files_of self.old).last + 1 }
+        ensures new_is { files_of self.new ≡ after_open (files_of self.old) file }
+        ensures law { IsFiled (files_of self.new) }
+    {
+        self.last += 1;
+        let handle = self.last;
+        self.files.push_reserved(Filed { handle, file });
+        handle
+    }
+
+    /// Closes the file under the handle, if one is open, and gives it.
+    pub fn close(&mut self, handle: u64) -> Option<OpenFile>
+        ensures file { result ≡ (files_of self.old).at handle }
+        ensures none { IfNone result (self.new ≡ self.old) }
+        ensures new_is { IfSome result (λ _. files_of self.new ≡ after_close (files_of self.old) handle (files_of self.new).opened) }
+        ensures law { IsFiled (files_of self.new) }
+    {
+        let i = index_of(&self.files, handle)?;
+        let filed = self.files.remove(i);
+        Some(filed.file)
+    }
+}

@@ -1,0 +1,9 @@
+//! Open files by their handles.
+#![tactic(auto)]
+
+mod data;
+mod files;
+mod listed;
+
+pub use data::{Access, Need, OpenFile};
+pub use files::Files;
