@@ -2,15 +2,27 @@
 #![tactic(auto)]
 
 #[cfg(test)]
+mod attributes;
+#[cfg(test)]
+mod client;
+#[cfg(test)]
+mod folders;
+#[cfg(test)]
 mod frames;
 #[cfg(test)]
 mod lines;
 #[cfg(test)]
 mod lookups;
 #[cfg(test)]
+mod names;
+#[cfg(test)]
+mod renames;
+#[cfg(test)]
 mod row;
 #[cfg(test)]
 mod runs;
+#[cfg(test)]
+mod stories;
 #[cfg(test)]
 mod untaken;
 #[cfg(test)]

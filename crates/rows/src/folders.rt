@@ -1,0 +1,214 @@
+//! Scripts that make folders and remove names, with their errors.
+
+use crate::stories::Says::{Done, Entry, Failed};
+use crate::stories::Stands::{File, Folder, Nothing};
+use crate::stories::{NOTHING, Story, tell};
+use backing::Fault::{After, Before};
+use errno::{EACCES, EEXIST, EIO, EISDIR, ENOENT, ENOTDIR, ENOTEMPTY, EPERM, ESTALE};
+use ledger::Blanks;
+use std::marker::Brand;
+use std::test::Fail;
+use wire::Operation::{GetAttr, Lookup, MakeDir, RemoveDir, Unlink};
+
+/// Folders that are made.
+const NEW_FOLDERS: &[Story] = &[
+    Story {
+        says: "a new folder, one in it, and one that stands",
+        asks: &[
+            (1, MakeDir { name: "m" }),
+            (2, MakeDir { name: "n" }),
+            (1, MakeDir { name: "d" }),
+        ],
+        replies: &[Entry(2, Folder), Entry(3, Folder), Failed(EEXIST)],
+        after: &[(&["m"], Folder), (&["m", "n"], Folder)],
+        ..NOTHING
+    },
+    Story {
+        says: "a reserved name, an unknown folder, and one below a file",
+        asks: &[
+            (
+                1,
+                MakeDir {
+                    name: ".fuse_hiddenx",
+                },
+            ),
+            (
+                9,
+                MakeDir {
+                    name: ".fuse_hiddenx",
+                },
+            ),
+            (9, MakeDir { name: "m" }),
+            (1, Lookup { name: "a" }),
+            (2, MakeDir { name: "m" }),
+        ],
+        replies: &[
+            Failed(EPERM),
+            Failed(EPERM),
+            Failed(ESTALE),
+            Entry(2, File(3)),
+            Failed(ENOTDIR),
+        ],
+        after: &[(&[".fuse_hiddenx"], Nothing)],
+        ..NOTHING
+    },
+    Story {
+        says: "it is not made",
+        asks: &[(1, MakeDir { name: "m" }), (1, Lookup { name: "m" })],
+        faults: &[(1, Before(EACCES))],
+        replies: &[Failed(EACCES), Failed(ENOENT)],
+        after: &[(&["m"], Nothing)],
+        ..NOTHING
+    },
+    Story {
+        says: "it is made, and told as failed",
+        asks: &[(1, MakeDir { name: "m" }), (1, Lookup { name: "m" })],
+        faults: &[(1, After(EIO))],
+        replies: &[Failed(EIO), Entry(2, Folder)],
+        after: &[(&["m"], Folder)],
+        ..NOTHING
+    },
+    Story {
+        says: "it is made and then not found: it stays, and nothing is given",
+        asks: &[(1, MakeDir { name: "m" }), (1, Lookup { name: "e" })],
+        faults: &[(2, Before(EIO))],
+        replies: &[Failed(EIO), Entry(2, File(0))],
+        after: &[(&["m"], Folder)],
+        ..NOTHING
+    },
+];
+
+#[test]
+fn new_folders(rt: HostRuntime) -> Result<(), Fail> {
+    for story in NEW_FOLDERS {
+        tell::<HostRuntime, Brand>(&rt, rt.alloc(), Blanks::new(1), story)?;
+    }
+    Ok(())
+}
+
+/// Files and folders that are removed.
+const REMOVALS: &[Story] = &[
+    Story {
+        says: "a file, a folder and nothing are unlinked",
+        asks: &[
+            (1, Unlink { name: "a" }),
+            (1, Unlink { name: "d" }),
+            (1, Unlink { name: "zz" }),
+        ],
+        replies: &[Done, Failed(EISDIR), Failed(ENOENT)],
+        after: &[(&["a"], Nothing), (&["d"], Folder)],
+        ..NOTHING
+    },
+    Story {
+        says: "a folder with a name, one without, a file and nothing are removed as folders",
+        asks: &[
+            (1, Lookup { name: "d" }),
+            (2, MakeDir { name: "m" }),
+            (1, RemoveDir { name: "d" }),
+            (2, RemoveDir { name: "m" }),
+            (1, RemoveDir { name: "d" }),
+            (1, RemoveDir { name: "a" }),
+            (1, RemoveDir { name: "zz" }),
+        ],
+        replies: &[
+            Entry(2, Folder),
+            Entry(3, Folder),
+            Failed(ENOTEMPTY),
+            Done,
+            Done,
+            Failed(ENOTDIR),
+            Failed(ENOENT),
+        ],
+        after: &[(&["d"], Nothing), (&["a"], File(3))],
+        ..NOTHING
+    },
+    Story {
+        says: "names that are the server's own",
+        asks: &[
+            (
+                1,
+                Unlink {
+                    name: ".fuse_hidden",
+                },
+            ),
+            (
+                9,
+                RemoveDir {
+                    name: ".fuse_hidden0",
+                },
+            ),
+        ],
+        replies: &[Failed(EPERM), Failed(EPERM)],
+        ..NOTHING
+    },
+    Story {
+        says: "a removed node is stale, and the same name is another node",
+        asks: &[
+            (1, Lookup { name: "a" }),
+            (1, Unlink { name: "a" }),
+            (2, GetAttr),
+            (1, MakeDir { name: "a" }),
+            (2, GetAttr),
+        ],
+        replies: &[
+            Entry(2, File(3)),
+            Done,
+            Failed(ESTALE),
+            Entry(3, Folder),
+            Failed(ESTALE),
+        ],
+        after: &[(&["a"], Folder)],
+        ..NOTHING
+    },
+    Story {
+        says: "it fails before its work",
+        asks: &[(1, Unlink { name: "a" }), (1, RemoveDir { name: "d" })],
+        faults: &[(1, Before(EACCES)), (2, Before(EIO))],
+        replies: &[Failed(EACCES), Failed(EIO)],
+        after: &[(&["a"], File(3)), (&["d"], Folder)],
+        ..NOTHING
+    },
+];
+
+#[test]
+fn removals(rt: HostRuntime) -> Result<(), Fail> {
+    for story in REMOVALS {
+        tell::<HostRuntime, Brand>(&rt, rt.alloc(), Blanks::new(1), story)?;
+    }
+    Ok(())
+}
+
+/// UNLINK of `d/x` fails after its work, so its node stays named until its folder goes.
+const FAILED_REMOVE_THEN_RMDIR: &[Story] = &[Story {
+    says: "a failed removal, and then its folder's",
+    files: &[&["d", "x"]],
+    asks: &[
+        (1, Lookup { name: "d" }),
+        (2, Lookup { name: "x" }),
+        (2, Unlink { name: "x" }),
+        (3, GetAttr),
+        (1, RemoveDir { name: "d" }),
+        (3, GetAttr),
+        (2, GetAttr),
+    ],
+    faults: &[(3, After(EIO))],
+    replies: &[
+        Entry(2, Folder),
+        Entry(3, File(0)),
+        Failed(EIO),
+        Failed(ENOENT),
+        Done,
+        Failed(ESTALE),
+        Failed(ESTALE),
+    ],
+    after: &[(&["d"], Nothing)],
+    ..NOTHING
+}];
+
+#[test]
+fn failed_remove_then_rmdir(rt: HostRuntime) -> Result<(), Fail> {
+    for story in FAILED_REMOVE_THEN_RMDIR {
+        tell::<HostRuntime, Brand>(&rt, rt.alloc(), Blanks::new(1), story)?;
+    }
+    Ok(())
+}
