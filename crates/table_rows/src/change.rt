@@ -25,12 +25,13 @@ fn same_in<'a>(nodes: &'a [Node], node: &Node) -> Option<&'a Node> {
 
 /// How many nodes of the first image are not in the second.
 fn missing(from: &Image, image: &Image) -> usize {
-    let nodes = image.nodes.as_slice();
-    from.nodes
-        .as_slice()
-        .iter()
-        .filter(|node| same_in(nodes, node).is_none())
-        .count()
+    let mut count = 0usize;
+    for node in from.nodes.as_slice() {
+        if same_in(image.nodes.as_slice(), node).is_none() {
+            count = count.saturating_add(1);
+        }
+    }
+    count
 }
 
 fn is_moved(old: &Node, new: &Node) -> bool {

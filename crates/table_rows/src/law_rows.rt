@@ -74,32 +74,44 @@ fn holds_of(alloc: Global, holdings: &[Holding]) -> Result<Holds, AllocError> {
     Ok(Holds::from(holds))
 }
 
-fn image_of(alloc: Global, case: &Case) -> Result<Image, AllocError> {
-    let (number, generation) = (2, 0);
-    let root = Node {
-        number: ROOT,
-        generation: 0,
-        place: Place::Root,
-        count: 0,
-        hidden: false,
-    };
-    let folder = Node {
+fn node(number: u64, place: Place, count: u64) -> Node {
+    Node {
         number,
-        generation,
-        place: Place::Named(Key {
-            parent: ROOT,
-            name: Name::copy_of(alloc, "a")?,
-        }),
-        count: 1,
+        generation: 0,
+        place,
+        count,
         hidden: false,
+    }
+}
+
+/// The root and the folder `a`.
+fn nodes(alloc: Global) -> Result<Nodes, AllocError> {
+    let key = Key {
+        parent: ROOT,
+        name: Name::copy_of(alloc, "a")?,
     };
-    let postings = vec![in alloc;
-        Posting::Born { number, generation },
-        Posting::Entry { number, generation },
-    ]?;
+    let mut nodes = Nodes::new(alloc);
+    nodes.add(node(ROOT, Place::Root, 0))?;
+    nodes.add(node(2, Place::Named(key), 1))?;
+    Ok(nodes)
+}
+
+/// The folder was born, and given once.
+const POSTINGS: &[Posting] = &[
+    Posting::Born {
+        number: 2,
+        generation: 0,
+    },
+    Posting::Entry {
+        number: 2,
+        generation: 0,
+    },
+];
+
+fn image_of(alloc: Global, case: &Case) -> Result<Image, AllocError> {
     Ok(Image {
-        nodes: Nodes::from(vec![in alloc; root, folder]?),
-        postings: Postings::from(postings),
+        nodes: nodes(alloc)?,
+        postings: Postings::from(Vec::from_slice(alloc, POSTINGS)?),
         records: records_of(alloc, case.requests)?,
         holds: holds_of(alloc, case.holds)?,
     })

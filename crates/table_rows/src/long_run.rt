@@ -206,6 +206,30 @@ impl LongRun {
         }
     }
 
+    /// What a call came to that told this, from the image before it.
+    fn judge_from<L: Ledgers>(
+        &mut self,
+        desk: &Desk<L>,
+        step: &Step<'static>,
+        told: Told,
+        before: &Image,
+    ) -> Result<Option<Event>, AllocError> {
+        let after = desk.image()?;
+        self.judge(step, told, before, &after)
+    }
+
+    /// What a call told, and what it came to.
+    fn make<L: Ledgers>(
+        &mut self,
+        desk: &mut Desk<L>,
+        step: &Step<'static>,
+    ) -> Result<(Told, Option<Event>), AllocError> {
+        let before = desk.image()?;
+        let told = desk.take(step)?;
+        let event = self.judge_from(desk, step, told, &before)?;
+        Ok((told, event))
+    }
+
     /// Makes one call, the one at that place.
     fn go<L: Ledgers>(
         &mut self,
@@ -213,14 +237,12 @@ impl LongRun {
         place: usize,
         step: Step<'static>,
     ) -> Result<(), Fail> {
-        let before = desk.image()?;
-        let told = desk.take(&step)?;
-        match self.judge(&step, told, &before, &desk.image()?)? {
-            Some(event) => {
+        match self.make(desk, &step)? {
+            (_, Some(event)) => {
                 self.note(event);
                 Ok(())
             }
-            None => Err(mistold(place, told)),
+            (told, None) => Err(mistold(place, told)),
         }
     }
 

@@ -101,24 +101,34 @@ fn agrees(told: &CallTold, said: Told) -> bool {
     }
 }
 
+fn all_calls(alloc: Global) -> Result<Vec<Call>, AllocError> {
+    let mut calls = Vec::new(alloc);
+    for (made, _) in CALLS {
+        calls.push(call_of(alloc, *made)?)?;
+    }
+    Ok(calls)
+}
+
+/// The calls of a run told what they must.
+fn expect_all(told: &[CallTold]) -> Result<(), Fail> {
+    if told.len() != CALLS.len() {
+        return Err(Fail::from(("calls told", told.len())));
+    }
+    for (place, (told, (_, said))) in told.iter().zip(CALLS).enumerate() {
+        if !agrees(told, *said) {
+            return Err(Fail::from(("otherwise", place)));
+        }
+    }
+    Ok(())
+}
+
 impl<L: Ledgers> Desk<L> {
     /// Makes all calls in one run.
     fn make_all(&mut self, pending: &mut Pending) -> Result<(), Fail> {
-        let mut calls = Vec::new(self.alloc);
-        for (made, _) in CALLS {
-            calls.push(call_of(self.alloc, *made)?)?;
-        }
+        let calls = all_calls(self.alloc)?;
         let mut told = Vec::new(self.alloc);
         runs::run(&mut self.table, &mut self.share, pending, calls, &mut told)?;
-        match told.len() == CALLS.len()
-            && told
-                .iter()
-                .zip(CALLS)
-                .all(|(told, (_, said))| agrees(told, *said))
-        {
-            true => Ok(()),
-            false => Err(Fail::from(("the run told otherwise", told.len()))),
-        }
+        expect_all(told.as_slice())
     }
 
     /// Makes one call after another. Fails at the first that tells something else.

@@ -31,23 +31,33 @@ impl From<bool> for Told {
     }
 }
 
+/// The image keeps the law, after the step at that place.
+fn expect_lawful(image: &Image, place: usize) -> Result<(), Fail> {
+    if image.lawful() {
+        return Ok(());
+    }
+    Err(Fail::from(("unlawful after", place)))
+}
+
 /// Whether the image shows what the step says of it.
 fn shows(alloc: Global, image: &Image, step: &Step) -> Result<bool, AllocError> {
-    Ok(match *step {
-        Step::Nodes(nodes) => shows_nodes(image, nodes),
-        Step::Ledger(postings) => shows_ledger(image, postings),
-        Step::Requests(requests) => shows_requests(image, requests),
-        Step::Holds(holds) => shows_holds(alloc, image, holds)?,
+    match *step {
+        Step::Nodes(nodes) => Ok(shows_nodes(image, nodes)),
+        Step::Ledger(postings) => Ok(shows_ledger(image, postings)),
+        Step::Requests(requests) => Ok(shows_requests(image, requests)),
+        Step::Holds(holds) => shows_holds(alloc, image, holds),
         Step::Size(nodes, postings, requests) => {
-            (nodes, postings, requests)
-                == (
-                    image.nodes.as_slice().len(),
-                    image.postings.as_slice().len(),
-                    image.records.as_slice().len(),
-                )
+            Ok(
+                (nodes, postings, requests)
+                    == (
+                        image.nodes.as_slice().len(),
+                        image.postings.as_slice().len(),
+                        image.records.as_slice().len(),
+                    ),
+            )
         }
-        _ => false,
-    })
+        _ => Ok(false),
+    }
 }
 
 impl<L: Ledgers> Desk<L> {
@@ -88,21 +98,28 @@ impl<L: Ledgers> Desk<L> {
         shares.any(|share| share.index() == index && Sum::from(share.totals()) == sum)
     }
 
+    /// Whether the table, its tickets and its shares are as the step says.
+    fn is_as(&self, step: &Step) -> Result<bool, AllocError> {
+        match *step {
+            Step::Paths(unique, paths) => self.has_paths(unique, paths),
+            Step::Share(index, sum) => Ok(self.has_share(index, sum)),
+            _ => shows(self.alloc, &self.image()?, step),
+        }
+    }
+
     /// What a step came to.
     pub fn take(&mut self, step: &Step) -> Result<Told, AllocError> {
-        Ok(match *step {
-            Step::Begin(unique, asks, _) => self.begin(unique, asks)?,
-            Step::Finish(unique, outcome, _) => self.finish(unique, outcome)?,
-            Step::Settle(unique, reply, _) => self.settle(unique, reply),
-            Step::Forget(number, n, _) => self.forget(number, n),
-            Step::LookUp(parent, name, _) => self.look_up(parent, name)?,
-            Step::Stranger(unique) => self.take_stranger(unique)?,
-            Step::Worker(worker) => self.pass(worker).into(),
-            Step::LeaveShare => self.leave_share().into(),
-            Step::Paths(unique, paths) => self.has_paths(unique, paths)?.into(),
-            Step::Share(index, sum) => self.has_share(index, sum).into(),
-            _ => shows(self.alloc, &self.image()?, step)?.into(),
-        })
+        match *step {
+            Step::Begin(unique, asks, _) => self.begin(unique, asks),
+            Step::Finish(unique, outcome, _) => self.finish(unique, outcome),
+            Step::Settle(unique, reply, _) => Ok(self.settle(unique, reply)),
+            Step::Forget(number, n, _) => Ok(self.forget(number, n)),
+            Step::LookUp(parent, name, _) => self.look_up(parent, name),
+            Step::Stranger(unique) => self.take_stranger(unique),
+            Step::Worker(worker) => Ok(self.pass(worker).into()),
+            Step::LeaveShare => Ok(self.leave_share().into()),
+            _ => Ok(self.is_as(step)?.into()),
+        }
     }
 
     /// Takes a step, after which the table keeps its law.
@@ -116,10 +133,7 @@ impl<L: Ledgers> Desk<L> {
 
     /// Fails where the table does not keep its law, after the step at that place.
     pub fn attest(&self, place: usize) -> Result<(), Fail> {
-        match self.image()?.lawful() {
-            true => Ok(()),
-            false => Err(Fail::from(("unlawful after", place))),
-        }
+        expect_lawful(&self.image()?, place)
     }
 
     /// Takes each step.
