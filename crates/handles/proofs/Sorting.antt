@@ -1,13 +1,13 @@
 -- What a listing has in common with the children that it is made of.
-use Rattle.std.proofs.Common.{◌≡◌, ℕ, ◌+◌, Bool, true, false, not, cond, if◌then◌else◌, List, [], ◌∷◌, Option, Some, None, get_or, refl, sym, ap, ◌∙◌, subst, arith, ◌↔◌, IsTrue, codes, inl, inr}
-use Rattle.std.proofs.lemmas.Bool.{true≢false, cases_Bool, cond-true, cond-false}
-use Rattle.std.proofs.lemmas.List.Sums.{sum_by-cons}
+use Rattle.std.proofs.Common.{◌≡◌, ℕ, ◌+◌, Bool, true, false, not, ◌&&◌, cond, is_none, if◌then◌else◌, List, [], ◌∷◌, Option, Some, None, get_or, refl, sym, ap, ◌∙◌, subst, arith, ◌↔◌, IsTrue, codes, inl, inr}
+use Rattle.std.proofs.lemmas.Bool.{true≢false, false≢true, and_parts, cases_Bool, cond-true, cond-false}
+use Rattle.std.proofs.lemmas.List.Sums.{sum_by-cons, AllPass-from_list_all, list_all-from_AllPass}
 use Rattle.std.proofs.lemmas.List.Elements.{All-filter, filter_passes}
 use Rattle.std.proofs.lemmas.List.Kept.{IsStrictlySortedBy-filter}
 use Rattle.std.proofs.lemmas.List.Sorted.{All-permutation, sum_by-IsPermutation, IsPermutation-sym}
 use Rattle.std.proofs.lemmas.Map.Keys.{IsDistinct-head, IsDistinct-tail, IsDistinct-cons, IsDistinct-from_sorted, IsDistinct-IsPermutation, apart_from_distinct, sorted_from_all_adjacent}
 use Rattle.std.specs.Ordering.{eq_by_cmp}
-use Rattle.std.specs.List.{filter, sum_by, AllByRecursion, AllPass, IsDistinct}
+use Rattle.std.specs.List.{filter, list_all, sum_by, AllByRecursion, AllPass, IsDistinct}
 use Rattle.std.specs.List.Sorted.{IsPermutation, IsSorted, IsStrictlySortedBy}
 use Rattle.paths.specs.Fronts.{Name, is_name}
 use Rattle.paths.proofs.FrontLemmas.{is_name-true, is_name-yes, is_name-no}
@@ -16,7 +16,7 @@ use Rattle.backing.specs.declared.call.Kind.TheVariants.{Folder, File}
 use Rattle.backing.specs.declared.call.Child.{Child}
 use Rattle.backing.specs.Calls.{kind_in, EachOnce}
 use Rattle.handles.specs.Names.{is_lawful, is_reserved, by_name}
-use Rattle.handles.specs.Listings.{AreLawful, IsInOrder, Shows, folder_at}
+use Rattle.handles.specs.Listings.{is_each_once, are_lawful, IsInOrder, Shows, folder_at}
 use Rattle.handles.proofs.Orders.{by_name_total, same_from_equal, equal_from_same, equal_flips, below_from}
 
 abbrev same : Child → Child → Bool
@@ -158,14 +158,47 @@ kinds_shown (c ∷ cs) name = elim (cases_Bool (is_reserved c.name)) [
       ])
 ]
 
-pub lawful_once : (xs ys zs : List Child) (b : Bool) → xs ≡ zs → IsPermutation xs ys → IsSorted by_name ys → (IsTrue b ↔ IsStrictlySortedBy by_name ys) → b ≡ false → AreLawful zs → ⊥
-lawful_once xs ys zs b is moved up tells out lawful =
-    let rising : IsStrictlySortedBy by_name ys = rises_from_once xs ys moved up (subst EachOnce (sym is) lawful.once) in
-    true≢false (sym (tells.1 rising) ∙ out)
+and_true : (x y : Bool) → x ≡ true → y ≡ true → (x && y) ≡ true
+and_true x y a b = ap (λ (t : Bool). t && y) a ∙ b
 
-pub ordered : (xs ys zs : List Child) → xs ≡ zs → AllPass (λ (child : Child). is_lawful child.name) xs → IsPermutation xs ys → IsStrictlySortedBy by_name ys → IsInOrder zs ys
-ordered xs ys zs is lawful moved up = subst (λ (cs : List Child). IsInOrder cs ys) is (record {
-  lawful = record { lawful = lawful; once = once_from_rises xs ys moved up };
+-- the test whether each name comes once, and the fact
+once_by_test : (cs : List Child) → is_each_once cs ≡ true → EachOnce cs
+once_by_test [] h = tt
+once_by_test (c ∷ cs) h =
+    let parts = and_parts (is_none (kind_in cs c.name)) (is_each_once cs) h in
+    (absent (kind_in cs c.name) parts.0, once_by_test cs parts.1)
+  where
+    absent : (o : Option Kind) → is_none o ≡ true → o ≡ None
+    absent None e = refl
+    absent (Some kind) e = absurd (false≢true e)
+
+test_by_once : (cs : List Child) → EachOnce cs → is_each_once cs ≡ true
+test_by_once [] h = refl
+test_by_once (c ∷ cs) h = and_true (is_none (kind_in cs c.name)) (is_each_once cs) (ap is_none h.0) (test_by_once cs h.1)
+
+abbrev lawful : Child → Bool
+lawful child = is_lawful child.name
+
+once_of : (cs : List Child) → are_lawful cs ≡ true → EachOnce cs
+once_of cs h = once_by_test cs (and_parts (list_all lawful cs) (is_each_once cs) h).1
+
+pub lawless_name : (cs : List Child) (b : Bool) → (IsTrue b ↔ AllPass lawful cs) → b ≡ false → are_lawful cs ≡ false
+lawless_name cs b tells out = elim (cases_Bool (are_lawful cs)) [
+  | inl h ↦ absurd (true≢false (sym (tells.1 (AllPass-from_list_all lawful cs (and_parts (list_all lawful cs) (is_each_once cs) h).0)) ∙ out))
+  | inr h ↦ h
+]
+
+pub lawful_once : (xs ys zs : List Child) (b : Bool) → xs ≡ zs → IsPermutation xs ys → IsSorted by_name ys → (IsTrue b ↔ IsStrictlySortedBy by_name ys) → b ≡ false → are_lawful zs ≡ false
+lawful_once xs ys zs b is moved up tells out = elim (cases_Bool (are_lawful zs)) [
+  | inl h ↦
+      let rising : IsStrictlySortedBy by_name ys = rises_from_once xs ys moved up (subst EachOnce (sym is) (once_of zs h)) in
+      absurd (true≢false (sym (tells.1 rising) ∙ out))
+  | inr h ↦ h
+]
+
+pub ordered : (xs ys zs : List Child) → xs ≡ zs → AllPass lawful xs → IsPermutation xs ys → IsStrictlySortedBy by_name ys → IsInOrder zs ys
+ordered xs ys zs is names moved up = subst (λ (cs : List Child). IsInOrder cs ys) is (record {
+  lawful = and_true (list_all lawful xs) (is_each_once xs) (list_all-from_AllPass lawful xs names) (test_by_once xs (once_from_rises xs ys moved up));
   moved = moved;
   rising = up;
 })
@@ -176,9 +209,9 @@ listed xs ys entries o is = record {
   listing = record {
     names = filter shown ys;
     dots = is;
-    lawful = All-filter shown (λ (c : Child). is_lawful c.name ≡ true) ys (All-permutation (λ (c : Child). is_lawful c.name ≡ true) xs ys o.moved o.lawful.lawful);
+    lawful = All-filter shown (λ (c : Child). lawful c ≡ true) ys (All-permutation (λ (c : Child). lawful c ≡ true) xs ys o.moved (AllPass-from_list_all lawful xs (and_parts (list_all lawful xs) (is_each_once xs) o.lawful).0));
     shown = filter_passes shown ys;
     rising = IsStrictlySortedBy-filter by_name shown ys o.rising;
   };
-  same = λ name. kinds_shown ys name ∙ ap (λ (k : Option Kind). if is_reserved name then None else k) (same_kinds xs ys o.moved o.lawful.once (once_from_rising ys o.rising) name);
+  same = λ name. kinds_shown ys name ∙ ap (λ (k : Option Kind). if is_reserved name then None else k) (same_kinds xs ys o.moved (once_of xs o.lawful) (once_from_rising ys o.rising) name);
 }

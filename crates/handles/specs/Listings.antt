@@ -1,23 +1,27 @@
 -- What an open folder shows.
-use Rattle.std.specs.Prelude.{ℕ, ◌≡◌, not, if◌then◌else◌, List, ◌∷◌, None, Result, Ok, Err, codes}
-use Rattle.std.specs.List.{AllPass}
+use Rattle.std.specs.Prelude.{ℕ, ◌≡◌, Bool, true, false, not, ◌&&◌, is_none, if◌then◌else◌, List, [], ◌∷◌, None, Result, Ok, Err, codes}
+use Rattle.std.specs.List.{AllPass, list_all}
 use Rattle.std.specs.List.Sorted.{IsPermutation, IsStrictlySortedBy}
 use Rattle.paths.specs.Fronts.{Name}
 use Rattle.backing.specs.declared.call.Kind.TheVariants as kinds
 use Rattle.backing.specs.declared.call.Child.{Child}
-use Rattle.backing.specs.Calls.{kind_in, EachOnce}
+use Rattle.backing.specs.Calls.{kind_in}
 use Rattle.handles.specs.Names.{is_lawful, is_reserved, by_name}
 use Rattle.handles.specs.declared.listing.ListingFault.{ListingFault}
 use Rattle.handles.specs.declared.listing.ListingFault.TheVariants.{Lawless, Memory}
 
+-- no name comes twice
+abbrev pub is_each_once : List Child → Bool
+is_each_once [] = true
+is_each_once (child ∷ children) = is_none (kind_in children child.name) && is_each_once children
+
 -- what a directory may list: lawful names, each once
-pub record AreLawful (children : List Child) : Type 0 where
-  pub lawful : AllPass (λ child. is_lawful child.name) children
-  pub once : EachOnce children
+abbrev pub are_lawful : List Child → Bool
+are_lawful children = list_all (λ child. is_lawful child.name) children && is_each_once children
 
 -- these children, which are lawful, by rising bytes
 pub record IsInOrder (children names : List Child) : Type 0 where
-  pub lawful : AreLawful children
+  pub lawful : are_lawful children ≡ true
   pub moved : IsPermutation children names
   pub rising : IsStrictlySortedBy by_name names
 
@@ -45,9 +49,9 @@ pub record OpenFolder : Type 0 where
 
 -- the listing of a node's children, which has no handle yet; a fault exactly where they are lawless
 abbrev pub IsMade : ℕ → List Child → Result OpenFolder ListingFault → Type 0
-IsMade number children (Ok folder) = AreLawful children × (folder.number ≡ number) × (folder.fh ≡ 0) × Shows children folder.entries
-IsMade number children (Err Lawless) = AreLawful children → ⊥
-IsMade number children (Err Memory) = AreLawful children
+IsMade number children (Ok folder) = (are_lawful children ≡ true) × (folder.number ≡ number) × (folder.fh ≡ 0) × Shows children folder.entries
+IsMade number children (Err Lawless) = are_lawful children ≡ false
+IsMade number children (Err Memory) = are_lawful children ≡ true
 
 -- what is lent bears the handle that was asked for, and is a listing
 pub record IsLent (fh : ℕ) (folder : OpenFolder) : Type 0 where

@@ -1,9 +1,9 @@
 //! Names in a folder: which of them are lawful, which the server keeps for itself, and their order.
 
-ghost use Rattle.std.specs.Prelude.{◌≡◌, ◌↔◌, IsTrue, MatchOption, not};
+ghost use Rattle.std.specs.Prelude.{◌≡◌, ◌↔◌, IsTrue, MatchOption, false, not};
 ghost use Rattle.std.specs.List.{AllPass, filter};
 ghost use Rattle.std.specs.List.Sorted.{IsPermutation, IsSorted, IsStrictlySortedBy};
-ghost use Rattle.handles.specs.Listings.{AreLawful, IsInOrder};
+ghost use Rattle.handles.specs.Listings.{are_lawful, IsInOrder};
 ghost use Rattle.handles.specs.Names.{is_lawful, is_reserved, by_name};
 
 use backing::{Child, Children};
@@ -44,7 +44,7 @@ fn compare(a: &Child, b: &Child) -> Ordering
 }
 
 /// Whether each name is lawful.
-fn are_lawful(children: &[Child]) -> bool
+fn all_lawful(children: &[Child]) -> bool
     ensures { IsTrue result ↔ AllPass (λ child. is_lawful child.name) children.now }
 {
     children.iter().all(|child| is_lawful(&child.name))
@@ -67,10 +67,10 @@ fn are_rising(children: &[Child]) -> bool
 
 /// The children by rising bytes, if each name is lawful and stands once. It takes no memory.
 pub(crate) fn in_order(children: Children) -> Option<Vec<Child>>
-    ensures { MatchOption result (AreLawful children → ⊥) (λ v. IsInOrder children v.items) }
+    ensures { MatchOption result (are_lawful children ≡ false) (λ v. IsInOrder children v.items) }
 {
     let mut names = children.into_vec();
-    if !are_lawful(&names) {
+    if !all_lawful(&names) {
         return None;
     }
     sort(&mut names);
