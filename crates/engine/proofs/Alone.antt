@@ -6,7 +6,7 @@ use Rattle.std.proofs.Common.{◌≡◌, ◌==◌, ℕ, Bool, true, false, Optio
 use Rattle.flights.specs.declared.data.Want.{Want}
 use Rattle.steps.proofs.Refusing.{refusal_bits}
 use Rattle.steps.specs.Answers.{Claim, Answer, Settlement}
-use Rattle.steps.specs.World.{Answered, Flight, Flights, IsAtWork, Work, Working, World, opened_world, with_entry}
+use Rattle.steps.specs.World.{Answered, Flight, Flights, Work, Working, World, opened_world, with_entry}
 use Rattle.steps.specs.declared.data.Limits.{Limits}
 use Rattle.steps.specs.Steps.{Begins, Finishes, Forgets, Settles, answered}
 use Rattle.steps.specs.declared.data.Outcome.{Outcome}

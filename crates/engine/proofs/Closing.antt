@@ -15,7 +15,7 @@ use Rattle.backing.specs.declared.call.Answer.{Answer}
 use Rattle.engine.specs.declared.ends.SessionEnd.{SessionEnd}
 use Rattle.engine.specs.declared.ends.SessionEnd.TheVariants as ends
 use Rattle.engine.specs.declared.links.Sent.{Sent}
-use Rattle.engine.specs.declared.replies.Settings.{Settings}
+use Rattle.ops.specs.declared.replies.Settings.{Settings}
 use Rattle.engine.specs.Chain.{Chain}
 use Rattle.engine.specs.Links.{Heard, Piece, Ended, Broke, Event, Happens}
 use Rattle.engine.specs.Reference.{At, Offer, Stop, AtEnd, Lost, IsTurn, frames_of, Closes}

@@ -5,7 +5,7 @@ use Rattle.backing.specs.Calls.{Asked}
 use Rattle.backing.specs.declared.call.Answer.{Answer}
 use Rattle.engine.specs.Chain.{Chain}
 use Rattle.engine.specs.Playing.{Played, Playing}
-use Rattle.engine.specs.Scripts.{Plan, Ask, Over, End, Made, Follows, next_of, after}
+use Rattle.ops.specs.Scripts.{Plan, Ask, Over, End, Made, Follows, next_of, after}
 use Rattle.engine.specs.Serving.{Gives}
 
 pub chain_append : {S E : Type 0} (step : S → E → S → Type 0) (old mid new : S) (es fs : List E) → Chain step old es mid → Chain step mid fs new → Chain step old (es ++ fs) new

@@ -14,14 +14,13 @@ use Rattle.wire.specs.declared.reply.Reply.{Reply}
 use Rattle.wire.specs.declared.reply.ReplyBody.{ReplyBody}
 use Rattle.wire.specs.declared.reply.ReplyBody.TheVariants.{Failed}
 use Rattle.wire.specs.declared.request.Request.{Request}
-use Rattle.engine.specs.declared.intents.Intent.{Intent}
-use Rattle.engine.specs.declared.intents.Intent.TheVariants as intents
 use Rattle.engine.specs.declared.links.Sent.{Sent}
-use Rattle.engine.specs.declared.replies.Settings.{Settings}
-use Rattle.engine.specs.Intents.{intent, IsBegun}
+use Rattle.ops.specs.declared.replies.Settings.{Settings}
+use Rattle.ops.specs.Intents.{Intent, intent}
+use Rattle.ops.specs.Intents as intents
 use Rattle.engine.specs.Reference.{Place, AtBegin, AtReply, Turn, IsSaid, Says, Serves, Carries, WorksOff, is_unanswered}
 use Rattle.engine.specs.Replies.{refusal, TakesMemory}
-use Rattle.engine.specs.Scripts.{Made}
+use Rattle.ops.specs.Scripts.{Made}
 use Rattle.engine.specs.Tables.{Table}
 use Rattle.engine.specs.Walks.{IsAnswered, WorkedOff, Performs, CarriesOut}
 
@@ -101,7 +100,7 @@ module _ {W L C : Type 0} (table : Table W) (settings : Settings) (sends : L →
   }
 
   -- a request that is begun
-  pub carried : (frame : List ℕ) (q : Request) (want : Want) (link link' : L) (calls calls' : C) (world world' : W) (sent : Sent) → IsRequest frame q → intents.Want want ≡ intent q
+  pub carried : (frame : List ℕ) (q : Request) (want : Want) (link link' : L) (calls calls' : C) (world world' : W) (sent : Sent) → IsRequest frame q → intents.Begin want ≡ intent q
       → CarriesOut table settings sends gives q want link calls world sent link' calls' world'
       → WorkedOff table settings sends gives frame link calls world (Some sent) link' calls' world'
   carried frame q want link link' calls calls' world world' sent is i a =
@@ -115,23 +114,20 @@ module _ {W L C : Type 0} (table : Table W) (settings : Settings) (sends : L →
         passes = a.offer;
       }
 
-  by_begin : (i : Intent) → IsBegun i → (q : Request) (world : W) (frame : List ℕ) (sent : Sent) → Serves table settings q i world (answering frame (Some AtBegin) [] q.unique (Failed ENOMEM) sent) world
-  by_begin (intents.Reply body) b q world frame sent = absurd b
-  by_begin (intents.Want want) b q world frame sent = record { offers = refl; no_call = refl; same = refl }
-  by_begin (intents.Forget number n) b q world frame sent = absurd b
-
   -- a request that finds no memory to begin
-  pub unbegun : (frame : List ℕ) (q : Request) (link link' : L) (calls : C) (world : W) (sent : Sent) → IsRequest frame q → IsBegun (intent q)
+  pub unbegun : (frame : List ℕ) (q : Request) (want : Want) (link link' : L) (calls : C) (world : W) (sent : Sent) → IsRequest frame q → intents.Begin want ≡ intent q
       → sends link (reply_bytes (refusal q.unique ENOMEM)) sent link'
       → WorkedOff table settings sends gives frame link calls world (Some sent) link' calls world
-  unbegun frame q link link' calls world sent is b s = record {
-    turn = answering frame (Some AtBegin) [] q.unique (Failed ENOMEM) sent;
-    frame_is = refl;
-    sent_is = refl;
-    meets = inl (q, is, by_begin (intent q) b q world frame sent);
-    makes = refl;
-    passes = s;
-  }
+  unbegun frame q want link link' calls world sent is i s =
+      let turn = answering frame (Some AtBegin) [] q.unique (Failed ENOMEM) sent in
+      record {
+        turn = turn;
+        frame_is = refl;
+        sent_is = refl;
+        meets = inl (q, is, subst (λ (x : Intent). Serves table settings q x world turn world) i (record { offers = refl; no_call = refl; same = refl }));
+        makes = refl;
+        passes = s;
+      }
 
   -- ---- a request from begin to settle
 

@@ -7,7 +7,7 @@ use Rattle.wire.specs.Stream.{BeginsBadly, IsPartial}
 use Rattle.engine.specs.declared.ends.SessionEnd.{SessionEnd}
 use Rattle.engine.specs.declared.ends.SessionEnd.TheVariants as ends
 use Rattle.engine.specs.declared.links.Sent.{Sent}
-use Rattle.engine.specs.declared.replies.Settings.{Settings}
+use Rattle.ops.specs.declared.replies.Settings.{Settings}
 use Rattle.engine.specs.Links.{Heard, Piece}
 use Rattle.engine.specs.Reference.{ending}
 use Rattle.engine.specs.Serving.{Hears, Works}

@@ -1,11 +1,8 @@
 pub mod Chain
-pub mod Intents
-pub mod Judged
 pub mod Links
 pub mod Playing
 pub mod Reference
 pub mod Replies
-pub mod Scripts
 pub mod Serving
 pub mod Tables
 pub mod Walks

@@ -14,17 +14,17 @@ use Rattle.wire.specs.declared.reply.Reply.{Reply}
 use Rattle.wire.specs.declared.reply.ReplyBody.{ReplyBody}
 use Rattle.wire.specs.declared.reply.ReplyBody.TheVariants.{Failed}
 use Rattle.wire.specs.declared.request.Request.{Request}
-use Rattle.engine.specs.declared.intents.Intent.{Intent}
-use Rattle.engine.specs.declared.intents.Intent.TheVariants as intents
 use Rattle.engine.specs.declared.links.Sent.{Sent}
 use Rattle.engine.specs.declared.links.Sent.TheVariants.{Taken, Untaken, Broken}
-use Rattle.engine.specs.declared.replies.Settings.{Settings}
+use Rattle.ops.specs.declared.replies.Settings.{Settings}
 use Rattle.engine.specs.declared.ends.SessionEnd.{SessionEnd}
 use Rattle.engine.specs.declared.ends.SessionEnd.TheVariants as ends
 use Rattle.engine.specs.Chain.{Chain}
-use Rattle.engine.specs.Intents.{intent}
-use Rattle.engine.specs.Replies.{reply_to, TakesMemory}
-use Rattle.engine.specs.Scripts.{plan_of, End, Made, Follows}
+use Rattle.ops.specs.Intents.{Intent, intent}
+use Rattle.ops.specs.Intents as intents
+use Rattle.engine.specs.Replies.{TakesMemory}
+use Rattle.ops.specs.Replies.{reply_to}
+use Rattle.ops.specs.Scripts.{plan_of, End, Made, Follows}
 use Rattle.engine.specs.Tables.{Table}
 
 -- ---- one frame: what came of it
@@ -131,7 +131,7 @@ module _ {W : Type 0} (table : Table W) (settings : Settings) where
     pub finishes : table.finishes begun ticket.id end.outcome answer finished
     pub not_lost : answer.lost ≡ false
     pub said : ReplyBody
-    pub said_is : IsSaid turn.refused (reply_to settings end.findings answer) said
+    pub said_is : IsSaid turn.refused (reply_to settings q.node end.findings answer) said
     pub offers : Offers turn.offer q.unique said
     pub settles : table.settles finished answer (taken_of turn.refused turn.offer) new
 
@@ -149,7 +149,7 @@ module _ {W : Type 0} (table : Table W) (settings : Settings) where
 
   abbrev pub Serves : Request → Intent → W → Turn → W → Type 0
   Serves q (intents.Reply meant) old turn new = Answers q.unique meant old turn new
-  Serves q (intents.Want want) old turn new = WorksOff turn.refused q want old turn new
+  Serves q (intents.Begin want) old turn new = WorksOff turn.refused q want old turn new
   Serves q (intents.Forget number n) old turn new = IsSilent turn × table.forgets old number n new
 
   -- a frame that is no request is answered with its fault, if its opcode is answered at all

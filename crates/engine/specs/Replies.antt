@@ -1,43 +1,8 @@
--- What a request is answered, by what its script found and what its table gave.
-use Rattle.std.specs.Prelude.{ℕ, ℤ, List, slice_get, Option, Some, None, option_and_then}
-use Rattle.errno.specs.declared.TheConstants.{EIO}
-use Rattle.backing.specs.declared.call.Kind.{Kind as Told}
-use Rattle.backing.specs.declared.call.Kind.TheVariants as kinds
-use Rattle.flights.specs.declared.data.Given.{Given}
-use Rattle.steps.specs.Answers.{Answer}
-use Rattle.wire.specs.declared.reply.Attributes.{Attributes}
-use Rattle.wire.specs.declared.reply.Entry.{Entry as GivenEntry}
-use Rattle.wire.specs.declared.reply.Kind.{Kind}
-use Rattle.wire.specs.declared.reply.Kind.TheVariants.{File, Folder}
+-- What a session may say for itself.
+use Rattle.std.specs.Prelude.{ℕ, ℤ}
 use Rattle.wire.specs.declared.reply.Reply.{Reply}
 use Rattle.wire.specs.declared.reply.ReplyBody.{ReplyBody}
-use Rattle.wire.specs.declared.reply.ReplyBody.TheVariants.{Failed, Done, Entry}
-use Rattle.engine.specs.declared.replies.Settings.{Settings}
-use Rattle.engine.specs.Scripts.{Found, Findings, Error, NewEntry}
-
-abbrev pub kind_of : Told → Kind
-kind_of kinds.Folder = Folder
-kind_of kinds.File = File
-
-abbrev pub attributes_of : Settings → Found → Attributes
-attributes_of s found = record { kind = kind_of found.kind; size = found.size; uid = s.uid; gid = s.gid }
-
-abbrev pub entry_of : Settings → Found → Given → GivenEntry
-entry_of s found given = record { node = given.number; generation = given.generation; attributes = attributes_of s found }
-
--- what stands first in a list of which each may be missing
-abbrev pub first : {X : Type 0} → List (Option X) → Option X
-first xs = option_and_then (λ x. x) (slice_get xs 0)
-
-abbrev pub entry_reply : Settings → Found → Option Given → ReplyBody
-entry_reply s found (Some given) = Entry (entry_of s found given)
-entry_reply s found None = Failed EIO
-
--- ---- replies
-
-abbrev pub reply_to : Settings → Findings → Answer → ReplyBody
-reply_to s (Error errno) answer = Failed errno
-reply_to s (NewEntry found) answer = entry_reply s found (first answer.given)
+use Rattle.wire.specs.declared.reply.ReplyBody.TheVariants.{Failed}
 
 -- the reply that only names an error
 abbrev pub refusal : ℕ → ℤ → Reply
@@ -46,5 +11,4 @@ refusal unique errno = record { unique = unique; body = Failed errno }
 -- An error takes no memory.
 abbrev pub TakesMemory : ReplyBody → Type 0
 TakesMemory (Failed errno) = ⊥
-TakesMemory Done = Unit {0}
-TakesMemory (Entry entry) = Unit {0}
+TakesMemory body = Unit {0}

@@ -7,11 +7,11 @@ use Rattle.wire.specs.Stream.{IsPartial}
 use Rattle.wire.specs.Written.{reply_bytes}
 use Rattle.engine.specs.declared.ends.SessionEnd.{SessionEnd}
 use Rattle.engine.specs.declared.links.Sent.{Sent}
-use Rattle.engine.specs.declared.replies.Settings.{Settings}
+use Rattle.ops.specs.declared.replies.Settings.{Settings}
 use Rattle.engine.specs.Chain.{Chain}
 use Rattle.engine.specs.Links.{Heard, Piece, Ended, Broke, Event, In, Out, Happens}
 use Rattle.engine.specs.Reference.{Turn, Offer, Stop, AtEnd, Lost, IsSession, ending, sent_in}
-use Rattle.engine.specs.Scripts.{Made}
+use Rattle.ops.specs.Scripts.{Made}
 use Rattle.engine.specs.Tables.{Table}
 
 -- What comes next in a session: a receive, or a frame that is worked off.

@@ -1,8 +1,7 @@
--- A table by its steps, and what a session knows of its insides: how it stands between two requests, and the path of a ticket.
-use Rattle.std.specs.Prelude.{ℕ, ◌≡◌, Bool, List, [], ◌∷◌, None}
+-- A table by its steps, and what a session knows of its insides: how it stands between two requests.
+use Rattle.std.specs.Prelude.{ℕ, ◌≡◌, Bool, None}
 use Rattle.flights.specs.declared.data.Want.{Want}
-use Rattle.paths.specs.Fronts.{Names}
-use Rattle.steps.specs.Answers.{Claim, Answer, Settlement}
+use Rattle.steps.specs.Answers.{Answer, Settlement}
 use Rattle.steps.specs.Steps.{Begins, Finishes, Settles, Forgets}
 use Rattle.steps.specs.World.{World}
 use Rattle.steps.specs.declared.data.Begin.{Begin}
@@ -29,12 +28,3 @@ worlds = record {
   forgets = λ old number n new. (amount : ℕ) × Forgets old number n amount new;
   is_idle = IsIdle;
 }
-
--- the first of some paths; the root's where there is none
-abbrev pub first_of : List Names → Names
-first_of [] = []
-first_of (path ∷ paths) = path
-
--- the path that a ticket is about
-abbrev pub path_of : Claim → Names
-path_of ticket = first_of ticket.paths

@@ -13,12 +13,12 @@ use Rattle.wire.specs.declared.request.Request.{Request}
 use Rattle.engine.specs.declared.ends.SessionEnd.{SessionEnd}
 use Rattle.engine.specs.declared.ends.SessionEnd.TheVariants as ends
 use Rattle.engine.specs.declared.links.Sent.{Sent}
-use Rattle.engine.specs.declared.replies.Settings.{Settings}
+use Rattle.ops.specs.declared.replies.Settings.{Settings}
 use Rattle.engine.specs.Chain.{Chain}
 use Rattle.engine.specs.Links.{Heard, Piece, Ended, Broke}
 use Rattle.engine.specs.Reference.{At, Place, Turn, Offer, IsSaid, IsTurn, Meets, WorksOff, sent_in, taken_of}
-use Rattle.engine.specs.Replies.{reply_to}
-use Rattle.engine.specs.Scripts.{plan_of, End, Made, Follows}
+use Rattle.ops.specs.Replies.{reply_to}
+use Rattle.ops.specs.Scripts.{plan_of, End, Made, Follows}
 use Rattle.engine.specs.Serving.{Step, Hears, Works, Makes}
 use Rattle.engine.specs.Tables.{Table}
 
@@ -106,7 +106,7 @@ module _ {W L C : Type 0} (table : Table W) (settings : Settings) (sends : L →
     pub finished : W
     pub finishes : table.finishes begun ticket.id end.outcome answer finished
     pub said : ReplyBody
-    pub said_is : IsSaid refused (reply_to settings end.findings answer) said
+    pub said_is : IsSaid refused (reply_to settings q.node end.findings answer) said
     pub offer : sends link (reply_bytes (record { unique = q.unique; body = said })) sent link'
     pub settles : table.settles finished answer (taken_of refused (Some (record { reply = record { unique = q.unique; body = said }; sent = sent }))) world'
 

@@ -2,16 +2,13 @@
 #![tactic(auto)]
 
 mod ends;
-mod intents;
 mod links;
-mod replies;
-mod script;
+mod playing;
 mod serving;
 mod session;
 
 pub use ends::SessionEnd;
-pub use intents::{Intent, intent_of};
 pub use links::{Link, LinkIn, LinkOut, Received, Sent};
-pub use replies::Settings;
-pub use script::{Finding, Script, Stage, play};
+pub use ops::Settings;
+pub use playing::play;
 pub use serving::serve;

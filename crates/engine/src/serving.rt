@@ -9,10 +9,10 @@ ghost use Rattle.engine.specs.Walks.{side, Drains};
 
 use crate::ends::SessionEnd;
 use crate::links::{Link, Received, Sent};
-use crate::replies::Settings;
 use crate::session::Desk;
 use backing::Calls;
 use ledger::{Ledgers, Share};
+use ops::Settings;
 use std::alloc::Global;
 use std::sync::Wait;
 use table::Table;

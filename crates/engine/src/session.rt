@@ -1,24 +1,22 @@
 //! One frame of a session.
 
-ghost use Rattle.std.specs.Prelude.{◌≡◌, ◌≤◌, true, false, [], length, IfNone, IfSome};
+ghost use Rattle.std.specs.Prelude.{◌≡◌, ◌≤◌, true, false, length, IfNone, IfSome};
 ghost use Rattle.steps.specs.Kept.{world_of};
 ghost use Rattle.wire.specs.Faults.{errno_of};
 ghost use Rattle.wire.specs.Requests.{opcode_in, unique_in, IsFramed};
 ghost use Rattle.wire.specs.Written.{reply_bytes};
 ghost use Rattle.engine.specs.Reference.{is_taken, is_unanswered};
 ghost use Rattle.engine.specs.Replies.{refusal, TakesMemory};
-ghost use Rattle.engine.specs.Tables.{path_of, worlds, IsIdle};
+ghost use Rattle.engine.specs.Tables.{worlds, IsIdle};
 ghost use Rattle.engine.specs.Walks.{CarriesOut, IsAnswered, Performs, WorkedOff};
 
-use crate::intents::{Intent, intent_of};
 use crate::links::{LinkOut, Sent};
-use crate::replies::{Settings, reply_to};
-use crate::script::{Script, play};
+use crate::playing::play;
 use backing::Calls;
 use errno::ENOMEM;
 use flights::Want;
 use ledger::{Ledgers, Share};
-use paths::Path;
+use ops::{Intent, Script, Settings, intent_of, reply_to};
 use std::alloc::Global;
 use table::{Begin, Table, Ticket};
 use wire::{
@@ -55,17 +53,6 @@ fn refuse_frame<L: LinkOut>(link: &mut L, frame: &[u8], fault: WireFault) -> Opt
             Some(refuse(link, header.unique, fault.errno()))
         }
         _ => None,
-    }
-}
-
-/// The path that a request is about: the first of its ticket's.
-fn path_of<'a>(ticket: &'a Ticket, root: &'a Path) -> &'a Path
-    requires { root.now ≡ [] }
-    ensures { result.now ≡ path_of ticket.now }
-{
-    match ticket.paths().first() {
-        Some(path) => path,
-        None => root,
     }
 }
 
@@ -120,13 +107,12 @@ impl Desk {
             link.old calls.old (world_of table.old) result link.new calls.new (world_of table.new) }
         ensures settings { self.new.settings ≡ self.old.settings }
     {
-        let root = Path::new(self.alloc);
-        let mut script = Script::start(request.operation, path_of(&ticket, &root));
+        let mut script = Script::start(request.operation, &ticket);
         let found = play(calls, &mut script);
         let answered = table.finish(share, ticket, found.outcome());
         let reply = Reply {
             unique: request.unique,
-            body: reply_to(self.settings, found, &answered),
+            body: reply_to(self.settings, request.node, found, &answered),
         };
         match self.offer(link, &reply) {
             Some(sent) => {
@@ -187,17 +173,19 @@ impl Desk {
             Ok(request) => request,
             Err(fault) => return refuse_frame(link, frame, fault),
         };
-        match intent_of(self.alloc, &request) {
-            Ok(Intent::Reply(body)) => {
+        match intent_of(&request) {
+            Intent::Reply(body) => {
                 let unique = request.unique;
                 Some(self.answer(link, &Reply { unique, body }))
             }
-            Ok(Intent::Want(want)) => Some(self.carry(link, calls, table, share, request, want)),
-            Ok(Intent::Forget { number, lookups }) => {
+            Intent::Want(wanted) => match wanted.own(self.alloc) {
+                Ok(want) => Some(self.carry(link, calls, table, share, request, want)),
+                Err(_) => Some(refuse(link, request.unique, ENOMEM)),
+            },
+            Intent::Forget { number, lookups } => {
                 table.forget(share, number, lookups);
                 None
             }
-            Err(_) => Some(refuse(link, request.unique, ENOMEM)),
         }
     }
 }

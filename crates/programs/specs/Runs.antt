@@ -13,7 +13,7 @@ use Rattle.engine.specs.Tables.{worlds}
 use Rattle.engine.specs.declared.ends.SessionEnd.{SessionEnd}
 use Rattle.engine.specs.declared.ends.SessionEnd.TheVariants as end
 use Rattle.engine.specs.declared.links.Sent.{Sent}
-use Rattle.engine.specs.declared.replies.Settings.{Settings}
+use Rattle.ops.specs.declared.replies.Settings.{Settings}
 use Rattle.steps.specs.World.{World, opened_world}
 use Rattle.steps.specs.declared.data.Limits.{Limits}
 use Rattle.programs.specs.CommandLine.{mirrord_app, IsAsked}

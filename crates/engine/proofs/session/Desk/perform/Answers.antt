@@ -1,4 +1,4 @@
-use Rattle.std.proofs.Common.{Some, refl, sym, subst}
+use Rattle.std.proofs.Common.{Some, refl, subst}
 use Rattle.errno.specs.declared.TheConstants.{ENOMEM}
 use Rattle.steps.specs.Steps.{Finishes}
 use Rattle.steps.specs.Kept.{world_of}
@@ -6,15 +6,15 @@ use Rattle.steps.specs.declared.data.Outcome.{Outcome}
 use Rattle.wire.specs.Written.{reply_bytes}
 use Rattle.wire.specs.declared.reply.ReplyBody.{ReplyBody}
 use Rattle.wire.specs.declared.reply.ReplyBody.TheVariants.{Failed}
-use Rattle.engine.specs.Playing.{end_of}
+use Rattle.ops.specs.Ahead.{end_of}
 use Rattle.engine.specs.Reference.{AtReply}
 use Rattle.engine.specs.Replies.{refusal, TakesMemory}
-use Rattle.engine.specs.Scripts.{Plan, Follows}
+use Rattle.ops.specs.Scripts.{Plan, Follows}
 use Rattle.engine.proofs.Turns.{sent_from}
 use Rattle.engine.proofs.session.Desk.perform.Goals as goal
 
-pub returns-clause-performs : goal.returns-clause-performs
-returns-clause-performs g c =
+pub returns-in-None-clause-performs : goal.returns-in-None-clause-performs
+returns-in-None-clause-performs g c =
     let none = c.in-None.ensures.none in
     let played = c.play-found.ensures in
     let end = end_of c.play-found.result in
@@ -22,7 +22,7 @@ returns-clause-performs g c =
       refused = Some AtReply;
       made = played.made;
       end = end;
-      script = subst (λ (p : Plan). Follows p played.made end) (c.start-script.ensures c.args.ticket (sym c.path_of.ensures)) played.follows;
+      script = subst (λ (p : Plan). Follows p played.made end) c.start-script.ensures played.follows;
       makes = played.makes;
       answer = c.finish-answered.result;
       finished = world_of c.finish-answered.new.self;

@@ -1,7 +1,8 @@
-use Rattle.std.proofs.Common.{sym, ◌∙◌}
+use Rattle.std.proofs.Common.{ap, ◌∙◌}
 use Rattle.steps.specs.Kept.{world_of}
 use Rattle.engine.proofs.Alone.{forgets_idle}
 use Rattle.engine.specs.Tables.{worlds}
+use Rattle.ops.specs.Intents.{Begin, want_of}
 use Rattle.engine.proofs.Turns.{carried, fault_answered, forgot, said_at_once, unbegun}
 use Rattle.engine.proofs.session.Desk.work_off.Goals as goal
 
@@ -10,26 +11,26 @@ returns-in-Err-clause-worked g c =
     fault_answered worlds c.args.self.now.settings g.L.LinkOut.sends g.C.Calls.gives c.args.frame.now c.in-Err.fault c.args.link.now c.refuse_frame.new.link c.args.calls.now (world_of c.args.table.now) c.refuse_frame.result
     c.in-Err.ensures.fault c.refuse_frame.ensures.some c.refuse_frame.ensures.none
 
-pub returns-in-Ok-Reply-clause-worked : goal.returns-in-Ok-Reply-clause-worked
-returns-in-Ok-Reply-clause-worked g c =
-    said_at_once worlds c.args.self.now.settings g.L.LinkOut.sends g.C.Calls.gives c.args.frame.now c.in-Ok.request c.in-Ok-Reply.body c.args.link.now c.answer.new.link c.args.calls.now (world_of c.args.table.now) c.answer.result
-    c.in-Ok.ensures.found (sym c.in-Ok-Reply.field-0-is ∙ c.in-Ok-Reply.ensures.ok) c.answer.ensures.said
+pub returns-in-Reply-clause-worked : goal.returns-in-Reply-clause-worked
+returns-in-Reply-clause-worked g c =
+    said_at_once worlds c.args.self.now.settings g.L.LinkOut.sends g.C.Calls.gives c.args.frame.now c.in-Ok.request c.in-Reply.body c.args.link.now c.answer.new.link c.args.calls.now (world_of c.args.table.now) c.answer.result
+    c.in-Ok.ensures.found c.in-Reply.ensures c.answer.ensures.said
 
-pub returns-in-Ok-Want-clause-worked : goal.returns-in-Ok-Want-clause-worked
-returns-in-Ok-Want-clause-worked g c =
-    carried worlds c.args.self.now.settings g.L.LinkOut.sends g.C.Calls.gives c.args.frame.now c.in-Ok.request c.in-Ok-Want.want c.args.link.now c.carry.new.link c.args.calls.now c.carry.new.calls (world_of c.args.table.now) (world_of c.carry.new.table) c.carry.result
-    c.in-Ok.ensures.found (sym c.in-Ok-Want.field-0-is ∙ c.in-Ok-Want.ensures.ok) c.carry.ensures.carries
+pub returns-in-Ok-own-clause-worked : goal.returns-in-Ok-own-clause-worked
+returns-in-Ok-own-clause-worked g c =
+    carried worlds c.args.self.now.settings g.L.LinkOut.sends g.C.Calls.gives c.args.frame.now c.in-Ok.request c.in-Ok-own.want c.args.link.now c.carry.new.link c.args.calls.now c.carry.new.calls (world_of c.args.table.now) (world_of c.carry.new.table) c.carry.result
+    c.in-Ok.ensures.found (ap Begin c.in-Ok-own.ensures.ok ∙ c.in-Want.ensures) c.carry.ensures.carries
 
-pub returns-in-Ok-Forget-clause-worked : goal.returns-in-Ok-Forget-clause-worked
-returns-in-Ok-Forget-clause-worked g c =
-    forgot worlds c.args.self.now.settings g.L.LinkOut.sends g.C.Calls.gives c.args.frame.now c.in-Ok.request c.in-Ok-Forget.number c.in-Ok-Forget.lookups c.args.link.now c.args.calls.now (world_of c.args.table.now) (world_of c.forget.new.self)
-    c.in-Ok.ensures.found (sym c.in-Ok-Forget.field-0-is ∙ c.in-Ok-Forget.ensures.ok) (c.forget.result, c.forget.ensures.forgets)
+pub returns-in-Err-own-clause-worked : goal.returns-in-Err-own-clause-worked
+returns-in-Err-own-clause-worked g c =
+    unbegun worlds c.args.self.now.settings g.L.LinkOut.sends g.C.Calls.gives c.args.frame.now c.in-Ok.request (want_of c.in-Want.wanted) c.args.link.now c.refuse.new.link c.args.calls.now (world_of c.args.table.now) c.refuse.result
+    c.in-Ok.ensures.found c.in-Want.ensures c.refuse.ensures
 
-pub returns-in-Err-intent_of-clause-worked : goal.returns-in-Err-intent_of-clause-worked
-returns-in-Err-intent_of-clause-worked g c =
-    unbegun worlds c.args.self.now.settings g.L.LinkOut.sends g.C.Calls.gives c.args.frame.now c.in-Ok.request c.args.link.now c.refuse.new.link c.args.calls.now (world_of c.args.table.now) c.refuse.result
-    c.in-Ok.ensures.found c.in-Err-intent_of.ensures.err c.refuse.ensures
+pub returns-in-Forget-clause-worked : goal.returns-in-Forget-clause-worked
+returns-in-Forget-clause-worked g c =
+    forgot worlds c.args.self.now.settings g.L.LinkOut.sends g.C.Calls.gives c.args.frame.now c.in-Ok.request c.in-Forget.number c.in-Forget.lookups c.args.link.now c.args.calls.now (world_of c.args.table.now) (world_of c.forget.new.self)
+    c.in-Ok.ensures.found c.in-Forget.ensures (c.forget.result, c.forget.ensures.forgets)
 
-pub returns-in-Ok-Forget-clause-idle : goal.returns-in-Ok-Forget-clause-idle
-returns-in-Ok-Forget-clause-idle g c =
-    forgets_idle (world_of c.args.table.now) (world_of c.forget.new.self) c.in-Ok-Forget.number c.in-Ok-Forget.lookups c.forget.result c.requires.idle c.forget.ensures.forgets
+pub returns-in-Forget-clause-idle : goal.returns-in-Forget-clause-idle
+returns-in-Forget-clause-idle g c =
+    forgets_idle (world_of c.args.table.now) (world_of c.forget.new.self) c.in-Forget.number c.in-Forget.lookups c.forget.result c.requires.idle c.forget.ensures.forgets

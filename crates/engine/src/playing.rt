@@ -1,0 +1,18 @@
+//! The calls of a script, made.
+
+ghost use Rattle.ops.specs.Ahead.{end_of, plan_ahead};
+ghost use Rattle.engine.specs.Playing.{Played};
+
+use backing::Calls;
+use ops::{Finding, Script};
+
+/// Makes the calls of a script, each once and in order.
+pub fn play<C: Calls>(calls: &mut C, script: &mut Script<'_>) -> Finding
+    ensures { Played C.gives calls.old (plan_ahead script.old) calls.new (end_of result) }
+{
+    while let Some(call) = script.next() {
+        let answer = calls.call(call);
+        script.feed(answer);
+    }
+    script.finding()
+}

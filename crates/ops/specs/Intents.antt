@@ -1,0 +1,97 @@
+-- What a request needs before its script.
+use Rattle.std.specs.Prelude.{ℕ, ℤ, ◌+◌, ◌*◌, ◌^◌, ◌==◌, Bool, true, false, if◌then◌else◌, List, [], ◌∷◌, codes, nat_eq}
+use Rattle.std.specs.Int.{bit_at}
+use Rattle.std.specs.List.{list_any, starts_with}
+use Rattle.errno.specs.declared.TheConstants.{EPERM, ENOENT, EBADF}
+use Rattle.flights.specs.declared.data.Want.{Want}
+use Rattle.flights.specs.declared.data.Want.TheVariants as wants
+use Rattle.wire.specs.declared.reply.ReplyBody.{ReplyBody}
+use Rattle.wire.specs.declared.reply.ReplyBody.TheVariants.{Failed, StatFs}
+use Rattle.wire.specs.declared.request.Request.{Request}
+use Rattle.wire.specs.declared.request.Operation.{Operation}
+use Rattle.wire.specs.declared.request.Operation.TheVariants as ops
+use Rattle.ops.specs.declared.intents.Intent.{Intent as Coded}
+use Rattle.ops.specs.declared.intents.Intent.TheVariants as coded
+use Rattle.ops.specs.declared.wanted.Wanted.{Wanted}
+use Rattle.ops.specs.declared.wanted.Wanted.TheVariants as wanted
+
+pub data Intent : Type 0 where
+  Reply : (body : ReplyBody) → Intent  -- it is answered at once
+  Begin : (want : Want) → Intent  -- it is begun with a want
+  Forget : (number n : ℕ) → Intent  -- it gives lookups of a node back, and is not answered
+
+abbrev pub refused : ℤ → Intent
+refused errno = Reply (Failed errno)
+
+-- ---- reserved names
+
+-- a name that the server keeps for itself
+abbrev pub is_reserved : List ℕ → Bool
+is_reserved name = starts_with nat_eq name (codes ".fuse_hidden")
+
+-- the names of an operation, and the error where one of them is reserved
+abbrev pub names_of : Operation → List (List ℕ)
+names_of (ops.Lookup name) = name.now ∷ []
+names_of (ops.MakeDir name) = name.now ∷ []
+names_of (ops.Unlink name) = name.now ∷ []
+names_of (ops.RemoveDir name) = name.now ∷ []
+names_of (ops.Rename name new_parent new_name) = name.now ∷ new_name.now ∷ []
+names_of operation = []
+
+abbrev pub reserved_errno : Operation → ℤ
+reserved_errno (ops.Lookup name) = ENOENT
+reserved_errno operation = EPERM
+
+-- ---- SETATTR
+
+-- bit 3 asks for the size, bit 6 names a handle, and bit 9 a lock owner
+abbrev pub sets_size : ℕ → Bool
+sets_size valid = bit_at valid 3 == 1
+
+abbrev pub has_handle : ℕ → Bool
+has_handle valid = bit_at valid 6 == 1
+
+-- a bit that is none of these
+abbrev pub sets_other : ℕ → Bool
+sets_other valid = if valid == 2 ^ 3 * bit_at valid 3 + 2 ^ 6 * bit_at valid 6 + 2 ^ 9 * bit_at valid 9 then false else true
+
+-- No file can be open yet, so no handle is.
+abbrev pub set_intent : ℕ → ℕ → Intent
+set_intent node valid =
+    if sets_other valid then refused EPERM else
+    if has_handle valid then refused EBADF else Begin (wants.Node node)
+
+-- ---- the table of intents, reserved names aside
+
+abbrev pub intended : ℕ → Operation → Intent
+intended node (ops.Lookup name) = Begin (wants.Name node name.now)
+intended node (ops.Forget n) = Forget node n
+intended node ops.GetAttr = Begin (wants.Node node)
+intended node (ops.SetAttr valid fh size) = set_intent node valid
+intended node (ops.MakeDir name) = Begin (wants.Name node name.now)
+intended node (ops.Unlink name) = Begin (wants.Remove node name.now)
+intended node (ops.RemoveDir name) = Begin (wants.Remove node name.now)
+intended node (ops.Rename name new_parent new_name) = Begin (wants.Move node name.now new_parent new_name.now)
+intended node ops.StatFs = Reply StatFs
+
+-- Names are sound by the time a request was read; reserved ones are refused before all else.
+abbrev pub intent : Request → Intent
+intent q = if list_any (λ name. is_reserved name) (names_of q.operation) then refused (reserved_errno q.operation) else intended q.node q.operation
+
+-- ---- an intent in its code, wherever the names lie in memory
+
+abbrev pub want_of : Wanted → Want
+want_of (wanted.Node number) = wants.Node number
+want_of (wanted.Name parent name) = wants.Name parent name.now
+want_of (wanted.Remove parent name) = wants.Remove parent name.now
+want_of (wanted.Move parent name new_parent new_name) = wants.Move parent name.now new_parent new_name.now
+
+abbrev pub intent_in : Coded → Intent
+intent_in (coded.Reply body) = Reply body
+intent_in (coded.Want wanted) = Begin (want_of wanted)
+intent_in (coded.Forget number n) = Forget number n
+
+-- it has a name, which takes memory to keep
+abbrev pub HasName : Wanted → Type 0
+HasName (wanted.Node number) = ⊥
+HasName wanted = Unit {0}

@@ -1,0 +1,128 @@
+-- What each request asks of the directory, and what it comes to.
+use Rattle.std.specs.Prelude.{ℕ, ℤ, ◌≡◌, Bool, true, false, List, [], ◌∷◌, Option, Some, None}
+use Rattle.errno.specs.declared.TheConstants.{EIO}
+use Rattle.paths.specs.Fronts.{Names}
+use Rattle.backing.specs.declared.call.Answer.{Answer}
+use Rattle.backing.specs.declared.call.Answer.TheVariants as told
+use Rattle.backing.specs.declared.call.Call.{Call}
+use Rattle.backing.specs.Calls.{Asked, asked, AskStat, AskMakeDir, AskRemove, AskRemoveDir, AskRename, AskSetLen}
+use Rattle.steps.specs.Answers.{Claim}
+use Rattle.steps.specs.declared.data.Outcome.{Outcome}
+use Rattle.steps.specs.declared.data.Outcome.TheVariants.{Failed, Done, Entry}
+use Rattle.wire.specs.declared.request.Operation.{Operation}
+use Rattle.wire.specs.declared.request.Operation.TheVariants as ops
+use Rattle.ops.specs.declared.findings.Found.{Found}
+use Rattle.ops.specs.declared.findings.Finding.{Finding}
+use Rattle.ops.specs.declared.findings.Finding.TheVariants.{Error, Nothing, NewEntry, Attributes}
+use Rattle.ops.specs.Intents.{sets_size}
+use Rattle.ops.specs.Judged.{errno_in, judged}
+
+-- ---- what a script comes to
+
+-- the outcome for the table, and what the directory told, for the reply
+pub record End : Type 0 where
+  pub outcome : Outcome
+  pub findings : Finding
+
+-- the next call and how it goes on after each answer, or the end
+pub data Plan : Type 0 where
+  Ask : (call : Asked) → (next : Answer → Plan) → Plan
+  Over : (end : End) → Plan
+
+abbrev pub over : Outcome → Finding → Plan
+over outcome findings = Over (record { outcome = outcome; findings = findings })
+
+abbrev pub failed : ℤ → Plan
+failed errno = over Failed (Error errno)
+
+-- ---- one call, and how the script goes on where it is done; another answer ends the script with its error
+
+abbrev pub if_done : Plan → Answer → Plan
+if_done rest told.Done = rest
+if_done rest answer = failed (errno_in answer)
+
+abbrev pub make : Asked → Plan → Plan
+make call rest = Ask call (λ answer. if_done rest answer)
+
+abbrev pub if_found : (Found → Plan) → Answer → Plan
+if_found rest (told.Stat kind size) = rest (record { kind = kind; size = size })
+if_found rest answer = failed (errno_in answer)
+
+abbrev pub look : Names → (Found → Plan) → Plan
+look p rest = Ask (AskStat p) (λ answer. if_found rest answer)
+
+-- ---- the paths of a ticket. One that has not the paths of its request, which no table makes, is an EIO.
+
+-- the node's, or the name's
+abbrev pub at_path : List Names → (Names → Plan) → Plan
+at_path [] plan = failed EIO
+at_path (p ∷ ps) plan = plan p
+
+-- the source of a move, and its target
+abbrev pub at_paths : List Names → (Names → Names → Plan) → Plan
+at_paths [] plan = failed EIO
+at_paths (s ∷ ps) plan = at_path ps (λ t. plan s t)
+
+-- ---- how scripts end
+
+abbrev pub give_entry : Names → Plan
+give_entry p = look p (λ found. over Entry (NewEntry found))
+
+abbrev pub tell_attributes : Names → Plan
+tell_attributes p = look p (λ found. over Done (Attributes found))
+
+abbrev pub done : Plan
+done = over Done Nothing
+
+-- ---- requests whose rows have several forms
+
+abbrev pub set_size : Bool → Names → ℕ → Plan → Plan
+set_size true p size rest = make (AskSetLen p size) rest
+set_size false p size rest = rest
+
+-- A move of a path to itself only needs something to stand there.
+abbrev pub rename : (same : Bool) → Names → Names → Plan
+rename true s t = look s (λ found. done)
+rename false s t = make (AskRename s t) done
+
+-- ---- the table of scripts
+
+abbrev pub plan_of : Operation → Claim → Plan
+plan_of (ops.Lookup name) ticket = at_path ticket.paths (λ p. give_entry p)
+plan_of ops.GetAttr ticket = at_path ticket.paths (λ p. tell_attributes p)
+plan_of (ops.SetAttr valid fh size) ticket = at_path ticket.paths (λ p. set_size (sets_size valid) p size (tell_attributes p))
+plan_of (ops.MakeDir name) ticket = at_path ticket.paths (λ p. make (AskMakeDir p) (give_entry p))
+plan_of (ops.Unlink name) ticket = at_path ticket.paths (λ p. make (AskRemove p) done)
+plan_of (ops.RemoveDir name) ticket = at_path ticket.paths (λ p. make (AskRemoveDir p) done)
+plan_of (ops.Rename name new_parent new_name) ticket = at_paths ticket.paths (λ s t. rename ticket.same s t)
+-- The others make no call.
+plan_of (ops.Forget n) ticket = failed EIO
+plan_of ops.StatFs ticket = failed EIO
+
+-- ---- what is made of a plan
+
+-- a call that was made, and what was answered
+pub record Made : Type 0 where
+  pub call : Asked
+  pub answer : Answer
+
+-- Whole lists of calls and answers that the plan leads through, and its end.
+abbrev pub Follows : Plan → List Made → End → Type 0
+Follows (Over end) [] reached = reached ≡ end
+Follows (Over end) (m ∷ ms) reached = ⊥
+Follows (Ask call next) [] reached = ⊥
+Follows (Ask call next) (m ∷ ms) reached = (m.call ≡ call) × Follows (next (judged call m.answer)) ms reached
+
+-- a plan's next call, and how it goes on after an answer; a plan that is over stays
+abbrev pub next_of : Plan → Option Asked
+next_of (Ask call next) = Some call
+next_of (Over end) = None
+
+abbrev pub after : Plan → Answer → Plan
+after (Ask call next) answer = next (judged call answer)
+after (Over end) answer = Over end
+
+-- what is handed out next is what the plan asks
+abbrev pub AsksNext : Option Call → Option Asked → Type 0
+AsksNext (Some call) next = next ≡ Some (asked call)
+AsksNext None next = next ≡ None

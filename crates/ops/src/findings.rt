@@ -1,0 +1,41 @@
+//! What scripts come to.
+
+ghost use Rattle.std.specs.Prelude.{◌≡◌};
+ghost use Rattle.ops.specs.Ahead.{outcome_of};
+
+use backing::Kind;
+use table::Outcome;
+
+/// What stands at a path.
+#[derive(Clone, Copy, Debug, PartialEq, Eq)]
+pub struct Found {
+    pub kind: Kind,
+    /// In bytes; 0 for a folder.
+    pub size: u64,
+}
+
+/// What a script has found, for the reply.
+#[derive(Clone, Copy, Debug, PartialEq, Eq)]
+pub enum Finding {
+    /// An error number, from 1 to 4,095.
+    Error { errno: i32 },
+    /// It is done, and there is no more to say.
+    Nothing,
+    /// An entry of this is to be given.
+    NewEntry(Found),
+    /// Attributes are told.
+    Attributes(Found),
+}
+
+impl Finding {
+    /// The outcome that the table is told.
+    pub fn outcome(self) -> Outcome
+        ensures { result ≡ outcome_of self }
+    {
+        match self {
+            Finding::Error { .. } => Outcome::Failed,
+            Finding::Nothing | Finding::Attributes(_) => Outcome::Done,
+            Finding::NewEntry(_) => Outcome::Entry,
+        }
+    }
+}

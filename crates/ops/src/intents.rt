@@ -1,0 +1,152 @@
+//! What a request needs before its script.
+
+ghost use Rattle.std.specs.Prelude.{◌≡◌};
+ghost use Rattle.std.specs.List.{list_any};
+ghost use Rattle.ops.specs.Intents.{intent_in, has_handle, intended, intent, is_reserved, names_of, refused, reserved_errno, set_intent, sets_other, sets_size};
+
+use crate::wanted::Wanted;
+use errno::{EBADF, ENOENT, EPERM};
+use wire::{Operation, ReplyBody, Request};
+
+/// What a request needs.
+#[derive(Clone, Copy, Debug, PartialEq, Eq)]
+pub enum Intent<'a> {
+    /// It is answered at once.
+    Reply(ReplyBody),
+    /// It is begun with a want.
+    Want(Wanted<'a>),
+    /// It gives lookups of a node back, and is not answered.
+    Forget { number: u64, lookups: u64 },
+}
+
+/// Names that begin so are the server's own (own, after libfuse's hidden files).
+const RESERVED: &str = ".fuse_hidden";
+
+/// The bit of SETATTR's `valid` that asks for a size (`FATTR_SIZE` of `fuse.h`).
+const SIZE: u32 = 1 << 3;
+
+/// The bit that says that the handle counts (`FATTR_FH`).
+const HANDLE: u32 = 1 << 6;
+
+/// The bit that says that the owner of a lock counts (`FATTR_LOCKOWNER`). It is let through and not looked at.
+const LOCK_OWNER: u32 = 1 << 9;
+
+/// Whether the server keeps a name for itself.
+fn is_reserved(name: &str) -> bool
+    ensures { result ≡ is_reserved name.now }
+{
+    name.as_bytes().starts_with(RESERVED.as_bytes())
+}
+
+/// Whether the operation names a reserved name.
+fn names_reserved(operation: &Operation<'_>) -> bool
+    ensures { result ≡ list_any (λ name. is_reserved name) (names_of operation.now) }
+{
+    match operation {
+        Operation::Lookup { name }
+        | Operation::MakeDir { name }
+        | Operation::Unlink { name }
+        | Operation::RemoveDir { name } => is_reserved(name),
+        Operation::Rename { name, new_name, .. } => is_reserved(name) || is_reserved(new_name),
+        Operation::Forget { .. }
+        | Operation::GetAttr
+        | Operation::SetAttr { .. }
+        | Operation::StatFs => false,
+    }
+}
+
+/// The error where a name is reserved: LOOKUP finds nothing there, and nothing may be made, removed or moved there (own).
+fn reserved_errno(operation: &Operation<'_>) -> i32
+    ensures { result ≡ reserved_errno operation.now }
+{
+    match operation {
+        Operation::Lookup { .. } => ENOENT,
+        _ => EPERM,
+    }
+}
+
+/// Whether SETATTR asks for a size.
+pub fn sets_size(valid: u32) -> bool
+    ensures { result ≡ sets_size valid }
+{
+    valid & SIZE != 0
+}
+
+/// Whether SETATTR names a handle.
+fn has_handle(valid: u32) -> bool
+    ensures { result ≡ has_handle valid }
+{
+    valid & HANDLE != 0
+}
+
+/// Whether SETATTR asks for more than a size, a handle and the owner of a lock.
+fn sets_other(valid: u32) -> bool
+    ensures { result ≡ sets_other valid }
+{
+    valid & !(SIZE | HANDLE | LOCK_OWNER) != 0
+}
+
+/// It is refused at once.
+fn refused<'a>(errno: i32) -> Intent<'a>
+    ensures { intent_in result ≡ refused errno }
+{
+    Intent::Reply(ReplyBody::Failed { errno })
+}
+
+/// SETATTR changes a size alone: any other field is EPERM (own). A handle is EBADF (POSIX's `ftruncate`), since no file can be open yet.
+fn set_intent<'a>(node: u64, valid: u32) -> Intent<'a>
+    ensures { intent_in result ≡ set_intent node valid }
+{
+    if sets_other(valid) {
+        return refused(EPERM);
+    }
+    if has_handle(valid) {
+        return refused(EBADF);
+    }
+    Intent::Want(Wanted::Node { number: node })
+}
+
+/// What the operation needs, reserved names aside.
+fn intended<'a>(node: u64, operation: Operation<'a>) -> Intent<'a>
+    ensures { intent_in result ≡ intended node operation.entry }
+{
+    let parent = node;
+    match operation {
+        Operation::Lookup { name } | Operation::MakeDir { name } => {
+            Intent::Want(Wanted::Name { parent, name })
+        }
+        Operation::Forget { nlookup } => Intent::Forget {
+            number: node,
+            lookups: nlookup,
+        },
+        Operation::GetAttr => Intent::Want(Wanted::Node { number: node }),
+        Operation::SetAttr { valid, .. } => set_intent(node, valid),
+        Operation::Unlink { name } | Operation::RemoveDir { name } => {
+            Intent::Want(Wanted::Remove { parent, name })
+        }
+        Operation::Rename {
+            name,
+            new_parent,
+            new_name,
+        } => Intent::Want(Wanted::Move {
+            parent,
+            name,
+            new_parent,
+            new_name,
+        }),
+        Operation::StatFs => Intent::Reply(ReplyBody::StatFs),
+    }
+}
+
+/// What the request needs. It takes no memory: names stay in the request's frame.
+///
+/// Refused at once are, in this order: a reserved name, by ENOENT for LOOKUP and EPERM for any other (own); SETATTR of any field but the
+/// size, a handle and the owner of a lock, by EPERM (own); and SETATTR by a handle, by EBADF (POSIX).
+pub fn intent_of<'a>(request: &Request<'a>) -> Intent<'a>
+    ensures { intent_in result ≡ intent request.now }
+{
+    if names_reserved(&request.operation) {
+        return refused(reserved_errno(&request.operation));
+    }
+    intended(request.node, request.operation)
+}

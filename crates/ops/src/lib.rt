@@ -1,0 +1,19 @@
+//! What each request asks of the table and of the directory, and what it is answered, as data.
+//!
+//! A request has an intent: a reply at once, or a want for the table. The ticket that the want brings has the paths for its script:
+//! the calls of the directory in turn, which end with an outcome for the table and with what the reply tells.
+#![tactic(auto)]
+
+mod findings;
+mod intents;
+mod judging;
+mod replies;
+mod script;
+mod wanted;
+
+pub use findings::{Finding, Found};
+pub use intents::{Intent, intent_of};
+pub use judging::judge;
+pub use replies::{Settings, reply_to};
+pub use script::{Ending, Script, Telling};
+pub use wanted::Wanted;

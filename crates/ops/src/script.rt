@@ -1,0 +1,185 @@
+//! The calls of one request: at most one that changes something, and then at most one look at what stands there.
+
+ghost use Rattle.std.specs.Prelude.{◌≡◌, ◌<◌, ◌≤◌};
+ghost use Rattle.ops.specs.Ahead.{calls_ending, calls_left, end_of, plan_ahead, plan_ending, plan_from, told_of};
+ghost use Rattle.ops.specs.Intents.{sets_size};
+ghost use Rattle.ops.specs.Scripts.{after, at_paths, if_done, if_found, next_of, plan_of, rename, set_size, AsksNext, End, Over, Plan};
+
+use crate::findings::{Finding, Found};
+use crate::intents::sets_size;
+use crate::judging::{errno_in, judge};
+use backing::{Answer, Call};
+use errno::EIO;
+use paths::Path;
+use table::Ticket;
+use wire::Operation;
+
+/// What is told of what stands at a path.
+#[derive(Clone, Copy, Debug, PartialEq, Eq)]
+pub enum Telling {
+    Nothing,
+    Entry,
+    Attributes,
+}
+
+/// How a script ends.
+#[derive(Clone, Copy)]
+pub enum Ending<'a> {
+    /// It asks what stands at the path, and tells that of it.
+    Look { path: &'a Path, tells: Telling },
+    /// It has nothing more to ask.
+    Over(Finding),
+}
+
+/// The script of a request that began: what is still to do.
+#[derive(Clone, Copy)]
+pub struct Script<'a> {
+    /// What is changed first.
+    change: Option<Call<'a>>,
+    ending: Ending<'a>,
+}
+
+/// Nothing more is asked, and there is no more to say.
+const DONE: Ending<'static> = Ending::Over(Finding::Nothing);
+
+/// A ticket that has not the paths of its request, or a request that has no script.
+const UNFIT: Ending<'static> = Ending::Over(Finding::Error { errno: EIO });
+
+impl Telling {
+    /// What is told of what was found.
+    fn of(self, found: Found) -> Finding
+        ensures { result ≡ told_of self found }
+    {
+        match self {
+            Telling::Nothing => Finding::Nothing,
+            Telling::Entry => Finding::NewEntry(found),
+            Telling::Attributes => Finding::Attributes(found),
+        }
+    }
+}
+
+/// What is told of an answer to a look.
+fn looked(tells: Telling, answer: &Answer) -> Finding
+    ensures { Over (end_of result) ≡ if_found (λ found. Over (end_of (told_of tells found))) answer.now }
+{
+    match answer {
+        Answer::Stat { kind, size } => tells.of(Found {
+            kind: *kind,
+            size: *size,
+        }),
+        other => Finding::Error {
+            errno: errno_in(other),
+        },
+    }
+}
+
+/// How a script ends after the answer to its change.
+fn changed<'a>(ending: Ending<'a>, answer: &Answer) -> Ending<'a>
+    ensures plan { plan_ending result ≡ if_done (plan_ending ending.entry) answer.now }
+    ensures fewer { calls_ending result ≤ calls_ending ending.entry }
+{
+    match answer {
+        Answer::Done => ending,
+        other => Ending::Over(Finding::Error {
+            errno: errno_in(other),
+        }),
+    }
+}
+
+/// What a SETATTR changes: the size, if it asks for one.
+fn size_change(valid: u32, path: &Path, size: u64) -> Option<Call<'_>>
+    ensures { (rest : Plan) → plan_from result rest ≡ set_size (sets_size valid) path.now size rest }
+{
+    if sets_size(valid) {
+        Some(Call::SetLen { path, size })
+    } else {
+        None
+    }
+}
+
+/// The script of a RENAME, from the first path of its ticket to the second.
+fn start_rename(ticket: &Ticket) -> Script<'_>
+    ensures { plan_ahead result ≡ at_paths ticket.now.paths (λ s t. rename ticket.now.same s t) }
+{
+    let (change, ending) = match ticket.paths() {
+        [path, _, ..] if ticket.same() => (
+            None,
+            Ending::Look {
+                path,
+                tells: Telling::Nothing,
+            },
+        ),
+        [from, to, ..] => (Some(Call::Rename { from, to }), DONE),
+        _ => (None, UNFIT),
+    };
+    Script { change, ending }
+}
+
+impl<'a> Script<'a> {
+    /// The script of a request that began with this ticket.
+    pub fn start(operation: Operation<'_>, ticket: &'a Ticket) -> Script<'a>
+        ensures { plan_ahead result ≡ plan_of operation.entry ticket.now }
+    {
+        let Some(path) = ticket.paths().first() else {
+            return Script {
+                change: None,
+                ending: UNFIT,
+            };
+        };
+        let entry = Ending::Look {
+            path,
+            tells: Telling::Entry,
+        };
+        let attributes = Ending::Look {
+            path,
+            tells: Telling::Attributes,
+        };
+        let (change, ending) = match operation {
+            Operation::Lookup { .. } => (None, entry),
+            Operation::GetAttr => (None, attributes),
+            Operation::SetAttr { valid, size, .. } => (size_change(valid, path, size), attributes),
+            Operation::MakeDir { .. } => (Some(Call::MakeDir(path)), entry),
+            Operation::Unlink { .. } => (Some(Call::Remove(path)), DONE),
+            Operation::RemoveDir { .. } => (Some(Call::RemoveDir(path)), DONE),
+            Operation::Rename { .. } => return start_rename(ticket),
+            Operation::Forget { .. } | Operation::StatFs => (None, UNFIT),
+        };
+        Script { change, ending }
+    }
+
+    /// The next call, or none where the script is over.
+    pub fn next(&self) -> Option<Call<'_>>
+        ensures { AsksNext result (next_of (plan_ahead self.now)) }
+    {
+        match (self.change, self.ending) {
+            (Some(call), _) => Some(call),
+            (None, Ending::Look { path, .. }) => Some(Call::Stat(path)),
+            (None, Ending::Over(_)) => None,
+        }
+    }
+
+    /// Takes the answer to the next call.
+    pub fn feed(&mut self, answer: Answer)
+        ensures plan { plan_ahead self.new ≡ after (plan_ahead self.old) answer }
+        ensures fewer { 0 < calls_left self.old → calls_left self.new < calls_left self.old }
+    {
+        self.ending = match (self.change, self.ending) {
+            (Some(call), ending) => changed(ending, &judge(call, answer)),
+            (None, Ending::Look { path, tells }) => {
+                Ending::Over(looked(tells, &judge(Call::Stat(path), answer)))
+            }
+            (None, Ending::Over(finding)) => Ending::Over(finding),
+        };
+        self.change = None;
+    }
+
+    /// What it has found, once it is over.
+    pub fn finding(&self) -> Finding
+        ensures { (end : End) → plan_ahead self.now ≡ Over end → end_of result ≡ end }
+    {
+        match self.ending {
+            Ending::Over(finding) => finding,
+            Ending::Look { .. } => Finding::Error { errno: EIO },
+        }
+    }
+}

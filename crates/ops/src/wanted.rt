@@ -1,0 +1,70 @@
+//! Wants whose names still lie in the frame of their request.
+
+ghost use Rattle.std.specs.Prelude.{◌≡◌, IfOk, OnErr};
+
+use flights::Want;
+use paths::Name;
+use std::alloc::{AllocError, Global};
+
+/// What a request is begun with. Its names are slices of the request's frame.
+#[derive(Clone, Copy, Debug, PartialEq, Eq)]
+pub enum Wanted<'a> {
+    /// A node.
+    Node {
+        number: u64,
+    },
+    /// A name under a parent.
+    Name {
+        parent: u64,
+        name: &'a str,
+    },
+    /// A name to be removed, whatever stands there.
+    Remove {
+        parent: u64,
+        name: &'a str,
+    },
+    /// A name to be moved to another, whatever stands at either.
+    Move {
+        parent: u64,
+        name: &'a str,
+        new_parent: u64,
+        new_name: &'a str,
+    },
+}
+
+impl<'a> Wanted<'a> {
+    ghost use Rattle.ops.specs.Intents.{want_of, HasName};
+
+    /// The same want with its own names, as the table keeps it. Without a name it takes no memory.
+    pub fn own(self, alloc: Global) -> Result<Want, AllocError>
+        ensures ok { IfOk result (λ want. want ≡ want_of self.entry) }
+        ensures err { OnErr result (HasName self.entry) }
+    {
+        match self {
+            Wanted::Node { number } => Ok(Want::Node { number }),
+            Wanted::Name { parent, name } => {
+                let name = Name::copy_of(alloc, name)?;
+                Ok(Want::Name { parent, name })
+            }
+            Wanted::Remove { parent, name } => {
+                let name = Name::copy_of(alloc, name)?;
+                Ok(Want::Remove { parent, name })
+            }
+            Wanted::Move {
+                parent,
+                name,
+                new_parent,
+                new_name,
+            } => {
+                let name = Name::copy_of(alloc, name)?;
+                let new_name = Name::copy_of(alloc, new_name)?;
+                Ok(Want::Move {
+                    parent,
+                    name,
+                    new_parent,
+                    new_name,
+                })
+            }
+        }
+    }
+}
