@@ -1,7 +1,12 @@
 //! A whole session on one thread.
 
-ghost use Rattle.std.specs.Prelude.{◌≡◌, None, IfNone};
+ghost use Rattle.std.specs.Prelude.{◌≡◌, ◌++◌, None, IfNone};
+ghost use Rattle.ledger.specs.Shares.{plus};
+ghost use Rattle.ledger.specs.Sums.{totals_of};
 ghost use Rattle.steps.specs.Kept.{world_of};
+ghost use Rattle.steps.specs.Steps.{gained};
+ghost use Rattle.steps.specs.World.{IsLawfulWorld};
+ghost use Rattle.table.specs.Gains.{Gains};
 ghost use Rattle.engine.specs.Reference.{ending};
 ghost use Rattle.engine.specs.Serving.{IsSessionRun};
 ghost use Rattle.engine.specs.Tables.{worlds, IsIdle};
@@ -43,10 +48,12 @@ fn drain<T: Ledgers, L: Link, C: Calls>(
     requires idle { IsIdle (world_of table.old) }
     ensures drains { Drains worlds desk.old.settings L.receives L.sends C.gives
         (side link.old calls.old (world_of table.old) cutter.old.kept) link.new calls.new (world_of table.new) cutter.new.kept result }
+    ensures gains { Gains (world_of table.old) share.old (world_of table.new) share.new }
     ensures on { IfNone result (cutter.new.stopped ≡ cutter.old.stopped) }
     ensures idle { IsIdle (world_of table.new) }
     ensures settings { desk.new.settings ≡ desk.old.settings }
 {
+    table.attest();
     loop {
         match cutter.next() {
             Ok(None) => return None,
@@ -76,7 +83,11 @@ pub fn serve<H: Wait, T: Ledgers, L: Link, C: Calls>(
     requires fresh { IsIdle (world_of table.old) }
     ensures serves { IsSessionRun worlds settings L.receives L.sends C.gives
         link.old calls.old (world_of table.old) link.new calls.new (world_of table.new) result }
+    ensures lawful { IsLawfulWorld (world_of table.new) }
+    ensures grows { (world_of table.new).postings ≡ (world_of table.old).postings ++ gained (world_of table.old) (world_of table.new) }
+    ensures share { share.new ≡ record share.old { totals = plus share.old.totals (totals_of (gained (world_of table.old) (world_of table.new))) } }
 {
+    table.attest();
     let mut desk = Desk {
         alloc,
         settings,

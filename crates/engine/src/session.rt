@@ -2,6 +2,7 @@
 
 ghost use Rattle.std.specs.Prelude.{◌≡◌, ◌≤◌, true, false, length, IfNone, IfSome};
 ghost use Rattle.steps.specs.Kept.{world_of};
+ghost use Rattle.table.specs.Gains.{Gains};
 ghost use Rattle.wire.specs.Faults.{errno_of};
 ghost use Rattle.wire.specs.Requests.{opcode_in, unique_in, IsFramed};
 ghost use Rattle.wire.specs.Written.{reply_bytes};
@@ -105,6 +106,7 @@ impl Desk {
     ) -> Sent
         ensures performs { Performs worlds self.old.settings L.sends C.gives request.entry ticket
             link.old calls.old (world_of table.old) result link.new calls.new (world_of table.new) }
+        ensures gains { Gains (world_of table.old) share.old (world_of table.new) share.new }
         ensures settings { self.new.settings ≡ self.old.settings }
     {
         let mut script = Script::start(request.operation, &ticket);
@@ -139,6 +141,7 @@ impl Desk {
         requires idle { IsIdle (world_of table.old) }
         ensures carries { CarriesOut worlds self.old.settings L.sends C.gives request.entry want
             link.old calls.old (world_of table.old) result link.new calls.new (world_of table.new) }
+        ensures gains { Gains (world_of table.old) share.old (world_of table.new) share.new }
         ensures idle { IsIdle (world_of table.new) }
         ensures settings { self.new.settings ≡ self.old.settings }
     {
@@ -166,9 +169,11 @@ impl Desk {
         requires idle { IsIdle (world_of table.old) }
         ensures worked { WorkedOff worlds self.old.settings L.sends C.gives frame.now
             link.old calls.old (world_of table.old) result link.new calls.new (world_of table.new) }
+        ensures gains { Gains (world_of table.old) share.old (world_of table.new) share.new }
         ensures idle { IsIdle (world_of table.new) }
         ensures settings { self.new.settings ≡ self.old.settings }
     {
+        table.attest();
         let request = match decode(frame) {
             Ok(request) => request,
             Err(fault) => return refuse_frame(link, frame, fault),

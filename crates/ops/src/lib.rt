@@ -13,7 +13,6 @@ mod wanted;
 
 pub use findings::{Finding, Found};
 pub use intents::{Intent, intent_of};
-pub use judging::judge;
 pub use replies::{Settings, reply_to};
-pub use script::{Ending, Script, Telling};
+pub use script::Script;
 pub use wanted::Wanted;

@@ -1,10 +1,10 @@
 -- Whole runs of the programs.
-use Rattle.std.specs.Prelude.{ℕ, ◌≡◌, ◌≢◌, ◌⊎◌, Bool, true, false, List, Option, Some, None, unwrap_or}
+use Rattle.std.specs.Prelude.{ℕ, ◌≡◌, ◌≢◌, ◌⊎◌, Bool, true, false, List, [], Option, Some, None, unwrap_or}
 use Rattle.std.specs.Io.KnownBytes.{Appends, Keeps}
 use Rattle.backing.specs.Calls.{Asked}
 use Rattle.backing.specs.Memory.{Memory as MemTree, Gives}
 use Rattle.backing.specs.declared.call.Answer.{Answer}
-use Rattle.clap.specs.Words.{Text, subcommand_of, takes}
+use Rattle.clap.specs.Words.{IsAmong, Text, fault_of as refusals_of, subcommand_of, takes}
 use Rattle.clap.specs.declared.error.kind.ErrorKind.{ErrorKind}
 use Rattle.clap.specs.declared.error.kind.ErrorKind.TheVariants.{OutOfMemory, DisplayHelp, DisplayVersion}
 use Rattle.engine.specs.Links.{Heard}
@@ -92,8 +92,15 @@ pub record IsUnserved (kind : ErrorKind) (status : ℕ) : Type 0 where
   pub help : (kind ≡ DisplayHelp) ⊎ (kind ≡ DisplayVersion) → status ≡ 0
   pub fault : kind ≢ OutOfMemory → kind ≢ DisplayHelp → kind ≢ DisplayVersion → status ≡ 2
 
--- The program does what the words ask for. Where clap takes them, only want of memory keeps it from that.
+-- why clap refuses a command line: one of the kinds that it has for those words, or want of memory. Words that it takes are
+-- refused for want of memory alone.
+pub record IsRefused (words : List Text) (kind : ErrorKind) : Type 0 where
+  pub among : (kind ≡ OutOfMemory) ⊎ IsAmong kind (refusals_of mirrord_app words)
+  pub memory : takes mirrord_app words ≡ true → kind ≡ OutOfMemory
+
+-- The program does what the words ask for where clap has nothing against them. Else, or where memory is refused, its status is
+-- that of a refusal.
 abbrev pub RunsWords : List Text → (input output output' faults faults' : Option (List ℕ)) → (status : ℕ) → (told : Bool) → Type 0
 RunsWords words input output output' faults faults' status told =
-    ((sampled : Bool) × IsAsked (subcommand_of mirrord_app words) (Hex sampled) × RunsHex sampled input output output' faults faults' status told)
-    ⊎ ((kind : ErrorKind) × (takes mirrord_app words ≡ true → kind ≡ OutOfMemory) × IsUnserved kind status)
+    ((refusals_of mirrord_app words ≡ []) × ((sampled : Bool) × IsAsked (subcommand_of mirrord_app words) (Hex sampled) × RunsHex sampled input output output' faults faults' status told))
+    ⊎ ((kind : ErrorKind) × IsRefused words kind × IsUnserved kind status)

@@ -1,7 +1,7 @@
 //! The command line.
 
 ghost use Rattle.std.specs.Prelude.{◌≡◌, false, true, map, IfErr, IfOk};
-ghost use Rattle.clap.specs.Words.{app_of, kind_of, rule_of, subcommand_of, subcommand_rows_of, takes};
+ghost use Rattle.clap.specs.Words.{app_of, fault_of, kind_of, rule_of, subcommand_of, subcommand_rows_of, takes, FailsBy};
 ghost use Rattle.clap.specs.declared.builder.command.Command.TheViews.{out-Command as fields_of};
 ghost use Rattle.clap.specs.declared.error.kind.ErrorKind.TheVariants.{OutOfMemory};
 ghost use Rattle.programs.specs.CommandLine.{hex_app, mirrord_app, sample_rule, IsAsked};
@@ -70,6 +70,7 @@ fn asked(matches: &ArgMatches<'_>) -> Options
 /// Reads a command line, whose first word names the program. Help and the version are answered as errors of clap's, too.
 pub fn read_options<S: AsStr>(alloc: Global, words: &[S]) -> Result<Options, Error>
     ensures asked { IfOk result (IsAsked (subcommand_of mirrord_app (map S.text words.entry.now))) }
+    ensures fails { FailsBy (fault_of mirrord_app (map S.text words.entry.now)) result }
     ensures passes { IfErr result (λ e. takes mirrord_app (map S.text words.entry.now) ≡ true → kind_of e ≡ OutOfMemory) }
 {
     let command = command(alloc)?;

@@ -1,18 +1,13 @@
 -- What any call leaves of the tickets that are pending, and what all calls of a run leave together.
-use Rattle.std.proofs.Common.{ℕ, ℤ, ◌+◌, ◌<◌, ◌≤◌, ◌≡◌, ◌≢◌, ◌==◌, ◌⊎◌, suc, zero, Bool, List, [], ◌∷◌, ◌++◌, append_assoc, append-nil, Option, Some, None, All, AllPairs, Contains, length, length-append, drop, take, get_or, refl, sym, ap, ◌∙◌, subst, inl, inr, arith}
-use Rattle.std.specs.Prelude.{map}
+use Rattle.std.proofs.Common.{ℕ, ◌+◌, ◌<◌, ◌≡◌, ◌≢◌, ◌==◌, ◌⊎◌, suc, Bool, List, [], ◌∷◌, ◌++◌, append_assoc, Option, Some, None, All, AllPairs, Contains, length, drop, take, get_or, refl, sym, ap, ◌∙◌, subst, inl, inr, arith}
 use Rattle.std.specs.List.{remove}
 use Rattle.std.proofs.lemmas.Bool.{cases_Bool, cases_eq, cases_lt, cond-false, cond-true, eq-eqb, ne_eqb}
 use Rattle.std.proofs.lemmas.Option.{none-some, same_Some}
 use Rattle.std.proofs.lemmas.List.Edits.{length-remove, get_or-remove_above, get_or-remove_below}
 use Rattle.std.proofs.lemmas.List.Elements.{All-contains, All-from_get_or, All-get_or, All-push, All-weaker}
 use Rattle.std.proofs.lemmas.List.Quantifiers.{all_pairs_push, all_pairs_remove}
-use Rattle.std.proofs.lemmas.List.Sums.{sum_by-append}
-use Rattle.std.proofs.Math.Seq.{drop-append_seam, drop-length, take-append_seam}
-use Rattle.ledger.specs.declared.postings.Posting.{Posting}
-use Rattle.ledger.specs.declared.shares.Totals.{Totals}
-use Rattle.ledger.specs.Shares.{Part, plus}
-use Rattle.ledger.specs.Sums.{totals_by, totals_of}
+use Rattle.std.proofs.Math.Seq.{drop-append_seam, take-append_seam}
+use Rattle.ledger.specs.Shares.{Part}
 use Rattle.paths.specs.Fronts.{Names}
 use Rattle.holds.specs.declared.held.Held.{Held}
 use Rattle.holds.specs.declared.held.Lead.{Lead}
@@ -22,21 +17,22 @@ use Rattle.tree.proofs.LookupLemmas.{cases_option}
 use Rattle.flights.specs.declared.data.Want.{Want}
 use Rattle.wants.specs.Asked.{ArePaths, HasPath, Holds}
 use Rattle.wants.specs.Laws.{IsRow, base_of}
-use Rattle.wants.specs.Rows.{AtName, AtNode, Demand, Location, row_of}
+use Rattle.wants.specs.Rows.{AtName, AtNode, Demand, Location}
 use Rattle.wants.proofs.Members.{first_in, in_map, later_in}
 use Rattle.wants.proofs.RowLemmas.{are_rows}
-use Rattle.steps.specs.declared.data.Begin.TheVariants as begin
 use Rattle.steps.specs.declared.data.Outcome.{Outcome}
-use Rattle.steps.specs.Answers.{Answer, Claim, Settlement}
-use Rattle.steps.specs.Steps.{Begins, Finishes, Forgets, Settles}
-use Rattle.steps.specs.World.{Answered, Flight, Flights, IsAtWork, IsLawfulWorld, IsReady, Stage, Work, Working, World, with_entry}
+use Rattle.steps.specs.Answers.{Answer, Settlement}
+use Rattle.steps.specs.Steps.{Finishes, Forgets, Settles}
+use Rattle.steps.specs.World.{Answered, Flight, Flights, IsAtWork, IsLawfulWorld, Stage, Work, Working, World, with_entry}
+use Rattle.table.specs.Gains.{Gains}
+use Rattle.table.proofs.Gaining.{gains_on, gains_same}
 use Rattle.runs.specs.declared.calls.Call.{Call}
 use Rattle.runs.specs.declared.calls.Call.TheVariants as call
 use Rattle.runs.specs.declared.calls.Told.{Told}
 use Rattle.runs.specs.declared.calls.Told.TheVariants as told
 use Rattle.runs.specs.declared.pending.Started.{Started}
 use Rattle.runs.specs.Outstanding.{Outstanding}
-use Rattle.runs.specs.Runs.{AreCurrent, ChangesNothing, IsCurrent, IsOther, IsStep, PutsTicket, Runs, SpendsAnswer, SpendsTicket}
+use Rattle.runs.specs.Runs.{AreCurrent, ChangesNothing, IsCurrent, IsOther, IsStep, PutsTicket, Runs, SpendsTicket}
 
 -- ---- one ticket
 
@@ -275,86 +271,36 @@ pub told_whole : (o u v : List Told) (t : Told) → u ≡ o ++ drop (length o) u
 told_whole o u v t was is =
     is ∙ (ap (λ xs. xs ++ t ∷ []) was ∙ (append_assoc o (drop (length o) u) (t ∷ []) ∙ ap (λ xs. o ++ xs) (sym (told_more o u v t was is))))
 
--- ---- what the ledger and the share gain
-
--- the ledger gained some postings, and the share their totals
-pub record Grows (old new : List Posting) (before after : Part) : Type 0 where
-  pub grows : new ≡ old ++ drop (length old) new
-  pub share : after ≡ record before { totals = plus before.totals (totals_of (drop (length old) new)) }
-
-totals_append : (ps qs : List Posting) → totals_of (ps ++ qs) ≡ plus (totals_of ps) (totals_of qs)
-totals_append ps qs = λ i. record {
-  born = sum_by-append (λ p. (totals_by p).born) ps qs i;
-  entries = sum_by-append (λ p. (totals_by p).entries) ps qs i;
-  backs = sum_by-append (λ p. (totals_by p).backs) ps qs i;
-  forgotten = sum_by-append (λ p. (totals_by p).forgotten) ps qs i;
-}
-
-totals_eq : (s t : Totals) → s.born ≡ t.born → s.entries ≡ t.entries → s.backs ≡ t.backs → s.forgotten ≡ t.forgotten → s ≡ t
-totals_eq s t b e k f = λ i. record { born = b i; entries = e i; backs = k i; forgotten = f i }
-
-plus_assoc : (s t u : Totals) → plus (plus s t) u ≡ plus s (plus t u)
-plus_assoc s t u = totals_eq (plus (plus s t) u) (plus s (plus t u)) (omega arith) (omega arith) (omega arith) (omega arith)
-
-plus_nothing : (s : Totals) → plus s (totals_of []) ≡ s
-plus_nothing s = totals_eq (plus s (totals_of [])) s (omega arith) (omega arith) (omega arith) (omega arith)
-
-pub grows_same : (old new : List Posting) (before after : Part) → new ≡ old → after ≡ before → Grows old new before after
-grows_same old new before after e same =
-    let none : drop (length old) new ≡ [] = ap (drop (length old)) e ∙ drop-length old in
-    record {
-      grows = e ∙ (sym (append-nil old) ∙ ap (λ (x : List Posting). old ++ x) (sym none));
-      share = same ∙ ap (λ (t : Totals). record before { totals = t }) (sym (ap (λ x. plus before.totals (totals_of x)) none ∙ plus_nothing before.totals));
-    }
-
-pub grows_trans : (old mid new : List Posting) (before between after : Part) → Grows old mid before between → Grows mid new between after → Grows old new before after
-grows_trans old mid new before between after first next =
-    let a = drop (length old) mid in
-    let b = drop (length mid) new in
-    let whole : new ≡ old ++ (a ++ b) = next.grows ∙ (ap (λ (x : List Posting). x ++ b) first.grows ∙ append_assoc old a b) in
-    let gained : drop (length old) new ≡ a ++ b = ap (drop (length old)) whole ∙ drop-append_seam old (a ++ b) in
-    record {
-      grows = whole ∙ ap (λ (x : List Posting). old ++ x) (sym gained);
-      share =
-          next.share
-          ∙ (ap (λ (p : Part). record p { totals = plus p.totals (totals_of b) }) first.share
-          ∙ ap (λ (t : Totals). record before { totals = t }) (plus_assoc before.totals (totals_of a) (totals_of b) ∙ (ap (plus before.totals) (sym (totals_append a b)) ∙ ap (λ x. plus before.totals (totals_of x)) (sym gained))));
-    }
-
 -- ---- a run
 
 -- what stands after the first calls of a run, with what they told
 pub record HasRun (old : World) (hand : Outstanding) (before : Part) (made : List Call) (ts : List Told) (new : World) (hand' : Outstanding) (after : Part) : Type 0 where
   pub runs : Runs old hand made ts new hand'
-  pub lawful : IsLawfulWorld new
   pub current : AreCurrent old hand → AreCurrent new hand'
-  pub gains : Grows old.postings new.postings before after
+  pub gains : Gains old before new after
 
 pub run_none : (w : World) (hand : Outstanding) (before : Part) → IsLawfulWorld w → HasRun w hand before [] [] w hand before
 run_none w hand before lawful = record {
   runs = record { world = refl; hand_is = refl };
-  lawful = lawful;
   current = λ current. current;
-  gains = grows_same w.postings w.postings before before refl refl;
+  gains = gains_same w w before before lawful refl refl;
 }
 
 pub run_more : (old : World) (hand : Outstanding) (before : Part) (made : List Call) (ts : List Told) (mid : World) (between : Outstanding) (among : Part) (c : Call) (t : Told) (new : World) (hand' : Outstanding) (after : Part)
-    → HasRun old hand before made ts mid between among → IsStep mid between c t new hand' → IsLawfulWorld new → (AreCurrent mid between → AreCurrent new hand') → Grows mid.postings new.postings among after
+    → HasRun old hand before made ts mid between among → IsStep mid between c t new hand' → (AreCurrent mid between → AreCurrent new hand') → Gains mid among new after
     → HasRun old hand before (made ++ c ∷ []) (ts ++ t ∷ []) new hand' after
-run_more old hand before made ts mid between among c t new hand' after run step lawful current gains = record {
+run_more old hand before made ts mid between among c t new hand' after run step current gains = record {
   runs = runs_more old hand made ts mid between c t new hand' run.runs step;
-  lawful = lawful;
   current = λ start. current (run.current start);
-  gains = grows_trans old.postings mid.postings new.postings before among after run.gains gains;
+  gains = gains_on old mid new before among after run.gains gains;
 }
 
 -- a call that found no memory
 pub run_refused : (old : World) (hand : Outstanding) (before : Part) (made : List Call) (ts : List Told) (mid : World) (between : Outstanding) (among : Part) (new : World) (hand' : Outstanding) (after : Part)
-    → HasRun old hand before made ts mid between among → ChangesNothing mid between new hand' → IsLawfulWorld new → Grows mid.postings new.postings among after
+    → HasRun old hand before made ts mid between among → ChangesNothing mid between new hand' → Gains mid among new after
     → HasRun old hand before made ts new hand' after
-run_refused old hand before made ts mid between among new hand' after run same lawful gains = record {
+run_refused old hand before made ts mid between among new hand' after run same gains = record {
   runs = runs_same old hand made ts mid between new hand' run.runs same;
-  lawful = lawful;
   current = λ start. current_same mid new between hand' same.world same.hand_is (run.current start);
-  gains = grows_trans old.postings mid.postings new.postings before among after run.gains gains;
+  gains = gains_on old mid new before among after run.gains gains;
 }

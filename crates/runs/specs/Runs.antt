@@ -1,5 +1,5 @@
 -- Runs: lists of calls with what each told, and what a caller has in hand meanwhile.
-use Rattle.std.specs.Prelude.{ℕ, ℤ, ◌<◌, ◌≤◌, ◌≡◌, ◌≢◌, Bool, List, [], ◌∷◌, ◌++◌, length, All, AllPairs, slice_index_or}
+use Rattle.std.specs.Prelude.{ℕ, ◌<◌, ◌≤◌, ◌≡◌, ◌≢◌, Bool, List, [], ◌∷◌, ◌++◌, length, All, AllPairs, slice_index_or}
 use Rattle.std.specs.List.{remove}
 use Rattle.flights.specs.declared.data.Want.{Want}
 use Rattle.steps.specs.declared.data.Begin.TheVariants as begin

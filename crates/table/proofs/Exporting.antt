@@ -28,7 +28,6 @@ use Rattle.steps.specs.declared.state.State.{State}
 use Rattle.table.specs.Copies.{IsCopyOf, held_of, owners_in, sharers_in, stage_of}
 use Rattle.table.specs.Exports.{Exports, IsRecordOf, held_by, record_in, stage_shown}
 use Rattle.steps.specs.World.{AreHeld, IsAtWork}
-use Rattle.steps.specs.World as world
 use Rattle.steps.specs.Kept.{flight_of, work_of}
 use Rattle.steps.specs.Kept as seen
 use Rattle.table.proofs.Holders.{counts_same, owners_same, sharers_same}

@@ -2,3 +2,4 @@ pub mod Counting
 pub mod Longer
 pub mod Holders
 pub mod Exporting
+pub mod Gaining

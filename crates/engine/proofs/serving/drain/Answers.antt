@@ -1,10 +1,20 @@
 use Rattle.std.proofs.Common.{Some, None, Err, refl, sym, ap, ◌∙◌}
 use Rattle.steps.specs.Kept.{world_of}
 use Rattle.wire.specs.Stream.{Cutting}
+use Rattle.table.proofs.Gaining.{gains_on, gains_same}
 use Rattle.engine.specs.Tables.{worlds}
 use Rattle.engine.specs.Walks.{side}
-use Rattle.engine.proofs.Walking.{bad_stop, frame_on}
+use Rattle.engine.proofs.Walking.{bad_stop, frame_on, walks_none}
 use Rattle.engine.proofs.serving.drain.Goals as goal
+
+pub loop-frame-init : goal.loop-frame-init
+loop-frame-init g c = record {
+  stopped = refl;
+  settings = refl;
+  idle = c.requires.idle;
+  gains = gains_same (world_of c.args.table.now) (world_of c.args.table.now) c.args.share.now c.args.share.now c.attest.ensures refl refl;
+  walks = walks_none worlds c.args.desk.now.settings g.L.LinkIn.receives g.L.LinkOut.sends g.C.Calls.gives (side c.args.link.now c.args.calls.now (world_of c.args.table.now) c.args.cutter.now.kept);
+}
 
 pub returns-in-Some-clause-drains : goal.returns-in-Some-clause-drains
 returns-in-Some-clause-drains g c =
@@ -20,6 +30,9 @@ returns-in-Some-clause-drains g c =
       stops = refl;
     }
 
+pub returns-in-Some-clause-gains : goal.returns-in-Some-clause-gains
+returns-in-Some-clause-gains g c = gains_on (world_of c.args.table.now) (world_of c.loop-frame.table) (world_of c.work_off.new.table) c.args.share.now c.loop-frame.share c.work_off.new.share c.loop-frame.invariant.gains c.work_off.ensures.gains
+
 pub loop-frame-preserved : goal.loop-frame-preserved
 loop-frame-preserved g c =
     let inv = c.loop-frame.invariant in
@@ -28,6 +41,7 @@ loop-frame-preserved g c =
       stopped = frame.stopped ∙ inv.stopped;
       settings = c.work_off.ensures.settings ∙ inv.settings;
       idle = c.work_off.ensures.idle;
+      gains = gains_on (world_of c.args.table.now) (world_of c.loop-frame.table) (world_of c.work_off.new.table) c.args.share.now c.loop-frame.share c.work_off.new.share inv.gains c.work_off.ensures.gains;
       walks = frame_on worlds c.args.desk.now.settings g.L.LinkIn.receives g.L.LinkOut.sends g.C.Calls.gives
           (side c.args.link.now c.args.calls.now (world_of c.args.table.now) c.args.cutter.now.kept)
           c.loop-frame.link c.work_off.new.link c.loop-frame.calls c.work_off.new.calls (world_of c.loop-frame.table) (world_of c.work_off.new.table)

@@ -1,5 +1,6 @@
 use Rattle.std.proofs.Common.{◌≡◌, length}
 use Rattle.steps.specs.Kept.{world_of}
+use Rattle.table.specs.Gains.{Gains}
 use Rattle.engine.specs.Tables.{worlds, IsIdle}
 use Rattle.engine.specs.Walks.{side, Walks}
 use Rattle.engine.proofs.serving.drain.Given as goal
@@ -10,6 +11,7 @@ invariant-loop-frame g l = record {
   stopped : l.cutter.stopped ≡ l.initial.cutter.stopped;
   settings : l.desk.settings ≡ l.initial.desk.settings;
   idle : IsIdle (world_of l.table);
+  gains : Gains (world_of l.initial.table) l.initial.share (world_of l.table) l.share;
   walks : Walks worlds l.initial.desk.settings g.L.LinkIn.receives g.L.LinkOut.sends g.C.Calls.gives
       (side l.initial.link l.initial.calls (world_of l.initial.table) l.initial.cutter.kept) (side l.link l.calls (world_of l.table) l.cutter.kept);
 }

@@ -1,6 +1,7 @@
 use Rattle.std.proofs.Common.{[], take, ap, inl, refl, subst, sym, ◌∙◌, ℕ, List, arith}
 use Rattle.steps.specs.Kept.{world_of}
 use Rattle.wire.specs.Stream.{Cutting, IsPartial}
+use Rattle.table.proofs.Gaining.{gains_on, gains_same}
 use Rattle.engine.specs.Tables.{worlds}
 use Rattle.engine.specs.Walks.{side}
 use Rattle.engine.proofs.Closing.{at_break, at_end, drained_end, drained_on, unfed}
@@ -15,6 +16,7 @@ loop-init g c =
       on = ap (λ (k : Cutting). k.stopped) c.new-cutter.ensures;
       settings = refl;
       idle = c.requires.fresh;
+      gains = gains_same (world_of c.args.table.now) (world_of c.args.table.now) c.args.share.now c.args.share.now c.attest.ensures refl refl;
       walks = walks_from worlds c.args.settings g.L.LinkIn.receives g.L.LinkOut.sends g.C.Calls.gives c.args.link.now c.args.calls.now (world_of c.args.table.now) c.new-cutter.result.kept empty;
     }
 
@@ -23,6 +25,9 @@ returns-in-End g c =
     record {
       serves = at_end worlds c.args.settings g.L.LinkIn.receives g.L.LinkOut.sends g.C.Calls.gives c.args.link.now c.loop.link c.args.calls.now c.loop.calls (world_of c.args.table.now) (world_of c.loop.table) c.loop.cutter.kept
           c.requires.fresh c.loop.invariant.partial c.loop.invariant.walks c.receive.new.self c.rest.result c.in-End.ensures.brought c.rest.ensures;
+      lawful = c.loop.invariant.gains.lawful;
+      grows = c.loop.invariant.gains.grows;
+      share = c.loop.invariant.gains.share;
     }
 
 pub returns-in-Broken : goal.returns-in-Broken
@@ -30,6 +35,9 @@ returns-in-Broken g c =
     record {
       serves = at_break worlds c.args.settings g.L.LinkIn.receives g.L.LinkOut.sends g.C.Calls.gives c.args.link.now c.loop.link c.args.calls.now c.loop.calls (world_of c.args.table.now) (world_of c.loop.table) c.loop.cutter.kept
           c.requires.fresh c.loop.invariant.partial c.loop.invariant.walks c.receive.new.self c.in-Broken.ensures.brought;
+      lawful = c.loop.invariant.gains.lawful;
+      grows = c.loop.invariant.gains.grows;
+      share = c.loop.invariant.gains.share;
     }
 
 pub returns-in-Err : goal.returns-in-Err
@@ -37,16 +45,23 @@ returns-in-Err g c =
     record {
       serves = unfed worlds c.args.settings g.L.LinkIn.receives g.L.LinkOut.sends g.C.Calls.gives c.args.link.now c.loop.link c.args.calls.now c.loop.calls (world_of c.args.table.now) (world_of c.loop.table) c.loop.cutter.kept
           c.requires.fresh c.loop.invariant.partial c.loop.invariant.walks c.receive.new.self (take c.in-Bytes.count c.receive.new.room) c.in-Bytes.ensures.brought;
+      lawful = c.loop.invariant.gains.lawful;
+      grows = c.loop.invariant.gains.grows;
+      share = c.loop.invariant.gains.share;
     }
 
 pub returns-in-Some-drain : goal.returns-in-Some-drain
 returns-in-Some-drain g c =
     let inv = c.loop.invariant in
+    let gains = gains_on (world_of c.args.table.now) (world_of c.loop.table) (world_of c.drain.new.table) c.args.share.now c.loop.share c.drain.new.share inv.gains c.drain.ensures.gains in
     let fed = ap (λ (k : Cutting). k.kept) c.in-Ok.ensures.ok in
     let walks = piece_on worlds c.args.settings g.L.LinkIn.receives g.L.LinkOut.sends g.C.Calls.gives (side c.args.link.now c.args.calls.now (world_of c.args.table.now) []) c.loop.link c.receive.new.self c.loop.calls (world_of c.loop.table) c.loop.cutter.kept (take c.in-Bytes.count c.receive.new.room) c.feed.new.self.kept inv.walks inv.partial c.in-Bytes.ensures.brought fed in
     record {
       serves = drained_end worlds c.args.settings g.L.LinkIn.receives g.L.LinkOut.sends g.C.Calls.gives c.args.link.now c.receive.new.self c.drain.new.link c.args.calls.now c.loop.calls c.drain.new.calls (world_of c.args.table.now) (world_of c.loop.table) (world_of c.drain.new.table)
           c.feed.new.self.kept c.drain.new.cutter.kept c.drain.result c.in-Some-drain.end c.loop.desk.settings inv.settings c.requires.fresh walks c.in-Some-drain.is c.drain.ensures.drains;
+      lawful = gains.lawful;
+      grows = gains.grows;
+      share = gains.share;
     }
 
 pub loop-preserved : goal.loop-preserved
@@ -61,5 +76,6 @@ loop-preserved g c =
       on = c.in-None-drain.ensures.on ∙ (ap (λ (k : Cutting). k.stopped) c.in-Ok.ensures.ok ∙ inv.on);
       settings = c.drain.ensures.settings ∙ inv.settings;
       idle = c.drain.ensures.idle;
+      gains = gains_on (world_of c.args.table.now) (world_of c.loop.table) (world_of c.drain.new.table) c.args.share.now c.loop.share c.drain.new.share inv.gains c.drain.ensures.gains;
       walks = on.0;
     }

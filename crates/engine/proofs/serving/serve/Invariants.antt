@@ -1,6 +1,7 @@
 use Rattle.std.proofs.Common.{◌≡◌, None, []}
 use Rattle.steps.specs.Kept.{world_of}
 use Rattle.wire.specs.Stream.{IsPartial}
+use Rattle.table.specs.Gains.{Gains}
 use Rattle.engine.specs.Tables.{worlds, IsIdle}
 use Rattle.engine.specs.Walks.{side, Walks}
 use Rattle.engine.proofs.serving.serve.Given as goal
@@ -12,6 +13,7 @@ invariant-loop g l = record {
   on : l.cutter.stopped ≡ None;
   settings : l.desk.settings ≡ l.fn.settings;
   idle : IsIdle (world_of l.table);
+  gains : Gains (world_of l.initial.table) l.initial.share (world_of l.table) l.share;
   walks : Walks worlds l.fn.settings g.L.LinkIn.receives g.L.LinkOut.sends g.C.Calls.gives
       (side l.initial.link l.initial.calls (world_of l.initial.table) []) (side l.link l.calls (world_of l.table) l.cutter.kept);
 }

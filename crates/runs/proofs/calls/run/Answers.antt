@@ -1,8 +1,7 @@
-use Rattle.std.proofs.Common.{ℕ, ◌≡◌, ◌+◌, ◌++◌, ◌∷◌, List, [], append-nil, append_assoc, ap, drop, length, length-append, subst, sym, ◌∙◌, refl, rules, vec_len, arith}
+use Rattle.std.proofs.Common.{ℕ, ◌≡◌, ◌++◌, ◌∷◌, List, [], append-nil, append_assoc, ap, drop, length, length-append, subst, sym, ◌∙◌, refl, arith}
 use Rattle.std.specs.Vec.Iter.{into_iter_items}
 use Rattle.steps.specs.Kept.{world_of}
 use Rattle.runs.specs.declared.calls.Call.{Call}
-use Rattle.runs.specs.declared.calls.Told.{Told}
 use Rattle.runs.proofs.Running.{HasRun, run_more, run_refused, runs_first, runs_length, told_more, told_whole}
 use Rattle.runs.proofs.calls.run.Goals as goal
 
@@ -15,7 +14,7 @@ returns-in_err-make-clause-runs g c =
     let run = c.loop-next.invariant.run in
     let ts = drop (length c.args.told.now.items) c.loop-next.told.items in
     let after = run_refused (world_of c.args.table.now) c.args.pending.now c.args.share.now c.loop-next.yielded ts (world_of c.loop-next.table) c.loop-next.pending c.loop-next.share (world_of c.make.new.table) c.make.new.pending c.make.new.share
-    run c.in_err-make.ensures.refused c.make.ensures.lawful (record { grows = c.make.ensures.grows; share = c.make.ensures.share }) in
+    run c.in_err-make.ensures.refused (record { lawful = c.make.ensures.lawful; grows = c.make.ensures.grows; share = c.make.ensures.share }) in
     runs_first (world_of c.args.table.now) c.args.pending.now c.loop-next.yielded ts (world_of c.make.new.table) c.make.new.pending c.args.calls.items (into_iter_items c.loop-next.next-iterator) c.loop-next.invariant.calls after.runs
 
 pub returns-in_err-make-clause-share : goal.returns-in_err-make-clause-share
@@ -23,7 +22,7 @@ returns-in_err-make-clause-share g c =
     let run = c.loop-next.invariant.run in
     let ts = drop (length c.args.told.now.items) c.loop-next.told.items in
     (run_refused (world_of c.args.table.now) c.args.pending.now c.args.share.now c.loop-next.yielded ts (world_of c.loop-next.table) c.loop-next.pending c.loop-next.share (world_of c.make.new.table) c.make.new.pending c.make.new.share
-    run c.in_err-make.ensures.refused c.make.ensures.lawful (record { grows = c.make.ensures.grows; share = c.make.ensures.share })).gains.share
+    run c.in_err-make.ensures.refused (record { lawful = c.make.ensures.lawful; grows = c.make.ensures.grows; share = c.make.ensures.share })).gains.share
 
 pub loop-next-preserved : goal.loop-next-preserved
 loop-next-preserved g c =
@@ -36,7 +35,7 @@ loop-next-preserved g c =
     let was = c.loop-next.invariant.left in
     let room = c.loop-next.invariant.room in
     let made = run_more (world_of c.args.table.now) c.args.pending.now c.args.share.now c.loop-next.yielded (drop (length o) u) (world_of c.loop-next.table) c.loop-next.pending c.loop-next.share c.in-Some.next t (world_of c.make.new.table) c.make.new.pending c.make.new.share
-    c.loop-next.invariant.run c.in_ok-make.ensures.step c.make.ensures.lawful c.make.ensures.current (record { grows = c.make.ensures.grows; share = c.make.ensures.share }) in
+    c.loop-next.invariant.run c.in_ok-make.ensures.step c.make.ensures.current (record { lawful = c.make.ensures.lawful; grows = c.make.ensures.grows; share = c.make.ensures.share }) in
     record {
       run = subst (λ ts. HasRun (world_of c.args.table.now) c.args.pending.now c.args.share.now (c.loop-next.yielded ++ c.in-Some.next ∷ []) ts (world_of c.make.new.table) c.make.new.pending c.make.new.share) (sym (told_more o u v t c.loop-next.invariant.told c.push_reserved.ensures.items)) made;
       told = told_whole o u v t c.loop-next.invariant.told c.push_reserved.ensures.items;

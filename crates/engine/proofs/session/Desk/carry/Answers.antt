@@ -1,6 +1,7 @@
-use Rattle.std.proofs.Common.{ap, ◌∙◌, to_z, of_z, w32}
+use Rattle.std.proofs.Common.{ap, refl, ◌∙◌, to_z, of_z, w32}
 use Rattle.steps.specs.World.{World}
 use Rattle.steps.specs.Kept.{world_of}
+use Rattle.table.proofs.Gaining.{gains_on, gains_same}
 use Rattle.engine.proofs.Alone.{finishes_one, refused_bits, settles_one}
 use Rattle.engine.proofs.Turns.{goes_on, table_refused}
 use Rattle.engine.specs.Tables.{worlds}
@@ -28,3 +29,15 @@ returns-in-Refused-clause-carries g c =
 
 pub returns-in-Refused-clause-idle : goal.returns-in-Refused-clause-idle
 returns-in-Refused-clause-idle g c = λ id. ap (λ (w : World). w.flights id) c.in-Refused.ensures.begins.begins.1 ∙ c.requires.idle id
+
+pub returns-in-Go-clause-gains : goal.returns-in-Go-clause-gains
+returns-in-Go-clause-gains g c =
+    let old = world_of c.args.table.now in
+    let begun = world_of c.begin.new.self in
+    gains_on old begun (world_of c.perform.new.table) c.args.share.now c.args.share.now c.perform.new.share
+    (gains_same old begun c.args.share.now c.args.share.now c.begin.ensures.lawful (ap (λ (w : World). w.postings) c.in-Go.ensures.begins.begins.1.new_is) refl)
+    c.perform.ensures.gains
+
+pub returns-in-Refused-clause-gains : goal.returns-in-Refused-clause-gains
+returns-in-Refused-clause-gains g c =
+    gains_same (world_of c.args.table.now) (world_of c.begin.new.self) c.args.share.now c.args.share.now c.begin.ensures.lawful (ap (λ (w : World). w.postings) c.in-Refused.ensures.begins.begins.1) refl

@@ -1,5 +1,6 @@
-use Rattle.std.proofs.Common.{ap, ◌∙◌}
+use Rattle.std.proofs.Common.{refl, ap, ◌∙◌}
 use Rattle.steps.specs.Kept.{world_of}
+use Rattle.table.proofs.Gaining.{gains_same}
 use Rattle.engine.proofs.Alone.{forgets_idle}
 use Rattle.engine.specs.Tables.{worlds}
 use Rattle.ops.specs.Intents.{Begin, want_of}
@@ -34,3 +35,15 @@ returns-in-Forget-clause-worked g c =
 pub returns-in-Forget-clause-idle : goal.returns-in-Forget-clause-idle
 returns-in-Forget-clause-idle g c =
     forgets_idle (world_of c.args.table.now) (world_of c.forget.new.self) c.in-Forget.number c.in-Forget.lookups c.forget.result c.requires.idle c.forget.ensures.forgets
+
+pub returns-in-Err-clause-gains : goal.returns-in-Err-clause-gains
+returns-in-Err-clause-gains g c = gains_same (world_of c.args.table.now) (world_of c.args.table.now) c.args.share.now c.args.share.now c.attest.ensures refl refl
+
+pub returns-in-Reply-clause-gains : goal.returns-in-Reply-clause-gains
+returns-in-Reply-clause-gains g c = gains_same (world_of c.args.table.now) (world_of c.args.table.now) c.args.share.now c.args.share.now c.attest.ensures refl refl
+
+pub returns-in-Err-own-clause-gains : goal.returns-in-Err-own-clause-gains
+returns-in-Err-own-clause-gains g c = gains_same (world_of c.args.table.now) (world_of c.args.table.now) c.args.share.now c.args.share.now c.attest.ensures refl refl
+
+pub returns-in-Forget-clause-gains : goal.returns-in-Forget-clause-gains
+returns-in-Forget-clause-gains g c = record { lawful = c.forget.ensures.lawful; grows = c.forget.ensures.grows; share = c.forget.ensures.share }
