@@ -4,6 +4,8 @@
 #[cfg(test)]
 mod frames;
 #[cfg(test)]
+mod greetings;
+#[cfg(test)]
 mod lines;
 #[cfg(test)]
 mod lookups;

@@ -2,7 +2,9 @@
 
 ghost use Rattle.std.specs.Prelude.{◌≡◌};
 
-use crate::frames::{ENTRY_E_REBORN, LOOKUP_A, LOOKUP_E, lines_of};
+use crate::frames::{
+    ABSENT, AGREED, DESTROY, ENTRY_E_REBORN, INIT, LOOKUP_A, LOOKUP_E, LOOKUP_ZZ, lines_of,
+};
 use backing::Fault;
 use engine::{Link, LinkIn, LinkOut, Received, Sent, SessionEnd, Settings, serve};
 use ledger::{Blanks, Ledgers, Totals};
@@ -130,8 +132,10 @@ fn bytes_of(alloc: Global, line: &str) -> Result<Vec<u8>, Fail> {
     Ok(hex::decode(alloc, &digits[..end])?)
 }
 
+// A client that sends INIT and these frames.
 fn client_of(alloc: Global, lines: &[&str], declined: u32) -> Result<Choosy, Fail> {
     let mut frames = Vec::new(alloc);
+    frames.push(bytes_of(alloc, INIT)?)?;
     for line in lines {
         frames.push(bytes_of(alloc, line)?)?;
     }
@@ -145,11 +149,20 @@ fn client_of(alloc: Global, lines: &[&str], declined: u32) -> Result<Choosy, Fai
     })
 }
 
+// Whether these replies were taken, after INIT's.
+fn are_taken(alloc: Global, taken: &[u8], replies: &[&str]) -> Result<bool, Fail> {
+    let mut bytes = bytes_of(alloc, AGREED)?;
+    for reply in replies {
+        bytes.extend_from_slice(&bytes_of(alloc, reply)?)?;
+    }
+    Ok(taken == bytes.as_slice())
+}
+
 // The entry of `a` comes back, so its node is gone; the session goes on, and its number is born again for `e`.
 #[test]
 fn untaken_lookup(rt: HostRuntime) -> Result<(), Fail> {
     let alloc = rt.alloc();
-    let client = client_of(alloc, &[LOOKUP_A, LOOKUP_E], 1)?;
+    let client = client_of(alloc, &[LOOKUP_A, LOOKUP_E], 2)?;
     let left = serve_choosy::<HostRuntime, Brand>(&rt, alloc, Blanks::new(1), None, client)?;
     let totals = Totals {
         born: 2,
@@ -158,7 +171,7 @@ fn untaken_lookup(rt: HostRuntime) -> Result<(), Fail> {
         forgotten: 0,
     };
     assert_eq!(rt; left.end, SessionEnd::Closed { rest: 0 });
-    assert!(rt; left.taken.as_slice() == bytes_of(alloc, ENTRY_E_REBORN)?.as_slice());
+    assert!(rt; are_taken(alloc, &left.taken, &[ENTRY_E_REBORN])?);
     assert_eq!(rt; left.totals, totals);
     Ok(())
 }
@@ -167,12 +180,12 @@ fn untaken_lookup(rt: HostRuntime) -> Result<(), Fail> {
 #[test]
 fn strange_errors(rt: HostRuntime) -> Result<(), Fail> {
     let alloc = rt.alloc();
-    let reply = bytes_of(alloc, "10000000 fbffffff 0700000000000000")?;
+    let reply = "10000000 fbffffff 0700000000000000";
     for errno in [0, -5, 4096] {
         let client = client_of(alloc, &[LOOKUP_A], 0)?;
         let planned = Some(Fault::Before(errno));
         let left = serve_choosy::<HostRuntime, Brand>(&rt, alloc, Blanks::new(1), planned, client)?;
-        assert!(rt; left.taken.as_slice() == reply.as_slice(), "errno {errno}");
+        assert!(rt; are_taken(alloc, &left.taken, &[reply])?, "errno {errno}");
         assert_eq!(rt; left.totals.entries, 0);
     }
     Ok(())
@@ -191,7 +204,29 @@ fn rest_of_the_input(rt: HostRuntime) -> Result<(), Fail> {
         let client = client_of(alloc, lines, 0)?;
         let left = serve_choosy::<HostRuntime, Brand>(&rt, alloc, Blanks::new(1), None, client)?;
         assert_eq!(rt; left.end, SessionEnd::Closed { rest });
-        assert!(rt; left.taken.is_empty());
+        assert!(rt; are_taken(alloc, &left.taken, &[])?);
     }
+    Ok(())
+}
+
+// An INIT whose reply is not taken has agreed on a version all the same.
+#[test]
+fn untaken_init(rt: HostRuntime) -> Result<(), Fail> {
+    let alloc = rt.alloc();
+    let client = client_of(alloc, &[LOOKUP_ZZ], 1)?;
+    let left = serve_choosy::<HostRuntime, Brand>(&rt, alloc, Blanks::new(1), None, client)?;
+    assert_eq!(rt; left.end, SessionEnd::Closed { rest: 0 });
+    assert!(rt; left.taken.as_slice() == bytes_of(alloc, ABSENT)?.as_slice());
+    Ok(())
+}
+
+// The client ends the session, whether or not it takes the reply; what follows is dropped.
+#[test]
+fn destroyed_session(rt: HostRuntime) -> Result<(), Fail> {
+    let alloc = rt.alloc();
+    let client = client_of(alloc, &[DESTROY, LOOKUP_ZZ], 2)?;
+    let left = serve_choosy::<HostRuntime, Brand>(&rt, alloc, Blanks::new(1), None, client)?;
+    assert_eq!(rt; left.end, SessionEnd::Destroyed);
+    assert!(rt; are_taken(alloc, &left.taken, &[])?);
     Ok(())
 }
