@@ -1,6 +1,6 @@
 -- What the code of a session has done from its first byte to its end is a whole session.
 use Rattle.std.proofs.lemmas.Option.{none-some, same_Some}
-use Rattle.std.proofs.Common.{◌≡◌, ℕ, ◌≤◌, ◌-◌, suc, zero, List, [], ◌∷◌, ◌++◌, length, take, drop, refl, sym, subst, ap, ◌∙◌, append_assoc, append-nil, arith, inl, inr, ◌⊎◌, Option, Some, None}
+use Rattle.std.proofs.Common.{◌≡◌, false, ℕ, ◌≤◌, ◌-◌, suc, zero, List, [], ◌∷◌, ◌++◌, length, take, drop, refl, sym, subst, ap, ◌∙◌, append_assoc, append-nil, arith, inl, inr, ◌⊎◌, Option, Some, None}
 use Rattle.std.specs.Prelude.{option_to_list}
 use Rattle.std.specs.List.{AllByRecursion}
 use Rattle.std.proofs.lemmas.Bool.{cases_lt}
@@ -18,10 +18,10 @@ use Rattle.engine.specs.declared.links.Sent.{Sent}
 use Rattle.ops.specs.declared.replies.Settings.{Settings}
 use Rattle.engine.specs.Chain.{Chain}
 use Rattle.engine.specs.Links.{Heard, Piece, Ended, Broke, Event, Happens}
-use Rattle.engine.specs.Reference.{At, Offer, Stop, AtEnd, Lost, IsTurn, frames_of, Closes}
+use Rattle.engine.specs.Reference.{At, Offer, Stop, AtEnd, Lost, IsTurn, frames_of, starting, Closes}
 use Rattle.engine.specs.Serving.{Step, Hears, Works, Gives, Makes, GoesOn, IsSessionRun, Paces, bytes_of, events_of, heard_of, made_of, sent_of, stop_in, stops_of, turns_of}
 use Rattle.engine.specs.Tables.{Table}
-use Rattle.engine.specs.Walks.{Side, side, Drains, IsStep, Passes, Stops, Walks}
+use Rattle.engine.specs.Walks.{Side, Stand, side, stand, standing, Drains, IsStep, Passes, Stops, Walks}
 use Rattle.engine.proofs.Runs.{chain_append}
 use Rattle.engine.proofs.Walking.{ended, walks_on}
 
@@ -169,7 +169,7 @@ module _ {W L C : Type 0} (table : Table W) (settings : Settings) (receives : L 
   -- ---- a whole session
 
   closing : (start s : Side W L C) (last : List Step) (link : L) (calls : C) (at : At W) (kept : List ℕ) (stop : Option Stop) (dropped : List (List ℕ)) (rest : List ℕ) (end : SessionEnd) (world : W)
-      → start.at ≡ record { world = world; end = None } → start.kept ≡ [] → table.is_idle world
+      → start.at ≡ starting world → start.kept ≡ [] → table.is_idle world
       → Walks table settings receives sends gives start s → Tells s last link calls at kept (option_to_list stop)
       → Splits kept dropped rest → Closes at.end end stop dropped rest
       → IsSessionRun table settings receives sends gives start.link start.calls world link calls at.world end
@@ -204,61 +204,62 @@ module _ {W L C : Type 0} (table : Table W) (settings : Settings) (receives : L 
 
   -- ---- the ends of a session
 
-  module _ (link mid : L) (calls calls' : C) (world world' : W) (kept : List ℕ) (fresh : table.is_idle world) (partial : IsPartial kept) (walks : Walks table settings receives sends gives (side link calls world []) (side mid calls' world' kept)) where
+  module _ (link mid : L) (calls calls' : C) (world : W) (s : Stand W) (kept : List ℕ) (fresh : table.is_idle world) (partial : IsPartial kept) (walks : Walks table settings receives sends gives (side link calls (stand world false) []) (side mid calls' s kept)) where
     -- hearing ends
     by_heard : (heard : Heard) (link' : L) (now : List ℕ) (stop : Option Stop) (dropped : List (List ℕ)) (rest : List ℕ) (end : SessionEnd) → receives mid heard link' → now ≡ kept ++ bytes_of heard → stop_in heard ++ [] ≡ option_to_list stop → Splits now dropped rest → Closes None end stop dropped rest
-        → IsSessionRun table settings receives sends gives link calls world link' calls' world' end
+        → IsSessionRun table settings receives sends gives link calls world link' calls' s.world end
     by_heard heard link' now stop dropped rest end r is stops splits closes =
-        closing (side link calls world []) (side mid calls' world' kept) (Hears heard ∷ []) link' calls' (record { world = world'; end = None }) now stop dropped rest end world refl refl fresh walks
-        (subst (λ (ss : List Stop). Tells (side mid calls' world' kept) (Hears heard ∷ []) link' calls' (record { world = world'; end = None }) now ss) stops (tells_heard (side mid calls' world' kept) heard link' now refl partial r is))
+        closing (side link calls (stand world false) []) (side mid calls' s kept) (Hears heard ∷ []) link' calls' (standing s None) now stop dropped rest end world refl refl fresh walks
+        (subst (λ (ss : List Stop). Tells (side mid calls' s kept) (Hears heard ∷ []) link' calls' (standing s None) now ss) stops (tells_heard (side mid calls' s kept) heard link' now refl partial r is))
         splits closes
 
-    pub at_end : (link' : L) (rest : ℕ) → receives mid Ended link' → rest ≡ length kept → IsSessionRun table settings receives sends gives link calls world link' calls' world' (ends.Closed rest)
+    pub at_end : (link' : L) (rest : ℕ) → receives mid Ended link' → rest ≡ length kept → IsSessionRun table settings receives sends gives link calls world link' calls' s.world (ends.Closed rest)
     at_end link' rest r is = by_heard Ended link' kept (Some AtEnd) [] kept (ends.Closed rest) r (sym (append-nil kept)) refl (no_frame kept (partial_ends kept partial)) (refl, refl, partial, is)
 
-    pub at_break : (link' : L) → receives mid Broke link' → IsSessionRun table settings receives sends gives link calls world link' calls' world' ends.LinkBroken
+    pub at_break : (link' : L) → receives mid Broke link' → IsSessionRun table settings receives sends gives link calls world link' calls' s.world ends.LinkBroken
     at_break link' r = by_heard Broke link' kept (Some Lost) [] kept ends.LinkBroken r (sym (append-nil kept)) refl (no_frame kept (partial_ends kept partial)) (refl, refl, partial)
 
-    pub unfed : (link' : L) (piece : List ℕ) → receives mid (Piece piece) link' → IsSessionRun table settings receives sends gives link calls world link' calls' world' ends.Memory
+    pub unfed : (link' : L) (piece : List ℕ) → receives mid (Piece piece) link' → IsSessionRun table settings receives sends gives link calls world link' calls' s.world ends.Memory
     unfed link' piece r =
         let all = splits_all (kept ++ piece) in
         by_heard (Piece piece) link' (kept ++ piece) None all.frames all.rest ends.Memory r refl refl all.splits refl
 
   -- the session ended by a frame, a bad length or want of memory
-  by_stop : (link link' : L) (calls calls' : C) (world world' : W) (kept : List ℕ) (reached : Option SessionEnd) (end : SessionEnd) → table.is_idle world → Walks table settings receives sends gives (side link calls world []) (ended link' calls' world' reached kept) → Stops reached (Some end) kept
-      → IsSessionRun table settings receives sends gives link calls world link' calls' world' end
-  by_stop link link' calls calls' world world' kept (Some reached) end fresh walks stops =
+  by_stop : (link link' : L) (calls calls' : C) (world : W) (s : Stand W) (kept : List ℕ) (reached : Option SessionEnd) (end : SessionEnd) → table.is_idle world → Walks table settings receives sends gives (side link calls (stand world false) []) (ended link' calls' s reached kept) → Stops reached (Some end) kept
+      → IsSessionRun table settings receives sends gives link calls world link' calls' s.world end
+  by_stop link link' calls calls' world s kept (Some reached) end fresh walks stops =
       let all = splits_all kept in
-      closing (side link calls world []) (ended link' calls' world' (Some reached) kept) [] link' calls' (record { world = world'; end = Some reached }) kept None all.frames all.rest end world refl refl fresh walks
-      (tells_none (ended link' calls' world' (Some reached) kept)) all.splits (same_Some end reached stops, refl)
-  by_stop link link' calls calls' world world' kept None (ends.Closed len) fresh walks stops = absurd stops
-  by_stop link link' calls calls' world world' kept None (ends.BadLength len) fresh walks stops =
-      closing (side link calls world []) (side link' calls' world' kept) [] link' calls' (record { world = world'; end = None }) kept None [] kept (ends.BadLength len) world refl refl fresh walks
-      (tells_none (side link' calls' world' kept)) (no_frame kept (bad_ends kept len stops)) (refl, refl, stops)
-  by_stop link link' calls calls' world world' kept None ends.LinkBroken fresh walks stops = absurd stops
-  by_stop link link' calls calls' world world' kept None ends.Memory fresh walks stops =
+      closing (side link calls (stand world false) []) (ended link' calls' s (Some reached) kept) [] link' calls' (standing s (Some reached)) kept None all.frames all.rest end world refl refl fresh walks
+      (tells_none (ended link' calls' s (Some reached) kept)) all.splits (same_Some end reached stops, refl)
+  by_stop link link' calls calls' world s kept None (ends.Closed len) fresh walks stops = absurd stops
+  by_stop link link' calls calls' world s kept None ends.Destroyed fresh walks stops = absurd stops
+  by_stop link link' calls calls' world s kept None (ends.BadLength len) fresh walks stops =
+      closing (side link calls (stand world false) []) (side link' calls' s kept) [] link' calls' (standing s None) kept None [] kept (ends.BadLength len) world refl refl fresh walks
+      (tells_none (side link' calls' s kept)) (no_frame kept (bad_ends kept len stops)) (refl, refl, stops)
+  by_stop link link' calls calls' world s kept None ends.LinkBroken fresh walks stops = absurd stops
+  by_stop link link' calls calls' world s kept None ends.Memory fresh walks stops =
       let all = splits_all kept in
-      closing (side link calls world []) (side link' calls' world' kept) [] link' calls' (record { world = world'; end = None }) kept None all.frames all.rest ends.Memory world refl refl fresh walks
-      (tells_none (side link' calls' world' kept)) all.splits refl
+      closing (side link calls (stand world false) []) (side link' calls' s kept) [] link' calls' (standing s None) kept None all.frames all.rest ends.Memory world refl refl fresh walks
+      (tells_none (side link' calls' s kept)) all.splits refl
 
-  pub drained_end : (link mid link' : L) (calls calls' calls'' : C) (world world' world'' : W) (fed kept : List ℕ) (result : Option SessionEnd) (end : SessionEnd) (now : Settings) → now ≡ settings → table.is_idle world → Walks table settings receives sends gives (side link calls world []) (side mid calls' world' fed) → result ≡ Some end
-      → Drains table now receives sends gives (side mid calls' world' fed) link' calls'' world'' kept result
-      → IsSessionRun table settings receives sends gives link calls world link' calls'' world'' end
-  drained_end link mid link' calls calls' calls'' world world' world'' fed kept result end now set fresh walks is given =
-      let d = subst (λ (s : Settings). Drains table s receives sends gives (side mid calls' world' fed) link' calls'' world'' kept result) set given in
-      by_stop link link' calls calls'' world world'' kept d.reached end fresh
-      (walks_on table settings receives sends gives (side link calls world []) (side mid calls' world' fed) (ended link' calls'' world'' d.reached kept) walks d.walks)
+  pub drained_end : (link mid link' : L) (calls calls' calls'' : C) (world : W) (s s' : Stand W) (fed kept : List ℕ) (result : Option SessionEnd) (end : SessionEnd) (now : Settings) → now ≡ settings → table.is_idle world → Walks table settings receives sends gives (side link calls (stand world false) []) (side mid calls' s fed) → result ≡ Some end
+      → Drains table now receives sends gives (side mid calls' s fed) link' calls'' s' kept result
+      → IsSessionRun table settings receives sends gives link calls world link' calls'' s'.world end
+  drained_end link mid link' calls calls' calls'' world s s' fed kept result end now set fresh walks is given =
+      let d = subst (λ (t : Settings). Drains table t receives sends gives (side mid calls' s fed) link' calls'' s' kept result) set given in
+      by_stop link link' calls calls'' world s' kept d.reached end fresh
+      (walks_on table settings receives sends gives (side link calls (stand world false) []) (side mid calls' s fed) (ended link' calls'' s' d.reached kept) walks d.walks)
       (subst (λ (e : Option SessionEnd). Stops d.reached e kept) is d.stops)
 
-  still : (old : Side W L C) (link' : L) (calls' : C) (world' : W) (kept : List ℕ) (reached : Option SessionEnd) → Walks table settings receives sends gives old (ended link' calls' world' reached kept) → Stops reached None kept → Walks table settings receives sends gives old (side link' calls' world' kept) × IsPartial kept
-  still old link' calls' world' kept (Some reached) walks stops = absurd (none-some reached stops)
-  still old link' calls' world' kept None walks stops = (walks, stops)
+  still : (old : Side W L C) (link' : L) (calls' : C) (s : Stand W) (kept : List ℕ) (reached : Option SessionEnd) → Walks table settings receives sends gives old (ended link' calls' s reached kept) → Stops reached None kept → Walks table settings receives sends gives old (side link' calls' s kept) × IsPartial kept
+  still old link' calls' s kept (Some reached) walks stops = absurd (none-some reached stops)
+  still old link' calls' s kept None walks stops = (walks, stops)
 
-  pub drained_on : (old : Side W L C) (mid link' : L) (calls' calls'' : C) (world' world'' : W) (fed kept : List ℕ) (result : Option SessionEnd) (now : Settings) → now ≡ settings → Walks table settings receives sends gives old (side mid calls' world' fed) → result ≡ None
-      → Drains table now receives sends gives (side mid calls' world' fed) link' calls'' world'' kept result
-      → Walks table settings receives sends gives old (side link' calls'' world'' kept) × IsPartial kept
-  drained_on old mid link' calls' calls'' world' world'' fed kept result now set walks is given =
-      let d = subst (λ (s : Settings). Drains table s receives sends gives (side mid calls' world' fed) link' calls'' world'' kept result) set given in
-      still old link' calls'' world'' kept d.reached
-      (walks_on table settings receives sends gives old (side mid calls' world' fed) (ended link' calls'' world'' d.reached kept) walks d.walks)
+  pub drained_on : (old : Side W L C) (mid link' : L) (calls' calls'' : C) (s s' : Stand W) (fed kept : List ℕ) (result : Option SessionEnd) (now : Settings) → now ≡ settings → Walks table settings receives sends gives old (side mid calls' s fed) → result ≡ None
+      → Drains table now receives sends gives (side mid calls' s fed) link' calls'' s' kept result
+      → Walks table settings receives sends gives old (side link' calls'' s' kept) × IsPartial kept
+  drained_on old mid link' calls' calls'' s s' fed kept result now set walks is given =
+      let d = subst (λ (t : Settings). Drains table t receives sends gives (side mid calls' s fed) link' calls'' s' kept result) set given in
+      still old link' calls'' s' kept d.reached
+      (walks_on table settings receives sends gives old (side mid calls' s fed) (ended link' calls'' s' d.reached kept) walks d.walks)
       (subst (λ (e : Option SessionEnd). Stops d.reached e kept) is d.stops)

@@ -1,5 +1,6 @@
 pub mod Alone
 pub mod Closing
+pub mod ByClass
 pub mod Runs
 pub mod Turns
 pub mod Walking

@@ -18,7 +18,8 @@ use Rattle.engine.specs.declared.links.Sent.{Sent}
 use Rattle.ops.specs.declared.replies.Settings.{Settings}
 use Rattle.ops.specs.Intents.{Intent, intent}
 use Rattle.ops.specs.Intents as intents
-use Rattle.engine.specs.Reference.{Place, AtBegin, AtReply, Turn, IsSaid, Says, Serves, Carries, WorksOff, is_unanswered}
+use Rattle.engine.specs.Reference.{Place, AtBegin, AtReply, Turn, IsSaid, Says, Serves, Carries, WorksOff}
+use Rattle.engine.specs.Classes.{is_unanswered}
 use Rattle.engine.specs.Replies.{refusal, TakesMemory}
 use Rattle.ops.specs.Scripts.{Made}
 use Rattle.engine.specs.Tables.{Table}
@@ -31,11 +32,12 @@ answering frame refused made unique said sent = record {
   refused = refused;
   made = made;
   offer = Some (record { reply = record { unique = unique; body = said }; sent = sent });
+  destroyed = false;
 }
 
 -- a frame without one
 abbrev pub silent : List ℕ → Turn
-silent frame = record { frame = frame; refused = None; made = []; offer = None }
+silent frame = record { frame = frame; refused = None; made = []; offer = None; destroyed = false }
 
 -- the same from the same link
 pub sent_from : {L : Type 0} (sends : L → List ℕ → Sent → L → Type 0) (old mid new : L) (bytes : List ℕ) (sent : Sent) → mid ≡ old → sends mid bytes sent new → sends old bytes sent new
@@ -59,7 +61,8 @@ module _ {W L C : Type 0} (table : Table W) (settings : Settings) (sends : L →
         turn = turn;
         frame_is = refl;
         sent_is = refl;
-        meets = inr (fault, is, rw some.0 (Failed (errno_of fault), refl, record { offers = refl; no_call = refl; same = refl }));
+        lives = refl;
+        asks = inr (fault, is, rw some.0 (Failed (errno_of fault), refl, record { offers = refl; no_call = refl; same = refl }));
         makes = refl;
         passes = some.1;
       }
@@ -67,7 +70,8 @@ module _ {W L C : Type 0} (table : Table W) (settings : Settings) (sends : L →
     turn = silent frame;
     frame_is = refl;
     sent_is = refl;
-    meets = inr (fault, is, rw none.0 (record { no_offer = refl; no_call = refl; no_place = refl }, refl));
+    lives = refl;
+    asks = inr (fault, is, rw none.0 (record { no_offer = refl; no_call = refl; no_place = refl }, refl));
     makes = refl;
     passes = none.1;
   }
@@ -82,7 +86,8 @@ module _ {W L C : Type 0} (table : Table W) (settings : Settings) (sends : L →
         turn = turn;
         frame_is = refl;
         sent_is = refl;
-        meets = inl (q, is, subst (λ (x : Intent). Serves table settings q x world turn world) i (a.said, a.said_is, record { offers = refl; no_call = refl; same = refl }));
+        lives = refl;
+        asks = inl (q, is, subst (λ (x : Intent). Serves table settings q x world turn world) i (a.said, a.said_is, record { offers = refl; no_call = refl; same = refl }));
         makes = refl;
         passes = a.offer;
       }
@@ -94,7 +99,20 @@ module _ {W L C : Type 0} (table : Table W) (settings : Settings) (sends : L →
     turn = silent frame;
     frame_is = refl;
     sent_is = refl;
-    meets = inl (q, is, subst (λ (x : Intent). Serves table settings q x world (silent frame) world') i (record { no_offer = refl; no_call = refl; no_place = refl }, f));
+    lives = refl;
+    asks = inl (q, is, subst (λ (x : Intent). Serves table settings q x world (silent frame) world') i (record { no_offer = refl; no_call = refl; no_place = refl }, f));
+    makes = refl;
+    passes = refl;
+  }
+
+  -- a request that is passed over
+  pub passed_over : (frame : List ℕ) (q : Request) (link : L) (calls : C) (world : W) → IsRequest frame q → intents.Nothing ≡ intent q → WorkedOff table settings sends gives frame link calls world None link calls world
+  passed_over frame q link calls world is i = record {
+    turn = silent frame;
+    frame_is = refl;
+    sent_is = refl;
+    lives = refl;
+    asks = inl (q, is, subst (λ (x : Intent). Serves table settings q x world (silent frame) world) i (record { no_offer = refl; no_call = refl; no_place = refl }, refl));
     makes = refl;
     passes = refl;
   }
@@ -109,7 +127,8 @@ module _ {W L C : Type 0} (table : Table W) (settings : Settings) (sends : L →
         turn = turn;
         frame_is = refl;
         sent_is = refl;
-        meets = inl (q, is, subst (λ (x : Intent). Serves table settings q x world turn world') i (a.works frame));
+        lives = refl;
+        asks = inl (q, is, subst (λ (x : Intent). Serves table settings q x world turn world') i (a.works frame));
         makes = a.makes;
         passes = a.offer;
       }
@@ -124,7 +143,8 @@ module _ {W L C : Type 0} (table : Table W) (settings : Settings) (sends : L →
         turn = turn;
         frame_is = refl;
         sent_is = refl;
-        meets = inl (q, is, subst (λ (x : Intent). Serves table settings q x world turn world) i (record { offers = refl; no_call = refl; same = refl }));
+        lives = refl;
+        asks = inl (q, is, subst (λ (x : Intent). Serves table settings q x world turn world) i (record { offers = refl; no_call = refl; same = refl }));
         makes = refl;
         passes = s;
       }

@@ -9,15 +9,14 @@ use Rattle.engine.specs.declared.ends.SessionEnd.TheVariants as ends
 use Rattle.engine.specs.declared.links.Sent.{Sent}
 use Rattle.ops.specs.declared.replies.Settings.{Settings}
 use Rattle.engine.specs.Links.{Heard, Piece}
-use Rattle.engine.specs.Reference.{ending}
 use Rattle.engine.specs.Serving.{Hears, Works}
 use Rattle.engine.specs.Tables.{Table}
-use Rattle.engine.specs.Walks.{Side, side, Walks, WorkedOff, Drains, IsStep}
+use Rattle.engine.specs.Walks.{Side, Stand, side, standing, Met, Walks, Drains, IsStep}
 use Rattle.engine.proofs.Runs.{chain_append, chain_one}
 
 -- the same with how the session has ended
-abbrev pub ended : {W L C : Type 0} → L → C → W → Option SessionEnd → List ℕ → Side W L C
-ended link calls world end kept = record { link = link; calls = calls; at = record { world = world; end = end }; kept = kept }
+abbrev pub ended : {W L C : Type 0} → L → C → Stand W → Option SessionEnd → List ℕ → Side W L C
+ended link calls s end kept = record { link = link; calls = calls; at = standing s end; kept = kept }
 
 module _ {W L C : Type 0} (table : Table W) (settings : Settings) (receives : L → Heard → L → Type 0) (sends : L → List ℕ → Sent → L → Type 0) (gives : C → Asked → Answer → C → Type 0) where
   pub walks_none : (old : Side W L C) → Walks table settings receives sends gives old old
@@ -30,13 +29,13 @@ module _ {W L C : Type 0} (table : Table W) (settings : Settings) (receives : L 
   }
 
   -- a frame that stood first in the bytes kept
-  frame_walks : (link link' : L) (calls calls' : C) (world world' : W) (kept frame more : List ℕ) (sent : Option Sent) → kept ≡ frame ++ more → IsFramed frame → table.is_idle world'
-      → WorkedOff table settings sends gives frame link calls world sent link' calls' world'
-      → Walks table settings receives sends gives (side link calls world kept) (ended link' calls' world' (ending sent) more)
-  frame_walks link link' calls calls' world world' kept frame more sent front framed idle w = record {
+  frame_walks : (link link' : L) (calls calls' : C) (s s' : Stand W) (kept frame more : List ℕ) (end : Option SessionEnd) → kept ≡ frame ++ more → IsFramed frame → table.is_idle s'.world
+      → Met table settings sends gives frame link calls s end link' calls' s'
+      → Walks table settings receives sends gives (side link calls s kept) (ended link' calls' s' end more)
+  frame_walks link link' calls calls' s s' kept frame more end front framed idle w = record {
     steps = Works w.turn ∷ [];
-    chain = chain_one (IsStep table settings receives sends gives) (side link calls world kept) (ended link' calls' world' (ending sent) more) (Works w.turn) (record {
-      is_turn = record { goes = refl; meets = w.meets; end = ap ending (sym w.sent_is); idle = idle };
+    chain = chain_one (IsStep table settings receives sends gives) (side link calls s kept) (ended link' calls' s' end more) (Works w.turn) (record {
+      is_turn = record { goes = refl; meets = w.meets; end = w.end_is; idle = idle };
       front = front ∙ ap (λ xs. xs ++ more) (sym w.frame_is);
       framed = subst (λ xs. IsFramed xs) (sym w.frame_is) framed;
       makes = w.makes;
@@ -44,41 +43,41 @@ module _ {W L C : Type 0} (table : Table W) (settings : Settings) (receives : L 
     });
   }
 
-  pub frame_on : (old : Side W L C) (link link' : L) (calls calls' : C) (world world' : W) (kept items frame more : List ℕ) (sent : Option Sent) (result end : Option SessionEnd) (now : Settings) → now ≡ settings
-      → Walks table settings receives sends gives old (side link calls world kept)
-      → kept ≡ items ++ more → IsFramed items → items ≡ frame → table.is_idle world'
-      → WorkedOff table now sends gives frame link calls world sent link' calls' world' → result ≡ ending sent → result ≡ end
-      → Walks table settings receives sends gives old (ended link' calls' world' end more)
-  frame_on old link link' calls calls' world world' kept items frame more sent result end now set a front framed same idle w is ends =
-      let one = frame_walks link link' calls calls' world world' kept frame more sent (front ∙ ap (λ xs. xs ++ more) same) (subst (λ xs. IsFramed xs) same framed) idle
-      (subst (λ (s : Settings). WorkedOff table s sends gives frame link calls world sent link' calls' world') set w) in
-      subst (λ (e : Option SessionEnd). Walks table settings receives sends gives old (ended link' calls' world' e more)) (sym is ∙ ends)
-      (walks_on old (side link calls world kept) (ended link' calls' world' (ending sent) more) a one)
+  pub frame_on : (old : Side W L C) (link link' : L) (calls calls' : C) (s s' : Stand W) (kept items frame more : List ℕ) (result end : Option SessionEnd) (now : Settings) → now ≡ settings
+      → Walks table settings receives sends gives old (side link calls s kept)
+      → kept ≡ items ++ more → IsFramed items → items ≡ frame → table.is_idle s'.world
+      → Met table now sends gives frame link calls s result link' calls' s' → result ≡ end
+      → Walks table settings receives sends gives old (ended link' calls' s' end more)
+  frame_on old link link' calls calls' s s' kept items frame more result end now set a front framed same idle w is =
+      let one = frame_walks link link' calls calls' s s' kept frame more result (front ∙ ap (λ xs. xs ++ more) same) (subst (λ xs. IsFramed xs) same framed) idle
+      (subst (λ (t : Settings). Met table t sends gives frame link calls s result link' calls' s') set w) in
+      subst (λ (e : Option SessionEnd). Walks table settings receives sends gives old (ended link' calls' s' e more)) is
+      (walks_on old (side link calls s kept) (ended link' calls' s' result more) a one)
 
   -- a piece that was heard and fed
-  pub piece_on : (old : Side W L C) (link link' : L) (calls : C) (world : W) (kept piece fed : List ℕ)
-      → Walks table settings receives sends gives old (side link calls world kept) → IsPartial kept → receives link (Piece piece) link' → fed ≡ kept ++ piece
-      → Walks table settings receives sends gives old (side link' calls world fed)
-  piece_on old link link' calls world kept piece fed a partial r is =
-      walks_on old (side link calls world kept) (side link' calls world fed) a (record {
+  pub piece_on : (old : Side W L C) (link link' : L) (calls : C) (s : Stand W) (kept piece fed : List ℕ)
+      → Walks table settings receives sends gives old (side link calls s kept) → IsPartial kept → receives link (Piece piece) link' → fed ≡ kept ++ piece
+      → Walks table settings receives sends gives old (side link' calls s fed)
+  piece_on old link link' calls s kept piece fed a partial r is =
+      walks_on old (side link calls s kept) (side link' calls s fed) a (record {
         steps = Hears (Piece piece) ∷ [];
-        chain = chain_one (IsStep table settings receives sends gives) (side link calls world kept) (side link' calls world fed) (Hears (Piece piece)) (record {
+        chain = chain_one (IsStep table settings receives sends gives) (side link calls s kept) (side link' calls s fed) (Hears (Piece piece)) (record {
           goes = refl;
           partial = partial;
           brought = r;
-          rest = ap (λ xs. side link' calls world xs) is;
+          rest = ap (λ xs. side link' calls s xs) is;
         });
       })
 
   -- a bad length stands next
-  pub bad_stop : (old : Side W L C) (link : L) (calls : C) (world : W) (kept now : List ℕ) (len : ℕ) → Walks table settings receives sends gives old (side link calls world kept) → kept ≡ now → BeginsBadly kept len
-      → Drains table settings receives sends gives old link calls world now (Some (ends.BadLength len))
-  bad_stop old link calls world kept now len walks same bad = record {
+  pub bad_stop : (old : Side W L C) (link : L) (calls : C) (s : Stand W) (kept now : List ℕ) (len : ℕ) → Walks table settings receives sends gives old (side link calls s kept) → kept ≡ now → BeginsBadly kept len
+      → Drains table settings receives sends gives old link calls s now (Some (ends.BadLength len))
+  bad_stop old link calls s kept now len walks same bad = record {
     reached = None;
-    walks = subst (λ (k : List ℕ). Walks table settings receives sends gives old (side link calls world k)) same walks;
+    walks = subst (λ (k : List ℕ). Walks table settings receives sends gives old (side link calls s k)) same walks;
     stops = subst (λ (k : List ℕ). BeginsBadly k len) same bad;
   }
 
   -- nothing was heard yet
-  pub walks_from : (link : L) (calls : C) (world : W) (kept : List ℕ) → kept ≡ [] → Walks table settings receives sends gives (side link calls world []) (side link calls world kept)
-  walks_from link calls world kept none = subst (λ (k : List ℕ). Walks table settings receives sends gives (side link calls world []) (side link calls world k)) (sym none) (walks_none (side link calls world []))
+  pub walks_from : (link : L) (calls : C) (s : Stand W) (kept : List ℕ) → kept ≡ [] → Walks table settings receives sends gives (side link calls s []) (side link calls s kept)
+  walks_from link calls s kept none = subst (λ (k : List ℕ). Walks table settings receives sends gives (side link calls s []) (side link calls s k)) (sym none) (walks_none (side link calls s []))

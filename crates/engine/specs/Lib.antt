@@ -1,4 +1,5 @@
 pub mod Chain
+pub mod Classes
 pub mod Links
 pub mod Playing
 pub mod Reference

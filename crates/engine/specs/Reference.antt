@@ -1,25 +1,32 @@
 -- A session as it ought to go: one frame after another, each worked off before the next.
-use Rattle.std.specs.Prelude.{ℕ, ℤ, ◌≡◌, ◌⊎◌, ◌==◌, ◌||◌, Bool, true, false, if◌then◌else◌, List, [], ◌++◌, map, length, Option, Some, None}
+use Rattle.std.specs.Prelude.{ℕ, ℤ, ◌≡◌, ◌⊎◌, Bool, true, false, if◌then◌else◌, List, [], ◌++◌, map, length, Option, Some, None}
 use Rattle.std.specs.Option.{option_map}
-use Rattle.errno.specs.declared.TheConstants.{ENOMEM}
+use Rattle.errno.specs.declared.TheConstants.{EIO, ENOMEM, EPROTO}
 use Rattle.flights.specs.declared.data.Want.{Want}
 use Rattle.steps.specs.Answers.{Claim, Answer}
 use Rattle.steps.specs.declared.data.Begin.TheVariants.{Go, Refused}
 use Rattle.wire.specs.Faults.{IsFirstFault, errno_of}
+use Rattle.wire.specs.Greeting.{negotiated}
 use Rattle.wire.specs.Requests.{IsRequest, opcode_in, unique_in}
 use Rattle.wire.specs.Stream.{Splits, IsPartial, BeginsBadly}
 use Rattle.wire.specs.declared.fault.WireFault.{WireFault}
-use Rattle.wire.specs.declared.opcode.TheConstants.{FORGET, INTERRUPT, BATCH_FORGET}
+use Rattle.wire.specs.declared.greeting.Negotiated.{Negotiated}
+use Rattle.wire.specs.declared.greeting.Negotiated.TheVariants.{Use, Again, Refuse}
 use Rattle.wire.specs.declared.reply.Reply.{Reply}
 use Rattle.wire.specs.declared.reply.ReplyBody.{ReplyBody}
-use Rattle.wire.specs.declared.reply.ReplyBody.TheVariants.{Failed}
+use Rattle.wire.specs.declared.reply.ReplyBody.TheVariants.{Failed, Done, Init}
+use Rattle.wire.specs.declared.request.Operation.{Operation}
+use Rattle.wire.specs.declared.request.Operation.TheVariants as ops
 use Rattle.wire.specs.declared.request.Request.{Request}
+use Rattle.engine.specs.declared.classes.Class.{Class}
+use Rattle.engine.specs.declared.classes.Class.TheVariants.{Ignored, Misplaced, Greeting, Farewell, Asking}
 use Rattle.engine.specs.declared.links.Sent.{Sent}
 use Rattle.engine.specs.declared.links.Sent.TheVariants.{Taken, Untaken, Broken}
 use Rattle.ops.specs.declared.replies.Settings.{Settings}
 use Rattle.engine.specs.declared.ends.SessionEnd.{SessionEnd}
 use Rattle.engine.specs.declared.ends.SessionEnd.TheVariants as ends
 use Rattle.engine.specs.Chain.{Chain}
+use Rattle.engine.specs.Classes.{class, is_unanswered}
 use Rattle.ops.specs.Intents.{Intent, intent}
 use Rattle.ops.specs.Intents as intents
 use Rattle.engine.specs.Replies.{TakesMemory}
@@ -39,12 +46,14 @@ pub record Offer : Type 0 where
   pub reply : Reply
   pub sent : Sent
 
--- a frame, where memory was refused for it, the calls that it made with their answers, and what was replied
+-- a frame, where memory was refused for it, the calls that it made with their answers, what was replied, and whether the client
+-- ended the session with it
 pub record Turn : Type 0 where
   pub frame : List ℕ
   pub refused : Option Place
   pub made : List Made
   pub offer : Option Offer
+  pub destroyed : Bool
 
 abbrev pub is_taken : Sent → Bool
 is_taken Taken = true
@@ -99,24 +108,48 @@ abbrev pub taken_of : Option Place → Option Offer → Bool
 taken_of None offer = was_taken (sent_in offer)
 taken_of (Some place) offer = false
 
--- ---- where a session stands: the table, and how it has ended if it has
+-- ---- where a session stands: the table, whether a version is agreed on, and how it has ended if it has
 
 pub record At (W : Type 0) : Type 0 where
   pub world : W
+  pub agreed : Bool
   pub end : Option SessionEnd
 
 abbrev pub starting : {W : Type 0} → W → At W
-starting world = record { world = world; end = None }
+starting world = record { world = world; agreed = false; end = None }
 
--- A reply that broke the link ends the session.
-abbrev pub ending : Option Sent → Option SessionEnd
-ending sent = if was_broken sent then Some ends.LinkBroken else None
+-- A reply that broke the link ends the session, also where it answered DESTROY; else DESTROY ends it.
+abbrev pub ending : Option Sent → (destroyed : Bool) → Option SessionEnd
+ending sent destroyed = if was_broken sent then Some ends.LinkBroken else (if destroyed then Some ends.Destroyed else None)
+
+-- the session goes on, and nothing new is agreed on
+pub record Stays (before : Bool) (turn : Turn) (now : Bool) : Type 0 where
+  pub lives : turn.destroyed ≡ false
+  pub agreed : now ≡ before
+
+-- ---- INIT
+
+abbrev pub negotiated_by : Operation → Option Negotiated
+negotiated_by (ops.Init major minor max_readahead flags) = Some (negotiated major minor max_readahead flags)
+negotiated_by operation = None
+
+abbrev pub greeting_of : Negotiated → ReplyBody
+greeting_of (Use out) = Init out
+greeting_of (Again out) = Init out
+greeting_of Refuse = Failed EPROTO
+
+-- Whether a version is agreed on then, whatever becomes of the reply. An INIT that finds no memory for its reply has agreed on nothing.
+abbrev pub agrees : (refused : Option Place) → Negotiated → (before : Bool) → Bool
+agrees (Some place) answer before = before
+agrees None (Use out) before = true
+agrees None (Again out) before = before
+agrees None Refuse before = before
+
+abbrev pub Greets : {W : Type 0} → ℕ → Option Negotiated → (before : Bool) → W → Turn → W → (now : Bool) → Type 0
+Greets unique None before old turn new now = ⊥
+Greets unique (Some answer) before old turn new now = Answers unique (greeting_of answer) old turn new × (now ≡ agrees turn.refused answer before)
 
 -- ---- the rules, by the table's steps
-
--- opcodes that are never answered
-abbrev pub is_unanswered : ℕ → Bool
-is_unanswered opcode = opcode == FORGET || opcode == INTERRUPT || opcode == BATCH_FORGET
 
 module _ {W : Type 0} (table : Table W) (settings : Settings) where
   -- a request from begin to settle
@@ -151,21 +184,40 @@ module _ {W : Type 0} (table : Table W) (settings : Settings) where
   Serves q (intents.Reply meant) old turn new = Answers q.unique meant old turn new
   Serves q (intents.Begin want) old turn new = WorksOff turn.refused q want old turn new
   Serves q (intents.Forget number n) old turn new = IsSilent turn × table.forgets old number n new
+  Serves q intents.Nothing old turn new = IsSilent turn × (new ≡ old)
+
+  -- a frame that is answered with this error
+  abbrev pub Refuses : ℤ → W → Turn → W → Type 0
+  Refuses errno old turn new = Answers (unique_in turn.frame) (Failed errno) old turn new
 
   -- a frame that is no request is answered with its fault, if its opcode is answered at all
   abbrev pub Faults : (unanswered : Bool) → WireFault → W → Turn → W → Type 0
   Faults true fault old turn new = IsSilent turn × (new ≡ old)
-  Faults false fault old turn new = Answers (unique_in turn.frame) (Failed (errno_of fault)) old turn new
+  Faults false fault old turn new = Refuses (errno_of fault) old turn new
 
-  abbrev pub Meets : W → Turn → W → Type 0
-  Meets old turn new =
+  abbrev pub Asks : W → Turn → W → Type 0
+  Asks old turn new =
       ((q : Request) × IsRequest turn.frame q × Serves q (intent q) old turn new)
       ⊎ ((fault : WireFault) × IsFirstFault turn.frame fault × Faults (is_unanswered (opcode_in turn.frame)) fault old turn new)
 
+  -- a frame of each class, and whether a version was agreed on before it and is now
+  abbrev pub Meets : (before : Bool) → Class → W → Turn → W → (now : Bool) → Type 0
+  Meets before Ignored old turn new now = IsSilent turn × (new ≡ old) × Stays before turn now
+  Meets before Misplaced old turn new now = Refuses EIO old turn new × Stays before turn now
+  Meets before Greeting old turn new now =
+      (turn.destroyed ≡ false)
+      × (((q : Request) × IsRequest turn.frame q × Greets q.unique (negotiated_by q.operation) before old turn new now)
+      ⊎ ((fault : WireFault) × IsFirstFault turn.frame fault × Refuses (errno_of fault) old turn new × (now ≡ before)))
+  Meets before Farewell old turn new now =
+      (now ≡ before)
+      × (((q : Request) × IsRequest turn.frame q × Answers q.unique Done old turn new × (turn.destroyed ≡ true))
+      ⊎ ((fault : WireFault) × IsFirstFault turn.frame fault × Refuses (errno_of fault) old turn new × (turn.destroyed ≡ false)))
+  Meets before Asking old turn new now = Asks old turn new × Stays before turn now
+
   pub record IsTurn (old : At W) (turn : Turn) (new : At W) : Type 0 where
     pub goes : old.end ≡ None
-    pub meets : Meets old.world turn new.world
-    pub end : new.end ≡ ending (sent_in turn.offer)
+    pub meets : Meets old.agreed (class old.agreed (opcode_in turn.frame)) old.world turn new.world new.agreed
+    pub end : new.end ≡ ending (sent_in turn.offer) turn.destroyed
     pub idle : table.is_idle new.world
 
 -- ---- how a session ends
@@ -183,6 +235,7 @@ frames_of turns = map (λ turn. turn.frame) turns
 abbrev pub Closes : Option SessionEnd → SessionEnd → Option Stop → (dropped : List (List ℕ)) → (rest : List ℕ) → Type 0
 Closes (Some reached) end stop dropped rest = (end ≡ reached) × (stop ≡ None)
 Closes None (ends.Closed len) stop dropped rest = (stop ≡ Some AtEnd) × (dropped ≡ []) × IsPartial rest × (len ≡ length rest)
+Closes None ends.Destroyed stop dropped rest = ⊥
 Closes None (ends.BadLength len) stop dropped rest = (stop ≡ None) × (dropped ≡ []) × BeginsBadly rest len
 Closes None ends.LinkBroken stop dropped rest = (stop ≡ Some Lost) × (dropped ≡ []) × IsPartial rest
 Closes None ends.Memory stop dropped rest = stop ≡ None

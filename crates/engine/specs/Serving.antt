@@ -79,7 +79,7 @@ Paces kept [] rest = rest ≡ kept
 Paces kept (Hears heard ∷ steps) rest = IsPartial kept × GoesOn heard steps × Paces (kept ++ bytes_of heard) steps rest
 Paces kept (Works turn ∷ steps) rest =
     (more : List ℕ) × (kept ≡ turn.frame ++ more) × IsFramed turn.frame
-    × ((ending (sent_in turn.offer) ≡ None) ⊎ (steps ≡ [])) × Paces more steps rest
+    × ((ending (sent_in turn.offer) turn.destroyed ≡ None) ⊎ (steps ≡ [])) × Paces more steps rest
 
 -- ---- calls of a directory
 

@@ -1,12 +1,15 @@
 -- Where the code of a session stands, and what it has done.
-use Rattle.std.specs.Prelude.{ℕ, ◌≡◌, List, ◌++◌, Option, Some, None}
+use Rattle.std.specs.Prelude.{ℕ, ◌≡◌, ◌⊎◌, Bool, true, false, List, ◌++◌, Option, Some, None}
 use Rattle.backing.specs.Calls.{Asked}
 use Rattle.backing.specs.declared.call.Answer.{Answer}
 use Rattle.flights.specs.declared.data.Want.{Want}
 use Rattle.steps.specs.Answers.{Claim, Answer as Given}
-use Rattle.wire.specs.Requests.{IsFramed}
+use Rattle.wire.specs.Faults.{IsFirstFault, errno_of}
+use Rattle.wire.specs.Requests.{IsFramed, IsRequest, opcode_in, unique_in}
 use Rattle.wire.specs.Stream.{BeginsBadly, IsPartial}
 use Rattle.wire.specs.Written.{reply_bytes}
+use Rattle.wire.specs.declared.fault.WireFault.{WireFault}
+use Rattle.wire.specs.declared.greeting.Negotiated.{Negotiated}
 use Rattle.wire.specs.declared.reply.Reply.{Reply}
 use Rattle.wire.specs.declared.reply.ReplyBody.{ReplyBody}
 use Rattle.wire.specs.declared.request.Request.{Request}
@@ -15,8 +18,10 @@ use Rattle.engine.specs.declared.ends.SessionEnd.TheVariants as ends
 use Rattle.engine.specs.declared.links.Sent.{Sent}
 use Rattle.ops.specs.declared.replies.Settings.{Settings}
 use Rattle.engine.specs.Chain.{Chain}
+use Rattle.engine.specs.Classes.{class}
 use Rattle.engine.specs.Links.{Heard, Piece, Ended, Broke}
-use Rattle.engine.specs.Reference.{At, Place, Turn, Offer, IsSaid, IsTurn, Meets, WorksOff, sent_in, taken_of}
+use Rattle.engine.specs.Reference.{At, Place, Turn, Offer, IsSaid, IsTurn, Asks, Meets, WorksOff, agrees, ending, greeting_of, negotiated_by, sent_in, taken_of}
+use Rattle.engine.specs.Replies.{confirmation, refusal}
 use Rattle.ops.specs.Replies.{reply_to}
 use Rattle.ops.specs.Scripts.{plan_of, End, Made, Follows}
 use Rattle.engine.specs.Serving.{Step, Hears, Works, Makes}
@@ -29,8 +34,19 @@ pub record Side (W L C : Type 0) : Type 0 where
   pub at : At W
   pub kept : List ℕ
 
-abbrev pub side : {W L C : Type 0} → L → C → W → List ℕ → Side W L C
-side link calls world kept = record { link = link; calls = calls; at = record { world = world; end = None }; kept = kept }
+-- the table, and whether a version is agreed on
+pub record Stand (W : Type 0) : Type 0 where
+  pub world : W
+  pub agreed : Bool
+
+abbrev pub stand : {W : Type 0} → W → Bool → Stand W
+stand world agreed = record { world = world; agreed = agreed }
+
+abbrev pub standing : {W : Type 0} → Stand W → Option SessionEnd → At W
+standing s end = record { world = s.world; agreed = s.agreed; end = end }
+
+abbrev pub side : {W L C : Type 0} → L → C → Stand W → List ℕ → Side W L C
+side link calls s kept = record { link = link; calls = calls; at = standing s None; kept = kept }
 
 -- what is offered, if anything
 abbrev pub Passes : {L : Type 0} → (L → List ℕ → Sent → L → Type 0) → L → Option Offer → L → Type 0
@@ -68,14 +84,15 @@ abbrev pub Stops : Option SessionEnd → Option SessionEnd → List ℕ → Type
 Stops (Some reached) end kept = end ≡ Some reached
 Stops None None kept = IsPartial kept
 Stops None (Some (ends.Closed len)) kept = ⊥
+Stops None (Some ends.Destroyed) kept = ⊥
 Stops None (Some (ends.BadLength len)) kept = BeginsBadly kept len
 Stops None (Some ends.LinkBroken) kept = ⊥
 Stops None (Some ends.Memory) kept = Unit {0}
 
 -- the frames that stand whole are worked off
-pub record Drains {W L C : Type 0} (table : Table W) (settings : Settings) (receives : L → Heard → L → Type 0) (sends : L → List ℕ → Sent → L → Type 0) (gives : C → Asked → Answer → C → Type 0) (old : Side W L C) (link : L) (calls : C) (world : W) (kept : List ℕ) (end : Option SessionEnd) : Type 0 where
+pub record Drains {W L C : Type 0} (table : Table W) (settings : Settings) (receives : L → Heard → L → Type 0) (sends : L → List ℕ → Sent → L → Type 0) (gives : C → Asked → Answer → C → Type 0) (old : Side W L C) (link : L) (calls : C) (s : Stand W) (kept : List ℕ) (end : Option SessionEnd) : Type 0 where
   pub reached : Option SessionEnd
-  pub walks : Walks table settings receives sends gives old (record { link = link; calls = calls; at = record { world = world; end = reached }; kept = kept })
+  pub walks : Walks table settings receives sends gives old (record { link = link; calls = calls; at = standing s reached; kept = kept })
   pub stops : Stops reached end kept
 
 -- a reply that is given at once
@@ -85,13 +102,50 @@ pub record IsAnswered {L : Type 0} (sends : L → List ℕ → Sent → L → Ty
   pub said_is : IsSaid refused meant.body said
   pub offer : sends old (reply_bytes (record { unique = meant.unique; body = said })) sent new
 
+-- an INIT that is answered, and whether a version is agreed on then
+pub record Welcomes {L : Type 0} (sends : L → List ℕ → Sent → L → Type 0) (unique : ℕ) (answer : Negotiated) (before : Bool) (old : L) (sent : Sent) (new : L) (now : Bool) : Type 0 where
+  pub told : IsAnswered sends (record { unique = unique; body = greeting_of answer }) old sent new
+  pub agreed : now ≡ agrees told.refused answer before
+
+abbrev pub WelcomesBy : {L : Type 0} → (L → List ℕ → Sent → L → Type 0) → ℕ → Option Negotiated → (before : Bool) → L → Sent → L → (now : Bool) → Type 0
+WelcomesBy sends unique None before old sent new now = ⊥
+WelcomesBy sends unique (Some answer) before old sent new now = Welcomes sends unique answer before old sent new now
+
+-- a frame that is refused for its fault
+pub record IsFaulty {L : Type 0} (sends : L → List ℕ → Sent → L → Type 0) (frame : List ℕ) (old : L) (sent : Sent) (new : L) : Type 0 where
+  pub fault : WireFault
+  pub first : IsFirstFault frame fault
+  pub offer : sends old (reply_bytes (refusal (unique_in frame) (errno_of fault))) sent new
+
+-- an INIT
+abbrev pub GreetsFrame : {L : Type 0} → (L → List ℕ → Sent → L → Type 0) → List ℕ → (before : Bool) → L → Sent → L → (now : Bool) → Type 0
+GreetsFrame sends frame before old sent new now =
+    ((q : Request) × IsRequest frame q × WelcomesBy sends q.unique (negotiated_by q.operation) before old sent new now)
+    ⊎ (IsFaulty sends frame old sent new × (now ≡ before))
+
+-- a DESTROY
+abbrev pub PartsFrame : {L : Type 0} → (L → List ℕ → Sent → L → Type 0) → List ℕ → L → Sent → (destroyed : Bool) → L → Type 0
+PartsFrame sends frame old sent destroyed new =
+    ((q : Request) × IsRequest frame q × sends old (reply_bytes (confirmation q.unique)) sent new × (destroyed ≡ true))
+    ⊎ (IsFaulty sends frame old sent new × (destroyed ≡ false))
+
 module _ {W L C : Type 0} (table : Table W) (settings : Settings) (sends : L → List ℕ → Sent → L → Type 0) (gives : C → Asked → Answer → C → Type 0) where
   -- what came of one frame
+  pub record Met (frame : List ℕ) (link : L) (calls : C) (old : Stand W) (end : Option SessionEnd) (link' : L) (calls' : C) (new : Stand W) : Type 0 where
+    pub turn : Turn
+    pub frame_is : turn.frame ≡ frame
+    pub end_is : end ≡ ending (sent_in turn.offer) turn.destroyed
+    pub meets : Meets table settings old.agreed (class old.agreed (opcode_in turn.frame)) old.world turn new.world new.agreed
+    pub makes : Makes gives calls turn.made calls'
+    pub passes : Passes sends link turn.offer link'
+
+  -- what came of a request of a session that has agreed on a version
   pub record WorkedOff (frame : List ℕ) (link : L) (calls : C) (world : W) (sent : Option Sent) (link' : L) (calls' : C) (world' : W) : Type 0 where
     pub turn : Turn
     pub frame_is : turn.frame ≡ frame
     pub sent_is : sent_in turn.offer ≡ sent
-    pub meets : Meets table settings world turn world'
+    pub lives : turn.destroyed ≡ false
+    pub asks : Asks table settings world turn world'
     pub makes : Makes gives calls turn.made calls'
     pub passes : Passes sends link turn.offer link'
 
@@ -117,4 +171,4 @@ module _ {W L C : Type 0} (table : Table W) (settings : Settings) (sends : L →
     pub said : ReplyBody
     pub makes : Makes gives calls made calls'
     pub offer : sends link (reply_bytes (record { unique = q.unique; body = said })) sent link'
-    pub works : (frame : List ℕ) → WorksOff table settings refused q want world (record { frame = frame; refused = refused; made = made; offer = Some (record { reply = record { unique = q.unique; body = said }; sent = sent }) }) world'
+    pub works : (frame : List ℕ) → WorksOff table settings refused q want world (record { frame = frame; refused = refused; made = made; offer = Some (record { reply = record { unique = q.unique; body = said }; sent = sent }); destroyed = false }) world'

@@ -5,6 +5,8 @@
 pub enum SessionEnd {
     /// The input ended. So many bytes of it were no whole frame.
     Closed { rest: usize },
+    /// The client ended it, by DESTROY.
+    Destroyed,
     /// A frame begins with a length that no frame has.
     BadLength { len: u32 },
     /// The link failed.

@@ -1,8 +1,10 @@
 //! Sessions: frames are cut from what a link gives, and each is worked off with a table and a directory before the next.
 #![tactic(auto)]
 
+mod classes;
 mod ends;
 mod links;
+mod meeting;
 mod playing;
 mod serving;
 mod session;

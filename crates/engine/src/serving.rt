@@ -7,13 +7,12 @@ ghost use Rattle.steps.specs.Kept.{world_of};
 ghost use Rattle.steps.specs.Steps.{gained};
 ghost use Rattle.steps.specs.World.{IsLawfulWorld};
 ghost use Rattle.table.specs.Gains.{Gains};
-ghost use Rattle.engine.specs.Reference.{ending};
 ghost use Rattle.engine.specs.Serving.{IsSessionRun};
 ghost use Rattle.engine.specs.Tables.{worlds, IsIdle};
-ghost use Rattle.engine.specs.Walks.{side, Drains};
+ghost use Rattle.engine.specs.Walks.{side, stand, Drains};
 
 use crate::ends::SessionEnd;
-use crate::links::{Link, Received, Sent};
+use crate::links::{Link, Received};
 use crate::session::Desk;
 use backing::Calls;
 use ledger::{Ledgers, Share};
@@ -26,16 +25,6 @@ use wire::{CutFault, Cutter};
 /// How many bytes are asked of a link at a time.
 const ROOM: usize = 4096;
 
-/// How a session has ended with a reply, if it has.
-fn ending(sent: Option<Sent>) -> Option<SessionEnd>
-    ensures { result ≡ ending sent }
-{
-    match sent {
-        Some(Sent::Broken) => Some(SessionEnd::LinkBroken),
-        Some(Sent::Taken | Sent::Untaken) | None => None,
-    }
-}
-
 /// Works off the frames that are there whole. Some end says that the session is over.
 fn drain<T: Ledgers, L: Link, C: Calls>(
     desk: &mut Desk,
@@ -47,7 +36,8 @@ fn drain<T: Ledgers, L: Link, C: Calls>(
 ) -> Option<SessionEnd>
     requires idle { IsIdle (world_of table.old) }
     ensures drains { Drains worlds desk.old.settings L.receives L.sends C.gives
-        (side link.old calls.old (world_of table.old) cutter.old.kept) link.new calls.new (world_of table.new) cutter.new.kept result }
+        (side link.old calls.old (stand (world_of table.old) desk.old.agreed) cutter.old.kept)
+        link.new calls.new (stand (world_of table.new) desk.new.agreed) cutter.new.kept result }
     ensures gains { Gains (world_of table.old) share.old (world_of table.new) share.new }
     ensures on { IfNone result (cutter.new.stopped ≡ cutter.old.stopped) }
     ensures idle { IsIdle (world_of table.new) }
@@ -58,7 +48,7 @@ fn drain<T: Ledgers, L: Link, C: Calls>(
         match cutter.next() {
             Ok(None) => return None,
             Ok(Some(frame)) => {
-                match ending(desk.work_off(link, calls, table, share, &frame)) {
+                match desk.meet(link, calls, table, share, &frame) {
                     None => {}
                     Some(end) => return Some(end),
                 }
@@ -91,6 +81,7 @@ pub fn serve<H: Wait, T: Ledgers, L: Link, C: Calls>(
     let mut desk = Desk {
         alloc,
         settings,
+        agreed: false,
         buffer: Vec::new(alloc),
     };
     let mut cutter = Cutter::new(alloc);

@@ -6,8 +6,9 @@ ghost use Rattle.table.specs.Gains.{Gains};
 ghost use Rattle.wire.specs.Faults.{errno_of};
 ghost use Rattle.wire.specs.Requests.{opcode_in, unique_in, IsFramed};
 ghost use Rattle.wire.specs.Written.{reply_bytes};
-ghost use Rattle.engine.specs.Reference.{is_taken, is_unanswered};
-ghost use Rattle.engine.specs.Replies.{refusal, TakesMemory};
+ghost use Rattle.engine.specs.Classes.{is_unanswered};
+ghost use Rattle.engine.specs.Reference.{is_taken};
+ghost use Rattle.engine.specs.Replies.{confirmation, refusal, TakesMemory};
 ghost use Rattle.engine.specs.Tables.{worlds, IsIdle};
 ghost use Rattle.engine.specs.Walks.{CarriesOut, IsAnswered, Performs, WorkedOff};
 
@@ -36,10 +37,17 @@ fn is_taken(sent: Sent) -> bool
 }
 
 /// Offers an error. It takes no memory.
-fn refuse<L: LinkOut>(link: &mut L, unique: u64, errno: i32) -> Sent
+pub fn refuse<L: LinkOut>(link: &mut L, unique: u64, errno: i32) -> Sent
     ensures { L.sends link.old (reply_bytes (refusal unique errno)) result link.new }
 {
     link.send(&error_frame(unique, errno))
+}
+
+/// Says that a request is done. It takes no memory.
+pub fn confirm<L: LinkOut>(link: &mut L, unique: u64) -> Sent
+    ensures { L.sends link.old (reply_bytes (confirmation unique)) result link.new }
+{
+    link.send(&error_frame(unique, 0))
 }
 
 /// Answers a faulty frame, unless it is of an opcode that gets no reply.
@@ -62,19 +70,24 @@ fn refuse_frame<L: LinkOut>(link: &mut L, frame: &[u8], fault: WireFault) -> Opt
 pub(crate) struct Desk {
     pub alloc: Global,
     pub settings: Settings,
+    /// Whether a version is agreed on.
+    pub agreed: bool,
     /// The reply that is written.
     pub buffer: Vec<u8>,
 }
 
 impl Desk {
     /// Offers a reply. None says that there was no memory for it.
-    fn offer<L: LinkOut>(&mut self, link: &mut L, reply: &Reply) -> Option<Sent>
+    pub fn offer<L: LinkOut>(&mut self, link: &mut L, reply: &Reply) -> Option<Sent>
         ensures some { IfSome result (λ sent. L.sends link.old (reply_bytes reply.now) sent link.new) }
         ensures none { IfNone result (TakesMemory reply.now.body × (link.new ≡ link.old)) }
         ensures settings { self.new.settings ≡ self.old.settings }
+        ensures agreed { self.new.agreed ≡ self.old.agreed }
     {
-        if let ReplyBody::Failed { errno } = reply.body {
-            return Some(refuse(link, reply.unique, errno));
+        match reply.body {
+            ReplyBody::Failed { errno } => return Some(refuse(link, reply.unique, errno)),
+            ReplyBody::Done => return Some(confirm(link, reply.unique)),
+            _ => {}
         }
         self.buffer.clear();
         match encode_reply(reply, &mut self.buffer) {
@@ -87,6 +100,7 @@ impl Desk {
     fn answer<L: LinkOut>(&mut self, link: &mut L, reply: &Reply) -> Sent
         ensures said { IsAnswered L.sends reply.now link.old result link.new }
         ensures settings { self.new.settings ≡ self.old.settings }
+        ensures agreed { self.new.agreed ≡ self.old.agreed }
     {
         match self.offer(link, reply) {
             Some(sent) => sent,
@@ -108,6 +122,7 @@ impl Desk {
             link.old calls.old (world_of table.old) result link.new calls.new (world_of table.new) }
         ensures gains { Gains (world_of table.old) share.old (world_of table.new) share.new }
         ensures settings { self.new.settings ≡ self.old.settings }
+        ensures agreed { self.new.agreed ≡ self.old.agreed }
     {
         let mut script = Script::start(request.operation, &ticket);
         let found = play(calls, &mut script);
@@ -144,6 +159,7 @@ impl Desk {
         ensures gains { Gains (world_of table.old) share.old (world_of table.new) share.new }
         ensures idle { IsIdle (world_of table.new) }
         ensures settings { self.new.settings ≡ self.old.settings }
+        ensures agreed { self.new.agreed ≡ self.old.agreed }
     {
         match table.begin(request.unique, want) {
             Begin::Go(ticket) => self.perform(link, calls, table, share, request, ticket),
@@ -156,7 +172,7 @@ impl Desk {
         }
     }
 
-    /// Works one frame off. Some tells what became of its reply.
+    /// Works off a request of a session that has agreed on a version. Some tells what became of its reply.
     pub fn work_off<T: Ledgers, L: LinkOut, C: Calls>(
         &mut self,
         link: &mut L,
@@ -172,6 +188,7 @@ impl Desk {
         ensures gains { Gains (world_of table.old) share.old (world_of table.new) share.new }
         ensures idle { IsIdle (world_of table.new) }
         ensures settings { self.new.settings ≡ self.old.settings }
+        ensures agreed { self.new.agreed ≡ self.old.agreed }
     {
         table.attest();
         let request = match decode(frame) {
@@ -191,6 +208,7 @@ impl Desk {
                 table.forget(share, number, lookups);
                 None
             }
+            Intent::Nothing => None,
         }
     }
 }

@@ -19,6 +19,7 @@ pub data Intent : Type 0 where
   Reply : (body : ReplyBody) → Intent  -- it is answered at once
   Begin : (want : Want) → Intent  -- it is begun with a want
   Forget : (number n : ℕ) → Intent  -- it gives lookups of a node back, and is not answered
+  Nothing : Intent  -- the session works it off itself, or it is passed over
 
 abbrev pub refused : ℤ → Intent
 refused errno = Reply (Failed errno)
@@ -73,6 +74,9 @@ intended node (ops.Unlink name) = Begin (wants.Remove node name.now)
 intended node (ops.RemoveDir name) = Begin (wants.Remove node name.now)
 intended node (ops.Rename name new_parent new_name) = Begin (wants.Move node name.now new_parent new_name.now)
 intended node ops.StatFs = Reply StatFs
+intended node (ops.Init major minor max_readahead flags) = Nothing
+intended node ops.Interrupt = Nothing
+intended node ops.Destroy = Nothing
 
 -- Names are sound by the time a request was read; reserved ones are refused before all else.
 abbrev pub intent : Request → Intent
@@ -90,6 +94,7 @@ abbrev pub intent_in : Coded → Intent
 intent_in (coded.Reply body) = Reply body
 intent_in (coded.Want wanted) = Begin (want_of wanted)
 intent_in (coded.Forget number n) = Forget number n
+intent_in coded.Nothing = Nothing
 
 -- it has a name, which takes memory to keep
 abbrev pub HasName : Wanted → Type 0

@@ -98,6 +98,9 @@ plan_of (ops.Rename name new_parent new_name) ticket = at_paths ticket.paths (λ
 -- The others make no call.
 plan_of (ops.Forget n) ticket = failed EIO
 plan_of ops.StatFs ticket = failed EIO
+plan_of (ops.Init major minor max_readahead flags) ticket = failed EIO
+plan_of ops.Interrupt ticket = failed EIO
+plan_of ops.Destroy ticket = failed EIO
 
 -- ---- what is made of a plan
 

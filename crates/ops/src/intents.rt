@@ -17,6 +17,8 @@ pub enum Intent<'a> {
     Want(Wanted<'a>),
     /// It gives lookups of a node back, and is not answered.
     Forget { number: u64, lookups: u64 },
+    /// INIT and DESTROY, which a session works off itself, and INTERRUPT, which is passed over.
+    Nothing,
 }
 
 /// Names that begin so are the server's own (own, after libfuse's hidden files).
@@ -51,7 +53,10 @@ fn names_reserved(operation: &Operation<'_>) -> bool
         Operation::Forget { .. }
         | Operation::GetAttr
         | Operation::SetAttr { .. }
-        | Operation::StatFs => false,
+        | Operation::StatFs
+        | Operation::Init { .. }
+        | Operation::Interrupt
+        | Operation::Destroy => false,
     }
 }
 
@@ -135,6 +140,7 @@ fn intended<'a>(node: u64, operation: Operation<'a>) -> Intent<'a>
             new_name,
         }),
         Operation::StatFs => Intent::Reply(ReplyBody::StatFs),
+        Operation::Init { .. } | Operation::Interrupt | Operation::Destroy => Intent::Nothing,
     }
 }
 

@@ -142,7 +142,11 @@ impl<'a> Script<'a> {
             Operation::Unlink { .. } => (Some(Call::Remove(path)), DONE),
             Operation::RemoveDir { .. } => (Some(Call::RemoveDir(path)), DONE),
             Operation::Rename { .. } => return start_rename(ticket),
-            Operation::Forget { .. } | Operation::StatFs => (None, UNFIT),
+            Operation::Forget { .. }
+            | Operation::StatFs
+            | Operation::Init { .. }
+            | Operation::Interrupt
+            | Operation::Destroy => (None, UNFIT),
         };
         Script { change, ending }
     }

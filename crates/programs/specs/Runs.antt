@@ -61,6 +61,7 @@ ServesHex sampled old over new = IsHexServed sampled old over new ⊎ ((over ≡
 -- the fault that a session ended with, where its link tells the cause if it broke
 abbrev pub fault_of : SessionEnd → Option Fault → Option Fault
 fault_of (end.Closed rest) cause = None
+fault_of end.Destroyed cause = None
 fault_of (end.BadLength len) cause = Some (FrameLength len)
 fault_of end.LinkBroken cause = Some (unwrap_or cause Link)
 fault_of end.Memory cause = Some Memory

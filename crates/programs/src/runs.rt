@@ -77,7 +77,7 @@ fn fault_of(end: SessionEnd, cause: Option<Fault>) -> Option<Fault>
     ensures { result ≡ fault_of end cause }
 {
     match end {
-        SessionEnd::Closed { .. } => None,
+        SessionEnd::Closed { .. } | SessionEnd::Destroyed => None,
         SessionEnd::BadLength { len } => Some(Fault::FrameLength { len }),
         SessionEnd::LinkBroken => Some(cause.unwrap_or(Fault::Link)),
         SessionEnd::Memory => Some(Fault::Memory),

@@ -10,6 +10,8 @@ mod folders;
 #[cfg(test)]
 mod frames;
 #[cfg(test)]
+mod greetings;
+#[cfg(test)]
 mod lines;
 #[cfg(test)]
 mod lookups;

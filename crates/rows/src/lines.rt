@@ -1,13 +1,17 @@
 //! Lines, pieces and lengths.
 
-use crate::frames::{ABSENT, ENTRY_A, LOOKUP_A, LOOKUP_ZZ, lines_of, run_into};
+use crate::frames::{ABSENT, AGREED, ENTRY_A, INIT, LOOKUP_A, LOOKUP_ZZ, lines_of, run_into};
 use crate::row::{NOTHING, Otherwise, Row, run_bytes, run_row, run_rows};
 use std::alloc::{AllocError, Global};
 use std::test::Fail;
 
 #[test]
 fn empty_input(rt: HostRuntime) -> Result<(), Fail> {
-    run_row(&rt, rt.alloc(), &NOTHING)
+    let row = Row {
+        greets: false,
+        ..NOTHING
+    };
+    run_row(&rt, rt.alloc(), &row)
 }
 
 /// Lengths below and above those of a frame, and lengths that may be: then the input ends before the frame does.
@@ -159,13 +163,13 @@ fn empty_lines_and_digits_of_either_case(rt: HostRuntime) -> Result<(), Fail> {
     run_row(&rt, rt.alloc(), &IN_PIECES)
 }
 
-/// The third line is bad. The lines before it are served.
+/// The fourth line is bad. The lines before it are served.
 const BAD_LINE: Row = Row {
     says: "a bad line",
     lines: &[LOOKUP_ZZ, ""],
     status: 4,
     replies: &[ABSENT],
-    fault: "mirrord: line 3 is not hexadecimal\n",
+    fault: "mirrord: line 4 is not hexadecimal\n",
     ..NOTHING
 };
 
@@ -207,10 +211,10 @@ const BAD_LINES: &[Row] = &[
         ..BAD_LINE
     },
     Row {
-        says: "the first line",
+        says: "the first line after INIT",
         lines: &["2g"],
         status: 4,
-        fault: "mirrord: line 1 is not hexadecimal\n",
+        fault: "mirrord: line 2 is not hexadecimal\n",
         ..NOTHING
     },
 ];
@@ -220,13 +224,13 @@ fn lines_that_are_not_hexadecimal(rt: HostRuntime) -> Result<(), Fail> {
     run_rows(&rt, rt.alloc(), BAD_LINES)
 }
 
-/// The output has room for the first reply alone: the link fails at the second.
+/// The output has room for INIT's reply and one more: the link fails at the third.
 #[test]
 fn output_that_is_full(rt: HostRuntime) -> Result<(), Fail> {
-    let input = lines_of(rt.alloc(), &[LOOKUP_ZZ, LOOKUP_ZZ, LOOKUP_ZZ])?;
-    let mut room = [0; 40];
+    let input = lines_of(rt.alloc(), &[INIT, LOOKUP_ZZ, LOOKUP_ZZ, LOOKUP_ZZ])?;
+    let mut room = [0; 201];
     let run = run_into(&rt, rt.alloc(), input.as_slice(), &mut room);
-    let reply = lines_of(rt.alloc(), &[ABSENT])?;
+    let reply = lines_of(rt.alloc(), &[AGREED, ABSENT])?;
     let are_replies = room.starts_with(reply.as_slice());
     let is_fault = run.faults.as_slice() == b"mirrord: the link failed\n".as_slice();
     if run.status == 4 && are_replies && is_fault {

@@ -1,6 +1,6 @@
 //! Runs of the program `hex` as rows: what it reads, and what it must write and end with.
 
-use crate::frames::{lines_of, run_on};
+use crate::frames::{AGREED, INIT, lines_of, run_on};
 use std::alloc::Global;
 use std::sync::Wait;
 use std::test::Fail;
@@ -10,21 +10,24 @@ use std::test::Fail;
 pub struct Row<'a> {
     /// Names the row where it comes otherwise.
     pub says: &'a str,
-    /// The lines of the input, of which spaces are left out.
+    /// Whether INIT is the first line, and its reply the first.
+    pub greets: bool,
+    /// The further lines of the input, of which spaces are left out.
     pub lines: &'a [&'a str],
     /// What follows them in the input, as it is.
     pub tail: &'a [u8],
     /// The exit status.
     pub status: u8,
-    /// The lines of the output, of which spaces are left out.
+    /// The further lines of the output, of which spaces are left out.
     pub replies: &'a [&'a str],
     /// What is written on standard error.
     pub fault: &'a str,
 }
 
-/// Nothing is read, nothing is written, and all is well.
+/// Nothing but INIT is read, nothing but its reply is written, and all is well.
 pub const NOTHING: Row = Row {
     says: "nothing",
+    greets: true,
     lines: &[],
     tail: b"",
     status: 0,
@@ -43,9 +46,16 @@ pub struct Otherwise<'a> {
 
 /// Runs the program on a row.
 pub fn run_row(rt: &impl Wait, alloc: Global, row: &Row) -> Result<(), Fail> {
-    let mut input = lines_of(alloc, row.lines)?;
+    let (first, reply): (&[&str], &[&str]) = if row.greets {
+        (&[INIT], &[AGREED])
+    } else {
+        (&[], &[])
+    };
+    let mut input = lines_of(alloc, first)?;
+    input.extend_from_slice(&lines_of(alloc, row.lines)?)?;
     input.extend_from_slice(row.tail)?;
-    let replies = lines_of(alloc, row.replies)?;
+    let mut replies = lines_of(alloc, reply)?;
+    replies.extend_from_slice(&lines_of(alloc, row.replies)?)?;
     let run = run_on(rt, alloc, &input);
     let are_replies = run.output.as_slice() == replies.as_slice();
     let is_fault = run.faults.as_slice() == row.fault.as_bytes();

@@ -1,6 +1,6 @@
 //! The whole program, from its words to its exit status.
 
-use crate::frames::{ABSENT, ENTRY_A, LOOKUP_A, lines_of, run_from, run_words};
+use crate::frames::{ABSENT, AGREED, ENTRY_A, INIT, LOOKUP_A, lines_of, run_from, run_words};
 use programs::hex_run;
 use std::io;
 use std::io::{ErrorKind, Write};
@@ -10,17 +10,22 @@ use std::test::Fail;
 #[test]
 fn sample_names_or_none(rt: HostRuntime) -> Result<(), Fail> {
     let alloc = rt.alloc();
-    let sample = run_words(&rt, alloc, &["mirrord", "hex", "--sample"], &[LOOKUP_A])?;
+    let sample = run_words(
+        &rt,
+        alloc,
+        &["mirrord", "hex", "--sample"],
+        &[INIT, LOOKUP_A],
+    )?;
     assert_eq!(rt; sample.status, 0);
-    assert!(rt; sample.output.as_slice() == lines_of(alloc, &[ENTRY_A])?.as_slice());
+    assert!(rt; sample.output.as_slice() == lines_of(alloc, &[AGREED, ENTRY_A])?.as_slice());
     assert!(rt; sample.faults.is_empty());
-    let bare = run_words(&rt, alloc, &["mirrord", "hex"], &[LOOKUP_A])?;
+    let bare = run_words(&rt, alloc, &["mirrord", "hex"], &[INIT, LOOKUP_A])?;
     assert_eq!(rt; bare.status, 0);
-    assert!(rt; bare.output.as_slice() == lines_of(alloc, &[ABSENT])?.as_slice());
+    assert!(rt; bare.output.as_slice() == lines_of(alloc, &[AGREED, ABSENT])?.as_slice());
     assert!(rt; bare.faults.is_empty());
-    let input = lines_of(alloc, &[LOOKUP_A])?;
+    let input = lines_of(alloc, &[INIT, LOOKUP_A])?;
     let unasked = run_from(&rt, alloc, false, &input);
-    assert!(rt; unasked.output.as_slice() == lines_of(alloc, &[ABSENT])?.as_slice());
+    assert!(rt; unasked.output.as_slice() == lines_of(alloc, &[AGREED, ABSENT])?.as_slice());
     Ok(())
 }
 
@@ -84,7 +89,7 @@ impl Write for Closed {
 #[test]
 fn broken_output(rt: HostRuntime) -> Result<(), Fail> {
     let alloc = rt.alloc();
-    let input = lines_of(alloc, &[LOOKUP_A, "no digits"])?;
+    let input = lines_of(alloc, &[INIT, "no digits"])?;
     let mut faults = Vec::new(alloc);
     let broken = Closed {
         kind: ErrorKind::BrokenPipe,

@@ -102,8 +102,39 @@ fn body_of(says: Says) -> ReplyBody {
     }
 }
 
+/// INIT 7.31, unique 0.
+fn greeting_of(alloc: Global) -> Result<Vec<u8>, AllocError> {
+    let request = Request {
+        unique: 0,
+        node: 0,
+        operation: Operation::Init {
+            major: 7,
+            minor: 31,
+            max_readahead: 131072,
+            flags: 0,
+        },
+    };
+    let mut frame = Vec::new(alloc);
+    encode_request(&request, &mut frame)?;
+    Ok(frame)
+}
+
+/// What is agreed on with it.
+const AGREED: ReplyBody = ReplyBody::Init(InitOut {
+    major: 7,
+    minor: 31,
+    max_readahead: 65536,
+    flags: 0,
+    max_background: 12,
+    congestion_threshold: 9,
+    max_write: 65536,
+    time_gran: 1,
+    max_pages: 0,
+});
+
 fn frames_of(alloc: Global, asks: &[(u64, Operation<'_>)]) -> Result<Vec<Vec<u8>>, AllocError> {
     let mut frames = Vec::new(alloc);
+    frames.push(greeting_of(alloc)?)?;
     let mut unique = 0u64;
     for (node, operation) in asks {
         unique = unique.saturating_add(1);
@@ -122,6 +153,11 @@ fn frames_of(alloc: Global, asks: &[(u64, Operation<'_>)]) -> Result<Vec<Vec<u8>
 fn replies_of(alloc: Global, replies: &[Says]) -> Result<Vec<u8>, AllocError> {
     let mut bytes = Vec::new(alloc);
     let mut unique = 0u64;
+    let greeting = Reply {
+        unique,
+        body: AGREED,
+    };
+    encode_reply(&greeting, &mut bytes)?;
     for says in replies {
         unique = unique.saturating_add(1);
         let body = body_of(*says);

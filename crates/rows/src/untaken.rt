@@ -3,7 +3,9 @@
 ghost use Rattle.std.specs.Prelude.{◌≡◌};
 
 use crate::client::{Client, Over, serve_client};
-use crate::frames::{ENTRY_E_REBORN, LOOKUP_A, LOOKUP_E, lines_of};
+use crate::frames::{
+    ABSENT, AGREED, DESTROY, ENTRY_E_REBORN, INIT, LOOKUP_A, LOOKUP_E, LOOKUP_ZZ, lines_of,
+};
 use backing::Fault;
 use engine::SessionEnd;
 use ledger::{Blanks, Ledgers, Totals};
@@ -38,19 +40,30 @@ fn bytes_of(alloc: Global, line: &str) -> Result<Vec<u8>, Fail> {
     Ok(hex::decode(alloc, &digits[..end])?)
 }
 
+// A client that sends INIT and these frames.
 fn client_of(alloc: Global, lines: &[&str], declined: u32) -> Result<Client, Fail> {
     let mut frames = Vec::new(alloc);
+    frames.push(bytes_of(alloc, INIT)?)?;
     for line in lines {
         frames.push(bytes_of(alloc, line)?)?;
     }
     Ok(Client::new(alloc, frames, declined))
 }
 
+// Whether these replies were taken, after INIT's.
+fn are_taken(alloc: Global, taken: &[u8], replies: &[&str]) -> Result<bool, Fail> {
+    let mut bytes = bytes_of(alloc, AGREED)?;
+    for reply in replies {
+        bytes.extend_from_slice(&bytes_of(alloc, reply)?)?;
+    }
+    Ok(taken == bytes.as_slice())
+}
+
 // The entry of `a` comes back, so its node is gone; the session goes on, and its number is born again for `e`.
 #[test]
 fn untaken_lookup(rt: HostRuntime) -> Result<(), Fail> {
     let alloc = rt.alloc();
-    let mut client = client_of(alloc, &[LOOKUP_A, LOOKUP_E], 1)?;
+    let mut client = client_of(alloc, &[LOOKUP_A, LOOKUP_E], 2)?;
     let over = serve_samples::<HostRuntime, Brand>(&rt, alloc, Blanks::new(1), None, &mut client)?;
     let totals = Totals {
         born: 2,
@@ -59,7 +72,7 @@ fn untaken_lookup(rt: HostRuntime) -> Result<(), Fail> {
         forgotten: 0,
     };
     assert_eq!(rt; over.end, SessionEnd::Closed { rest: 0 });
-    assert!(rt; client.taken.as_slice() == bytes_of(alloc, ENTRY_E_REBORN)?.as_slice());
+    assert!(rt; are_taken(alloc, &client.taken, &[ENTRY_E_REBORN])?);
     assert_eq!(rt; over.totals, totals);
     Ok(())
 }
@@ -68,7 +81,7 @@ fn untaken_lookup(rt: HostRuntime) -> Result<(), Fail> {
 #[test]
 fn strange_errors(rt: HostRuntime) -> Result<(), Fail> {
     let alloc = rt.alloc();
-    let reply = bytes_of(alloc, "10000000 fbffffff 0700000000000000")?;
+    let reply = "10000000 fbffffff 0700000000000000";
     for errno in [0, -5, 4096] {
         let mut client = client_of(alloc, &[LOOKUP_A], 0)?;
         let planned = Some(Fault::Before(errno));
@@ -107,7 +120,31 @@ fn rest_of_the_input(rt: HostRuntime) -> Result<(), Fail> {
             &mut client,
         )?;
         assert_eq!(rt; over.end, SessionEnd::Closed { rest });
-        assert!(rt; client.taken.is_empty());
+        assert!(rt; are_taken(alloc, &client.taken, &[])?);
     }
+    Ok(())
+}
+
+// An INIT whose reply is not taken has agreed on a version all the same.
+#[test]
+fn untaken_init(rt: HostRuntime) -> Result<(), Fail> {
+    let alloc = rt.alloc();
+    let mut client = client_of(alloc, &[LOOKUP_ZZ], 1)?;
+    let over =
+        serve_samples::<HostRuntime, Brand>(&rt, alloc, Blanks::new(1), None, &mut client)?;
+    assert_eq!(rt; over.end, SessionEnd::Closed { rest: 0 });
+    assert!(rt; client.taken.as_slice() == bytes_of(alloc, ABSENT)?.as_slice());
+    Ok(())
+}
+
+// The client ends the session, whether or not it takes the reply; what follows is dropped.
+#[test]
+fn destroyed_session(rt: HostRuntime) -> Result<(), Fail> {
+    let alloc = rt.alloc();
+    let mut client = client_of(alloc, &[DESTROY, LOOKUP_ZZ], 2)?;
+    let over =
+        serve_samples::<HostRuntime, Brand>(&rt, alloc, Blanks::new(1), None, &mut client)?;
+    assert_eq!(rt; over.end, SessionEnd::Destroyed);
+    assert!(rt; are_taken(alloc, &client.taken, &[])?);
     Ok(())
 }

@@ -2,9 +2,10 @@
 use Rattle.std.proofs.Common.{◌≡◌, ℕ, [], ◌∷◌, ◌++◌, refl}
 use Rattle.wire.specs.declared.reply.Entry.{Entry}
 use Rattle.wire.specs.declared.reply.Attributes.{Attributes}
-use Rattle.wire.specs.Replies.{mode_of, links_of, blocks_of, attributes_layout, attributes_values, entry_layout, entry_values, attr_layout, attr_values, statfs_layout, statfs_values}
+use Rattle.wire.specs.declared.reply.InitOut.{InitOut}
+use Rattle.wire.specs.Replies.{mode_of, links_of, blocks_of, attributes_layout, attributes_values, entry_layout, entry_values, attr_layout, attr_values, statfs_layout, statfs_values, init_layout, init_values}
 use Rattle.wire.proofs.Lengths.{cat_assoc}
-use Rattle.wire.specs.Written.{le, u32s, u64s, written}
+use Rattle.wire.specs.Written.{le, u16s, u32s, u64s, written}
 
 pub attributes_parts : (node : ℕ) (a : Attributes) → written attributes_layout (attributes_values node a) ≡ u64s (node ∷ a.size ∷ blocks_of a.size ∷ 0 ∷ 0 ∷ 0 ∷ []) ++ u32s (0 ∷ 0 ∷ 0 ∷ mode_of a.kind ∷ links_of a.kind ∷ a.uid ∷ a.gid ∷ 0 ∷ 4096 ∷ 0 ∷ [])
 unfolding le u32s u64s
@@ -22,4 +23,8 @@ pub statfs_parts : written statfs_layout statfs_values ≡ u64s (0 ∷ 0 ∷ 0 �
 unfolding le u32s u64s
 statfs_parts = refl
 
-pub ruleset entries = (attributes_parts, entry_parts, attr_parts, statfs_parts, cat_assoc)
+pub init_parts : (i : InitOut) → written init_layout (init_values i) ≡ u32s (i.major ∷ i.minor ∷ i.max_readahead ∷ i.flags ∷ []) ++ (u16s (i.max_background ∷ i.congestion_threshold ∷ []) ++ (u32s (i.max_write ∷ i.time_gran ∷ []) ++ (u16s (i.max_pages ∷ 0 ∷ []) ++ u32s (0 ∷ 0 ∷ 0 ∷ 0 ∷ 0 ∷ 0 ∷ 0 ∷ 0 ∷ []))))
+unfolding le u16s u32s
+init_parts i = refl
+
+pub ruleset entries = (attributes_parts, entry_parts, attr_parts, statfs_parts, init_parts, cat_assoc)

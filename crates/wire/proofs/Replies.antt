@@ -7,7 +7,7 @@ use Rattle.byteorder.specs.Endian.{little_number, little_bytes}
 use Rattle.byteorder.specs.Numbers.{little_number-reads_back, little_from-lt}
 use Rattle.wire.specs.declared.reply.Reply.{Reply}
 use Rattle.wire.specs.declared.reply.ReplyBody.{ReplyBody}
-use Rattle.wire.specs.declared.reply.ReplyBody.TheVariants.{Failed, Done, Entry, Attributes, StatFs}
+use Rattle.wire.specs.declared.reply.ReplyBody.TheVariants.{Failed, Done, Entry, Attributes, StatFs, Init}
 use Rattle.wire.specs.Fields.{u32, u64, num, Spells, CanTell, IsBytes}
 use Rattle.wire.specs.Replies.{error_of, reply_layout, reply_values, IsErrno, IsAnswer, IsReply}
 use Rattle.wire.specs.Written.{le, negated, error_word, body_bytes, reply_bytes}
@@ -61,6 +61,7 @@ all_read Done = tt
 all_read (Entry _) = tt
 all_read (Attributes _ _) = tt
 all_read StatFs = tt
+all_read (Init _) = tt
 
 pub reply_only : (r : Reply) (frame : List ℕ) → IsBytes frame → IsReply frame r → frame ≡ reply_bytes r
 unfolding reply_bytes body_bytes le

@@ -47,6 +47,9 @@ CanTell (limited limit ∷ fields) (num n ∷ values) = (n < 256 ^ 4) × (n ≤ 
 CanTell (anything ∷ []) [] = Unit {0}
 CanTell _ _ = ⊥
 
+abbrev pub u16 : Field
+u16 = number 2
+
 abbrev pub u32 : Field
 u32 = number 4
 

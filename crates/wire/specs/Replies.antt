@@ -5,12 +5,13 @@ use Rattle.byteorder.specs.Endian.{little_number}
 use Rattle.wire.specs.declared.reply.TheConstants.{REPLY_HEADER_LEN}
 use Rattle.wire.specs.declared.reply.Reply.{Reply}
 use Rattle.wire.specs.declared.reply.ReplyBody.{ReplyBody}
-use Rattle.wire.specs.declared.reply.ReplyBody.TheVariants.{Failed, Done, Entry, Attributes, StatFs}
+use Rattle.wire.specs.declared.reply.ReplyBody.TheVariants.{Failed, Done, Entry, Attributes, StatFs, Init}
 use Rattle.wire.specs.declared.reply.Entry.{Entry as GivenEntry}
 use Rattle.wire.specs.declared.reply.Attributes.{Attributes as GivenAttributes}
+use Rattle.wire.specs.declared.reply.InitOut.{InitOut}
 use Rattle.wire.specs.declared.reply.Kind.{Kind}
 use Rattle.wire.specs.declared.reply.Kind.TheVariants.{File, Folder}
-use Rattle.wire.specs.Fields.{Field, u32, u64, Value, num, Spells}
+use Rattle.wire.specs.Fields.{Field, u16, u32, u64, Value, num, Spells}
 
 -- ---- attributes and entries
 
@@ -61,6 +62,18 @@ statfs_values =
     num 0 ∷ num 0 ∷ num 0 ∷ num 0 ∷ num 0
     ∷ num 4096 ∷ num 255 ∷ num 4096 ∷ num 0 ∷ num 0 ∷ num 0 ∷ num 0 ∷ num 0 ∷ num 0 ∷ num 0 ∷ []
 
+-- ---- what is spoken
+
+-- major, minor, max_readahead, flags; max_background, congestion_threshold; max_write, time_gran; max_pages, and a number of two bytes and
+-- eight of four bytes that are unused
+abbrev pub init_layout : List Field
+init_layout = u32 ∷ u32 ∷ u32 ∷ u32 ∷ u16 ∷ u16 ∷ u32 ∷ u32 ∷ u16 ∷ u16 ∷ u32 ∷ u32 ∷ u32 ∷ u32 ∷ u32 ∷ u32 ∷ u32 ∷ u32 ∷ []
+
+abbrev pub init_values : InitOut → List Value
+init_values i =
+    num i.major ∷ num i.minor ∷ num i.max_readahead ∷ num i.flags ∷ num i.max_background ∷ num i.congestion_threshold
+    ∷ num i.max_write ∷ num i.time_gran ∷ num i.max_pages ∷ num 0 ∷ num 0 ∷ num 0 ∷ num 0 ∷ num 0 ∷ num 0 ∷ num 0 ∷ num 0 ∷ num 0 ∷ []
+
 -- ---- the header: the length, the error, and the number of the request
 
 abbrev pub error_in : List ℕ → ℤ
@@ -81,6 +94,7 @@ reply_layout Done = []
 reply_layout (Entry _) = entry_layout
 reply_layout (Attributes _ _) = attr_layout
 reply_layout StatFs = statfs_layout
+reply_layout (Init _) = init_layout
 
 abbrev pub reply_values : ReplyBody → List Value
 reply_values (Failed _) = []
@@ -88,6 +102,7 @@ reply_values Done = []
 reply_values (Entry e) = entry_values e
 reply_values (Attributes node a) = attr_values node a
 reply_values StatFs = statfs_values
+reply_values (Init i) = init_values i
 
 -- ---- replies
 
@@ -108,6 +123,7 @@ IsAnswer Done = Unit {0}
 IsAnswer (Entry e) = IsSized e.attributes.kind e.attributes.size
 IsAnswer (Attributes node a) = IsSized a.kind a.size
 IsAnswer StatFs = Unit {0}
+IsAnswer (Init i) = Unit {0}
 
 -- The frame is this reply.
 pub record IsReply (frame : List ℕ) (r : Reply) : Type 0 where

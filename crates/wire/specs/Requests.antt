@@ -4,12 +4,12 @@ use Rattle.std.specs.Str.{IsUtf8}
 use Rattle.std.specs.List.{AllByRecursion}
 use Rattle.byteorder.specs.Endian.{little_number}
 use Rattle.wire.specs.declared.header.Header.{Header}
-use Rattle.wire.specs.declared.opcode.TheConstants.{LOOKUP, FORGET, GETATTR, SETATTR, MKDIR, UNLINK, RMDIR, RENAME, STATFS}
+use Rattle.wire.specs.declared.opcode.TheConstants.{LOOKUP, FORGET, GETATTR, SETATTR, MKDIR, UNLINK, RMDIR, RENAME, STATFS, INIT, INTERRUPT, DESTROY}
 use Rattle.wire.specs.declared.request.TheConstants.{HEADER_LEN, MAX_FRAME_LEN}
 use Rattle.wire.specs.declared.request.Request.{Request}
 use Rattle.wire.specs.declared.request.Operation.{Operation}
-use Rattle.wire.specs.declared.request.Operation.TheVariants.{Lookup, Forget, GetAttr, SetAttr, MakeDir, Unlink, RemoveDir, Rename, StatFs}
-use Rattle.wire.specs.Fields.{Field, unread, text, u32, u64, Value, num, name, bytes, Spells}
+use Rattle.wire.specs.declared.request.Operation.TheVariants.{Lookup, Forget, GetAttr, SetAttr, MakeDir, Unlink, RemoveDir, Rename, StatFs, Init, Interrupt, Destroy}
+use Rattle.wire.specs.Fields.{Field, unread, text, anything, u32, u64, Value, num, name, bytes, Spells}
 
 -- ---- the header: the length, the opcode, unique, the node's number, and sixteen bytes that are not read
 
@@ -48,7 +48,10 @@ layout opcode =
     else (if opcode == RMDIR then Some (text ∷ [])
     else (if opcode == RENAME then Some (u64 ∷ text ∷ text ∷ [])
     else (if opcode == STATFS then Some []
-    else None))))))))
+    else (if opcode == INIT then Some (u32 ∷ u32 ∷ u32 ∷ u32 ∷ anything ∷ [])
+    else (if opcode == INTERRUPT then Some (anything ∷ [])
+    else (if opcode == DESTROY then Some []
+    else None)))))))))))
 
 abbrev pub opcode_of : Operation → ℕ
 opcode_of (Lookup _) = LOOKUP
@@ -60,6 +63,9 @@ opcode_of (Unlink _) = UNLINK
 opcode_of (RemoveDir _) = RMDIR
 opcode_of (Rename _ _ _) = RENAME
 opcode_of StatFs = STATFS
+opcode_of (Init _ _ _ _) = INIT
+opcode_of Interrupt = INTERRUPT
+opcode_of Destroy = DESTROY
 
 -- what an operation has in the fields of its layout
 abbrev pub values_of : Operation → List Value
@@ -72,6 +78,9 @@ values_of (Unlink n) = name n.now ∷ []
 values_of (RemoveDir n) = name n.now ∷ []
 values_of (Rename n new_parent new_name) = num new_parent ∷ name n.now ∷ name new_name.now ∷ []
 values_of StatFs = []
+values_of (Init major minor max_readahead flags) = num major ∷ num minor ∷ num max_readahead ∷ num flags ∷ []
+values_of Interrupt = []
+values_of Destroy = []
 
 -- the body has that layout, with these values
 abbrev pub IsLaidOut : Option (List Field) → List Value → List ℕ → Type 0

@@ -21,7 +21,10 @@ zeros n = replicate n 0
 unfoldable pub le : ℕ → ℕ → List ℕ
 le len n = little_bytes len n
 
--- numbers of four and of eight bytes, one after another
+-- numbers of two, of four and of eight bytes, one after another
+unfoldable pub u16s : List ℕ → List ℕ
+u16s ns = flat_map (little_bytes 2) ns
+
 unfoldable pub u32s : List ℕ → List ℕ
 u32s ns = flat_map (little_bytes 4) ns
 

@@ -2,11 +2,13 @@
 
 ghost use Rattle.std.specs.Prelude.{◌≡◌, ◌≤◌, ◌+◌, ◌++◌, length, vec_len, vec_capacity};
 ghost use Rattle.wire.specs.Fields.{CanTell};
-ghost use Rattle.wire.specs.Replies.{blocks_of, mode_of, links_of, attributes_layout, attributes_values, entry_layout, entry_values, attr_layout, attr_values, statfs_layout, statfs_values, reply_layout, reply_values};
+ghost use Rattle.wire.specs.Replies.{blocks_of, mode_of, links_of, attributes_layout, attributes_values, entry_layout, entry_values, attr_layout, attr_values, statfs_layout, statfs_values, init_layout, init_values, reply_layout, reply_values};
 ghost use Rattle.wire.specs.Written.{written, body_bytes};
 
-use crate::put::{put_u32s, put_u64s};
-use crate::reply::{ATTRIBUTES_LEN, Attributes, ENTRY_LEN, Entry, Kind, ReplyBody, STATFS_LEN};
+use crate::put::{put_u16s, put_u32s, put_u64s};
+use crate::reply::{
+    ATTRIBUTES_LEN, Attributes, ENTRY_LEN, Entry, INIT_LEN, InitOut, Kind, ReplyBody, STATFS_LEN,
+};
 
 fn blocks(size: u64) -> u64
     ensures { result ≡ blocks_of size }
@@ -81,6 +83,28 @@ fn put_statfs(out: &mut Vec<u8>)
     put_u32s(out, &[4096, 255, 4096, 0, 0, 0, 0, 0, 0, 0]);
 }
 
+fn pages(i: &InitOut) -> u16
+    ensures { result ≡ i.now.max_pages }
+{
+    i.max_pages
+}
+
+#[tactic(auto, using(crate::proofs::Entries::entries))]
+fn put_init(out: &mut Vec<u8>, i: &InitOut)
+    requires { vec_len out.old + INIT_LEN ≤ vec_capacity out.old }
+    ensures items { out.new.items ≡ out.old.items ++ written init_layout (init_values i.now) }
+    ensures tells { CanTell init_layout (init_values i.now) }
+{
+    let (major, minor, max_readahead, flags) = (i.major, i.minor, i.max_readahead, i.flags);
+    let (max_background, congestion_threshold) = (i.max_background, i.congestion_threshold);
+    let (max_write, time_gran, max_pages) = (i.max_write, i.time_gran, pages(i));
+    put_u32s(out, &[major, minor, max_readahead, flags]);
+    put_u16s(out, &[max_background, congestion_threshold]);
+    put_u32s(out, &[max_write, time_gran]);
+    put_u16s(out, &[max_pages, 0]);
+    put_u32s(out, &[0, 0, 0, 0, 0, 0, 0, 0]);
+}
+
 #[tactic(auto, unfolding(crate::specs::Written::le, crate::specs::Written::body_bytes))]
 pub fn body_len(body: &ReplyBody) -> u32
     ensures len { result ≡ length (body_bytes body.now) }
@@ -91,6 +115,7 @@ pub fn body_len(body: &ReplyBody) -> u32
         ReplyBody::Entry(_) => ENTRY_LEN,
         ReplyBody::Attributes { .. } => ATTRIBUTES_LEN,
         ReplyBody::StatFs => STATFS_LEN,
+        ReplyBody::Init(_) => INIT_LEN,
     }
 }
 
@@ -105,5 +130,6 @@ pub fn put_body(out: &mut Vec<u8>, body: &ReplyBody)
         ReplyBody::Entry(entry) => put_entry(out, entry),
         ReplyBody::Attributes { node, attributes } => put_attr(out, *node, attributes),
         ReplyBody::StatFs => put_statfs(out),
+        ReplyBody::Init(init) => put_init(out, init),
     }
 }

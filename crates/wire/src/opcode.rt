@@ -29,8 +29,14 @@ pub const RENAME: u32 = 12;
 /// `FUSE_STATFS` of `fuse.h`: asks for the sizes of the file system.
 pub const STATFS: u32 = 17;
 
+/// `FUSE_INIT` of `fuse.h`: agrees on a version.
+pub const INIT: u32 = 26;
+
 /// `FUSE_INTERRUPT` of `fuse.h`: asks to give up a request that is under way.
 pub const INTERRUPT: u32 = 36;
+
+/// `FUSE_DESTROY` of `fuse.h`: ends the session.
+pub const DESTROY: u32 = 38;
 
 /// `FUSE_BATCH_FORGET` of `fuse.h`: gives back lookups of several nodes.
 pub const BATCH_FORGET: u32 = 42;

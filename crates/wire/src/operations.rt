@@ -6,7 +6,10 @@ ghost use Rattle.wire.specs.Reading.{Gives, fields_at, operation_at, told};
 
 use crate::fault::WireFault;
 use crate::fronts::{name_of, nothing_left, text_front, u32_front, u64_front, unread_front};
-use crate::opcode::{FORGET, GETATTR, LOOKUP, MKDIR, RENAME, RMDIR, SETATTR, STATFS, UNLINK};
+use crate::opcode::{
+    DESTROY, FORGET, GETATTR, INIT, INTERRUPT, LOOKUP, MKDIR, RENAME, RMDIR, SETATTR, STATFS,
+    UNLINK,
+};
 use crate::request::Operation;
 
 fn name_alone(body: &[u8]) -> Result<&str, WireFault>
@@ -81,6 +84,30 @@ fn stat_fs(body: &[u8]) -> Result<Operation<'_>, WireFault>
 }
 
 #[tactic(auto, unfolding(crate::specs::Reading::operation_at))]
+fn init(body: &[u8]) -> Result<Operation<'_>, WireFault>
+    ensures { Gives told result (operation_at INIT body.now) }
+{
+    let (major, rest) = u32_front(body)?;
+    let (minor, rest) = u32_front(rest)?;
+    let (max_readahead, rest) = u32_front(rest)?;
+    let (flags, _) = u32_front(rest)?;
+    Ok(Operation::Init {
+        major,
+        minor,
+        max_readahead,
+        flags,
+    })
+}
+
+#[tactic(auto, unfolding(crate::specs::Reading::operation_at))]
+fn destroy(body: &[u8]) -> Result<Operation<'_>, WireFault>
+    ensures { Gives told result (operation_at DESTROY body.now) }
+{
+    nothing_left(body)?;
+    Ok(Operation::Destroy)
+}
+
+#[tactic(auto, unfolding(crate::specs::Reading::operation_at))]
 pub fn operation_of(opcode: u32, body: &[u8]) -> Result<Operation<'_>, WireFault>
     ensures { Gives told result (operation_at opcode body.now) }
 {
@@ -100,6 +127,9 @@ pub fn operation_of(opcode: u32, body: &[u8]) -> Result<Operation<'_>, WireFault
         }),
         RENAME => rename(body),
         STATFS => stat_fs(body),
+        INIT => init(body),
+        INTERRUPT => Ok(Operation::Interrupt),
+        DESTROY => destroy(body),
         _ => Err(WireFault::Opcode),
     }
 }

@@ -1,7 +1,7 @@
 //! Bytes put at the end of a vector that has room for them.
 
 ghost use Rattle.std.specs.Prelude.{◌≡◌, ◌≤◌, ◌+◌, ◌*◌, ◌++◌, ◌∷◌, [], length, vec_len, vec_capacity};
-ghost use Rattle.wire.specs.Written.{le, zeros, u32s, u64s};
+ghost use Rattle.wire.specs.Written.{le, zeros, u16s, u32s, u64s};
 
 pub fn put(out: &mut Vec<u8>, bytes: &[u8])
     requires { vec_len out.old + length bytes.now ≤ vec_capacity out.old }
@@ -10,6 +10,16 @@ pub fn put(out: &mut Vec<u8>, bytes: &[u8])
     ensures capacity { vec_capacity out.old ≤ vec_capacity out.new }
 {
     out.extend_from_slice(bytes).unwrap();
+}
+
+#[tactic(auto, unfolding(crate::specs::Written::le))]
+pub fn put_u16(out: &mut Vec<u8>, n: u16)
+    requires { vec_len out.old + 2 ≤ vec_capacity out.old }
+    ensures items { out.new.items ≡ out.old.items ++ le 2 n }
+    ensures len { vec_len out.new ≡ vec_len out.old + 2 }
+    ensures capacity { vec_capacity out.old ≤ vec_capacity out.new }
+{
+    put(out, &n.to_le_bytes());
 }
 
 #[tactic(auto, unfolding(crate::specs::Written::le))]
@@ -42,6 +52,18 @@ pub fn put_u64(out: &mut Vec<u8>, n: u64)
     ensures capacity { vec_capacity out.old ≤ vec_capacity out.new }
 {
     put(out, &n.to_le_bytes());
+}
+
+#[tactic(auto, unfolding(crate::specs::Written::u16s, crate::specs::Written::le))]
+pub fn put_u16s(out: &mut Vec<u8>, numbers: &[u16])
+    requires { vec_len out.old + 2 * length numbers.now ≤ vec_capacity out.old }
+    ensures items { out.new.items ≡ out.old.items ++ u16s numbers.now }
+    ensures len { vec_len out.new ≡ vec_len out.old + 2 * length numbers.now }
+    ensures capacity { vec_capacity out.old ≤ vec_capacity out.new }
+{
+    for n in numbers {
+        put_u16(out, *n);
+    }
 }
 
 #[tactic(auto, unfolding(crate::specs::Written::u32s, crate::specs::Written::le))]

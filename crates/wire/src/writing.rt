@@ -5,7 +5,10 @@ ghost use Rattle.wire.specs.Requests.{opcode_of};
 ghost use Rattle.wire.specs.Written.{operation_bytes};
 ghost use Rattle.wire.specs.Rows.{part_bytes, parts_bytes};
 
-use crate::opcode::{FORGET, GETATTR, LOOKUP, MKDIR, RENAME, RMDIR, SETATTR, STATFS, UNLINK};
+use crate::opcode::{
+    DESTROY, FORGET, GETATTR, INIT, INTERRUPT, LOOKUP, MKDIR, RENAME, RMDIR, SETATTR, STATFS,
+    UNLINK,
+};
 use crate::put::{put_text, put_u32, put_u64, put_zeros};
 use crate::request::{HEADER_LEN, Operation};
 use Part::{Text, U32, U64, Zeros};
@@ -56,6 +59,17 @@ pub fn row_of<'a>(operation: &Operation<'a>) -> Row<'a>
             [U64(new_parent), Text(name), Text(new_name), end, end],
         ),
         Operation::StatFs => (STATFS, [end; 5]),
+        Operation::Init {
+            major,
+            minor,
+            max_readahead,
+            flags,
+        } => (
+            INIT,
+            [U32(major), U32(minor), U32(max_readahead), U32(flags), end],
+        ),
+        Operation::Interrupt => (INTERRUPT, [end; 5]),
+        Operation::Destroy => (DESTROY, [end; 5]),
     };
     Row { opcode, parts }
 }

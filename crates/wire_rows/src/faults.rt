@@ -5,8 +5,8 @@ use std::alloc::Global;
 use std::test::Fail;
 use wire::WireFault::{Body, Frame, NameBad, NameLong, Opcode};
 use wire::{
-    BATCH_FORGET, FORGET, GETATTR, HEADER_LEN, Header, INTERRUPT, LOOKUP, MKDIR, RENAME, RMDIR,
-    SETATTR, STATFS, UNLINK, WireFault, decode, has_reply, header_of,
+    BATCH_FORGET, DESTROY, FORGET, GETATTR, HEADER_LEN, Header, INIT, INTERRUPT, LOOKUP, MKDIR,
+    RENAME, RMDIR, SETATTR, STATFS, UNLINK, WireFault, decode, has_reply, header_of,
 };
 
 /// A piece of a body.
@@ -43,6 +43,15 @@ const BODIES: &[Row] = &[
     Row(RENAME, &[Each(0, 8), Bytes(b"a\0b\0c\0")], Some(Body)),
     Row(RENAME, &[Each(0, 8), Bytes(b"/\0")], Some(Body)),
     Row(STATFS, &[Each(0, 1)], Some(Body)),
+    Row(INIT, &[], Some(Body)),
+    Row(INIT, &[Each(7, 15)], Some(Body)),
+    Row(INIT, &[Each(7, 16)], None),
+    Row(INIT, &[Each(7, 17)], None),
+    Row(INIT, &[Each(0, 65552)], None),
+    Row(INTERRUPT, &[], None),
+    Row(INTERRUPT, &[Each(0, 7)], None),
+    Row(DESTROY, &[], None),
+    Row(DESTROY, &[Each(0, 1)], Some(Body)),
 ];
 
 const NAMES: &[Row] = &[
@@ -83,7 +92,6 @@ const NAMES: &[Row] = &[
 const OPCODES: &[Row] = &[
     Row(0, &[], Some(Opcode)),
     Row(5, &[Bytes(b"/\0")], Some(Opcode)),
-    Row(INTERRUPT, &[Each(0, 8)], Some(Opcode)),
     Row(BATCH_FORGET, &[Each(0, 8)], Some(Opcode)),
     Row(45, &[Each(0, 16), Bytes(b"a\0b\0")], Some(Opcode)),
     Row(5, &[Each(0, 69592)], Some(Opcode)),

@@ -3,8 +3,11 @@
 use crate::bytes::{SIXTEEN, bytes_of};
 use std::alloc::Global;
 use std::test::Fail;
-use wire::ReplyBody::{Attributes as Attr, Done, Entry as Given, Failed, StatFs};
-use wire::{Attributes, Entry, Kind, Reply, ReplyBody, encode_reply, error_frame};
+use wire::ReplyBody::{Attributes as Attr, Done, Entry as Given, Failed, Init, StatFs};
+use wire::{
+    Attributes, Entry, InitOut, Kind, Negotiated, Reply, ReplyBody, encode_reply, error_frame,
+    negotiate,
+};
 
 /// The number of the request that is answered, what the reply says, and its bytes in digits.
 #[derive(Clone, Copy)]
@@ -35,6 +38,75 @@ const FOLDER: Attributes = Attributes {
     uid: 0,
     gid: 0,
 };
+
+/// What is agreed on with 7.31, more than 65,536 bytes read ahead, and no flags.
+const AGREED: InitOut = InitOut {
+    major: 7,
+    minor: 31,
+    max_readahead: 65536,
+    flags: 0,
+    max_background: 12,
+    congestion_threshold: 9,
+    max_write: 65536,
+    time_gran: 1,
+    max_pages: 0,
+};
+
+/// What a client of a higher major version is told.
+const OFFERED: InitOut = InitOut {
+    max_readahead: 0,
+    max_background: 0,
+    congestion_threshold: 0,
+    max_write: 0,
+    time_gran: 0,
+    ..AGREED
+};
+
+/// An offer's major and minor version, bytes read ahead and flags, and what comes of it.
+#[derive(Clone, Copy)]
+struct Greeting(u32, u32, u32, u32, Negotiated);
+
+const GREETINGS: &[Greeting] = &[
+    Greeting(7, 31, 131072, 0, Negotiated::Use(AGREED)),
+    Greeting(8, 0, 131072, 0xffffffff, Negotiated::Again(OFFERED)),
+    Greeting(0xffffffff, 31, 0, 0, Negotiated::Again(OFFERED)),
+    Greeting(6, 31, 131072, 0, Negotiated::Refuse),
+    Greeting(7, 22, 131072, 0, Negotiated::Refuse),
+    Greeting(
+        7,
+        23,
+        65535,
+        0xffbbdfde,
+        Negotiated::Use(InitOut {
+            minor: 23,
+            max_readahead: 65535,
+            ..AGREED
+        }),
+    ),
+    Greeting(
+        7,
+        40,
+        131072,
+        0x00442020,
+        Negotiated::Use(InitOut {
+            flags: 0x00442020,
+            max_pages: 16,
+            ..AGREED
+        }),
+    ),
+    Greeting(
+        7,
+        31,
+        0,
+        0xffffffff,
+        Negotiated::Use(InitOut {
+            max_readahead: 0,
+            flags: 0x00442021,
+            max_pages: 16,
+            ..AGREED
+        }),
+    ),
+];
 
 /// Eight bytes of zero.
 const EIGHT: &str = "0000000000000000";
@@ -123,6 +195,27 @@ const REPLIES: &[Row] = &[
             EIGHT,
         ],
     ),
+    Row(
+        1,
+        Init(AGREED),
+        &[
+            "50000000 00000000 0100000000000000 07000000 1f000000 00000100 00000000",
+            "0c00 0900 00000100 01000000 0000 0000",
+            SIXTEEN,
+            SIXTEEN,
+        ],
+    ),
+    Row(
+        1,
+        Init(OFFERED),
+        &[
+            "50000000 00000000 0100000000000000 07000000 1f000000",
+            EIGHT,
+            SIXTEEN,
+            SIXTEEN,
+            SIXTEEN,
+        ],
+    ),
 ];
 
 /// Whether `error_frame` has these bytes too, if it can say the reply.
@@ -145,6 +238,15 @@ fn bytes_of_replies(rt: HostRuntime) -> Result<(), Fail> {
         if out.as_slice() != bytes.as_slice() || !is_framed(&reply, &bytes) {
             return Err(Otherwise(reply).into());
         }
+    }
+    Ok(())
+}
+
+#[test]
+fn versions_that_are_agreed_on(rt: HostRuntime) -> Result<(), Fail> {
+    for greeting in GREETINGS {
+        let Greeting(major, minor, max_readahead, flags, answer) = *greeting;
+        assert_eq!(rt; negotiate(major, minor, max_readahead, flags), answer);
     }
     Ok(())
 }

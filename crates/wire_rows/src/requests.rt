@@ -4,7 +4,8 @@ use crate::bytes::{SIXTEEN, bytes_of};
 use std::alloc::Global;
 use std::test::Fail;
 use wire::Operation::{
-    Forget, GetAttr, Lookup, MakeDir, RemoveDir, Rename, SetAttr, StatFs, Unlink,
+    Destroy, Forget, GetAttr, Init, Interrupt, Lookup, MakeDir, RemoveDir, Rename, SetAttr, StatFs,
+    Unlink,
 };
 use wire::{Operation, Request, decode, encode_request};
 
@@ -139,10 +140,44 @@ const WRITTEN: &[Row] = &[
         1,
         StatFs,
     ),
+    Row(
+        &[
+            "38000000 1a000000 0100000000000000 0000000000000000",
+            SIXTEEN,
+            "07000000 1f000000 00000200 21204400",
+        ],
+        1,
+        0,
+        Init {
+            major: 7,
+            minor: 31,
+            max_readahead: 131072,
+            flags: 0x442021,
+        },
+    ),
+    Row(
+        &[
+            "28000000 24000000 0600000000000000 0000000000000000",
+            SIXTEEN,
+        ],
+        6,
+        0,
+        Interrupt,
+    ),
+    Row(
+        &[
+            "28000000 26000000 0200000000000000 0000000000000000",
+            SIXTEEN,
+        ],
+        2,
+        0,
+        Destroy,
+    ),
 ];
 
 /// Frames in which bytes that are not read are something else: uid, gid, pid and padding; of GETATTR the flags and the
-/// handle, of SETATTR its padding and what follows its size, of MKDIR the mode and the umask.
+/// handle, of SETATTR its padding and what follows its size, of MKDIR the mode and the umask, of INIT what follows its
+/// flags, of INTERRUPT all.
 const READ: &[Row] = &[
     Row(
         &[
@@ -181,6 +216,31 @@ const READ: &[Row] = &[
         4,
         1,
         MakeDir { name: "m" },
+    ),
+    Row(
+        &[
+            "39000000 1a000000 0100000000000000 0000000000000000",
+            ONES,
+            "08000000 00000000 00000000 01000000 ff",
+        ],
+        1,
+        0,
+        Init {
+            major: 8,
+            minor: 0,
+            max_readahead: 0,
+            flags: 1,
+        },
+    ),
+    Row(
+        &[
+            "31000000 24000000 0600000000000000 0200000000000000",
+            ONES,
+            "0700000000000000 ff",
+        ],
+        6,
+        2,
+        Interrupt,
     ),
 ];
 

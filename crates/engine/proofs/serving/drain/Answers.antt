@@ -3,7 +3,7 @@ use Rattle.steps.specs.Kept.{world_of}
 use Rattle.wire.specs.Stream.{Cutting}
 use Rattle.table.proofs.Gaining.{gains_on, gains_same}
 use Rattle.engine.specs.Tables.{worlds}
-use Rattle.engine.specs.Walks.{side}
+use Rattle.engine.specs.Walks.{side, stand}
 use Rattle.engine.proofs.Walking.{bad_stop, frame_on, walks_none}
 use Rattle.engine.proofs.serving.drain.Goals as goal
 
@@ -13,7 +13,7 @@ loop-frame-init g c = record {
   settings = refl;
   idle = c.requires.idle;
   gains = gains_same (world_of c.args.table.now) (world_of c.args.table.now) c.args.share.now c.args.share.now c.attest.ensures refl refl;
-  walks = walks_none worlds c.args.desk.now.settings g.L.LinkIn.receives g.L.LinkOut.sends g.C.Calls.gives (side c.args.link.now c.args.calls.now (world_of c.args.table.now) c.args.cutter.now.kept);
+  walks = walks_none worlds c.args.desk.now.settings g.L.LinkIn.receives g.L.LinkOut.sends g.C.Calls.gives (side c.args.link.now c.args.calls.now (stand (world_of c.args.table.now) c.args.desk.now.agreed) c.args.cutter.now.kept);
 }
 
 pub returns-in-Some-clause-drains : goal.returns-in-Some-clause-drains
@@ -23,15 +23,15 @@ returns-in-Some-clause-drains g c =
     record {
       reached = Some c.in-Some.end;
       walks = frame_on worlds c.args.desk.now.settings g.L.LinkIn.receives g.L.LinkOut.sends g.C.Calls.gives
-          (side c.args.link.now c.args.calls.now (world_of c.args.table.now) c.args.cutter.now.kept)
-          c.loop-frame.link c.work_off.new.link c.loop-frame.calls c.work_off.new.calls (world_of c.loop-frame.table) (world_of c.work_off.new.table)
-          c.loop-frame.cutter.kept c.in-Ok-Some.frame.items c.deref.result.now c.next.new.self.kept c.work_off.result c.ending.result (Some c.in-Some.end)
-          c.loop-frame.desk.settings inv.settings inv.walks frame.front frame.framed (sym c.deref.ensures.value) c.work_off.ensures.idle c.work_off.ensures.worked c.ending.ensures c.in-Some.is;
+          (side c.args.link.now c.args.calls.now (stand (world_of c.args.table.now) c.args.desk.now.agreed) c.args.cutter.now.kept)
+          c.loop-frame.link c.meet.new.link c.loop-frame.calls c.meet.new.calls (stand (world_of c.loop-frame.table) c.loop-frame.desk.agreed) (stand (world_of c.meet.new.table) c.meet.new.self.agreed)
+          c.loop-frame.cutter.kept c.in-Ok-Some.frame.items c.deref.result.now c.next.new.self.kept c.meet.result (Some c.in-Some.end)
+          c.loop-frame.desk.settings inv.settings inv.walks frame.front frame.framed (sym c.deref.ensures.value) c.meet.ensures.idle c.meet.ensures.met c.in-Some.is;
       stops = refl;
     }
 
 pub returns-in-Some-clause-gains : goal.returns-in-Some-clause-gains
-returns-in-Some-clause-gains g c = gains_on (world_of c.args.table.now) (world_of c.loop-frame.table) (world_of c.work_off.new.table) c.args.share.now c.loop-frame.share c.work_off.new.share c.loop-frame.invariant.gains c.work_off.ensures.gains
+returns-in-Some-clause-gains g c = gains_on (world_of c.args.table.now) (world_of c.loop-frame.table) (world_of c.meet.new.table) c.args.share.now c.loop-frame.share c.meet.new.share c.loop-frame.invariant.gains c.meet.ensures.gains
 
 pub loop-frame-preserved : goal.loop-frame-preserved
 loop-frame-preserved g c =
@@ -39,14 +39,14 @@ loop-frame-preserved g c =
     let frame = rw c.in-Ok-Some.field-0-is at c.in-Ok-Some.ensures.frame in
     record {
       stopped = frame.stopped ∙ inv.stopped;
-      settings = c.work_off.ensures.settings ∙ inv.settings;
-      idle = c.work_off.ensures.idle;
-      gains = gains_on (world_of c.args.table.now) (world_of c.loop-frame.table) (world_of c.work_off.new.table) c.args.share.now c.loop-frame.share c.work_off.new.share inv.gains c.work_off.ensures.gains;
+      settings = c.meet.ensures.settings ∙ inv.settings;
+      idle = c.meet.ensures.idle;
+      gains = gains_on (world_of c.args.table.now) (world_of c.loop-frame.table) (world_of c.meet.new.table) c.args.share.now c.loop-frame.share c.meet.new.share inv.gains c.meet.ensures.gains;
       walks = frame_on worlds c.args.desk.now.settings g.L.LinkIn.receives g.L.LinkOut.sends g.C.Calls.gives
-          (side c.args.link.now c.args.calls.now (world_of c.args.table.now) c.args.cutter.now.kept)
-          c.loop-frame.link c.work_off.new.link c.loop-frame.calls c.work_off.new.calls (world_of c.loop-frame.table) (world_of c.work_off.new.table)
-          c.loop-frame.cutter.kept c.in-Ok-Some.frame.items c.deref.result.now c.next.new.self.kept c.work_off.result c.ending.result None
-          c.loop-frame.desk.settings inv.settings inv.walks frame.front frame.framed (sym c.deref.ensures.value) c.work_off.ensures.idle c.work_off.ensures.worked c.ending.ensures c.in-None.is;
+          (side c.args.link.now c.args.calls.now (stand (world_of c.args.table.now) c.args.desk.now.agreed) c.args.cutter.now.kept)
+          c.loop-frame.link c.meet.new.link c.loop-frame.calls c.meet.new.calls (stand (world_of c.loop-frame.table) c.loop-frame.desk.agreed) (stand (world_of c.meet.new.table) c.meet.new.self.agreed)
+          c.loop-frame.cutter.kept c.in-Ok-Some.frame.items c.deref.result.now c.next.new.self.kept c.meet.result None
+          c.loop-frame.desk.settings inv.settings inv.walks frame.front frame.framed (sym c.deref.ensures.value) c.meet.ensures.idle c.meet.ensures.met c.in-None.is;
     }
 
 pub returns-in-Err-BadLength-clause-drains : goal.returns-in-Err-BadLength-clause-drains
@@ -54,6 +54,6 @@ returns-in-Err-BadLength-clause-drains g c =
     let arm = c.in-Err-BadLength in
     let stopped = arm.ensures.for_good arm.len (ap Err arm.field-0-is) in
     bad_stop worlds c.args.desk.now.settings g.L.LinkIn.receives g.L.LinkOut.sends g.C.Calls.gives
-    (side c.args.link.now c.args.calls.now (world_of c.args.table.now) c.args.cutter.now.kept)
-    c.loop-frame.link c.loop-frame.calls (world_of c.loop-frame.table) c.loop-frame.cutter.kept c.next.new.self.kept arm.len
+    (side c.args.link.now c.args.calls.now (stand (world_of c.args.table.now) c.args.desk.now.agreed) c.args.cutter.now.kept)
+    c.loop-frame.link c.loop-frame.calls (stand (world_of c.loop-frame.table) c.loop-frame.desk.agreed) c.loop-frame.cutter.kept c.next.new.self.kept arm.len
     c.loop-frame.invariant.walks (sym (ap (λ (k : Cutting). k.kept) stopped)) ((arm.ensures.bad arm.len).0 (ap Err arm.field-0-is))

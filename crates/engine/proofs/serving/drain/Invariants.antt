@@ -2,7 +2,7 @@ use Rattle.std.proofs.Common.{◌≡◌, length}
 use Rattle.steps.specs.Kept.{world_of}
 use Rattle.table.specs.Gains.{Gains}
 use Rattle.engine.specs.Tables.{worlds, IsIdle}
-use Rattle.engine.specs.Walks.{side, Walks}
+use Rattle.engine.specs.Walks.{side, stand, Walks}
 use Rattle.engine.proofs.serving.drain.Given as goal
 
 -- the frames so far are worked off
@@ -13,7 +13,8 @@ invariant-loop-frame g l = record {
   idle : IsIdle (world_of l.table);
   gains : Gains (world_of l.initial.table) l.initial.share (world_of l.table) l.share;
   walks : Walks worlds l.initial.desk.settings g.L.LinkIn.receives g.L.LinkOut.sends g.C.Calls.gives
-      (side l.initial.link l.initial.calls (world_of l.initial.table) l.initial.cutter.kept) (side l.link l.calls (world_of l.table) l.cutter.kept);
+      (side l.initial.link l.initial.calls (stand (world_of l.initial.table) l.initial.desk.agreed) l.initial.cutter.kept)
+      (side l.link l.calls (stand (world_of l.table) l.desk.agreed) l.cutter.kept);
 }
 
 -- each frame takes its bytes with it

@@ -1,9 +1,9 @@
-use Rattle.std.proofs.Common.{◌≡◌, None, []}
+use Rattle.std.proofs.Common.{◌≡◌, false, None, []}
 use Rattle.steps.specs.Kept.{world_of}
 use Rattle.wire.specs.Stream.{IsPartial}
 use Rattle.table.specs.Gains.{Gains}
 use Rattle.engine.specs.Tables.{worlds, IsIdle}
-use Rattle.engine.specs.Walks.{side, Walks}
+use Rattle.engine.specs.Walks.{side, stand, Walks}
 use Rattle.engine.proofs.serving.serve.Given as goal
 
 -- no whole frame and no bad length is left between two pieces
@@ -15,5 +15,5 @@ invariant-loop g l = record {
   idle : IsIdle (world_of l.table);
   gains : Gains (world_of l.initial.table) l.initial.share (world_of l.table) l.share;
   walks : Walks worlds l.fn.settings g.L.LinkIn.receives g.L.LinkOut.sends g.C.Calls.gives
-      (side l.initial.link l.initial.calls (world_of l.initial.table) []) (side l.link l.calls (world_of l.table) l.cutter.kept);
+      (side l.initial.link l.initial.calls (stand (world_of l.initial.table) false) []) (side l.link l.calls (stand (world_of l.table) l.desk.agreed) l.cutter.kept);
 }

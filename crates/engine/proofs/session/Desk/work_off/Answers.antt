@@ -4,7 +4,7 @@ use Rattle.table.proofs.Gaining.{gains_same}
 use Rattle.engine.proofs.Alone.{forgets_idle}
 use Rattle.engine.specs.Tables.{worlds}
 use Rattle.ops.specs.Intents.{Begin, want_of}
-use Rattle.engine.proofs.Turns.{carried, fault_answered, forgot, said_at_once, unbegun}
+use Rattle.engine.proofs.Turns.{carried, fault_answered, forgot, passed_over, said_at_once, unbegun}
 use Rattle.engine.proofs.session.Desk.work_off.Goals as goal
 
 pub returns-in-Err-clause-worked : goal.returns-in-Err-clause-worked
@@ -31,6 +31,13 @@ pub returns-in-Forget-clause-worked : goal.returns-in-Forget-clause-worked
 returns-in-Forget-clause-worked g c =
     forgot worlds c.args.self.now.settings g.L.LinkOut.sends g.C.Calls.gives c.args.frame.now c.in-Ok.request c.in-Forget.number c.in-Forget.lookups c.args.link.now c.args.calls.now (world_of c.args.table.now) (world_of c.forget.new.self)
     c.in-Ok.ensures.found c.in-Forget.ensures (c.forget.result, c.forget.ensures.forgets)
+
+pub returns-in-Nothing-clause-worked : goal.returns-in-Nothing-clause-worked
+returns-in-Nothing-clause-worked g c =
+    passed_over worlds c.args.self.now.settings g.L.LinkOut.sends g.C.Calls.gives c.args.frame.now c.in-Ok.request c.args.link.now c.args.calls.now (world_of c.args.table.now) c.in-Ok.ensures.found c.in-Nothing.ensures
+
+pub returns-in-Nothing-clause-gains : goal.returns-in-Nothing-clause-gains
+returns-in-Nothing-clause-gains g c = gains_same (world_of c.args.table.now) (world_of c.args.table.now) c.args.share.now c.args.share.now c.attest.ensures refl refl
 
 pub returns-in-Forget-clause-idle : goal.returns-in-Forget-clause-idle
 returns-in-Forget-clause-idle g c =

@@ -1,0 +1,146 @@
+//! One frame, by whether a version is agreed on.
+
+ghost use Rattle.std.specs.Prelude.{◌≡◌, None, Some};
+ghost use Rattle.steps.specs.Kept.{world_of};
+ghost use Rattle.table.specs.Gains.{Gains};
+ghost use Rattle.wire.specs.Requests.{opcode_in, unique_in, IsFramed};
+ghost use Rattle.wire.specs.declared.opcode.TheConstants.{INIT};
+ghost use Rattle.engine.specs.Reference.{agrees, ending, greeting_of, negotiated_by};
+ghost use Rattle.engine.specs.Tables.{worlds, IsIdle};
+ghost use Rattle.engine.specs.Walks.{stand, GreetsFrame, Met, PartsFrame, Welcomes};
+
+use crate::classes::{Class, class_of};
+use crate::ends::SessionEnd;
+use crate::links::{LinkOut, Sent};
+use crate::session::{Desk, confirm, refuse};
+use backing::Calls;
+use errno::{EIO, ENOMEM, EPROTO};
+use ledger::{Ledgers, Share};
+use table::Table;
+use wire::{Negotiated, Operation, Reply, ReplyBody, decode, header_of, negotiate};
+
+/// How a session has ended with a reply, if it has.
+fn ending(sent: Option<Sent>, destroyed: bool) -> Option<SessionEnd>
+    ensures { result ≡ ending sent destroyed }
+{
+    match sent {
+        Some(Sent::Broken) => return Some(SessionEnd::LinkBroken),
+        Some(Sent::Taken | Sent::Untaken) | None => {}
+    }
+    if destroyed {
+        return Some(SessionEnd::Destroyed);
+    }
+    None
+}
+
+/// What an INIT is answered.
+fn greeting_of(answer: Negotiated) -> ReplyBody
+    ensures { result ≡ greeting_of answer }
+{
+    match answer {
+        Negotiated::Use(out) | Negotiated::Again(out) => ReplyBody::Init(out),
+        Negotiated::Refuse => ReplyBody::Failed { errno: EPROTO },
+    }
+}
+
+/// Whether a version is agreed on by the answer to an INIT, or was before.
+fn agrees(answer: Negotiated, before: bool) -> bool
+    ensures { result ≡ agrees None answer before }
+{
+    match answer {
+        Negotiated::Use(_) => true,
+        Negotiated::Again(_) | Negotiated::Refuse => before,
+    }
+}
+
+/// What an operation comes to that is an INIT.
+fn negotiated_by(operation: Operation<'_>) -> Option<Negotiated>
+    ensures { result ≡ negotiated_by operation.entry }
+{
+    match operation {
+        Operation::Init {
+            major,
+            minor,
+            max_readahead,
+            flags,
+        } => Some(negotiate(major, minor, max_readahead, flags)),
+        _ => None,
+    }
+}
+
+/// Answers a DESTROY, and tells whether the session ends with it.
+fn part<L: LinkOut>(link: &mut L, frame: &[u8], unique: u64) -> (Sent, bool)
+    requires { unique ≡ unique_in frame.now }
+    ensures { PartsFrame L.sends frame.now link.old result.0 result.1 link.new }
+{
+    match decode(frame) {
+        Ok(_) => (confirm(link, unique), true),
+        Err(fault) => (refuse(link, unique, fault.errno()), false),
+    }
+}
+
+impl Desk {
+    /// Answers an INIT by what it comes to.
+    fn welcome<L: LinkOut>(&mut self, link: &mut L, unique: u64, answer: Negotiated) -> Sent
+        ensures welcomes { Welcomes L.sends unique answer self.old.agreed link.old result link.new self.new.agreed }
+        ensures settings { self.new.settings ≡ self.old.settings }
+    {
+        let body = greeting_of(answer);
+        match self.offer(link, &Reply { unique, body }) {
+            Some(sent) => {
+                self.agreed = agrees(answer, self.agreed);
+                sent
+            }
+            None => refuse(link, unique, ENOMEM),
+        }
+    }
+
+    /// Answers an INIT, or its fault.
+    fn greet<L: LinkOut>(&mut self, link: &mut L, frame: &[u8], unique: u64) -> Sent
+        requires unique { unique ≡ unique_in frame.now }
+        requires init { opcode_in frame.now ≡ INIT }
+        ensures greets { GreetsFrame L.sends frame.now self.old.agreed link.old result link.new self.new.agreed }
+        ensures settings { self.new.settings ≡ self.old.settings }
+    {
+        match decode(frame) {
+            Ok(request) => match negotiated_by(request.operation) {
+                Some(answer) => self.welcome(link, request.unique, answer),
+                None => unreachable!(),
+            },
+            Err(fault) => refuse(link, unique, fault.errno()),
+        }
+    }
+
+    /// Meets one frame. Some end says that the session is over with it.
+    pub fn meet<T: Ledgers, L: LinkOut, C: Calls>(
+        &mut self,
+        link: &mut L,
+        calls: &mut C,
+        table: &mut Table<T>,
+        share: &mut Share<T>,
+        frame: &[u8],
+    ) -> Option<SessionEnd>
+        requires framed { IsFramed frame.now }
+        requires idle { IsIdle (world_of table.old) }
+        ensures met { Met worlds self.old.settings L.sends C.gives frame.now
+            link.old calls.old (stand (world_of table.old) self.old.agreed) result link.new calls.new (stand (world_of table.new) self.new.agreed) }
+        ensures gains { Gains (world_of table.old) share.old (world_of table.new) share.new }
+        ensures idle { IsIdle (world_of table.new) }
+        ensures settings { self.new.settings ≡ self.old.settings }
+    {
+        table.attest();
+        let Some(header) = header_of(frame) else {
+            unreachable!()
+        };
+        match class_of(self.agreed, header.opcode) {
+            Class::Ignored => None,
+            Class::Misplaced => ending(Some(refuse(link, header.unique, EIO)), false),
+            Class::Greeting => ending(Some(self.greet(link, frame, header.unique)), false),
+            Class::Farewell => {
+                let (sent, destroyed) = part(link, frame, header.unique);
+                ending(Some(sent), destroyed)
+            }
+            Class::Asking => ending(self.work_off(link, calls, table, share, frame), false),
+        }
+    }
+}
