@@ -11,7 +11,9 @@ use std::alloc::{AllocError, Global};
 use std::sync::Wait;
 use std::test::Fail;
 use table::Limits;
-use wire::{Attributes, Entry, Operation, Reply, ReplyBody, Request, encode_reply, encode_request};
+use wire::{
+    Attributes, Entry, InitOut, Operation, Reply, ReplyBody, Request, encode_reply, encode_request,
+};
 
 /// A session over the sample names.
 #[derive(Clone, Copy)]

@@ -130,8 +130,7 @@ fn rest_of_the_input(rt: HostRuntime) -> Result<(), Fail> {
 fn untaken_init(rt: HostRuntime) -> Result<(), Fail> {
     let alloc = rt.alloc();
     let mut client = client_of(alloc, &[LOOKUP_ZZ], 1)?;
-    let over =
-        serve_samples::<HostRuntime, Brand>(&rt, alloc, Blanks::new(1), None, &mut client)?;
+    let over = serve_samples::<HostRuntime, Brand>(&rt, alloc, Blanks::new(1), None, &mut client)?;
     assert_eq!(rt; over.end, SessionEnd::Closed { rest: 0 });
     assert!(rt; client.taken.as_slice() == bytes_of(alloc, ABSENT)?.as_slice());
     Ok(())
@@ -142,8 +141,7 @@ fn untaken_init(rt: HostRuntime) -> Result<(), Fail> {
 fn destroyed_session(rt: HostRuntime) -> Result<(), Fail> {
     let alloc = rt.alloc();
     let mut client = client_of(alloc, &[DESTROY, LOOKUP_ZZ], 2)?;
-    let over =
-        serve_samples::<HostRuntime, Brand>(&rt, alloc, Blanks::new(1), None, &mut client)?;
+    let over = serve_samples::<HostRuntime, Brand>(&rt, alloc, Blanks::new(1), None, &mut client)?;
     assert_eq!(rt; over.end, SessionEnd::Destroyed);
     assert!(rt; are_taken(alloc, &client.taken, &[])?);
     Ok(())
