@@ -117,6 +117,8 @@ fn start_rename(ticket: &Ticket) -> Script<'_>
 
 impl<'a> Script<'a> {
     /// The script of a request that began with this ticket.
+    ///
+    /// A ticket that has not the paths of its request, and a request that makes no call, has a script that is over with EIO (own).
     pub fn start(operation: Operation<'_>, ticket: &'a Ticket) -> Script<'a>
         ensures { plan_ahead result ≡ plan_of operation.entry ticket.now }
     {
@@ -163,6 +165,8 @@ impl<'a> Script<'a> {
     }
 
     /// Takes the answer to the next call.
+    ///
+    /// A fault ends the script with its error number, the directory's own; an answer that is not right for its call ends it with EIO (own).
     pub fn feed(&mut self, answer: Answer)
         ensures plan { plan_ahead self.new ≡ after (plan_ahead self.old) answer }
         ensures fewer { 0 < calls_left self.old → calls_left self.new < calls_left self.old }
