@@ -110,6 +110,10 @@ pub fn serve_client<H: Wait, L: Ledgers>(
     requires names { blanks ≡ L.names }
     requires shares { L.names.parts ≡ 1 }
 {
+    // The root is a node.
+    if limits.nodes == 0 {
+        return Err(AllocError);
+    }
     let (mut table, mut shares) = Table::<L>::open(alloc, limits, blanks, 1)?;
     let mut share = shares.pop().unwrap();
     shares.destroy_empty();
