@@ -2,7 +2,7 @@
 use Rattle.std.proofs.Common.{ℕ, ◌≡◌, ◌<◌, ◌+◌, length, take, Option, Some, None, refl, sym, subst, arith, inl, inr}
 use Rattle.std.specs.Option.{option_map}
 use Rattle.std.proofs.lemmas.Bool.{cases_eq}
-use Rattle.paths.specs.Fronts.{Names}
+use Rattle.paths.specs.Prefixes.{Names}
 use Rattle.backing.specs.declared.call.Kind.TheVariants as kinds
 use Rattle.backing.specs.declared.entries.Item.{Item}
 use Rattle.errno.specs.declared.TheConstants.{ENOENT, ENOTDIR}

@@ -1,7 +1,7 @@
 -- What the ends of a call say of the tree.
 use Rattle.std.proofs.Common.{ℕ, ℤ, ◌≡◌, length, List, ◌∷◌, [], Result, Ok, Err, Option, Some, None, true, false, refl, sym, ap, ◌∙◌, subst, inl, inr}
 use Rattle.std.proofs.lemmas.Option.{same_Some}
-use Rattle.paths.specs.Fronts.{Names}
+use Rattle.paths.specs.Prefixes.{Names}
 use Rattle.backing.specs.declared.call.Answer.{Answer}
 use Rattle.backing.specs.declared.call.Answer.TheVariants.{Done, Wrote, Fault}
 use Rattle.errno.specs.declared.TheConstants.{ENOMEM}

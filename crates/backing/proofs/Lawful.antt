@@ -1,10 +1,10 @@
 -- A tree stays one: each path's parent is a folder.
 use Rattle.std.proofs.Common.{ℕ, ◌≡◌, length, take, List, ◌++◌, ◌∷◌, [], Option, Some, None, IsSome, refl, sym, ap, ◌∙◌, subst, arith, rules, ◌⊎◌, inl, inr, append_assoc, append-nil, length-append}
 use Rattle.std.proofs.lemmas.Option.{none-some}
-use Rattle.paths.specs.Fronts.{Name, Names}
+use Rattle.paths.specs.Prefixes.{Name, Names}
 use Rattle.backing.specs.declared.entries.Item.{Item}
 use Rattle.backing.specs.declared.entries.Item.TheVariants.{Folder, File}
-use Rattle.backing.specs.Tree.{Tree, IsTree, IsFolder, Leads, IsBare, with_item, without}
+use Rattle.backing.specs.Tree.{Tree, IsTree, IsFolder, Resolves, IsBare, with_item, without}
 use Rattle.backing.proofs.PathLemmas.{same_path}
 use Rattle.backing.proofs.Looking.{with_other, without_same, without_other}
 
@@ -26,28 +26,28 @@ pub cases_Option : (o : Option Item) → (o ≡ None) ⊎ IsSome o
 cases_Option None = inl refl
 cases_Option (Some item) = inr (search rules)
 
-take-front : (up more : Names) → take (length up) (up ++ more) ≡ up
-take-front [] more = refl
-take-front (x ∷ up) more = ap (λ (p : Names). x ∷ p) (take-front up more)
+take-prefix : (up more : Names) → take (length up) (up ++ more) ≡ up
+take-prefix [] more = refl
+take-prefix (x ∷ up) more = ap (λ (p : Names). x ∷ p) (take-prefix up more)
 
 pub longer : (up : Names) (name : Name) → up ++ name ∷ [] ≡ up → ⊥
 longer up name e = let l : length (up ++ name ∷ []) ≡ length up = ap (λ (p : Names). length p) e in omega (arith, l, length-append up (name ∷ []))
 
 -- the way down to a path ends at its parent
-pub parent_leads : (at : Tree) (up : Names) (name : Name) → Leads at (up ++ name ∷ []) → at up ≡ Some Folder
+pub parent_leads : (at : Tree) (up : Names) (name : Name) → Resolves at (up ++ name ∷ []) → at up ≡ Some Folder
 parent_leads at up name leads =
     let it = leads.down (length up) (omega (arith, length-append up (name ∷ []))) in
-    subst (λ (p : Names). at p ≡ Some Folder) (take-front up (name ∷ [])) (folder_is (at (take (length up) (up ++ name ∷ []))) it)
+    subst (λ (p : Names). at p ≡ Some Folder) (take-prefix up (name ∷ [])) (folder_is (at (take (length up) (up ++ name ∷ []))) it)
 
 -- an item where nothing stood
-pub with_new : (at : Tree) (p : Names) (item : Item) → IsTree at → Leads at p → at p ≡ None → IsTree (with_item at p item)
+pub with_new : (at : Tree) (p : Names) (item : Item) → IsTree at → Resolves at p → at p ≡ None → IsTree (with_item at p item)
 with_new at p item t leads free =
     let below : p ≡ [] → ⊥ = λ e. none-some Folder (sym (subst (λ (q : Names). at q ≡ None) e free) ∙ t.root) in
     record {
       root = with_other at p item [] below ∙ t.root;
       parents = λ up name some. elim (same_path p (up ++ name ∷ [])) [
         | inl e ↦
-            let folder = parent_leads at up name (subst (λ (q : Names). Leads at q) e leads) in
+            let folder = parent_leads at up name (subst (λ (q : Names). Resolves at q) e leads) in
             with_other at p item up (λ f. longer up name (sym e ∙ f)) ∙ folder
         | inr far ↦
             let folder = t.parents up name (subst (λ (o : Option Item). IsSome o) (with_other at p item (up ++ name ∷ []) far) some) in

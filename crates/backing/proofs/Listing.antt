@@ -4,8 +4,8 @@ use Rattle.std.specs.Option.{option_map}
 use Rattle.std.proofs.lemmas.Bool.{cond-true, cond-false, cases_Bool, true≢false}
 use Rattle.std.proofs.lemmas.Option.{none-some}
 use Rattle.std.proofs.lemmas.List.{same_from_push}
-use Rattle.paths.specs.Fronts.{Name, Names, is_name}
-use Rattle.paths.proofs.FrontLemmas.{is_name-true, is_name-same, is_name-yes, is_name-no}
+use Rattle.paths.specs.Prefixes.{Name, Names, is_name}
+use Rattle.paths.proofs.PrefixLemmas.{is_name-true, is_name-same, is_name-yes, is_name-no}
 use Rattle.backing.specs.declared.call.Child.{Child}
 use Rattle.backing.specs.declared.entries.Item.{Item}
 use Rattle.backing.specs.declared.entries.Entry.{Entry}

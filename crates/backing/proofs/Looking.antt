@@ -4,7 +4,7 @@ use Rattle.std.specs.List.{remove}
 use Rattle.std.proofs.lemmas.Bool.{cond-true, cond-false, false≢true}
 use Rattle.std.proofs.lemmas.Option.{none-some}
 use mathlib.Core.Path.{fun_ext}
-use Rattle.paths.specs.Fronts.{Name, Names}
+use Rattle.paths.specs.Prefixes.{Name, Names}
 use Rattle.backing.specs.declared.entries.Item.{Item}
 use Rattle.backing.specs.declared.entries.Entry.{Entry}
 use Rattle.backing.specs.Tree.{Tree, HasNames, IsBare, is_path, with_item, without}

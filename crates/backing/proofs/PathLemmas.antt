@@ -1,8 +1,8 @@
 -- What the test for equal paths says.
 use Rattle.std.proofs.Common.{ℕ, ◌≡◌, ◌<◌, ◌+◌, true, false, [], ◌∷◌, length, drop, refl, sym, ap, ◌∙◌, subst, inl, inr, ◌⊎◌, get_or, add-one, drop-cons}
 use Rattle.std.proofs.lemmas.Bool.{and_parts, true≢false, false≢true, cases_Bool}
-use Rattle.paths.specs.Fronts.{Name, Names, is_name}
-use Rattle.paths.proofs.FrontLemmas.{is_name-true, is_name-same, is_name-no}
+use Rattle.paths.specs.Prefixes.{Name, Names, is_name}
+use Rattle.paths.proofs.PrefixLemmas.{is_name-true, is_name-same, is_name-no}
 use Rattle.backing.specs.Tree.{is_path}
 
 pub is_path-true : (p q : Names) → is_path p q ≡ true → p ≡ q

@@ -2,11 +2,11 @@
 use Rattle.std.proofs.Common.{ℕ, ◌≡◌, get_or, set, List, ◌++◌, ◌∷◌, [], Option, Some, None, IsSome, refl, sym, ap, ◌∙◌, subst}
 use Rattle.std.specs.List.{remove}
 use Rattle.std.proofs.lemmas.Option.{none-some, same_Some, get_or_from_slice_get}
-use Rattle.paths.specs.Fronts.{Names}
+use Rattle.paths.specs.Prefixes.{Names}
 use Rattle.backing.specs.declared.entries.Item.{Item}
 use Rattle.backing.specs.declared.entries.Item.TheVariants.{Folder, File}
 use Rattle.backing.specs.declared.entries.Entry.{Entry}
-use Rattle.backing.specs.Tree.{Tree, IsTree, IsFolder, Leads, IsBare, with_item, without}
+use Rattle.backing.specs.Tree.{Tree, IsTree, IsFolder, Resolves, IsBare, with_item, without}
 use Rattle.backing.specs.Entries.{look, tree_of, IsLawful, IsFoundAt}
 use Rattle.backing.proofs.Looking.{look-push, look-set, look-remove, IsDistinct-push, IsDistinct-set, IsDistinct-remove, tree-with, tree-without, tree-not_root}
 use Rattle.backing.proofs.Lawful.{no_item, with_new, with_bytes, without_bare}
@@ -22,7 +22,7 @@ look_free es (x ∷ p) free = free
 pub put_tree : (es : List Entry) (e : Entry) → tree_of es e.path ≡ None → tree_of (es ++ e ∷ []) ≡ with_item (tree_of es) e.path e.item
 put_tree es e free = tree-with es (es ++ e ∷ []) e.path e.item (free_below es e.path free) (look-push es e (look_free es e.path free))
 
-pub put_lawful : (es : List Entry) (e : Entry) → IsLawful es → Leads (tree_of es) e.path → tree_of es e.path ≡ None → IsLawful (es ++ e ∷ [])
+pub put_lawful : (es : List Entry) (e : Entry) → IsLawful es → Resolves (tree_of es) e.path → tree_of es e.path ≡ None → IsLawful (es ++ e ∷ [])
 put_lawful es e lawful leads free = record {
   distinct = IsDistinct-push es e lawful.distinct (look_free es e.path free);
   tree = subst (λ (at : Tree). IsTree at) (sym (put_tree es e free)) (with_new (tree_of es) e.path e.item lawful.tree leads free);

@@ -2,13 +2,13 @@
 use Rattle.std.proofs.Common.{ℕ, ℤ, ◌≡◌, suc, zero, Bool, false, cond, List, ◌++◌, ◌∷◌, [], map, Option, None, Result, Ok, Err, refl, sym, ap, ◌∙◌, subst, inl, inr}
 use Rattle.std.specs.Result.{IsErrAnd}
 use Rattle.std.specs.List.{remove}
-use Rattle.paths.specs.Fronts.{Names, is_front}
+use Rattle.paths.specs.Prefixes.{Names, is_prefix}
 use Rattle.backing.specs.declared.call.Answer.{Answer}
 use Rattle.backing.specs.declared.call.Answer.TheVariants.{Done}
 use Rattle.backing.specs.declared.refusal.Refusal.{Refusal}
 use Rattle.backing.specs.declared.refusal.Refusal.TheVariants.{Errno}
 use Rattle.backing.specs.declared.entries.Entry.{Entry}
-use Rattle.backing.specs.Tree.{Tree, IsTree, Leads, IsBare, moved, without}
+use Rattle.backing.specs.Tree.{Tree, IsTree, Resolves, IsBare, moved, without}
 use Rattle.backing.specs.Calls.{Asked, AskRename, PassesAll, Refuses, Does, tests_of, unless}
 use Rattle.backing.specs.Checks.{source_tests, room_tests}
 use Rattle.backing.specs.Entries.{tree_of, IsDistinct, IsLawful}
@@ -50,7 +50,7 @@ pub record Cleared (es cs new : List Entry) (s t : Names) : Type 0 where
   pub nothing : tree_of cs t ≡ None
   pub tree : moved (tree_of cs) s t ≡ moved (tree_of es) s t
 
-clear : (es cs new : List Entry) (ps qs : List (Option Names)) (s t : Names) → IsLawful es → (t ≡ [] → ⊥) → is_front s t ≡ false → IsBare (tree_of es) t
+clear : (es cs new : List Entry) (ps qs : List (Option Names)) (s t : Names) → IsLawful es → (t ≡ [] → ⊥) → is_prefix s t ≡ false → IsBare (tree_of es) t
     → ps ≡ map (λ (e : Entry). moved_path s t e.path) es → Clears es cs ps qs t → new ≡ with_paths cs qs → Cleared es cs new s t
 clear es cs new ps qs s t lawful low apart bare paths (inl (none, same, kept)) moves = record {
   went = moves ∙ (ap (λ (xs : List (Option Names)). with_paths cs xs) (kept ∙ (paths ∙ ap (λ (xs : List Entry). map (λ (e : Entry). moved_path s t e.path) xs) (sym same))) ∙ relocated_all s t cs);
@@ -74,13 +74,13 @@ outside_cleared cs t lawful low nothing = outside t cs (λ more. elim (cases_Opt
   | inr some ↦ absurd (no_item (tree_of cs t) nothing (stands_above (tree_of cs) lawful.tree t more some))
 ])
 
-pub all_renamed : (es cs new : List Entry) (ps qs : List (Option Names)) (s t : Names) → IsLawful es → (s ≡ [] → ⊥) × (t ≡ [] → ⊥) → (is_front s t ≡ false) × (is_front t s ≡ false) → IsBare (tree_of es) t
+pub all_renamed : (es cs new : List Entry) (ps qs : List (Option Names)) (s t : Names) → IsLawful es → (s ≡ [] → ⊥) × (t ≡ [] → ⊥) → (is_prefix s t ≡ false) × (is_prefix t s ≡ false) → IsBare (tree_of es) t
     → ps ≡ map (λ (e : Entry). moved_path s t e.path) es → Clears es cs ps qs t → new ≡ with_paths cs qs → tree_of new ≡ moved (tree_of es) s t
 all_renamed es cs new ps qs s t lawful low apart bare paths clears moves =
     let it = clear es cs new ps qs s t lawful low.1 apart.0 bare paths clears moves in
     ap (λ (xs : List Entry). tree_of xs) it.went ∙ (tree-moved s t cs low.0 low.1 (outside_cleared cs t it.lawful low.1 it.nothing) ∙ it.tree)
 
-pub renamed_lawful : (es cs new : List Entry) (ps qs : List (Option Names)) (s t : Names) → IsLawful es → (s ≡ [] → ⊥) × (t ≡ [] → ⊥) → (is_front s t ≡ false) × (is_front t s ≡ false) → Leads (tree_of es) t → IsBare (tree_of es) t
+pub renamed_lawful : (es cs new : List Entry) (ps qs : List (Option Names)) (s t : Names) → IsLawful es → (s ≡ [] → ⊥) × (t ≡ [] → ⊥) → (is_prefix s t ≡ false) × (is_prefix t s ≡ false) → Resolves (tree_of es) t → IsBare (tree_of es) t
     → ps ≡ map (λ (e : Entry). moved_path s t e.path) es → Clears es cs ps qs t → new ≡ with_paths cs qs → IsLawful new
 renamed_lawful es cs new ps qs s t lawful low apart leads bare paths clears moves =
     let it = clear es cs new ps qs s t lawful low.1 apart.0 bare paths clears moves in

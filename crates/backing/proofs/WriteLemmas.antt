@@ -1,6 +1,6 @@
 -- A write of some bytes.
 use Rattle.std.proofs.Common.{ℕ, ◌≡◌, ◌<◌, ◌≤◌, ◌+◌, min, length, List, ◌∷◌, [], Some, refl, arith}
-use Rattle.paths.specs.Fronts.{Names}
+use Rattle.paths.specs.Prefixes.{Names}
 use Rattle.backing.specs.declared.call.Answer.TheVariants.{Wrote}
 use Rattle.backing.specs.declared.call.TheConstants.{MAX_FILE_LEN}
 use Rattle.backing.specs.declared.entries.Item.TheVariants.{File}

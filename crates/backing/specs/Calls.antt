@@ -1,7 +1,7 @@
 -- What a call answers and does on a tree: its tests in their order, and its work where all of them pass.
 use Rattle.std.specs.Prelude.{ℕ, ℤ, ◌≡◌, ◌≢◌, ◌<◌, ◌≤◌, ◌+◌, ◌⊎◌, Bool, true, false, if◌then◌else◌, List, [], ◌∷◌, ◌++◌, Option, Some, None, IsSome, length}
 use Rattle.std.specs.Option.{option_map}
-use Rattle.paths.specs.Fronts.{Name, Names, is_name, is_front}
+use Rattle.paths.specs.Prefixes.{Name, Names, is_name, is_prefix}
 use Rattle.backing.specs.declared.call.Kind.{Kind}
 use Rattle.backing.specs.declared.call.Child.{Child}
 use Rattle.backing.specs.declared.call.Call.{Call}
@@ -13,7 +13,7 @@ use Rattle.backing.specs.declared.entries.Item.TheVariants.{Folder, File}
 use Rattle.errno.specs.declared.TheConstants.{ENOENT, EBUSY, EEXIST, ENOTDIR, EISDIR, EINVAL, EFBIG, ENOTEMPTY}
 use Rattle.backing.specs.declared.call.TheConstants.{MAX_FILE_LEN}
 use Rattle.backing.specs.Files.{resized, written, read}
-use Rattle.backing.specs.Tree.{Tree, IsFile, IsFolder, Leads, Stops, HasNames, IsBare, is_path, with_item, without, moved, kind_of, size_of}
+use Rattle.backing.specs.Tree.{Tree, IsFile, IsFolder, Resolves, Stops, HasNames, IsBare, is_path, with_item, without, moved, kind_of, size_of}
 
 -- what is asked of a directory, wherever the paths and the bytes lie in memory
 pub data Asked : Type 0 where
@@ -59,14 +59,14 @@ pub data Test : Type 0 where
 
 abbrev pub Passes : Tree → Test → Type 0
 Passes at (BelowRoot p) = p ≢ []
-Passes at (Reached p) = Leads at p
+Passes at (Reached p) = Resolves at p
 Passes at (Present p) = IsSome (at p)
 Passes at (Free p) = at p ≡ None
 Passes at (NoFolder p) = IsFolder (at p) → ⊥
 Passes at (NoFile p) = IsFile (at p) → ⊥
 Passes at (Bare p) = IsBare at p
-Passes at (NotInto s t) = is_front s t ≡ false
-Passes at (NotOver s t) = is_front t s ≡ false
+Passes at (NotInto s t) = is_prefix s t ≡ false
+Passes at (NotOver s t) = is_prefix t s ≡ false
 Passes at (NoFileOnFolder s t) = IsFile (at s) → IsFolder (at t) → ⊥
 Passes at (NoFolderOnFile s t) = IsFolder (at s) → IsFile (at t) → ⊥
 Passes at (Fits end) = end ≤ MAX_FILE_LEN
@@ -79,8 +79,8 @@ Fails at (Free p) errno = IsSome (at p) × (errno ≡ EEXIST)
 Fails at (NoFolder p) errno = IsFolder (at p) × (errno ≡ EISDIR)
 Fails at (NoFile p) errno = IsFile (at p) × (errno ≡ ENOTDIR)
 Fails at (Bare p) errno = HasNames at p × (errno ≡ ENOTEMPTY)
-Fails at (NotInto s t) errno = (is_front s t ≡ true) × (errno ≡ EINVAL)
-Fails at (NotOver s t) errno = (is_front t s ≡ true) × (errno ≡ ENOTEMPTY)
+Fails at (NotInto s t) errno = (is_prefix s t ≡ true) × (errno ≡ EINVAL)
+Fails at (NotOver s t) errno = (is_prefix t s ≡ true) × (errno ≡ ENOTEMPTY)
 Fails at (NoFileOnFolder s t) errno = IsFile (at s) × IsFolder (at t) × (errno ≡ EISDIR)
 Fails at (NoFolderOnFile s t) errno = IsFolder (at s) × IsFile (at t) × (errno ≡ ENOTDIR)
 Fails at (Fits end) errno = (MAX_FILE_LEN < end) × (errno ≡ EFBIG)

@@ -1,6 +1,6 @@
 -- The tests that calls share, in their order.
 use Rattle.std.specs.Prelude.{List, [], ◌∷◌}
-use Rattle.paths.specs.Fronts.{Names}
+use Rattle.paths.specs.Prefixes.{Names}
 use Rattle.backing.specs.Calls.{Test, BelowRoot, Reached, Present, Free, NoFolder, NoFile, NotInto, NotOver, NoFileOnFolder, NoFolderOnFile, Bare}
 
 -- something stands at p

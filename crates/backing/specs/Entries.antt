@@ -1,6 +1,6 @@
 -- A tree that is kept as a flat list of what stands below the root.
 use Rattle.std.specs.Prelude.{ℕ, ◌≡◌, ◌<◌, length, slice_get, if◌then◌else◌, List, [], ◌∷◌, Some, None}
-use Rattle.paths.specs.Fronts.{Names}
+use Rattle.paths.specs.Prefixes.{Names}
 use Rattle.backing.specs.declared.entries.Entry.{Entry}
 use Rattle.backing.specs.declared.entries.Item.TheVariants.{Folder}
 use Rattle.backing.specs.Tree.{Tree, IsTree, is_path}

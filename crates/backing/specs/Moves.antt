@@ -1,13 +1,13 @@
 -- Where the entries of a list go when s is renamed t.
 use Rattle.std.specs.Prelude.{ℕ, ◌≡◌, ◌⊎◌, if◌then◌else◌, List, [], ◌∷◌, ◌++◌, Option, Some, None, length, drop}
 use Rattle.std.specs.List.{remove}
-use Rattle.paths.specs.Fronts.{Names, is_front}
+use Rattle.paths.specs.Prefixes.{Names, is_prefix}
 use Rattle.backing.specs.declared.entries.Entry.{Entry}
 use Rattle.backing.specs.Entries.{look, IsFoundAt}
 
 -- the new path of what stood at s or below it, and none for all else
 abbrev pub moved_path : Names → Names → Names → Option Names
-moved_path s t p = if is_front s p then Some (t ++ drop (length s) p) else None
+moved_path s t p = if is_prefix s p then Some (t ++ drop (length s) p) else None
 
 abbrev pub with_path : Entry → Option Names → Entry
 with_path entry None = entry

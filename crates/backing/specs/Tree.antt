@@ -1,6 +1,6 @@
 -- A tree is what stands at each path. The empty path is the root's.
 use Rattle.std.specs.Prelude.{ℕ, ℤ, ◌≡◌, ◌<◌, ◌&&◌, Bool, true, false, if◌then◌else◌, [], ◌∷◌, ◌++◌, Option, Some, None, IsSome, length, take, drop}
-use Rattle.paths.specs.Fronts.{Name, Names, is_name, is_front}
+use Rattle.paths.specs.Prefixes.{Name, Names, is_name, is_prefix}
 use Rattle.backing.specs.declared.call.Kind.{Kind}
 use Rattle.backing.specs.declared.call.Kind.TheVariants as kinds
 use Rattle.backing.specs.declared.entries.Item.{Item}
@@ -32,7 +32,7 @@ without at p = λ q. if is_path p q then None else at q
 
 -- what stood at s or below it stands at t or below it, and no longer where it was
 abbrev pub moved : Tree → Names → Names → Tree
-moved at s t = λ q. if is_front t q then at (s ++ drop (length t) q) else (if is_front s q then None else at q)
+moved at s t = λ q. if is_prefix t q then at (s ++ drop (length t) q) else (if is_prefix s q then None else at q)
 
 abbrev pub kind_of : Item → Kind
 kind_of Folder = kinds.Folder
@@ -54,7 +54,7 @@ IsFolder (Some (File bytes)) = ⊥
 IsFolder None = ⊥
 
 -- each folder on the way down to p is one
-pub record Leads (at : Tree) (p : Names) : Type 0 where
+pub record Resolves (at : Tree) (p : Names) : Type 0 where
   pub down : (k : ℕ) → k < length p → IsFolder (at (take k p))
 
 -- why nothing stands below what stands here

@@ -2,7 +2,7 @@
 
 ghost use Rattle.std.specs.Prelude.{◌≡◌, ◌≢◌, ◌≤◌, ◌<◌, [], ◌∷◌, None, Some, IfOk, IfErr, OnOk};
 ghost use Rattle.std.specs.Option.{option_map};
-ghost use Rattle.backing.specs.Tree.{kind_of, Leads, Stops};
+ghost use Rattle.backing.specs.Tree.{kind_of, Resolves, Stops};
 ghost use Rattle.backing.specs.Calls.{PassesAll, Refuses, Bare, Fits};
 ghost use Rattle.backing.specs.Checks.{present_tests, free_tests, file_tests, folder_tests};
 ghost use Rattle.backing.specs.Entries.{tree_of, IsFoundAt, IsLawful};
@@ -23,7 +23,7 @@ pub fn expect_below_root(path: &Path) -> Result<(), i32>
 
 /// Folders lead down to the path.
 pub fn expect_reached(entries: &[Entry], path: &Path) -> Result<(), i32>
-    ensures ok { OnOk result (Leads (tree_of entries.now) path.now) }
+    ensures ok { OnOk result (Resolves (tree_of entries.now) path.now) }
     ensures err { IfErr result (Stops (tree_of entries.now) path.now) }
 {
     let names = path.names();

@@ -2,9 +2,9 @@
 
 ghost use Rattle.std.specs.Prelude.{◌≡◌, ◌≢◌, ◌<◌, [], false, OnOk, OnErr, IfErr, IfOk, Some, None, length, map, slice_set, slice_index_or};
 ghost use Rattle.std.specs.List.{remove};
-ghost use Rattle.paths.specs.Fronts.{is_front};
+ghost use Rattle.paths.specs.Prefixes.{is_prefix};
 ghost use Rattle.backing.specs.declared.entries.Entry.{Entry};
-ghost use Rattle.backing.specs.Tree.{IsBare, Leads, moved};
+ghost use Rattle.backing.specs.Tree.{IsBare, Resolves, moved};
 ghost use Rattle.backing.specs.Calls.{AskRename, PassesAll, Refuses};
 ghost use Rattle.backing.specs.Checks.{source_tests, kind_tests, room_tests};
 ghost use Rattle.backing.specs.Entries.{tree_of, IsLawful};
@@ -57,10 +57,10 @@ fn expect_room(entries: &[Entry], from: &Path, to: &Path) -> Result<(), i32>
     ensures ok { OnOk result (PassesAll (tree_of entries.now) (room_tests from.now to.now)) }
     ensures err { IfErr result (Refuses (tree_of entries.now) (room_tests from.now to.now)) }
 {
-    if from.is_front_of(to) {
+    if from.is_prefix_of(to) {
         return Err(EINVAL);
     }
-    if to.is_front_of(from) {
+    if to.is_prefix_of(from) {
         return Err(ENOTEMPTY);
     }
     expect_reached(entries, to)?;
@@ -96,8 +96,8 @@ fn move_all(
 ) -> Result<(), AllocError>
     requires lawful { IsLawful entries.old.items }
     requires below_root { (from.now ≢ []) × (to.now ≢ []) }
-    requires apart { (is_front from.now to.now ≡ false) × (is_front to.now from.now ≡ false) }
-    requires leads { Leads (tree_of entries.old.items) to.now }
+    requires apart { (is_prefix from.now to.now ≡ false) × (is_prefix to.now from.now ≡ false) }
+    requires leads { Resolves (tree_of entries.old.items) to.now }
     requires bare { IsBare (tree_of entries.old.items) to.now }
     ensures ok { OnOk result (tree_of entries.new.items ≡ moved (tree_of entries.old.items) from.now to.now) }
     ensures err { OnErr result (entries.new.items ≡ entries.old.items) }
@@ -129,7 +129,7 @@ fn new_paths(
 fn new_path(from: &Path, to: &Path, path: &Path) -> Result<Option<Path>, AllocError>
     ensures { IfOk result (λ new. new ≡ moved_path from.now to.now path.now) }
 {
-    if !from.is_front_of(path) {
+    if !from.is_prefix_of(path) {
         return Ok(None);
     }
     let mut moved = to.copy()?;

@@ -24,7 +24,7 @@ none_in : (fs : List Flight) (n : ℕ) → ((j : ℕ) (d : Flight) → j < lengt
 none_in [] n h = refl
 none_in (g ∷ gs) n h = with_other (flight_in gs) g.id g n (h 0 g (omega arith)) ∙ none_in gs n (λ j d below. h (suc j) d (omega arith))
 
--- no id twice, seen from the front
+-- no id twice, seen from the prefix
 pub first_apart : (f : Flight) (fs : List Flight) → HaveOwnIds (f ∷ fs) → flight_in fs f.id ≡ None
 first_apart f fs apart = none_in fs f.id (λ j d below e. apart 0 (suc j) d (omega arith) (omega arith) (sym e))
 
@@ -103,7 +103,7 @@ HaveOwnIds-set fs k g within id apart i j d below short e =
     ] in
     apart i j d below (omega (arith, short, length-set fs k g)) (sym (here i) ∙ (e ∙ here j))
 
--- a search from the front
+-- a search from the prefix
 pub flight_in-drop_found : (fs : List Flight) (i : ℕ) (d : Flight) (n : ℕ) → i < length fs → (get_or fs i d).id ≡ n → flight_in (drop i fs) n ≡ Some (get_or fs i d)
 flight_in-drop_found fs i d n within same =
     let here : flight_in (drop i fs) (get_or fs i d).id ≡ Some (get_or fs i d) = rw (drop-cons fs i d within) (with_same (flight_in (drop (suc i) fs)) (get_or fs i d).id (get_or fs i d)) in

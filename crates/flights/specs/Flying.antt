@@ -1,8 +1,8 @@
 -- The requests in flight, as contracts see them: by their ids.
 use Rattle.std.specs.Prelude.{ℕ, ◌+◌, ◌-◌, ◌≡◌, ◌==◌, ◌||◌, ◌↔◌, Bool, true, false, if◌then◌else◌, List, [], ◌∷◌, ◌++◌, Option, Some, None}
 use Rattle.std.specs.List.{list_any}
-use Rattle.paths.specs.Fronts.{Names}
-use Rattle.holds.specs.Clashes.{Clash, is_among}
+use Rattle.paths.specs.Prefixes.{Names}
+use Rattle.holds.specs.Conflicts.{Conflict, is_among}
 use Rattle.holds.specs.declared.held.Held.{Held}
 use Rattle.sums.specs.Sum.{IsSum}
 use Rattle.flights.specs.declared.data.Flight.{Flight}
@@ -39,9 +39,9 @@ abbrev pub postings_promised : Stage → ℕ
 postings_promised (Working work) = work.promise.postings
 postings_promised Answered = 0
 
--- what the request holds while it is worked on clashes with these names
+-- what the request holds while it is worked on conflicts with these names
 abbrev pub IsInTheWay : Stage → Held → Type 0
-IsInTheWay (Working work) wanted = Clash work.held wanted
+IsInTheWay (Working work) wanted = Conflict work.held wanted
 IsInTheWay Answered wanted = ⊥
 
 -- whether the request is worked on and has the path among these names
@@ -58,7 +58,7 @@ pub record HoldsUp (at : Flights) (wanted : Held) : Type 0 where
   pub id : ℕ
   pub flight : Flight
   pub here : at id ≡ Some flight
-  pub clash : IsInTheWay flight.stage wanted
+  pub conflict : IsInTheWay flight.stage wanted
 
 -- all requests in flight
 pub record Flying : Type 0 where

@@ -188,12 +188,12 @@ impl Stage {
     ghost use Rattle.std.specs.Prelude.{◌↔◌, IsTrue};
     ghost use Rattle.flights.specs.Flying.{is_working, nodes_promised, postings_promised, IsInTheWay, has_exclusive, has_shared};
 
-    /// Whether the request is worked on, and what it holds clashes with these names.
-    pub fn clashes_with(&self, wanted: &Held) -> bool
+    /// Whether the request is worked on, and what it holds conflicts with these names.
+    pub fn conflicts_with(&self, wanted: &Held) -> bool
         ensures { IsTrue result ↔ IsInTheWay self.now wanted.now }
     {
         match self {
-            Stage::Working(work) => work.held.clashes_with(wanted),
+            Stage::Working(work) => work.held.conflicts_with(wanted),
             Stage::Answered => false,
         }
     }

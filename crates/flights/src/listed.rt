@@ -32,7 +32,7 @@ pub fn holds_up(flights: &[Flight], wanted: &Held) -> bool
     ensures { IsTrue result ↔ HoldsUp (flight_in flights.now) wanted.now }
 {
     for flight in flights {
-        if flight.stage.clashes_with(wanted) {
+        if flight.stage.conflicts_with(wanted) {
             return true;
         }
     }

@@ -9,8 +9,8 @@ use Rattle.std.proofs.lemmas.Map.Keys.{IsDistinct-head, IsDistinct-tail, IsDisti
 use Rattle.std.specs.Ordering.{eq_by_cmp}
 use Rattle.std.specs.List.{filter, list_all, sum_by, AllByRecursion, AllPass, IsDistinct}
 use Rattle.std.specs.List.Sorted.{IsPermutation, IsSorted, IsStrictlySortedBy}
-use Rattle.paths.specs.Fronts.{Name, is_name}
-use Rattle.paths.proofs.FrontLemmas.{is_name-true, is_name-yes, is_name-no}
+use Rattle.paths.specs.Prefixes.{Name, is_name}
+use Rattle.paths.proofs.PrefixLemmas.{is_name-true, is_name-yes, is_name-no}
 use Rattle.backing.specs.declared.call.Kind.{Kind}
 use Rattle.backing.specs.declared.call.Kind.TheVariants.{Folder, File}
 use Rattle.backing.specs.declared.call.Child.{Child}

@@ -18,9 +18,9 @@ padded plus child = (head_len plus + length child.name + 7) / 8 * 8
 abbrev pub bytes_of : Bool → List Child → ℕ
 bytes_of plus entries = sum_by (padded plus) entries
 
--- the longest of the fronts of these entries that take at most so many bytes
+-- the longest of the prefixes of these entries that take at most so many bytes
 pub record IsLongestRun (plus : Bool) (size : ℕ) (entries run : List Child) : Type 0 where
-  pub front : run ≡ take (length run) entries
+  pub prefix : run ≡ take (length run) entries
   pub fits : bytes_of plus run ≤ size
   pub longest : (n : ℕ) → n ≤ length entries → bytes_of plus (take n entries) ≤ size → n ≤ length run
 

@@ -3,24 +3,24 @@ use Rattle.std.proofs.Common.{ℕ, ◌&&◌, ◌<◌, ◌≡◌, ◌+◌, true, 
 use Rattle.std.proofs.lemmas.Bool.{and_parts, cases_Bool, cases_eq}
 use Rattle.std.proofs.lemmas.List.{get_or_default}
 use Rattle.std.proofs.lemmas.List.Folds.{list_any_none, list_any_at}
-use Rattle.paths.specs.Fronts.{Names, is_front}
-use Rattle.paths.proofs.FrontLemmas.{is_front-both, is_front-same}
-use Rattle.holds.specs.Clashes.{is_among}
+use Rattle.paths.specs.Prefixes.{Names, is_prefix}
+use Rattle.paths.proofs.PrefixLemmas.{is_prefix-both, is_prefix-same}
+use Rattle.holds.specs.Conflicts.{is_among}
 
-same_path : (p q : Names) → p ≡ q → (is_front p q && is_front q p) ≡ true
-same_path p q e = subst (λ (r : Names). (is_front p r && is_front r p) ≡ true) e (rw (is_front-same p) refl)
+same_path : (p q : Names) → p ≡ q → (is_prefix p q && is_prefix q p) ≡ true
+same_path p q e = subst (λ (r : Names). (is_prefix p r && is_prefix r p) ≡ true) e (rw (is_prefix-same p) refl)
 
-other_path : (p q : Names) → (p ≡ q → ⊥) → (is_front p q && is_front q p) ≡ false
-other_path p q ne = elim (cases_Bool (is_front p q && is_front q p)) [
-  | inl both ↦ let parts = and_parts (is_front p q) (is_front q p) both in absurd (ne (is_front-both p q parts.0 parts.1))
+other_path : (p q : Names) → (p ≡ q → ⊥) → (is_prefix p q && is_prefix q p) ≡ false
+other_path p q ne = elim (cases_Bool (is_prefix p q && is_prefix q p)) [
+  | inl both ↦ let parts = and_parts (is_prefix p q) (is_prefix q p) both in absurd (ne (is_prefix-both p q parts.0 parts.1))
   | inr none ↦ none
 ]
 
 pub among_found : (ps : List Names) (i : ℕ) (d path : Names) → i < length ps → get_or ps i d ≡ path → is_among ps path ≡ true
-among_found ps i d path within e = list_any_at (λ (p : Names). is_front p path && is_front path p) ps i d within (same_path (get_or ps i d) path e)
+among_found ps i d path within e = list_any_at (λ (p : Names). is_prefix p path && is_prefix path p) ps i d within (same_path (get_or ps i d) path e)
 
 pub among_none : (ps : List Names) (path : Names) → ((k : ℕ) (d : Names) → k < length ps → get_or ps k d ≡ path → ⊥) → is_among ps path ≡ false
-among_none ps path none = list_any_none (λ (p : Names). is_front p path && is_front path p) ps (λ k d within. other_path (get_or ps k d) path (none k d within))
+among_none ps path none = list_any_none (λ (p : Names). is_prefix p path && is_prefix path p) ps (λ k d within. other_path (get_or ps k d) path (none k d within))
 
 -- who was read at an index
 pub contains_read : {X : Type 0} → (xs : List X) (i : ℕ) (x y : X) → i < length xs → x ≡ get_or xs i x → x ≡ y → Contains xs y

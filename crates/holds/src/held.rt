@@ -7,41 +7,41 @@ use std::marker::Model;
 
 /// A node that a request names, with its path when the request began.
 #[derive(Drop)]
-pub struct Lead {
+pub struct GivenPath {
     pub number: u64,
     pub path: Path,
 }
 
 /// The nodes that a request names. Contracts see a list.
 #[derive(Drop)]
-pub struct Leads {
-    leads: Vec<Lead>,
+pub struct GivenPaths {
+    leads: Vec<GivenPath>,
 }
 
-impl Model for Leads {
+impl Model for GivenPaths {
     ghost use Rattle.std.specs.Prelude.{List};
-    ghost use Rattle.holds.specs.declared.held.Lead.{Lead};
+    ghost use Rattle.holds.specs.declared.held.GivenPath.{GivenPath};
 
-    ghost Value = { List Lead };
+    ghost Value = { List GivenPath };
 
     ghost view = { λ l. l.leads.items };
 }
 
-impl Leads {
+impl GivenPaths {
     /// Those nodes.
-    pub fn from_vec(leads: Vec<Lead>) -> Leads
+    pub fn from_vec(leads: Vec<GivenPath>) -> GivenPaths
         ensures { result ≡ leads.items }
     {
-        Leads { leads }
+        GivenPaths { leads }
     }
 
-    pub fn as_slice(&self) -> &[Lead]
+    pub fn as_slice(&self) -> &[GivenPath]
         ensures { result.now ≡ self.now }
     {
         self.leads.as_slice()
     }
 
-    pub fn into_vec(self) -> Vec<Lead>
+    pub fn into_vec(self) -> Vec<GivenPath>
         ensures { result.items ≡ self }
     {
         let Self { leads } = self;
@@ -62,7 +62,7 @@ impl Model for Paths {
 }
 
 impl Paths {
-    ghost use Rattle.holds.specs.Clashes.{Meets, is_among};
+    ghost use Rattle.holds.specs.Conflicts.{Overlaps, is_among};
 
     /// Those paths.
     pub fn from_vec(paths: Vec<Path>) -> Paths
@@ -98,8 +98,8 @@ impl Paths {
     }
 
     /// Whether some path is one of these and one of those.
-    pub fn meets(&self, other: &Paths) -> bool
-        ensures { IsTrue result ↔ Meets self.now other.now }
+    pub fn overlaps(&self, other: &Paths) -> bool
+        ensures { IsTrue result ↔ Overlaps self.now other.now }
     {
         for path in self.as_slice() {
             if other.contains(path) {
@@ -114,7 +114,7 @@ impl Paths {
 #[derive(Drop)]
 pub struct Held {
     /// The nodes that it names.
-    pub given: Leads,
+    pub given: GivenPaths,
     /// The names that others may hold too, but not alone.
     pub shared: Paths,
     /// The names that it alone may hold.
@@ -122,19 +122,19 @@ pub struct Held {
 }
 
 impl Held {
-    ghost use Rattle.holds.specs.Clashes.{Grips, Clash};
+    ghost use Rattle.holds.specs.Conflicts.{Excludes, Conflict};
 
     /// Whether an exclusive name of this one is a name of the other.
-    fn grips(&self, other: &Held) -> bool
-        ensures { IsTrue result ↔ Grips self.now other.now }
+    fn excludes(&self, other: &Held) -> bool
+        ensures { IsTrue result ↔ Excludes self.now other.now }
     {
-        self.exclusive.meets(&other.exclusive) || self.exclusive.meets(&other.shared)
+        self.exclusive.overlaps(&other.exclusive) || self.exclusive.overlaps(&other.shared)
     }
 
     /// Whether an exclusive name of one is a shared or exclusive name of the other.
-    pub fn clashes_with(&self, other: &Held) -> bool
-        ensures { IsTrue result ↔ Clash self.now other.now }
+    pub fn conflicts_with(&self, other: &Held) -> bool
+        ensures { IsTrue result ↔ Conflict self.now other.now }
     {
-        self.grips(other) || other.grips(self)
+        self.excludes(other) || other.excludes(self)
     }
 }

@@ -1,8 +1,8 @@
 //! What requests in flight hold, so that those that touch the same names wait for one another.
 #![tactic(auto)]
 
-mod fronts;
 mod held;
+mod prefixes;
 
-pub use fronts::fronts_of;
-pub use held::{Held, Lead, Leads, Paths};
+pub use held::{GivenPath, GivenPaths, Held, Paths};
+pub use prefixes::prefixes_of;

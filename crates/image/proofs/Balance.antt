@@ -9,8 +9,8 @@ use Rattle.std.proofs.lemmas.List.Sums.{sum_by-cons, sum_by_more}
 use Rattle.std.proofs.lemmas.List.{take_all, take-take}
 use Rattle.ledger.specs.declared.postings.Posting.{Posting}
 use Rattle.ledger.specs.declared.postings.Posting.TheVariants.{Born, Entry, Back, Forget}
-use Rattle.ledger.specs.Sums.{number_of, generation_of, is_entry, given_by, entries_of, given_of, totals_by, IsNeverNegative}
-use Rattle.ledger.proofs.SumsLemmas.{given_of-le}
+use Rattle.ledger.specs.Sums.{number_of, generation_of, is_entry, given_by, entries_of, given_back_of, totals_by, IsNeverNegative}
+use Rattle.ledger.proofs.SumsLemmas.{given_back_of-le}
 use Rattle.ledger.proofs.SharesLemmas.{added-le}
 use Rattle.ledger.proofs.Touches.{cases_pair}
 use Rattle.tree.specs.declared.nodes.Node.{Node}
@@ -60,11 +60,11 @@ other_about n g m h p is ne = grind (arith, nat_tests)
 -- the rest has none of n in generation g, and all of each other number and generation
 record IsRest (n g : ℕ) (ps rest : List Posting) : Type 0 where
   entries : entered_in_all ps ≡ entered_in_all rest + entries_of n g ps
-  gifts : given_in_all ps ≡ given_in_all rest + given_of n g ps
+  gifts : given_in_all ps ≡ given_in_all rest + given_back_of n g ps
   no_entries : entries_of n g rest ≡ 0
-  none_given : given_of n g rest ≡ 0
+  none_given : given_back_of n g rest ≡ 0
   entries_else : (m h : ℕ) → (m ≢ n) ⊎ (h ≢ g) → entries_of m h rest ≡ entries_of m h ps
-  given_else : (m h : ℕ) → (m ≢ n) ⊎ (h ≢ g) → given_of m h rest ≡ given_of m h ps
+  given_else : (m h : ℕ) → (m ≢ n) ⊎ (h ≢ g) → given_back_of m h rest ≡ given_back_of m h ps
   short : length rest ≤ length ps
 
 module _ (p : Posting) (ps : List Posting) where
@@ -77,8 +77,8 @@ module _ (p : Posting) (ps : List Posting) where
   entries_of-cons : (n g : ℕ) → entries_of n g (p ∷ ps) ≡ entered_by n g p + entries_of n g ps
   entries_of-cons n g = sum_by-cons (entered_by n g) p ps
 
-  given_of-cons : (n g : ℕ) → given_of n g (p ∷ ps) ≡ given_by n g p + given_of n g ps
-  given_of-cons n g = sum_by-cons (given_by n g) p ps
+  given_back_of-cons : (n g : ℕ) → given_back_of n g (p ∷ ps) ≡ given_by n g p + given_back_of n g ps
+  given_back_of-cons n g = sum_by-cons (given_by n g) p ps
 
 rest-cons : (n g : ℕ) (p : Posting) (ps rest : List Posting) (b : Bool) → is_about n g p ≡ b → IsRest n g ps rest → IsRest n g (p ∷ ps) (cond b rest (p ∷ rest))
 rest-cons n g p ps rest true is r =
@@ -86,22 +86,22 @@ rest-cons n g p ps rest true is r =
     let none = λ (m h : ℕ) (ne : (m ≢ n) ⊎ (h ≢ g)). no_share m h p (other_about n g m h p is ne) in
     record {
       entries = omega (arith, entered-cons p ps, entries_of-cons p ps n g, part.entered_is, r.entries);
-      gifts = omega (arith, given-cons p ps, given_of-cons p ps n g, part.given_is, r.gifts);
+      gifts = omega (arith, given-cons p ps, given_back_of-cons p ps n g, part.given_is, r.gifts);
       no_entries = r.no_entries;
       none_given = r.none_given;
       entries_else = λ m h ne. omega (arith, entries_of-cons p ps m h, (none m h ne).entered_is, r.entries_else m h ne);
-      given_else = λ m h ne. omega (arith, given_of-cons p ps m h, (none m h ne).given_is, r.given_else m h ne);
+      given_else = λ m h ne. omega (arith, given_back_of-cons p ps m h, (none m h ne).given_is, r.given_else m h ne);
       short = omega (arith, r.short);
     }
 rest-cons n g p ps rest false is r =
     let none = no_share n g p is in
     record {
       entries = omega (arith, entered-cons p ps, entered-cons p rest, entries_of-cons p ps n g, none.entered_is, r.entries);
-      gifts = omega (arith, given-cons p ps, given-cons p rest, given_of-cons p ps n g, none.given_is, r.gifts);
+      gifts = omega (arith, given-cons p ps, given-cons p rest, given_back_of-cons p ps n g, none.given_is, r.gifts);
       no_entries = omega (arith, entries_of-cons p rest n g, none.entered_is, r.no_entries);
-      none_given = omega (arith, given_of-cons p rest n g, none.given_is, r.none_given);
+      none_given = omega (arith, given_back_of-cons p rest n g, none.given_is, r.none_given);
       entries_else = λ m h ne. omega (arith, entries_of-cons p ps m h, entries_of-cons p rest m h, r.entries_else m h ne);
-      given_else = λ m h ne. omega (arith, given_of-cons p ps m h, given_of-cons p rest m h, r.given_else m h ne);
+      given_else = λ m h ne. omega (arith, given_back_of-cons p ps m h, given_back_of-cons p rest m h, r.given_else m h ne);
       short = omega (arith, r.short);
     }
 
@@ -121,11 +121,11 @@ others_rest n g (p ∷ ps) = rest-cons n g p ps (others n g ps) (is_about n g p)
 
 -- of no number and generation was more given back and forgotten than entered
 record IsCovered (ps : List Posting) : Type 0 where
-  within : (n g : ℕ) → given_of n g ps ≤ entries_of n g ps
+  within : (n g : ℕ) → given_back_of n g ps ≤ entries_of n g ps
 
 -- of no number and generation is anything left
 record IsBalanced (ps : List Posting) : Type 0 where
-  even : (n g : ℕ) → given_of n g ps ≡ entries_of n g ps
+  even : (n g : ℕ) → given_back_of n g ps ≡ entries_of n g ps
 
 rest_covered : (n g : ℕ) (ps rest : List Posting) → IsRest n g ps rest → IsCovered ps → IsCovered rest
 rest_covered n g ps rest r covered = record {
@@ -165,7 +165,7 @@ covered_in (suc fuel) (p ∷ ps) within covered =
 
 -- in all, no more is given back and forgotten than was entered
 pub covered_in_all : (ps : List Posting) → IsNeverNegative ps → given_in_all ps ≤ entered_in_all ps
-covered_in_all ps never = covered_in (length ps) ps (omega arith) (record { within = λ n g. given_of-le n g ps never })
+covered_in_all ps never = covered_in (length ps) ps (omega arith) (record { within = λ n g. given_back_of-le n g ps never })
 
 balanced_in : (fuel : ℕ) (ps : List Posting) → length ps ≤ fuel → IsBalanced ps → given_in_all ps ≡ entered_in_all ps
 balanced_in fuel [] within balanced = refl
@@ -267,7 +267,7 @@ of_others (x ∷ xs) ps distinct covered exact =
 pub settled_by_sums : (xs : List Node) (ps : List Posting) → IsDistinct xs → IsNeverNegative ps → AreCountsExact (node_at xs) ps
     → (counts_in_all xs + given_in_all ps ≡ entered_in_all ps) ↔ AreOthersSettled (node_at xs) ps
 settled_by_sums xs ps distinct never exact =
-    let it = of_others xs ps distinct (record { within = λ n g. given_of-le n g ps never }) exact in (
+    let it = of_others xs ps distinct (record { within = λ n g. given_back_of-le n g ps never }) exact in (
       λ sums. it.1.back (balanced_from it.0 it.1.covered (omega (arith, it.1.whole, sums))),
       λ settled. let even = balanced_in (length it.0) it.0 (omega arith) (it.1.forth settled) in omega (arith, it.1.whole, even),
     )

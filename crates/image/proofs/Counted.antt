@@ -6,16 +6,16 @@ use Rattle.std.proofs.lemmas.Bool.{and_parts, and_from, cases_Bool, false≢true
 use Rattle.std.proofs.lemmas.List.{get_or_default}
 use Rattle.std.proofs.lemmas.List.Sums.{sum_by-cons}
 use Rattle.std.proofs.lemmas.List.Folds.{Any-from_list_any, list_any_at}
-use Rattle.paths.specs.Fronts.{Names, is_front}
-use Rattle.paths.proofs.FrontLemmas.{is_front-both, is_front-same}
-use Rattle.holds.specs.Clashes.{is_among}
+use Rattle.paths.specs.Prefixes.{Names, is_prefix}
+use Rattle.paths.proofs.PrefixLemmas.{is_prefix-both, is_prefix-same}
+use Rattle.holds.specs.Conflicts.{is_among}
 use Rattle.holds.proofs.Among.{among_found}
 use Rattle.image.specs.declared.data.Hold.{Hold}
 use Rattle.image.specs.declared.data.Record.{Record}
 use Rattle.image.specs.declared.data.Stage.{Stage}
 use Rattle.image.specs.declared.data.Stage.TheVariants.{Working, Answered}
 use Rattle.image.specs.Law.{is_working, shares, owns, AreHoldsCounted}
-use Rattle.image.specs.Parts.{IsCounted, HaveOtherPaths, IsStored, AreStored}
+use Rattle.image.specs.Parts.{IsHoldCount, HaveOtherPaths, IsStored, AreStored}
 
 -- ---- counts and paths
 
@@ -40,9 +40,9 @@ count_some test (x ∷ xs) (suc k) d within is =
 
 pub among_contains : (ps : List Names) (path : Names) → is_among ps path ≡ true → Contains ps path
 among_contains ps path is =
-    let some = Any-from_list_any (λ (p : Names). is_front p path && is_front path p) ps is in
-    let both = and_parts (is_front some.1 path) (is_front path some.1) some.4 in
-    let same : some.1 ≡ path = is_front-both some.1 path both.0 both.1 in
+    let some = Any-from_list_any (λ (p : Names). is_prefix p path && is_prefix path p) ps is in
+    let both = and_parts (is_prefix some.1 path) (is_prefix path some.1) some.4 in
+    let same : some.1 ≡ path = is_prefix-both some.1 path both.0 both.1 in
     (some.0, some.2, subst (λ (p : Names). get_or ps some.0 p ≡ p) same some.3)
 
 pub contains_among : (ps : List Names) (path : Names) → Contains ps path → is_among ps path ≡ true
@@ -50,10 +50,10 @@ contains_among ps path found = among_found ps found.0 path path found.1 found.2
 
 -- whether the hold is of the path
 abbrev is_of : Names → Hold → Bool
-is_of path h = is_front h.path path && is_front path h.path
+is_of path h = is_prefix h.path path && is_prefix path h.path
 
 is_of-same : (h : Hold) (path : Names) → h.path ≡ path → is_of path h ≡ true
-is_of-same h path e = and_from (is_front h.path path) (is_front path h.path) (subst (λ (p : Names). is_front h.path p ≡ true) e (is_front-same h.path)) (subst (λ (p : Names). is_front p h.path ≡ true) e (is_front-same h.path))
+is_of-same h path e = and_from (is_prefix h.path path) (is_prefix path h.path) (subst (λ (p : Names). is_prefix h.path p ≡ true) e (is_prefix-same h.path)) (subst (λ (p : Names). is_prefix p h.path ≡ true) e (is_prefix-same h.path))
 
 none_of : (hs : List Hold) (path : Names) → list_any (is_of path) hs ≡ false → All (λ (h : Hold). h.path ≢ path) hs
 none_of hs path none k d within e = true≢false (sym (list_any_at (is_of path) hs k d within (is_of-same (get_or hs k d) path e)) ∙ none)
@@ -64,8 +64,8 @@ unfolding IsStored
 stored_or_absent hs path = elim (cases_Bool (list_any (is_of path) hs)) [
   | inl found ↦
       let some = Any-from_list_any (is_of path) hs found in
-      let both = and_parts (is_front some.1.path path) (is_front path some.1.path) some.4 in
-      inl (some.0, some.1, some.2, some.3, is_front-both some.1.path path both.0 both.1)
+      let both = and_parts (is_prefix some.1.path path) (is_prefix path some.1.path) some.4 in
+      inl (some.0, some.1, some.2, some.3, is_prefix-both some.1.path path both.0 both.1)
   | inr none ↦ inr (none_of hs path none)
 ]
 
@@ -95,8 +95,8 @@ stored_at hs ps path all found = subst (IsStored hs) found.2 (all found.0 path f
 
 -- ---- the law in parts
 
-pub counts_of : (hs : List Hold) (rs : List Record) → AllPairs HaveOtherPaths hs → All (IsCounted rs) hs → All (AreStored hs) rs → AreHoldsCounted hs rs
-unfolding IsCounted
+pub counts_of : (hs : List Hold) (rs : List Record) → AllPairs HaveOtherPaths hs → All (IsHoldCount rs) hs → All (AreStored hs) rs → AreHoldsCounted hs rs
+unfolding IsHoldCount
 counts_of hs rs once each stored = record {
   once = once;
   each = each;
@@ -111,8 +111,8 @@ counts_of hs rs once each stored = record {
 pub once_of : (hs : List Hold) (rs : List Record) → AreHoldsCounted hs rs → AllPairs HaveOtherPaths hs
 once_of hs rs counts = counts.once
 
-pub each_of : (hs : List Hold) (rs : List Record) → AreHoldsCounted hs rs → All (IsCounted rs) hs
-unfolding IsCounted
+pub each_of : (hs : List Hold) (rs : List Record) → AreHoldsCounted hs rs → All (IsHoldCount rs) hs
+unfolding IsHoldCount
 each_of hs rs counts = counts.each
 
 is_at : {A : Type 0} (xs : List A) (i : ℕ) (d : A) → i < length xs → Contains xs (get_or xs i d)

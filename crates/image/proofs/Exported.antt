@@ -14,7 +14,7 @@ use Rattle.tree.specs.declared.nodes.Node.{Node}
 use Rattle.tree.specs.Places.{Lookup, IsAlive}
 use Rattle.tree.specs.Listed.{node_at, IsDistinct}
 use Rattle.tree.proofs.LookupLemmas.{with_same, with_other, node_at-push, IsDistinct-push, cases_option}
-use Rattle.paths.specs.Fronts.{Names}
+use Rattle.paths.specs.Prefixes.{Names}
 use Rattle.image.specs.declared.data.Hold.{Hold}
 use Rattle.image.specs.declared.data.Image.{Image}
 use Rattle.image.specs.declared.data.Record.{Record}

@@ -1,15 +1,15 @@
--- Following parents along a path, and the fronts of a path as its first names.
+-- Following parents along a path, and the prefixes of a path as its first names.
 use Rattle.std.proofs.Common.{ℕ, ◌+◌, ◌-◌, ◌<◌, ◌≤◌, ◌≡◌, ◌≢◌, true, [], ◌∷◌, ◌++◌, length, get_or, take, drop, reverse, refl, sym, ap, ◌∙◌, subst, arith, inl, inr}
 use Rattle.std.proofs.Math.Seq.{take-append_seam}
 use Rattle.std.proofs.lemmas.Bool.{cases_eq}
 use Rattle.std.proofs.lemmas.List.{reverse-append, take_more, take_all, take-append-drop, length-take-le}
-use Rattle.paths.specs.Fronts.{Name, Names, is_front}
-use Rattle.paths.proofs.FrontLemmas.{is_front-more, is_front-append, is_front-length}
+use Rattle.paths.specs.Prefixes.{Name, Names, is_prefix}
+use Rattle.paths.proofs.PrefixLemmas.{is_prefix-more, is_prefix-append, is_prefix-length}
 use Rattle.holds.specs.declared.held.Held.{Held}
-use Rattle.holds.specs.Clashes.{IsHeld}
+use Rattle.holds.specs.Conflicts.{IsHeld}
 use Rattle.tree.specs.Places.{Lookup, IsNamed, IsPathOf, Reaches}
 use Rattle.tree.proofs.Climbing.{named_same}
-use Rattle.image.specs.Parts.{AreFrontsHeld}
+use Rattle.image.specs.Parts.{ArePrefixesHeld}
 
 -- ---- parents
 
@@ -63,26 +63,26 @@ followed at first current names k none f =
     let short : take k names ≡ [] = ap (λ (i : ℕ). take i names) none in
     (λ one. f.forth (subst (λ (q : Names). IsPathOf at current q) (sym short) one), λ h. subst (λ (q : Names). IsPathOf at current q) short (f.back h))
 
--- ---- fronts
+-- ---- prefixes
 
-pub front_take : (p q : Names) → is_front p q ≡ true → p ≡ take (length p) q
-front_take p q h = let more = is_front-more p q h in sym (ap (λ (r : Names). take (length p) r) more.1 ∙ take-append_seam p more.0)
+pub prefix_take : (p q : Names) → is_prefix p q ≡ true → p ≡ take (length p) q
+prefix_take p q h = let more = is_prefix-more p q h in sym (ap (λ (r : Names). take (length p) r) more.1 ∙ take-append_seam p more.0)
 
-pub take_front : (n : ℕ) (q : Names) → is_front (take n q) q ≡ true
-take_front n q = subst (λ (r : Names). is_front (take n q) r ≡ true) (take-append-drop n q) (is_front-append (take n q) (drop n q))
+pub take_prefix : (n : ℕ) (q : Names) → is_prefix (take n q) q ≡ true
+take_prefix n q = subst (λ (r : Names). is_prefix (take n q) r ≡ true) (take-append-drop n q) (is_prefix-append (take n q) (drop n q))
 
-pub front_of : (p q : Names) (n : ℕ) → length p ≡ n → is_front p q ≡ true → p ≡ take n q
-front_of p q n long h = front_take p q h ∙ ap (λ (i : ℕ). take i q) long
+pub prefix_of : (p q : Names) (n : ℕ) → length p ≡ n → is_prefix p q ≡ true → p ≡ take n q
+prefix_of p q n long h = prefix_take p q h ∙ ap (λ (i : ℕ). take i q) long
 
-pub is_front_of : (p q : Names) (n : ℕ) → p ≡ take n q → is_front p q ≡ true
-is_front_of p q n e = subst (λ (r : Names). is_front r q ≡ true) (sym e) (take_front n q)
+pub is_prefix_of : (p q : Names) (n : ℕ) → p ≡ take n q → is_prefix p q ≡ true
+is_prefix_of p q n e = subst (λ (r : Names). is_prefix r q ≡ true) (sym e) (take_prefix n q)
 
 pub length_of : (p q : Names) (n : ℕ) → n ≤ length q → p ≡ take n q → length p ≡ n
 length_of p q n short e = ap (λ (r : Names). length r) e ∙ length-take-le n q short
 
-pub ruleset first_names = (front_of, is_front_of, length_of)
+pub ruleset first_names = (prefix_of, is_prefix_of, length_of)
 
--- the fronts of up to i names are held
+-- the prefixes of up to i names are held
 pub record HoldsBelow (held : Held) (path : Names) (i : ℕ) : Type 0 where
   pub below : (j : ℕ) → j < i → IsHeld held (take (j + 1) path)
 
@@ -97,24 +97,24 @@ HoldsBelow-more held path i here before = record {
   ];
 }
 
-some_length : (front : Names) → front ≢ [] → 0 < length front
+some_length : (prefix : Names) → prefix ≢ [] → 0 < length prefix
 some_length [] some = absurd (some refl)
-some_length (x ∷ front) some = omega arith
+some_length (x ∷ prefix) some = omega arith
 
-pub HoldsBelow-all : (held : Held) (path : Names) (i : ℕ) → length path ≤ i → HoldsBelow held path i → AreFrontsHeld held path
-unfolding AreFrontsHeld
-HoldsBelow-all held path i all below front is =
-    let some = some_length front is.some in
-    let short = is_front-length front path is.begins in
-    let next : (length front - 1) + 1 ≡ length front = omega arith in
-    let here : IsHeld held (take ((length front - 1) + 1) path) = below.below (length front - 1) (omega arith) in
-    subst (λ (q : Names). IsHeld held q) (sym (front_take front path is.begins)) (subst (λ (k : ℕ). IsHeld held (take k path)) next here)
+pub HoldsBelow-all : (held : Held) (path : Names) (i : ℕ) → length path ≤ i → HoldsBelow held path i → ArePrefixesHeld held path
+unfolding ArePrefixesHeld
+HoldsBelow-all held path i all below prefix is =
+    let some = some_length prefix is.some in
+    let short = is_prefix-length prefix path is.begins in
+    let next : (length prefix - 1) + 1 ≡ length prefix = omega arith in
+    let here : IsHeld held (take ((length prefix - 1) + 1) path) = below.below (length prefix - 1) (omega arith) in
+    subst (λ (q : Names). IsHeld held q) (sym (prefix_take prefix path is.begins)) (subst (λ (k : ℕ). IsHeld held (take k path)) next here)
 
-pub front_held : (held : Held) (path : Names) (i : ℕ) → i < length path → AreFrontsHeld held path → IsHeld held (take (i + 1) path)
-unfolding AreFrontsHeld
-front_held held path i within all =
+pub prefix_held : (held : Held) (path : Names) (i : ℕ) → i < length path → ArePrefixesHeld held path → IsHeld held (take (i + 1) path)
+unfolding ArePrefixesHeld
+prefix_held held path i within all =
     let long : length (take (i + 1) path) ≡ i + 1 = length-take-le (i + 1) path (omega arith) in
     all (take (i + 1) path) (record {
       some = λ e. let zero = ap (λ (q : Names). length q) e in absurd (omega (arith, long, zero));
-      begins = take_front (i + 1) path;
+      begins = take_prefix (i + 1) path;
     })

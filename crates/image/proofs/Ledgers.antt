@@ -6,8 +6,8 @@ use Rattle.std.proofs.lemmas.List.{take_more, take-take, get_or-take, get_or_def
 use Rattle.std.proofs.lemmas.List.Sums.{sum_by-le, sum_by-take-drop, sum_by-drop_more, sum_by_more}
 use Rattle.ledger.specs.declared.postings.Posting.{Posting}
 use Rattle.ledger.specs.declared.postings.Posting.TheVariants.{Born, Entry, Back, Forget}
-use Rattle.ledger.specs.Sums.{number_of, generation_of, is_birth, is_entry, given_by, births_of, entries_of, given_of, IsAllowed, IsNeverNegative}
-use Rattle.ledger.proofs.SumsLemmas.{given_of-le, entries_of-le, never_negative-push}
+use Rattle.ledger.specs.Sums.{number_of, generation_of, is_birth, is_entry, given_by, births_of, entries_of, given_back_of, IsAllowed, IsNeverNegative}
+use Rattle.ledger.proofs.SumsLemmas.{given_back_of-le, entries_of-le, never_negative-push}
 use Rattle.image.specs.Law.{MayStand, IsOrdered}
 
 -- ---- births
@@ -89,7 +89,7 @@ nothing f ps each = omega (arith, sum_by-le f 0 ps (λ k d within. let zero = ea
 -- what is left of an unborn number and generation: nothing was entered or given
 pub record IsUnposted (n g : ℕ) (ps : List Posting) : Type 0 where
   pub entries : entries_of n g ps ≡ 0
-  pub given : given_of n g ps ≡ 0
+  pub given : given_back_of n g ps ≡ 0
 
 pub unborn : (n g : ℕ) (ps : List Posting) → IsOrdered ps → (Contains ps (Born n g) → ⊥) → IsUnposted n g ps
 unborn n g ps ordered none =
@@ -105,7 +105,7 @@ unborn n g ps ordered none =
 -- so all entries stand after the birth
 pub record IsAllAfter (n g j : ℕ) (ps : List Posting) : Type 0 where
   pub entries : entries_of n g (drop j ps) ≡ entries_of n g ps
-  pub given : given_of n g (drop j ps) ≡ given_of n g ps
+  pub given : given_back_of n g (drop j ps) ≡ given_back_of n g ps
 
 birth_gives : (n g : ℕ) (p : Posting) → p ≡ Born n g → IsSilent n g p
 birth_gives n g p is = subst (IsSilent n g) (sym is) (record { entry = refl; given = refl })
@@ -117,7 +117,7 @@ after_birth ps n g j d ordered some within is =
     let before = unborn n g (take (j - 1) ps) (IsOrdered-take ps (j - 1) ordered) (born_once ps n g (j - 1) d ordered here is) in
     let silence = birth_gives n g (get_or ps (j - 1) d) is in
     let tail_e : entries_of n g (drop ((j - 1) + 1) ps) ≡ entries_of n g (drop j ps) = ap (λ (i : ℕ). entries_of n g (drop i ps)) next in
-    let tail_g : given_of n g (drop ((j - 1) + 1) ps) ≡ given_of n g (drop j ps) = ap (λ (i : ℕ). given_of n g (drop i ps)) next in
+    let tail_g : given_back_of n g (drop ((j - 1) + 1) ps) ≡ given_back_of n g (drop j ps) = ap (λ (i : ℕ). given_back_of n g (drop i ps)) next in
     record {
       entries = omega (arith, before.entries, silence.entry, tail_e, sum_by-take-drop (entered_by n g) ps (j - 1), sum_by-drop_more (entered_by n g) ps (j - 1) d here);
       given = omega (arith, before.given, silence.given, tail_g, sum_by-take-drop (given_by n g) ps (j - 1), sum_by-drop_more (given_by n g) ps (j - 1) d here);
@@ -130,12 +130,12 @@ all_after_none ps n g j none =
     subst P first (record { entries = refl; given = refl })
 
 -- what the postings from j - 1 on give is no more than the number of postings
-pub given_short : (ps : List Posting) (n g j : ℕ) (d : Posting) → IsNeverNegative ps → 0 < j → j ≤ length ps → given_of n g (drop j ps) + given_by n g (get_or ps (j - 1) d) ≤ length ps
+pub given_short : (ps : List Posting) (n g j : ℕ) (d : Posting) → IsNeverNegative ps → 0 < j → j ≤ length ps → given_back_of n g (drop j ps) + given_by n g (get_or ps (j - 1) d) ≤ length ps
 given_short ps n g j d never some within =
     let here : j - 1 < length ps = omega arith in
     let next : (j - 1) + 1 ≡ j = omega arith in
-    let tail : given_of n g (drop ((j - 1) + 1) ps) ≡ given_of n g (drop j ps) = ap (λ (i : ℕ). given_of n g (drop i ps)) next in
-    omega (arith, tail, sum_by-take-drop (given_by n g) ps (j - 1), sum_by-drop_more (given_by n g) ps (j - 1) d here, given_of-le n g ps never, entries_of-le n g ps)
+    let tail : given_back_of n g (drop ((j - 1) + 1) ps) ≡ given_back_of n g (drop j ps) = ap (λ (i : ℕ). given_back_of n g (drop i ps)) next in
+    omega (arith, tail, sum_by-take-drop (given_by n g) ps (j - 1), sum_by-drop_more (given_by n g) ps (j - 1) d here, given_back_of-le n g ps never, entries_of-le n g ps)
 
 -- ---- no count is negative
 
@@ -147,7 +147,7 @@ never_negative_more ps k d within before may =
 self : (n g : ℕ) → (n == n && g == g) ≡ true
 self n g = and_from (n == n) (g == g) (eq-eqb n n refl) (eq-eqb g g refl)
 
-allowed_from : (before : List Posting) (p : Posting) → ((n g : ℕ) → given_of n g before + given_by n g p ≤ entries_of n g before + entered_by n g p) → IsAllowed before p
+allowed_from : (before : List Posting) (p : Posting) → ((n g : ℕ) → given_back_of n g before + given_by n g p ≤ entries_of n g before + entered_by n g p) → IsAllowed before p
 allowed_from before (Born m h) each = tt
 allowed_from before (Entry m h) each = tt
 allowed_from before (Back m h) each = let h = rw (self m h) at (each m h) in omega arith

@@ -2,13 +2,13 @@
 -- and what they hold.
 use Rattle.std.specs.Prelude.{ℕ, ◌+◌, ◌<◌, ◌≡◌, ◌≢◌, ◌==◌, ◌&&◌, ◌⊎◌, Bool, true, false, List, Some, All, AllPairs, Contains, take, length, slice_index_or, count_by}
 use Rattle.std.specs.List.{list_any}
-use Rattle.paths.specs.Fronts.{Names}
+use Rattle.paths.specs.Prefixes.{Names}
 use Rattle.holds.specs.declared.held.Held.{Held}
-use Rattle.holds.specs.declared.held.Lead.{Lead}
-use Rattle.holds.specs.Clashes.{Clash, IsHeld, IsSomeFront, is_among}
+use Rattle.holds.specs.declared.held.GivenPath.{GivenPath}
+use Rattle.holds.specs.Conflicts.{Conflict, IsHeld, IsSomePrefix, is_among}
 use Rattle.ledger.specs.declared.postings.Posting.{Posting}
 use Rattle.ledger.specs.declared.postings.Posting.TheVariants.{Born, Entry, Back, Forget}
-use Rattle.ledger.specs.Sums.{number_of, births_of, entries_of, given_of, IsNeverNegative}
+use Rattle.ledger.specs.Sums.{number_of, births_of, entries_of, given_back_of, IsNeverNegative}
 use Rattle.tree.specs.declared.nodes.Key.{Key}
 use Rattle.tree.specs.declared.nodes.Node.{Node}
 use Rattle.tree.specs.declared.nodes.Place.TheVariants.{Named}
@@ -41,9 +41,9 @@ IsUnborne at n g = (x : Node) → at n ≡ Some x → x.generation ≢ g
 
 pub record IsCounted (at : Lookup) (ps : List Posting) : Type 0 where
   -- each lookup count is its entries less what came back and what was forgotten
-  pub counts : (n : ℕ) (x : Node) → at n ≡ Some x → x.count + given_of n x.generation ps ≡ entries_of n x.generation ps
+  pub counts : (n : ℕ) (x : Node) → at n ≡ Some x → x.count + given_back_of n x.generation ps ≡ entries_of n x.generation ps
   -- of a number and generation that no node bears, nothing is left
-  pub others : (n g : ℕ) → IsUnborne at n g → given_of n g ps ≡ entries_of n g ps
+  pub others : (n g : ℕ) → IsUnborne at n g → given_back_of n g ps ≡ entries_of n g ps
   -- nor was more ever given back and forgotten than entered
   pub never_negative : IsNeverNegative ps
 
@@ -113,22 +113,22 @@ pub record AreCounts (sharers owners : Names → ℕ) (holds : List Hold) : Type
 abbrev pub AreHoldsCounted : List Hold → List Record → Type 0
 AreHoldsCounted holds records = AreCounts (sharers_of records) (owners_of records) holds
 
--- they are not both worked on, or what they hold does not clash
+-- they are not both worked on, or what they hold does not conflict
 pub record AreClear (r s : Record) : Type 0 where
-  pub clear : r.stage ≡ Working → s.stage ≡ Working → Clash r.held s.held → ⊥
+  pub clear : r.stage ≡ Working → s.stage ≡ Working → Conflict r.held s.held → ⊥
 
--- no two requests that are worked on clash
+-- no two requests that are worked on conflict
 abbrev pub AreApart : List Record → Type 0
 AreApart records = AllPairs AreClear records
 
--- the path given for a node leads to it, and each front of it is held
-pub record IsLead (at : Lookup) (held : Held) (lead : Lead) : Type 0 where
+-- the path given for a node leads to it, and each prefix of it is held
+pub record IsGivenPath (at : Lookup) (held : Held) (lead : GivenPath) : Type 0 where
   pub path : IsPathOf at lead.number lead.path
-  pub fronts : (front : Names) → IsSomeFront front lead.path → IsHeld held front
+  pub prefixes : (prefix : Names) → IsSomePrefix prefix lead.path → IsHeld held prefix
 
--- while the request is worked on, the paths given for its nodes lead to them, and their fronts are held
+-- while the request is worked on, the paths given for its nodes lead to them, and their prefixes are held
 pub record IsKnown (at : Lookup) (r : Record) : Type 0 where
-  pub leads : r.stage ≡ Working → All (IsLead at r.held) r.held.given
+  pub leads : r.stage ≡ Working → All (IsGivenPath at r.held) r.held.given
 
 abbrev pub AreKnown : Lookup → List Record → Type 0
 AreKnown at records = All (IsKnown at) records
@@ -156,7 +156,7 @@ pub record IsLawfulImage (image : Image) : Type 0 where
   pub law : IsLawful (node_at image.nodes) image.postings (is_pinned image.records)
   -- the holds are those of the requests that are worked on
   pub counted : AreHoldsCounted image.holds image.records
-  -- no two of these clash
+  -- no two of these conflict
   pub apart : AreApart image.records
   -- the paths given to them still lead to their nodes
   pub known : AreKnown (node_at image.nodes) image.records

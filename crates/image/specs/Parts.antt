@@ -1,10 +1,10 @@
 -- The parts of the law that one test decides, each said of a single node, posting or record.
 use Rattle.std.specs.Prelude.{ℕ, ◌+◌, ◌≡◌, ◌≢◌, Bool, true, false, List, Some, All, Any, sum_by}
-use Rattle.paths.specs.Fronts.{Name, Names}
+use Rattle.paths.specs.Prefixes.{Name, Names}
 use Rattle.holds.specs.declared.held.Held.{Held}
-use Rattle.holds.specs.Clashes.{IsHeld, IsSomeFront}
+use Rattle.holds.specs.Conflicts.{IsHeld, IsSomePrefix}
 use Rattle.ledger.specs.declared.postings.Posting.{Posting}
-use Rattle.ledger.specs.Sums.{births_of, entries_of, given_of, totals_of}
+use Rattle.ledger.specs.Sums.{births_of, entries_of, given_back_of, totals_of}
 use Rattle.tree.specs.declared.nodes.Key.{Key}
 use Rattle.tree.specs.declared.nodes.Node.{Node}
 use Rattle.tree.specs.declared.nodes.Place.TheVariants.{Root, Named}
@@ -58,14 +58,14 @@ pub record BearsLastBirth (ps : List Posting) (x : Node) : Type 0 where
 
 -- each lookup count is its entries less what came back and what was forgotten
 pub record AreCountsExact (at : Lookup) (ps : List Posting) : Type 0 where
-  pub counts : (n : ℕ) (x : Node) → at n ≡ Some x → x.count + given_of n x.generation ps ≡ entries_of n x.generation ps
+  pub counts : (n : ℕ) (x : Node) → at n ≡ Some x → x.count + given_back_of n x.generation ps ≡ entries_of n x.generation ps
 
 unfoldable pub IsCountExact : List Posting → Node → Type 0
-IsCountExact ps x = x.count + given_of x.number x.generation ps ≡ entries_of x.number x.generation ps
+IsCountExact ps x = x.count + given_back_of x.number x.generation ps ≡ entries_of x.number x.generation ps
 
 -- of a number and generation that no node bears, nothing is left
 pub record AreOthersSettled (at : Lookup) (ps : List Posting) : Type 0 where
-  pub others : (n g : ℕ) → IsUnborne at n g → given_of n g ps ≡ entries_of n g ps
+  pub others : (n g : ℕ) → IsUnborne at n g → given_back_of n g ps ≡ entries_of n g ps
 
 -- ---- sums over the whole ledger and all nodes
 
@@ -106,8 +106,8 @@ pub record IsReasoned (at : Lookup) (pinned : ℕ → Bool) (x : Node) : Type 0 
 -- ---- what requests hold
 
 -- the path's numbers are those of the requests, and not both 0
-unfoldable pub IsCounted : List Record → Hold → Type 0
-IsCounted records h = IsCountOf (sharers_of records) (owners_of records) h
+unfoldable pub IsHoldCount : List Record → Hold → Type 0
+IsHoldCount records h = IsCountOf (sharers_of records) (owners_of records) h
 
 -- the two are of two paths
 abbrev pub HaveOtherPaths : Hold → Hold → Type 0
@@ -122,6 +122,6 @@ pub record AreStored (holds : List Hold) (r : Record) : Type 0 where
   pub shared : r.stage ≡ Working → All (IsStored holds) r.held.shared
   pub exclusive : r.stage ≡ Working → All (IsStored holds) r.held.exclusive
 
--- each front of the path is held, but the empty one
-unfoldable pub AreFrontsHeld : Held → Names → Type 0
-AreFrontsHeld held path = (front : Names) → IsSomeFront front path → IsHeld held front
+-- each prefix of the path is held, but the empty one
+unfoldable pub ArePrefixesHeld : Held → Names → Type 0
+ArePrefixesHeld held path = (prefix : Names) → IsSomePrefix prefix path → IsHeld held prefix

@@ -1,6 +1,6 @@
 //! Images made by hand, lawful and not.
 
-use holds::{Held, Leads, Paths};
+use holds::{GivenPaths, Held, Paths};
 use image::{Holds, Image, Nodes, Numbers, Postings, Record, Records, Stage};
 use ledger::Posting;
 use paths::Name;
@@ -189,7 +189,7 @@ fn pinning(alloc: Global, id: u64, number: u64) -> Result<Record, AllocError> {
         stage: Stage::Working,
         pins,
         held: Held {
-            given: Leads::from_vec(Vec::new(alloc)),
+            given: GivenPaths::from_vec(Vec::new(alloc)),
             shared: Paths::from_vec(Vec::new(alloc)),
             exclusive: Paths::from_vec(Vec::new(alloc)),
         },

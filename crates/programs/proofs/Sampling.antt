@@ -1,6 +1,6 @@
 -- What the puts of the sample names make of a tree.
 use Rattle.std.proofs.Common.{ℕ, ◌≡◌, Bool, true, false, if◌then◌else◌, List, [], ◌∷◌, codes, Option, Some, Ok, inl, inr, refl, ap, ◌∙◌}
-use Rattle.paths.specs.Fronts.{Names}
+use Rattle.paths.specs.Prefixes.{Names}
 use Rattle.backing.specs.Calls.{AskMake, AskMakeDir, AskWrite, Works}
 use Rattle.backing.specs.Entries.{tree_of}
 use Rattle.backing.specs.Files.{written}

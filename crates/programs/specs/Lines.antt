@@ -43,7 +43,7 @@ pub record HasPiece (old new : Hexing) : Type 0 where
 
 -- so many of the bytes kept are handed out
 pub record HandsOut (old : Hexing) (n : ℕ) (bytes : List ℕ) (new : Hexing) : Type 0 where
-  pub front : bytes ≡ take n old.kept
+  pub prefix : bytes ≡ take n old.kept
   pub rest : new ≡ record old { kept = drop n old.kept }
 
 -- Why reading broke: the next line is the one that is not hexadecimal; or no line was read, since the reader failed; or memory was

@@ -1,6 +1,6 @@
 -- The tree that `hex` starts from.
 use Rattle.std.specs.Prelude.{◌≡◌, Bool, true, false, [], ◌∷◌, codes, Some, None}
-use Rattle.paths.specs.Fronts.{Names}
+use Rattle.paths.specs.Prefixes.{Names}
 use Rattle.backing.specs.Memory.{Memory, memory_tree}
 use Rattle.backing.specs.Tree.{Tree, with_item}
 use Rattle.backing.specs.declared.entries.Item.TheVariants.{Folder, File}

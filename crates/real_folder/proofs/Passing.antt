@@ -52,9 +52,9 @@ wrote_on writes offset count more bytes before fits it =
 pub read_on : (reads : ℕ → List ℕ → Type 0) (offset count more k : ℕ) (room new : List ℕ) → SoFar reads offset count room
     → more ≤ length new → reads (offset + count) (take more new) → SoFar reads offset (count + more) (put_mid count k room new)
 read_on reads offset count more k room new before fits it =
-    let front = take count room in
+    let prefix = take count room in
     let rest = new ++ post_of count k room in
-    let long : length front ≡ count = length-take-le count room before.within in
+    let long : length prefix ≡ count = length-take-le count room before.within in
     so_far_on reads offset count more room (put_mid count k room new) (take more new) before
-    (omega (arith, length-append front rest, length-append new (post_of count k room)))
-    (ap (λ (n : ℕ). take (n + more) (front ++ rest)) (sym long) ∙ (take-append-add front rest more ∙ ap (λ (xs : List ℕ). front ++ xs) (take-append-le more new (post_of count k room) fits))) it
+    (omega (arith, length-append prefix rest, length-append new (post_of count k room)))
+    (ap (λ (n : ℕ). take (n + more) (prefix ++ rest)) (sym long) ∙ (take-append-add prefix rest more ∙ ap (λ (xs : List ℕ). prefix ++ xs) (take-append-le more new (post_of count k room) fits))) it

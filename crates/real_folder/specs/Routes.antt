@@ -1,6 +1,6 @@
 -- A path of the file system, from a root down.
 use Rattle.std.specs.Prelude.{ℕ, ◌≡◌, ◌≢◌, ◌<◌, List, [], ◌∷◌, ◌++◌, length, slice_index}
-use Rattle.paths.specs.Fronts.{Name, Names}
+use Rattle.paths.specs.Prefixes.{Name, Names}
 
 -- a root's path, and a path that stands at it or below it
 pub record Route : Type 0 where
@@ -25,6 +25,6 @@ spelled [] = []
 spelled (name ∷ names) = 47 ∷ (name ++ spelled names)
 
 -- the path leads down from the root by these names, and by nothing else
-pub record LeadsDown (root path : List ℕ) (names : Names) : Type 0 where
+pub record ResolvesDown (root path : List ℕ) (names : Names) : Type 0 where
   pub path_is : path ≡ root ++ spelled names
   pub lawful : AllLawful names

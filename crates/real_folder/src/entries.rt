@@ -4,7 +4,7 @@ ghost use Rattle.std.specs.Prelude.{◌≡◌, IfOk, OnOk};
 ghost use Rattle.backing.specs.Calls.{AskMake, AskMakeDir, AskRemove, AskRemoveDir, AskRename};
 ghost use Rattle.real_folder.specs.Contents.{takenness};
 ghost use Rattle.real_folder.specs.Explained.{Suits};
-ghost use Rattle.real_folder.specs.Routes.{LeadsDown};
+ghost use Rattle.real_folder.specs.Routes.{ResolvesDown};
 
 use crate::files::{find_file, find_folder};
 use crate::listing::expect_bare;
@@ -123,10 +123,10 @@ fn is_gone(found: Found) -> bool {
 
 /// Neither path leads through the other.
 fn expect_apart(from: &Path, to: &Path) -> Result<(), Trouble> {
-    if from.is_front_of(to) {
+    if from.is_prefix_of(to) {
         return Err(Trouble::Refused(Reason::Below));
     }
-    if to.is_front_of(from) {
+    if to.is_prefix_of(from) {
         return Err(Trouble::Refused(Reason::Names));
     }
     Ok(())
@@ -155,7 +155,7 @@ fn expect_fitting<R: Files + AllocGlobal + Clone + Drop>(
 
 /// A folder stands at the path's parent, where something is to be made.
 fn find_place<R: Files>(rt: &R, walk: &mut Walk, path: &Path) -> Result<(), Trouble>
-    ensures { OnOk result (LeadsDown walk.old.root walk.new.path path.now) }
+    ensures { OnOk result (ResolvesDown walk.old.root walk.new.path path.now) }
 {
     let Some((name, parent)) = path.names().split_last() else {
         return Err(Trouble::Refused(Reason::Taken));

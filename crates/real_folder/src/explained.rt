@@ -1,7 +1,7 @@
 //! Which refusals some tree explains.
 
 ghost use Rattle.std.specs.Prelude.{true, false, ◌≡◌, ◌≢◌, List, ◌∷◌, []};
-ghost use Rattle.paths.specs.Fronts.{is_front};
+ghost use Rattle.paths.specs.Prefixes.{is_prefix};
 ghost use Rattle.backing.specs.Calls.{Test, asked, Reached, Present, Free, NoFolder, NoFile, AskRename, AskRemoveDir};
 ghost use Rattle.real_folder.specs.Explained.{Explained, Explains, errno_of};
 
@@ -119,22 +119,22 @@ fn is_no_move(from: &Path, to: &Path, reason: Reason) -> bool
     }
 }
 
-/// The longer path leads through the front, which is not the root.
-fn leads_through(front: &Path, longer: &Path) -> bool
-    ensures { result ≡ true → (front.now ≢ []) × (front.now ≢ longer.now) × (is_front front.now longer.now ≡ true) }
+/// The longer path leads through the prefix, which is not the root.
+fn leads_through(prefix: &Path, longer: &Path) -> bool
+    ensures { result ≡ true → (prefix.now ≢ []) × (prefix.now ≢ longer.now) × (is_prefix prefix.now longer.now ≡ true) }
 {
-    if front.len() == 0 {
+    if prefix.len() == 0 {
         return false;
     }
-    if front.is(longer) {
+    if prefix.is(longer) {
         return false;
     }
-    front.is_front_of(longer)
+    prefix.is_prefix_of(longer)
 }
 
 /// Neither is the root nor leads through the other.
 fn are_apart(from: &Path, to: &Path) -> bool
-    ensures { result ≡ true → (from.now ≢ []) × (to.now ≢ []) × (is_front from.now to.now ≡ false) × (is_front to.now from.now ≡ false) }
+    ensures { result ≡ true → (from.now ≢ []) × (to.now ≢ []) × (is_prefix from.now to.now ≡ false) × (is_prefix to.now from.now ≡ false) }
 {
     if from.len() == 0 {
         return false;
@@ -142,8 +142,8 @@ fn are_apart(from: &Path, to: &Path) -> bool
     if to.len() == 0 {
         return false;
     }
-    if from.is_front_of(to) {
+    if from.is_prefix_of(to) {
         return false;
     }
-    !to.is_front_of(from)
+    !to.is_prefix_of(from)
 }

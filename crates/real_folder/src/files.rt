@@ -3,7 +3,7 @@
 ghost use Rattle.std.specs.Prelude.{IfOk, OnOk};
 ghost use Rattle.backing.specs.Calls.{AskStat, AskRead, AskWrite, AskSetLen, AskSync};
 ghost use Rattle.real_folder.specs.Explained.{Suits};
-ghost use Rattle.real_folder.specs.Routes.{LeadsDown};
+ghost use Rattle.real_folder.specs.Routes.{ResolvesDown};
 
 use crate::parts::{read_all, write_all};
 use crate::trouble::{Reason, Trouble};
@@ -107,7 +107,7 @@ pub fn sync<R: Files<File = File>>(rt: &R, walk: &mut Walk, path: &Path) -> Resu
 
 /// A file stands there: which one it is.
 pub fn find_file<R: Files>(rt: &R, walk: &mut Walk, path: &Path) -> Result<Identity, Trouble>
-    ensures { OnOk result (LeadsDown walk.old.root walk.new.path path.now) }
+    ensures { OnOk result (ResolvesDown walk.old.root walk.new.path path.now) }
 {
     match walk.find(rt, path.names())? {
         Found::File(identity) => Ok(identity),
@@ -118,7 +118,7 @@ pub fn find_file<R: Files>(rt: &R, walk: &mut Walk, path: &Path) -> Result<Ident
 
 /// A folder stands there.
 pub fn find_folder<R: Files>(rt: &R, walk: &mut Walk, path: &Path) -> Result<(), Trouble>
-    ensures { OnOk result (LeadsDown walk.old.root walk.new.path path.now) }
+    ensures { OnOk result (ResolvesDown walk.old.root walk.new.path path.now) }
 {
     match walk.find(rt, path.names())? {
         Found::Folder(_) => Ok(()),

@@ -1,7 +1,7 @@
 //! The way down a path of the file system.
 
 ghost use Rattle.std.specs.Prelude.{true, ◌≡◌, ◌≢◌, ◌<◌, ℕ, [], ◌∷◌, ◌++◌, OnOk, length, slice_index, string_bytes};
-ghost use Rattle.real_folder.specs.Routes.{IsLawfulName, LeadsDown};
+ghost use Rattle.real_folder.specs.Routes.{IsLawfulName, ResolvesDown};
 
 use crate::trouble::{Reason, Trouble};
 use errno::EINVAL;
@@ -109,7 +109,7 @@ impl Walk {
 
     /// Goes down from the root, and answers what stands there: one `lstat` for each name.
     pub fn find<R: Files>(&mut self, rt: &R, names: &[Name]) -> Result<Found, Trouble>
-        ensures below { OnOk result (LeadsDown self.old.root self.new.path names.now) }
+        ensures below { OnOk result (ResolvesDown self.old.root self.new.path names.now) }
         ensures root { self.new.root ≡ self.old.root }
     {
         self.start()?;

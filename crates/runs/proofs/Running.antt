@@ -8,9 +8,9 @@ use Rattle.std.proofs.lemmas.List.Elements.{All-contains, All-from_get_or, All-g
 use Rattle.std.proofs.lemmas.List.Quantifiers.{all_pairs_push, all_pairs_remove}
 use Rattle.std.proofs.Math.Seq.{drop-append_seam, take-append_seam}
 use Rattle.ledger.specs.Shares.{Part}
-use Rattle.paths.specs.Fronts.{Names}
+use Rattle.paths.specs.Prefixes.{Names}
 use Rattle.holds.specs.declared.held.Held.{Held}
-use Rattle.holds.specs.declared.held.Lead.{Lead}
+use Rattle.holds.specs.declared.held.GivenPath.{GivenPath}
 use Rattle.tree.specs.Places.{Lookup, IsPathOf, IsTree}
 use Rattle.tree.proofs.Climbing.{path_same}
 use Rattle.tree.proofs.LookupLemmas.{cases_option}
@@ -40,9 +40,9 @@ use Rattle.runs.specs.Runs.{AreCurrent, ChangesNothing, IsCurrent, IsOther, IsSt
 module _ (old new : Lookup) (tree : IsTree old) (d : Demand) (held : Held) (was : Holds old d held) (is : Holds new d held) where
   given_path : (n : ℕ) → Contains d.given n → (q : Names) → IsPathOf old n q → IsPathOf new n q
   given_path n given q leads =
-      let it = in_map (λ (lead : Lead). lead.number) held.given n (subst (λ ns. Contains ns n) (sym was.numbers) given) in
-      let before : IsPathOf old it.0.number it.0.path = All-contains (λ (lead : Lead). IsPathOf old lead.number lead.path) held.given it.0 was.leads it.1 in
-      let after : IsPathOf new it.0.number it.0.path = All-contains (λ (lead : Lead). IsPathOf new lead.number lead.path) held.given it.0 is.leads it.1 in
+      let it = in_map (λ (lead : GivenPath). lead.number) held.given n (subst (λ ns. Contains ns n) (sym was.numbers) given) in
+      let before : IsPathOf old it.0.number it.0.path = All-contains (λ (lead : GivenPath). IsPathOf old lead.number lead.path) held.given it.0 was.leads it.1 in
+      let after : IsPathOf new it.0.number it.0.path = All-contains (λ (lead : GivenPath). IsPathOf new lead.number lead.path) held.given it.0 is.leads it.1 in
       let same : it.0.path ≡ q = path_same old tree.rooted it.0.path q n (subst (λ k. IsPathOf old k it.0.path) it.2 before) leads in
       subst (λ p. IsPathOf new n p) same (subst (λ k. IsPathOf new k it.0.path) it.2 after)
 

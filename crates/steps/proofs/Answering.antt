@@ -84,7 +84,7 @@ module _ (s : State) (kept : IsKept s) (flights : InFlight) (id : ℕ) (work : R
       let same : it.flight ≡ flying.answered a.flight = same_Some it.flight (flying.answered a.flight) (sym it.here ∙ (ap (flying_of flights).at e ∙ here_now)) in
       let bad : recorded.Working it.work_record ≡ recorded.Answered = sym it.working ∙ ap (λ (f : Recorded). f.stage) same in
       cc in
-      kept.held.apart up.id id up.flight (flight_of a.flight) up.work (work_of work) was was_at_work other up.clash
+      kept.held.apart up.id id up.flight (flight_of a.flight) up.work (work_of work) was was_at_work other up.conflict
 
   -- and what it was promised is free for its end
   abbrev pub ending : IsEnding (record s { flights = flights }) id work

@@ -3,70 +3,70 @@ use Rattle.std.proofs.Common.{ℕ, ◌≡◌, ◌≢◌, ◌==◌, ◌⊎◌, Li
 use Rattle.std.proofs.lemmas.Bool.{cases_eq, cond-false, cond-true, eq-eqb, ne_eqb}
 use Rattle.std.proofs.lemmas.List.Elements.{All-contains_itself}
 use Rattle.std.proofs.lemmas.Option.{same_Some}
-use Rattle.paths.specs.Fronts.{Names}
+use Rattle.paths.specs.Prefixes.{Names}
 use Rattle.holds.specs.declared.held.Held.{Held}
-use Rattle.holds.specs.declared.held.Lead.{Lead}
-use Rattle.holds.specs.Clashes.{Clash, Grips, Meets}
+use Rattle.holds.specs.declared.held.GivenPath.{GivenPath}
+use Rattle.holds.specs.Conflicts.{Conflict, Excludes, Overlaps}
 use Rattle.flights.specs.declared.data.Stage.{Stage as Recording}
 use Rattle.flights.specs.declared.data.Stage.TheVariants as recorded
 use Rattle.flights.specs.declared.data.Work.{Work as RecordedWork}
 use Rattle.flights.specs.Flying as flying
 use Rattle.tree.specs.Places.{Lookup, IsTree}
-use Rattle.image.specs.Law.{IsLead}
+use Rattle.image.specs.Law.{IsGivenPath}
 use Rattle.wants.specs.Asked.{Holds}
 use Rattle.wants.specs.Laws.{IsRow}
 use Rattle.wants.specs.Rows.{Demand}
 use Rattle.steps.specs.Kept.{flight_of, flights_in, work_of}
 use Rattle.steps.specs.Steps.{HoldsUp}
 use Rattle.steps.specs.World.{Flight, Flights, IsAtWork, Work, Working, with_entry}
-use Rattle.steps.proofs.Staying.{fronts_given, map_in}
+use Rattle.steps.proofs.Staying.{prefixes_given, map_in}
 use Rattle.steps.proofs.Viewed.{at_work, recorded_at}
 
 -- ---- in the way
 
-in_the_way : (st : Recording) (wanted : Held) → flying.IsInTheWay st wanted → (v : RecordedWork) × (st ≡ recorded.Working v) × Clash v.held wanted
-in_the_way (recorded.Working v) wanted clash = (v, refl, clash)
+in_the_way : (st : Recording) (wanted : Held) → flying.IsInTheWay st wanted → (v : RecordedWork) × (st ≡ recorded.Working v) × Conflict v.held wanted
+in_the_way (recorded.Working v) wanted conflict = (v, refl, conflict)
 in_the_way recorded.Answered wanted bad = absurd bad
 
 pub held_up_seen : (all : flying.Flying) (wanted : Held) → flying.HoldsUp all.at wanted → HoldsUp (flights_in all) wanted
 held_up_seen all wanted up =
-    let v = in_the_way up.flight.stage wanted up.clash in
-    record { id = up.id; flight = flight_of up.flight; work = work_of v.0; here = at_work all up.id up.flight v.0 up.here v.1; clash = v.2 }
+    let v = in_the_way up.flight.stage wanted up.conflict in
+    record { id = up.id; flight = flight_of up.flight; work = work_of v.0; here = at_work all up.id up.flight v.0 up.here v.1; conflict = v.2 }
 
 pub held_up_recorded : (all : flying.Flying) (wanted : Held) → HoldsUp (flights_in all) wanted → flying.HoldsUp all.at wanted
 held_up_recorded all wanted up =
     let it = recorded_at all up.id up.flight up.work up.here in
-    let clash : Clash it.work_record.held wanted = subst (λ (w : Work). Clash w.held wanted) (sym it.work_is) up.clash in
-    record { id = up.id; flight = it.flight; here = it.here; clash = subst (λ (st : Recording). flying.IsInTheWay st wanted) (sym it.working) clash }
+    let conflict : Conflict it.work_record.held wanted = subst (λ (w : Work). Conflict w.held wanted) (sym it.work_is) up.conflict in
+    record { id = up.id; flight = it.flight; here = it.here; conflict = subst (λ (st : Recording). flying.IsInTheWay st wanted) (sym it.working) conflict }
 
 -- ---- the same names
 
-meets_right : (ps qs rs : List Names) → ((q : Names) → Contains qs q → Contains rs q) → Meets ps qs → Meets ps rs
-meets_right ps qs rs more m = (m.0, m.1, m.2, m.3, more m.1 m.4)
+overlaps_right : (ps qs rs : List Names) → ((q : Names) → Contains qs q → Contains rs q) → Overlaps ps qs → Overlaps ps rs
+overlaps_right ps qs rs more m = (m.0, m.1, m.2, m.3, more m.1 m.4)
 
-meets_left : (ps qs rs : List Names) → ((q : Names) → Contains ps q → Contains qs q) → Meets ps rs → Meets qs rs
-meets_left ps qs rs more m = let it = more m.1 (m.0, m.2, m.3) in (it.0, m.1, it.1, it.2, m.4)
+overlaps_left : (ps qs rs : List Names) → ((q : Names) → Contains ps q → Contains qs q) → Overlaps ps rs → Overlaps qs rs
+overlaps_left ps qs rs more m = let it = more m.1 (m.0, m.2, m.3) in (it.0, m.1, it.1, it.2, m.4)
 
 -- what one holds, the other holds too
 record HoldsNoMore (h k : Held) : Type 0 where
   shared : (q : Names) → Contains h.shared q → Contains k.shared q
   exclusive : (q : Names) → Contains h.exclusive q → Contains k.exclusive q
 
-grips_more : (r h k : Held) → HoldsNoMore h k → Grips r h → Grips r k
-grips_more r h k more (inl m) = inl (meets_right r.exclusive h.exclusive k.exclusive more.exclusive m)
-grips_more r h k more (inr m) = inr (meets_right r.exclusive h.shared k.shared more.shared m)
+excludes_more : (r h k : Held) → HoldsNoMore h k → Excludes r h → Excludes r k
+excludes_more r h k more (inl m) = inl (overlaps_right r.exclusive h.exclusive k.exclusive more.exclusive m)
+excludes_more r h k more (inr m) = inr (overlaps_right r.exclusive h.shared k.shared more.shared m)
 
-gripped_more : (r h k : Held) → HoldsNoMore h k → Grips h r → Grips k r
-gripped_more r h k more (inl m) = inl (meets_left h.exclusive k.exclusive r.exclusive more.exclusive m)
-gripped_more r h k more (inr m) = inr (meets_left h.exclusive k.exclusive r.shared more.exclusive m)
+excluded_more : (r h k : Held) → HoldsNoMore h k → Excludes h r → Excludes k r
+excluded_more r h k more (inl m) = inl (overlaps_left h.exclusive k.exclusive r.exclusive more.exclusive m)
+excluded_more r h k more (inr m) = inr (overlaps_left h.exclusive k.exclusive r.shared more.exclusive m)
 
-clash_more : (r h k : Held) → HoldsNoMore h k → Clash r h → Clash r k
-clash_more r h k more (inl g) = inl (grips_more r h k more g)
-clash_more r h k more (inr g) = inr (gripped_more r h k more g)
+conflict_more : (r h k : Held) → HoldsNoMore h k → Conflict r h → Conflict r k
+conflict_more r h k more (inl g) = inl (excludes_more r h k more g)
+conflict_more r h k more (inr g) = inr (excluded_more r h k more g)
 
-pub clash_swap : (r h : Held) → Clash r h → Clash h r
-clash_swap r h (inl g) = inr g
-clash_swap r h (inr g) = inl g
+pub conflict_swap : (r h : Held) → Conflict r h → Conflict h r
+conflict_swap r h (inl g) = inr g
+conflict_swap r h (inr g) = inl g
 
 -- two that hold what the same row says hold the same
 same_names : (at : Lookup) (d : Demand) (h k : Held) → Holds at d h → Holds at d k → HoldsNoMore h k
@@ -76,12 +76,12 @@ same_names at d h k a b = record {
 }
 
 pub held_up_same : (at : Lookup) (d : Demand) (h k : Held) → Holds at d h → Holds at d k → (flights : Flights) → HoldsUp flights h → HoldsUp flights k
-held_up_same at d h k a b flights up = record { id = up.id; flight = up.flight; work = up.work; here = up.here; clash = clash_more up.work.held h k (same_names at d h k a b) up.clash }
+held_up_same at d h k a b flights up = record { id = up.id; flight = up.flight; work = up.work; here = up.here; conflict = conflict_more up.work.held h k (same_names at d h k a b) up.conflict }
 
 -- ---- apart
 
 abbrev pub AreApart : Flights → Type 0
-AreApart flights = (j k : ℕ) (f g : Flight) (v work : Work) → IsAtWork flights j f v → IsAtWork flights k g work → j ≢ k → Clash v.held work.held → ⊥
+AreApart flights = (j k : ℕ) (f g : Flight) (v work : Work) → IsAtWork flights j f v → IsAtWork flights k g work → j ≢ k → Conflict v.held work.held → ⊥
 
 -- who is found once one more is in flight is that one, or was found before
 pub entry_some : {X : Type 0} → (at : ℕ → Option X) (key : ℕ) (x : X) (k : ℕ) (y : X) → with_entry at key (Some x) k ≡ Some y → ((key ≡ k) × (x ≡ y)) ⊎ ((key ≡ k → ⊥) × (at k ≡ Some y))
@@ -103,23 +103,23 @@ at_work_more flights id f w stage k g work h = elim (entry_some flights id f k g
 
 -- one more, in whose way none is
 pub apart_more : (flights : Flights) (id : ℕ) (f : Flight) (w : Work) → f.stage ≡ Working w → (HoldsUp flights w.held → ⊥) → AreApart flights → AreApart (with_entry flights id (Some f))
-apart_more flights id f w stage clear apart j k a b v work ha hb ne clash = elim (at_work_more flights id f w stage k b work hb) [
+apart_more flights id f w stage clear apart j k a b v work ha hb ne conflict = elim (at_work_more flights id f w stage k b work hb) [
   | inl (e, same, w_is) ↦ elim (at_work_more flights id f w stage j a v ha) [
     | inl (e', same', v_is) ↦ ne (sym e' ∙ e)
-    | inr was ↦ clear (record { id = j; flight = a; work = v; here = was; clash = subst (λ (x : Work). Clash v.held x.held) (sym w_is) clash })
+    | inr was ↦ clear (record { id = j; flight = a; work = v; here = was; conflict = subst (λ (x : Work). Conflict v.held x.held) (sym w_is) conflict })
   ]
   | inr here ↦ elim (at_work_more flights id f w stage j a v ha) [
-    | inl (e', same', v_is) ↦ clear (record { id = k; flight = b; work = work; here = here; clash = clash_swap w.held work.held (subst (λ (x : Work). Clash x.held work.held) (sym v_is) clash) })
-    | inr was ↦ apart j k a b v work was here ne clash
+    | inl (e', same', v_is) ↦ clear (record { id = k; flight = b; work = work; here = here; conflict = conflict_swap w.held work.held (subst (λ (x : Work). Conflict x.held work.held) (sym v_is) conflict) })
+    | inr was ↦ apart j k a b v work was here ne conflict
   ]
 ]
 
 -- ---- known
 
 -- what a row says is held covers the paths of the nodes that it names
-pub known_held : (at : Lookup) → IsTree at → (d : Demand) (held : Held) → IsRow d → Holds at d held → (f : Flight) → ((n : ℕ) → Contains d.given n → Contains f.pins n) → All (IsLead at held) held.given
+pub known_held : (at : Lookup) → IsTree at → (d : Demand) (held : Held) → IsRow d → Holds at d held → (f : Flight) → ((n : ℕ) → Contains d.given n → Contains f.pins n) → All (IsGivenPath at held) held.given
 known_held at tree d held row holds f pinned k e within =
-    let lead : Lead = get_or held.given k e in
-    let given : Contains d.given lead.number = subst (λ ns. Contains ns lead.number) holds.numbers (map_in (λ (x : Lead). x.number) held.given lead (All-contains_itself held.given k e within)) in
+    let lead : GivenPath = get_or held.given k e in
+    let given : Contains d.given lead.number = subst (λ ns. Contains ns lead.number) holds.numbers (map_in (λ (x : GivenPath). x.number) held.given lead (All-contains_itself held.given k e within)) in
     let path = holds.leads k e within in
-    record { path = path; fronts = fronts_given at at tree d held row holds f pinned (λ n pin q fronts leads. leads) lead.number given lead.path path }
+    record { path = path; prefixes = prefixes_given at at tree d held row holds f pinned (λ n pin q prefixes leads. leads) lead.number given lead.path path }

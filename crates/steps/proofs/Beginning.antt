@@ -1,7 +1,7 @@
 -- A request that goes on has what it will rely on, whatever its want.
 use Rattle.std.proofs.Common.{ℕ, ◌≡◌, ◌⊎◌, [], All, Contains, length, refl, sym, subst, inl, inr, arith}
 use Rattle.std.proofs.lemmas.List.Elements.{All-cons}
-use Rattle.paths.specs.Fronts.{Name}
+use Rattle.paths.specs.Prefixes.{Name}
 use Rattle.tree.specs.declared.nodes.Key.{Key}
 use Rattle.tree.specs.Places.{Lookup}
 use Rattle.flights.specs.declared.data.Want.{Want}

@@ -5,9 +5,9 @@ use Rattle.std.proofs.lemmas.List.Elements.{All-push}
 use Rattle.std.proofs.lemmas.Option.{none-some, same_Some}
 use Rattle.ledger.specs.declared.postings.Posting.{Posting}
 use Rattle.ledger.specs.declared.postings.Posting.TheVariants.{Born}
-use Rattle.ledger.specs.Sums.{number_of, births_of, entries_of, given_of, IsAllowed}
+use Rattle.ledger.specs.Sums.{number_of, births_of, entries_of, given_back_of, IsAllowed}
 use Rattle.ledger.proofs.SumsLemmas.{never_negative-push}
-use Rattle.ledger.proofs.Touches.{Touches, cases_pair, entries_of-touched, given_of-touched, entries_of-untouched, given_of-untouched, births_of-untouched, births_of-born, births_of-born_else, entries_of-born, given_of-born}
+use Rattle.ledger.proofs.Touches.{Touches, cases_pair, entries_of-touched, given_back_of-touched, entries_of-untouched, given_back_of-untouched, births_of-untouched, births_of-born, births_of-born_else, entries_of-born, given_back_of-born}
 use Rattle.tree.specs.declared.nodes.Node.{Node}
 use Rattle.tree.specs.Places.{Lookup, with_node}
 use Rattle.tree.proofs.LookupLemmas.{with_same, with_other, with_some, cases_option}
@@ -34,23 +34,23 @@ module _ (at : Lookup) (ps : List Posting) (pinned : ℕ → Bool) (n : ℕ) (x 
   changed : Node
   changed = record x { count = c }
 
-  count_else : (m h k : ℕ) → (m ≢ n) ⊎ (h ≢ x.generation) → k + given_of m h ps ≡ entries_of m h ps → k + given_of m h (ps ++ p ∷ []) ≡ entries_of m h (ps ++ p ∷ [])
-  count_else m h k ne was = omega (arith, entries_of-untouched ps p n x.generation add take touches m h ne, given_of-untouched ps p n x.generation add take touches m h ne)
+  count_else : (m h k : ℕ) → (m ≢ n) ⊎ (h ≢ x.generation) → k + given_back_of m h ps ≡ entries_of m h ps → k + given_back_of m h (ps ++ p ∷ []) ≡ entries_of m h (ps ++ p ∷ [])
+  count_else m h k ne was = omega (arith, entries_of-untouched ps p n x.generation add take touches m h ne, given_back_of-untouched ps p n x.generation add take touches m h ne)
 
   -- the count of a node goes with the posting
   counted_post : IsCounted at ps → c + take ≡ x.count + add → IsAllowed ps p → IsCounted (with_node at n (record x { count = c })) (ps ++ p ∷ [])
   counted_post counted change may = record {
     counts = λ m z h. elim (with_some at n (record x { count = c }) m z h) [
       | inl (e, same) ↦
-          let P : ℕ → Node → Type 0 = λ k w. w.count + given_of k w.generation (ps ++ p ∷ []) ≡ entries_of k w.generation (ps ++ p ∷ []) in
-          let here : P n (record x { count = c }) = omega (arith, counted.counts n x stood, entries_of-touched ps p n x.generation add take touches, given_of-touched ps p n x.generation add take touches) in
+          let P : ℕ → Node → Type 0 = λ k w. w.count + given_back_of k w.generation (ps ++ p ∷ []) ≡ entries_of k w.generation (ps ++ p ∷ []) in
+          let here : P n (record x { count = c }) = omega (arith, counted.counts n x stood, entries_of-touched ps p n x.generation add take touches, given_back_of-touched ps p n x.generation add take touches) in
           subst (λ w. P m w) same (subst (λ k. P k (record x { count = c })) e here)
       | inr (ne, was) ↦ count_else m z.generation z.count (inl (λ e. ne (sym e))) (counted.counts m z was)
     ];
     others = λ m h unborne. elim (cases_pair m h n x.generation) [
       | inl (e, f) ↦ absurd (unborne (record x { count = c }) (rw e (with_same at n (record x { count = c }))) (sym f))
       | inr ne ↦
-          let was : given_of m h ps ≡ entries_of m h ps = counted.others m h (λ z stands is. elim (cases_eq n m) [
+          let was : given_back_of m h ps ≡ entries_of m h ps = counted.others m h (λ z stands is. elim (cases_eq n m) [
             | inl e ↦ unborne (record x { count = c }) (rw (← e) (with_same at n (record x { count = c }))) (ap (λ (w : Node). w.generation) (same_Some x z (sym stood ∙ (ap at e ∙ stands))) ∙ is)
             | inr other ↦ unborne z (with_other at n (record x { count = c }) m other ∙ stands) is
           ]) in
@@ -92,18 +92,18 @@ module _ (at : Lookup) (ps : List Posting) (pinned : ℕ → Bool) (n : ℕ) (x 
 module _ (at : Lookup) (ps : List Posting) (pinned : ℕ → Bool) (n : ℕ) (y : Node) (fresh : at n ≡ None) (not_root : n ≢ 1) (gen : y.generation ≡ births_of n ps) (zero_count : y.count ≡ 0) (unmarked : y.hidden ≡ false) where
   counted_born : IsCounted at ps → IsCounted (with_node at n y) (ps ++ Born n y.generation ∷ [])
   counted_born counted =
-      let keeps : (m h c : ℕ) → c + given_of m h ps ≡ entries_of m h ps → c + given_of m h (ps ++ Born n y.generation ∷ []) ≡ entries_of m h (ps ++ Born n y.generation ∷ []) = λ m h c was. omega (arith, entries_of-born n y.generation m h ps, given_of-born n y.generation m h ps) in
-      let fresh_count : given_of n y.generation ps ≡ entries_of n y.generation ps = counted.others n y.generation (λ z stands. absurd (none-some z (sym fresh ∙ stands))) in
+      let keeps : (m h c : ℕ) → c + given_back_of m h ps ≡ entries_of m h ps → c + given_back_of m h (ps ++ Born n y.generation ∷ []) ≡ entries_of m h (ps ++ Born n y.generation ∷ []) = λ m h c was. omega (arith, entries_of-born n y.generation m h ps, given_back_of-born n y.generation m h ps) in
+      let fresh_count : given_back_of n y.generation ps ≡ entries_of n y.generation ps = counted.others n y.generation (λ z stands. absurd (none-some z (sym fresh ∙ stands))) in
       record {
         counts = λ m z h. elim (with_some at n y m z h) [
           | inl (e, same) ↦
-              let P : ℕ → Node → Type 0 = λ k w. w.count + given_of k w.generation (ps ++ Born n y.generation ∷ []) ≡ entries_of k w.generation (ps ++ Born n y.generation ∷ []) in
+              let P : ℕ → Node → Type 0 = λ k w. w.count + given_back_of k w.generation (ps ++ Born n y.generation ∷ []) ≡ entries_of k w.generation (ps ++ Born n y.generation ∷ []) in
               let here : P n y = keeps n y.generation y.count (omega arith) in
               subst (λ w. P m w) same (subst (λ k. P k y) e here)
           | inr (ne, was) ↦ keeps m z.generation z.count (counted.counts m z was)
         ];
         others = λ m h unborne.
-            let was : given_of m h ps ≡ entries_of m h ps = counted.others m h (λ z stands is. elim (cases_eq n m) [
+            let was : given_back_of m h ps ≡ entries_of m h ps = counted.others m h (λ z stands is. elim (cases_eq n m) [
               | inl e ↦ none-some z (sym fresh ∙ (ap at e ∙ stands))
               | inr other ↦ unborne z (with_other at n y m other ∙ stands) is
             ]) in
@@ -151,7 +151,7 @@ IsBooked-swept old new ps pinned swept booked = record {
           | inl dropped ↦
               let zero : x.count ≡ 0 = (swept.gone m x stood dropped).count in
               let was = booked.counted.counts m x stood in
-              let P : ℕ → Type 0 = λ k. given_of m k ps ≡ entries_of m k ps in
+              let P : ℕ → Type 0 = λ k. given_back_of m k ps ≡ entries_of m k ps in
               subst P e (omega arith)
           | inr (y, stands) ↦ absurd (unborne y stands (ap (λ (w : Node). w.generation) (same_Some y x (sym (swept.kept m y stands) ∙ stood)) ∙ e))
         ]

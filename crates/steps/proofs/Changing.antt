@@ -3,7 +3,7 @@ use Rattle.std.proofs.Common.{ℕ, ◌+◌, ◌<◌, ◌≡◌, Bool, true, fals
 use Rattle.std.proofs.lemmas.Bool.{true≢false}
 use Rattle.std.proofs.lemmas.Option.{same_Some}
 use Rattle.ledger.specs.declared.postings.Posting.{Posting}
-use Rattle.ledger.specs.Sums.{entries_of, given_of}
+use Rattle.ledger.specs.Sums.{entries_of, given_back_of}
 use Rattle.tree.specs.declared.nodes.Key.{Key}
 use Rattle.tree.specs.declared.nodes.Node.{Node}
 use Rattle.tree.specs.declared.nodes.Place.TheVariants as place
@@ -55,7 +55,7 @@ module _ (f : Where → Where) (old new : Lookup) (c : Changes f old new) (ps : 
           let g = changed_generation was.0 y was.2 in
           let e = booked.counted.counts n was.0 was.1 in
           let k = changed_count was.0 y was.2 in
-          let P : ℕ → Type 0 = λ i. y.count + given_of n i ps ≡ entries_of n i ps in
+          let P : ℕ → Type 0 = λ i. y.count + given_back_of n i ps ≡ entries_of n i ps in
           subst P (sym g) (omega arith);
       others = λ n g unborne. booked.counted.others n g (λ x h is. let it = c.kept n x h in unborne it.0 it.1 (changed_generation x it.0 it.2 ∙ is));
       never_negative = booked.counted.never_negative;
@@ -101,7 +101,7 @@ module _ (s : State) (kept : IsKept s) (change : rows.Change) (may : MayAlter s 
   it = change_of (at_in s.tree) (at_in mid) change alters
 
   keeps : (id : ℕ) (f : Flight) (work : Work) → IsAtWork flights id f work → KeepsPaths (at_in s.tree) (at_in mid) f.pins work.held
-  keeps id f work here n pin q fronts h = path_stays (at_in s.tree) flights may.demand may.held may.holds may.clear may.placed id f work here q fronts change (at_in mid) may.own alters n h
+  keeps id f work here n pin q prefixes h = path_stays (at_in s.tree) flights may.demand may.held may.holds may.clear may.placed id f work here q prefixes change (at_in mid) may.own alters n h
 
   mid_ready : AreReady (at_in mid) flights
   mid_ready id f work here = (left_where (at_in s.tree) (at_in mid) flights tree keeps).ready id f work here (kept.ready id f work here)

@@ -2,7 +2,7 @@
 use Rattle.std.proofs.Common.{ℕ, ◌≡◌, ◌==◌, true, Option, Some, None, reverse, sym, ap, ◌∙◌, inl, inr}
 use Rattle.std.proofs.lemmas.Bool.{cases_eq, cond-false, cond-true, eq-eqb, ne_eqb}
 use Rattle.std.proofs.lemmas.Option.{none-some}
-use Rattle.paths.specs.Fronts.{Names}
+use Rattle.paths.specs.Prefixes.{Names}
 use Rattle.tree.specs.Places.{IsPathOf, IsTree}
 use Rattle.steps.proofs.Standing.{stays_pinned}
 use Rattle.steps.specs.declared.data.Outcome.{Outcome}
@@ -28,14 +28,14 @@ module _ (old new : World) (id : ℕ) (f : Flight) (work : Work) (outcome : Outc
   entered n q h = all_entered _ old.at e.entered old.postings new.postings work.row.entries (act_of work.row outcome).found answer.given e.enters n q h
 
   row : IsRow work.row
-  row = its_row old.at e.entered tree f work (λ n pin q fronts h. entered n q h) ready
+  row = its_row old.at e.entered tree f work (λ n pin q prefixes h. entered n q h) ready
 
   holds : Holds e.entered work.row work.held
-  holds = holds_kept old.at e.entered tree work.row work.held row ready.holds f ready.pinned (λ n pin q fronts h. entered n q h)
+  holds = holds_kept old.at e.entered tree work.row work.held row ready.holds f ready.pinned (λ n pin q prefixes h. entered n q h)
 
   keeps : (k : ℕ) (g : Flight) (v : Work) → IsAtWork (with_entry old.flights id None) k g v → KeepsPaths old.at new.at g.pins v.held
-  keeps k g v here n pin q fronts h =
-      let altered : IsPathOf e.altered n q = path_stays e.entered (with_entry old.flights id None) work.row work.held holds clear placed k g v here q fronts (act_of work.row outcome).change e.altered (act_own work.row row outcome) e.alters n (entered n q h) in
+  keeps k g v here n pin q prefixes h =
+      let altered : IsPathOf e.altered n q = path_stays e.entered (with_entry old.flights id None) work.row work.held holds clear placed k g v here q prefixes (act_of work.row outcome).change e.altered (act_own work.row row outcome) e.alters n (entered n q h) in
       let there : new.flights k ≡ Some g = ap (λ (w : World). w.flights k) e.new_is ∙ entry_other old.flights id k (Some (answered f answer.given)) g here.here in
       let held : e.sweeps.kept n ≡ true = (e.sweeps.keeps n).1 (record { id = k; flight = g; here = there; pin = pin }) in
       reaches_swept e.sweeps.kept e.altered new.at e.sweeps.swept n (reverse q) (λ x was none. none-some x (sym none ∙ stays_pinned e.sweeps.kept e.altered new.at n x e.sweeps.swept was held)) altered

@@ -1,9 +1,9 @@
 -- What one request holds alone is no prefix of a path whose prefixes another holds, so that its changes leave that path.
 use Rattle.std.proofs.Common.{ℕ, ◌+◌, ◌≡◌, ◌≢◌, Bool, true, false, List, [], ◌∷◌, ◌++◌, Option, Some, None, Contains, reverse, refl, sym, ap, ◌∙◌, subst, inl, inr}
 use Rattle.std.proofs.lemmas.Bool.{cases_Bool}
-use Rattle.paths.specs.Fronts.{Name, Names, is_front}
+use Rattle.paths.specs.Prefixes.{Name, Names, is_prefix}
 use Rattle.holds.specs.declared.held.Held.{Held}
-use Rattle.holds.specs.Clashes.{Clash, IsHeld}
+use Rattle.holds.specs.Conflicts.{Conflict, IsHeld}
 use Rattle.tree.specs.declared.nodes.Node.{Node}
 use Rattle.tree.specs.Places.{Lookup, IsNamed, IsPathOf, IsTree, Reaches}
 use Rattle.tree.proofs.Transfers.{path_after_cut, path_after_move}
@@ -13,7 +13,7 @@ use Rattle.tree.specs.declared.nodes.Key.{Key}
 use Rattle.tree.proofs.LookupLemmas.{cases_option}
 use Rattle.steps.specs.Entries.{Enters, newborn}
 use Rattle.steps.specs.Swept.{IsSwept}
-use Rattle.steps.proofs.Standing.{HoldsFronts, named_born, named_written, stays_pinned}
+use Rattle.steps.proofs.Standing.{HoldsPrefixes, named_born, named_written, stays_pinned}
 use Rattle.std.proofs.lemmas.Option.{none-some, same_Some}
 use Rattle.flights.specs.declared.data.Want.{Want}
 use Rattle.steps.specs.declared.data.Outcome.{Outcome}
@@ -40,15 +40,15 @@ acts_own want case outcome = act_own (row_of want case) (are_rows want case) out
 
 -- ---- the guard
 
-clash_at : (r h : Held) (p : Names) → Contains h.exclusive p → IsHeld r p → Clash r h
-clash_at r h p own (inl shared) = inr (inr (own.0, p, own.1, own.2, shared))
-clash_at r h p own (inr alone) = inr (inl (own.0, p, own.1, own.2, alone))
+conflict_at : (r h : Held) (p : Names) → Contains h.exclusive p → IsHeld r p → Conflict r h
+conflict_at r h p own (inl shared) = inr (inr (own.0, p, own.1, own.2, shared))
+conflict_at r h p own (inr alone) = inr (inl (own.0, p, own.1, own.2, alone))
 
 -- nothing is in the way of these paths, so none of them is a prefix of a path whose prefixes another holds
 guard : (flights : Flights) (held : Held) (p : Names) → (HoldsUp flights held → ⊥) → Contains held.exclusive p → p ≢ []
-    → (id : ℕ) (f : Flight) (work : Work) → IsAtWork flights id f work → (q : Names) → HoldsFronts work.held q → is_front p q ≡ false
-guard flights held p clear own some id f work here q fronts = elim (cases_Bool (is_front p q)) [
-  | inl front ↦ absurd (clear (record { id = id; flight = f; work = work; here = here; clash = clash_at work.held held p own (fronts p (record { some = some; begins = front })) }))
+    → (id : ℕ) (f : Flight) (work : Work) → IsAtWork flights id f work → (q : Names) → HoldsPrefixes work.held q → is_prefix p q ≡ false
+guard flights held p clear own some id f work here q prefixes = elim (cases_Bool (is_prefix p q)) [
+  | inl prefix ↦ absurd (clear (record { id = id; flight = f; work = work; here = here; conflict = conflict_at work.held held p own (prefixes p (record { some = some; begins = prefix })) }))
   | inr none ↦ none
 ]
 
@@ -64,11 +64,11 @@ path_some at (AtNode n) alone placed among p leads e =
 path_some at (AtName parent name) alone placed among p leads e = not_empty leads.above name (sym leads.whole ∙ e)
 
 module _ (old : Lookup) (flights : Flights) (d : Demand) (held : Held) (holds : Holds old d held) (clear : HoldsUp flights held → ⊥) (placed : IsPlaced d.alone)
-    (id : ℕ) (f : Flight) (work : Work) (here : IsAtWork flights id f work) (q : Names) (fronts : HoldsFronts work.held q) where
+    (id : ℕ) (f : Flight) (work : Work) (here : IsAtWork flights id f work) (q : Names) (prefixes : HoldsPrefixes work.held q) where
   -- no location that is held alone is a prefix of that path
-  apart : (l : Location) → Contains d.alone l → (p : Names) → HasPath old l p → is_front p q ≡ false
+  apart : (l : Location) → Contains d.alone l → (p : Names) → HasPath old l p → is_prefix p q ≡ false
   apart l among p leads =
-      guard flights held p clear ((holds.exclusive p).1 (any_in (λ m. HasPath old m p) d.alone l among leads)) (path_some old l d.alone placed among p leads) id f work here q fronts
+      guard flights held p clear ((holds.exclusive p).1 (any_in (λ m. HasPath old m p) d.alone l among leads)) (path_some old l d.alone placed among p leads) id f work here q prefixes
 
   moved_away : (s t : Location) → Contains d.alone s → Contains d.alone t → (new : Lookup) → Moves old s t new → (n : ℕ) → IsPathOf old n q → IsPathOf new n q
   moved_away s t own_s own_t new m n h = path_after_move old new m.path m.new_path m.changes n q (apart t own_t m.new_path m.new_leads) (apart s own_s m.path m.leads) h
@@ -87,7 +87,7 @@ left_where old new flights tree' keeps = record {
 
 pub others_left : AreOthersLeft
 others_left old new flights d held change tree' holds clear placed own alters =
-    left_where old new flights tree' (λ id f work here n pin q fronts h. path_stays old flights d held holds clear placed id f work here q fronts change new own alters n h)
+    left_where old new flights tree' (λ id f work here n pin q prefixes h. path_stays old flights d held holds clear placed id f work here q prefixes change new own alters n h)
 
 -- ---- entries
 
@@ -111,7 +111,7 @@ all_entered owners at at' ps qs keys found given bad n q h = absurd bad
 
 pub entries_harmless : AreEntriesHarmless
 entries_harmless flights owners old new ps qs keys found given tree' enters =
-    left_where old new flights tree' (λ id f work here n pin q fronts h. all_entered owners old new ps qs keys found given enters n q h)
+    left_where old new flights tree' (λ id f work here n pin q prefixes h. all_entered owners old new ps qs keys found given enters n q h)
 
 -- ---- sweeps
 
@@ -127,6 +127,6 @@ reaches_swept kept old new swept n (name ∷ way) remains h = elim (cases_option
 
 pub sweeps_harmless : AreSweepsHarmless
 sweeps_harmless flights old new kept tree' keeps swept =
-    left_where old new flights tree' (λ id f work here n pin q fronts h.
+    left_where old new flights tree' (λ id f work here n pin q prefixes h.
     let held : kept n ≡ true = (keeps n).1 (record { id = id; flight = f; here = here.here; pin = pin }) in
     reaches_swept kept old new swept n (reverse q) (λ x was none. none-some x (sym none ∙ stays_pinned kept old new n x swept was held)) h)

@@ -1,7 +1,7 @@
 -- What is kept of a table when its nodes and its ledger change, and the requests in flight do not.
 use Rattle.std.proofs.Common.{ℕ, ◌+◌, ◌-◌, ◌≤◌, ◌≡◌, ◌≢◌, List, [], ◌∷◌, ◌++◌, Some, length, length-append, min, reverse, refl, sym, ap, ◌∙◌, subst, arith}
 use Rattle.std.proofs.lemmas.Option.{none-some, same_Some}
-use Rattle.paths.specs.Fronts.{Names}
+use Rattle.paths.specs.Prefixes.{Names}
 use Rattle.ledger.specs.declared.postings.Posting.{Posting}
 use Rattle.ledger.specs.declared.postings.Posting.TheVariants.{Forget}
 use Rattle.ledger.specs.Postings.{Postings}
@@ -48,7 +48,7 @@ KeepsAllPaths old new = (n : ℕ) (q : Names) → IsPathOf old n q → IsPathOf 
 
 pub ready_where : (old new : Lookup) (flights : Flights) → IsTree new → KeepsAllPaths old new → AreReady old flights → AreReady new flights
 ready_where old new flights tree keeps ready id f work here =
-    (left_where old new flights tree (λ _ _ _ _ n pin q fronts h. keeps n q h)).ready id f work here (ready id f work here)
+    (left_where old new flights tree (λ _ _ _ _ n pin q prefixes h. keeps n q h)).ready id f work here (ready id f work here)
 
 pub ready_swept : (old new : Lookup) (all : Flying) → IsFlying all → IsTree new → IsSwept all.pinned old new → AreReady old (flights_in all) → AreReady new (flights_in all)
 ready_swept old new all flying tree swept ready id f work here =
@@ -60,7 +60,7 @@ held_ready old new flights ready held = record {
   apart = held.apart;
   known = λ id f work here k d within. record {
     path = (ready id f work here).holds.leads k d within;
-    fronts = (held.known id f work here k d within).fronts;
+    prefixes = (held.known id f work here k d within).prefixes;
   };
 }
 

@@ -2,8 +2,8 @@
 use Rattle.std.proofs.Common.{ℕ, ℤ, ◌&&◌, ◌≡◌, ◌≢◌, true, false, [], ◌∷◌, ◌++◌, reverse, refl, sym, ap, ◌∙◌, subst, ◌⊎◌, inl, inr}
 use Rattle.std.proofs.lemmas.Bool.{cases_Bool, true≢false, and_parts}
 use Rattle.std.proofs.lemmas.List.{reverse-append}
-use Rattle.paths.specs.Fronts.{Name, Names, is_front}
-use Rattle.paths.proofs.FrontLemmas.{is_front-append, is_front-both, is_front-more, is_front-same, is_front-trans, not_over_parent}
+use Rattle.paths.specs.Prefixes.{Name, Names, is_prefix}
+use Rattle.paths.proofs.PrefixLemmas.{is_prefix-append, is_prefix-both, is_prefix-more, is_prefix-same, is_prefix-trans, not_over_parent}
 use Rattle.tree.specs.declared.nodes.Key.{Key}
 use Rattle.tree.specs.Places.{Lookup, HasChild, IsAlive, IsFree, IsNamed, IsPathOf, IsTree, Leads, Nodes, Reaches, at_in}
 use Rattle.tree.specs.Moves.{CanRelink, Changes, Cuts, CutsBelow, Moves, Stands, Where, after_cut, after_move, at_path, cut, cut_node}
@@ -56,21 +56,21 @@ module _ (at : Lookup) (tree : IsTree at) (key target : Key) (above new_above : 
   })
 
   -- the name does not lead to the new parent
-  not_into : is_front path new_above ≡ false
-  not_into = elim (cases_Bool (is_front path new_above)) [
-    | inl front ↦
-        let other : path ≢ new_path = λ e. true≢false (sym front ∙ (ap (λ (p : Names). is_front p new_above) e ∙ not_over_parent new_above target.name)) in
-        absurd (not_astray _ (inl (refl, record { begins = is_front-trans path new_above new_path front (is_front-append new_above (target.name ∷ [])); other = other })))
+  not_into : is_prefix path new_above ≡ false
+  not_into = elim (cases_Bool (is_prefix path new_above)) [
+    | inl prefix ↦
+        let other : path ≢ new_path = λ e. true≢false (sym prefix ∙ (ap (λ (p : Names). is_prefix p new_above) e ∙ not_over_parent new_above target.name)) in
+        absurd (not_astray _ (inl (refl, record { begins = is_prefix-trans path new_above new_path prefix (is_prefix-append new_above (target.name ∷ [])); other = other })))
     | inr none ↦ none
   ]
 
   -- the new name leads to the old one only where they are one
-  not_over : is_front new_path path ≡ true → path ≡ new_path
-  not_over front = elim (cases_Bool (is_front path new_path)) [
-    | inl back ↦ is_front-both path new_path back front
+  not_over : is_prefix new_path path ≡ true → path ≡ new_path
+  not_over prefix = elim (cases_Bool (is_prefix path new_path)) [
+    | inl back ↦ is_prefix-both path new_path back prefix
     | inr none ↦
-        let other : new_path ≢ path = λ e. true≢false (sym (is_front-same path) ∙ (ap (is_front path) (sym e) ∙ none)) in
-        absurd (not_astray _ (inr (refl, record { begins = front; other = other })))
+        let other : new_path ≢ path = λ e. true≢false (sym (is_prefix-same path) ∙ (ap (is_prefix path) (sym e) ∙ none)) in
+        absurd (not_astray _ (inr (refl, record { begins = prefix; other = other })))
   ]
 
   module _ (number : ℕ) (named : IsNamed at number key.parent key.name) where
@@ -90,11 +90,11 @@ module _ (at : Lookup) (tree : IsTree at) (key target : Key) (above new_above : 
 -- ---- a move of a name that none bears
 
 -- no path goes through a free name
-free_front : (at : Lookup) → IsTree at → (parent : ℕ) (up : Names) (name : Name) → IsPathOf at parent up → IsFree at parent name → (n : ℕ) (r : Names) → IsPathOf at n r → is_front (up ++ name ∷ []) r ≡ false
-free_front at tree parent up name leads free n r h = elim (cases_Bool (is_front (up ++ name ∷ []) r)) [
-  | inl front ↦
+free_prefix : (at : Lookup) → IsTree at → (parent : ℕ) (up : Names) (name : Name) → IsPathOf at parent up → IsFree at parent name → (n : ℕ) (r : Names) → IsPathOf at n r → is_prefix (up ++ name ∷ []) r ≡ false
+free_prefix at tree parent up name leads free n r h = elim (cases_Bool (is_prefix (up ++ name ∷ []) r)) [
+  | inl prefix ↦
       let p = up ++ name ∷ [] in
-      let more = is_front-more p r front in
+      let more = is_prefix-more p r prefix in
       let whole : reverse r ≡ reverse more.0 ++ reverse p = ap (λ (q : Names). reverse q) more.1 ∙ reverse-append p more.0 in
       let split = reaches_split at 1 (reverse more.0) (reverse p) n (subst (λ (q : Names). Reaches at 1 n q) whole h) in
       absurd (free split.0 (named_at at tree split.0 parent up name leads split.2))
@@ -102,12 +102,12 @@ free_front at tree parent up name leads free n r h = elim (cases_Bool (is_front 
 ]
 
 -- where no path goes through p, a move of p to q cuts q alone
-cut_alone : (p q r : Names) → is_front p r ≡ false → after_cut q (at_path r) ≡ after_move p q (at_path r)
-cut_alone p q r none = elim (cases_Bool (is_front p q && is_front q p)) [
+cut_alone : (p q r : Names) → is_prefix p r ≡ false → after_cut q (at_path r) ≡ after_move p q (at_path r)
+cut_alone p q r none = elim (cases_Bool (is_prefix p q && is_prefix q p)) [
   | inl both ↦
-      let parts = and_parts (is_front p q) (is_front q p) both in
-      let same : p ≡ q = is_front-both p q parts.0 parts.1 in
-      let none' : is_front q r ≡ false = subst (λ (t : Names). is_front t r ≡ false) same none in
+      let parts = and_parts (is_prefix p q) (is_prefix q p) both in
+      let same : p ≡ q = is_prefix-both p q parts.0 parts.1 in
+      let none' : is_prefix q r ≡ false = subst (λ (t : Names). is_prefix t r ≡ false) same none in
       rw (both, none') refl
   | inr other ↦ rw (other, none) refl
 ]
@@ -115,7 +115,7 @@ cut_alone p q r none = elim (cases_Bool (is_front p q && is_front q p)) [
 module _ (old new : Lookup) (tree : IsTree old) (parent : ℕ) (up : Names) (name : Name) (leads : IsPathOf old parent up) (free : IsFree old parent name) (q : Names) (cuts : Changes (after_cut q) old new) where
   same_where : (n : ℕ) (w : Where) → Stands old n w → after_cut q w ≡ after_move (up ++ name ∷ []) q w
   same_where n cut st = refl
-  same_where n (at_path r) st = cut_alone (up ++ name ∷ []) q r (free_front old tree parent up name leads free n r st)
+  same_where n (at_path r) st = cut_alone (up ++ name ∷ []) q r (free_prefix old tree parent up name leads free n r st)
 
   pub moves_none : Changes (after_move (up ++ name ∷ []) q) old new
   moves_none = record {

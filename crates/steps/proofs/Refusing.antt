@@ -1,6 +1,6 @@
 -- An error number is written and read as it is.
 use Rattle.std.proofs.Common.{ℤ, ap, inl, inr, to_z, of_z, w32}
-use Rattle.paths.specs.Fronts.{Names}
+use Rattle.paths.specs.Prefixes.{Names}
 use Rattle.tree.specs.Places.{Lookup}
 use Rattle.wants.specs.Asked.{IsMisplaced, IsRefusedMove, IsUnsound, long, misplaced, no_memory, stale}
 use Rattle.wants.specs.Rows.{Change, Demand, cuts, moves, stays}
@@ -11,8 +11,8 @@ abbrev bits : ℤ → ℤ
 bits e = to_z w32 (of_z w32 e)
 
 refused_bits : (p q : Names) (e : ℤ) → IsRefusedMove p q e → IsRefusedMove p q (bits e)
-refused_bits p q e (inl (is, front)) = inl (ap bits is, front)
-refused_bits p q e (inr (is, front)) = inr (ap bits is, front)
+refused_bits p q e (inl (is, prefix)) = inl (ap bits is, prefix)
+refused_bits p q e (inr (is, prefix)) = inr (ap bits is, prefix)
 
 misplaced_bits : (at : Lookup) (c : Change) (e : ℤ) → IsMisplaced at c e → IsMisplaced at c (bits e)
 misplaced_bits at stays e bad = bad

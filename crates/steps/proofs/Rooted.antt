@@ -2,11 +2,11 @@
 use Rattle.std.proofs.Common.{ℕ, ◌≡◌, [], ◌∷◌, Contains, length, reverse, sym, ap, ◌∙◌, subst, ◌⊎◌, inl, inr}
 use Rattle.std.specs.Prelude.{option_map}
 use Rattle.std.proofs.lemmas.List.Elements.{All-contains}
-use Rattle.paths.specs.Fronts.{Name, Names}
-use Rattle.paths.proofs.FrontLemmas.{is_front-same}
-use Rattle.holds.specs.Clashes.{Clash}
+use Rattle.paths.specs.Prefixes.{Name, Names}
+use Rattle.paths.proofs.PrefixLemmas.{is_prefix-same}
+use Rattle.holds.specs.Conflicts.{Conflict}
 use Rattle.holds.specs.declared.held.Held.{Held}
-use Rattle.holds.specs.declared.held.Lead.{Lead}
+use Rattle.holds.specs.declared.held.GivenPath.{GivenPath}
 use Rattle.flights.specs.declared.data.Promise.{Promise}
 use Rattle.flights.specs.declared.data.Want.{Want}
 use Rattle.flights.specs.declared.data.Want.TheVariants as wants
@@ -56,8 +56,8 @@ rows_placed (wants.Move parent name new_parent new_name) c h = elim (cases_in (A
 -- a node that is given has a path
 given_path : (at : Lookup) (d : Demand) (held : Held) → Holds at d held → (n : ℕ) → Contains d.given n → (p : Names) × IsPathOf at n p
 given_path at d held holds n given =
-    let it = in_map (λ (lead : Lead). lead.number) held.given n (subst (λ ns. Contains ns n) (sym holds.numbers) given) in
-    let leads : IsPathOf at it.0.number it.0.path = All-contains (λ (lead : Lead). IsPathOf at lead.number lead.path) held.given it.0 holds.leads it.1 in
+    let it = in_map (λ (lead : GivenPath). lead.number) held.given n (subst (λ ns. Contains ns n) (sym holds.numbers) given) in
+    let leads : IsPathOf at it.0.number it.0.path = All-contains (λ (lead : GivenPath). IsPathOf at lead.number lead.path) held.given it.0 holds.leads it.1 in
     (it.0.path, subst (λ k. IsPathOf at k it.0.path) it.2 leads)
 
 pub given_leads : (at : Lookup) (d : Demand) (held : Held) → Holds at d held → (n : ℕ) → Contains d.given n → Leads at n
@@ -74,10 +74,10 @@ own_leads at d held row holds (moves s t) own = (given_leads at d held holds (ba
 pub unowned : (at : Lookup) (flights : Flights) (d : Demand) (held : Held) (key : Key) → Holds at d held → (HoldsUp flights held → ⊥) → Contains d.shared (name_at key) → IsOwned at flights key → ⊥
 unowned at flights d held key holds clear shared o =
     let some : o.path ≡ [] → ⊥ = λ e. not_empty o.leads.above key.name (sym o.leads.whole ∙ e) in
-    let prefix : IsPrefixAt at o.path (name_at key) = record { path = o.path; leads = o.leads; begins = record { some = some; begins = is_front-same o.path } } in
+    let prefix : IsPrefixAt at o.path (name_at key) = record { path = o.path; leads = o.leads; begins = record { some = some; begins = is_prefix-same o.path } } in
     let mine : Contains held.shared o.path = (holds.shared o.path).1 (inl (any_in (IsPrefixAt at o.path) d.shared (name_at key) shared prefix)) in
-    let clash : Clash o.work.held held = inl (inr (o.alone.0, o.path, o.alone.1, o.alone.2, mine)) in
-    clear (record { id = o.id; flight = o.flight; work = o.work; here = o.here; clash = clash })
+    let conflict : Conflict o.work.held held = inl (inr (o.alone.0, o.path, o.alone.1, o.alone.2, mine)) in
+    clear (record { id = o.id; flight = o.flight; work = o.work; here = o.here; conflict = conflict })
 
 -- ---- what a request that ends may do
 

@@ -3,16 +3,16 @@ use Rattle.std.proofs.Common.{ℕ, ◌≡◌, Bool, true, Some, None, sym, ap, �
 use Rattle.std.proofs.lemmas.Bool.{cases_eq, true≢false}
 use Rattle.std.proofs.lemmas.Option.{none-some, same_Some}
 use Rattle.holds.specs.declared.held.Held.{Held}
-use Rattle.holds.specs.Clashes.{IsHeld, IsSomeFront}
-use Rattle.paths.specs.Fronts.{Name, Names}
+use Rattle.holds.specs.Conflicts.{IsHeld, IsSomePrefix}
+use Rattle.paths.specs.Prefixes.{Name, Names}
 use Rattle.tree.specs.declared.nodes.Node.{Node}
 use Rattle.tree.specs.Places.{Lookup, IsNamed, with_node}
 use Rattle.tree.proofs.LookupLemmas.{cases_option, with_other, with_same}
 use Rattle.steps.specs.Swept.{IsSwept}
 
--- each front of the path is held
-abbrev pub HoldsFronts : Held → Names → Type 0
-HoldsFronts held q = (front : Names) → IsSomeFront front q → IsHeld held front
+-- each prefix of the path is held
+abbrev pub HoldsPrefixes : Held → Names → Type 0
+HoldsPrefixes held q = (prefix : Names) → IsSomePrefix prefix q → IsHeld held prefix
 
 pub named_written : (at : Lookup) (n : ℕ) (x y : Node) → at n ≡ Some x → y.place ≡ x.place → (m p : ℕ) (name : Name) → IsNamed at m p name → IsNamed (with_node at n y) m p name
 named_written at n x y stood place m p name h = elim (cases_eq n m) [

@@ -12,7 +12,7 @@ use Rattle.flights.specs.Flying as flying
 use Rattle.flights.specs.Flying.{Adds, Flying, IsFlying, nodes_promised, postings_promised, pins_number}
 use Rattle.flights.specs.Listed.{InFlight, flying_of}
 use Rattle.flights.proofs.ById.{Adds_found}
-use Rattle.image.specs.Law.{ArePinsAlive, IsLawful, IsLead}
+use Rattle.image.specs.Law.{ArePinsAlive, IsLawful, IsGivenPath}
 use Rattle.ledger.specs.declared.postings.Posting.{Posting}
 use Rattle.tree.specs.Places.{Lookup, Nodes, at_in, IsAlive, IsTree}
 use Rattle.tree.proofs.Climbing.{climbs_alive}
@@ -56,7 +56,7 @@ lawful_pins at ps old new law more alive = record {
 module _ (at : Lookup) (tree : IsTree at) (d : Demand) (held : Held) (row : IsRow d) (holds : Holds at d held) (f : Flight) (pinned : (n : ℕ) → Contains d.given n → Contains f.pins n) where
   given_alive : (n : ℕ) → Contains d.given n → IsAlive at n
   given_alive n given =
-      let path = given_path at at tree d held row holds f pinned (λ m pin q fronts leads. leads) n given in
+      let path = given_path at at tree d held row holds f pinned (λ m pin q prefixes leads. leads) n given in
       climbs_alive at tree.rooted (reverse path.0) n path.1
 
   there_alive : (l : Location) → Contains d.paths l → (n : ℕ) → IsThere at l n → IsAlive at n
@@ -125,8 +125,8 @@ module _ (s mid : State) (unique id : ℕ) (plan : Plan) (is : IsPlan (at_in s.t
         (begun_ready (world_of s) (world_of (record mid { flights = flights })) unique plan.work.want (row_in plan.work) (record { id = id; paths = plan.paths; same = same_path })
         (record { case = case_in plan.work.promise; fits = is.fits; row = refl }) may (goes_on same_path fresh same_is))
 
-    new_known : All (IsLead (at_in mid.tree) plan.work.held) plan.work.held.given
-    new_known = subst (λ (at : Lookup). All (IsLead at plan.work.held) plan.work.held.given) (sym at_same)
+    new_known : All (IsGivenPath (at_in mid.tree) plan.work.held) plan.work.held.given
+    new_known = subst (λ (at : Lookup). All (IsGivenPath at plan.work.held) plan.work.held.given) (sym at_same)
         (known_held (at_in s.tree) tree_law (row_in plan.work) plan.work.held its_row is.holds (flight_of begun) given_pinned)
 
     new_alive : (n : ℕ) → pins_number begun n ≡ true → IsAlive (at_in mid.tree) n
@@ -151,7 +151,7 @@ module _ (s mid : State) (unique id : ℕ) (plan : Plan) (is : IsPlan (at_in s.t
     all_held = record {
       apart = subst (λ (fs : Flights). AreApart fs) (sym flights_new) (apart_more (flights_in (flying_of mid.flights)) id (flight_of begun) (work_of plan.work) refl clear kept.held.apart);
       known = λ k f work here. elim (at_work_now k f work here) [
-        | inl (e, same_flight, same_work) ↦ subst (λ (v : Work). All (IsLead (at_in mid.tree) v.held) v.held.given) same_work new_known
+        | inl (e, same_flight, same_work) ↦ subst (λ (v : Work). All (IsGivenPath (at_in mid.tree) v.held) v.held.given) same_work new_known
         | inr was ↦ kept.held.known k f work was
       ];
     }

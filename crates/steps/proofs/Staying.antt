@@ -3,15 +3,15 @@ use Rattle.std.proofs.Common.{ℕ, ℤ, ◌≡◌, List, [], ◌∷◌, ◌++◌
 use Rattle.std.specs.Prelude.{map}
 use Rattle.std.proofs.lemmas.Bool.{cases_Bool, true≢false}
 use Rattle.std.proofs.lemmas.List.Elements.{All-contains, All-contains_itself}
-use Rattle.paths.specs.Fronts.{Names, is_front}
-use Rattle.paths.proofs.FrontLemmas.{is_front-append, is_front-both, is_front-same, is_front-trans, not_over_parent}
+use Rattle.paths.specs.Prefixes.{Names, is_prefix}
+use Rattle.paths.proofs.PrefixLemmas.{is_prefix-append, is_prefix-both, is_prefix-same, is_prefix-trans, not_over_parent}
 use Rattle.holds.specs.declared.held.Held.{Held}
-use Rattle.holds.specs.declared.held.Lead.{Lead}
-use Rattle.holds.specs.Clashes.{IsSomeFront}
+use Rattle.holds.specs.declared.held.GivenPath.{GivenPath}
+use Rattle.holds.specs.Conflicts.{IsSomePrefix}
 use Rattle.tree.specs.declared.nodes.Key.{Key}
 use Rattle.tree.specs.Places.{Lookup, IsPathOf, IsTree}
 use Rattle.tree.proofs.Climbing.{named_at, path_same, path_under}
-use Rattle.steps.proofs.Standing.{HoldsFronts}
+use Rattle.steps.proofs.Standing.{HoldsPrefixes}
 use Rattle.wants.specs.Asked.{ArePaths, HasPath, Holds, IsAboveAt, IsAlone, IsMisplaced, IsRefusedAt, IsPrefixAt, IsShared}
 use Rattle.wants.specs.Laws.{AreOwn, IsRow, base_of}
 use Rattle.wants.specs.Rows.{AtName, AtNode, Change, Demand, Location, cuts, moves, stays}
@@ -29,62 +29,62 @@ map_in f (y ∷ xs) x h = elim (cases_in y xs x h) [
 -- ---- what a row covers
 
 -- a prefix of the path of a node is one of the location that it is the base of
-prefix_at : (at : Lookup) (front p : Names) (l : Location) (n : ℕ) → base_of l ≡ n → IsPathOf at n p → IsSomeFront front p → IsPrefixAt at front l
-prefix_at at front p (AtNode m) n e leads some = record { path = p; leads = subst (λ k. IsPathOf at k p) (sym e) leads; begins = some }
-prefix_at at front p (AtName m name) n e leads some = record {
+prefix_at : (at : Lookup) (prefix p : Names) (l : Location) (n : ℕ) → base_of l ≡ n → IsPathOf at n p → IsSomePrefix prefix p → IsPrefixAt at prefix l
+prefix_at at prefix p (AtNode m) n e leads some = record { path = p; leads = subst (λ k. IsPathOf at k p) (sym e) leads; begins = some }
+prefix_at at prefix p (AtName m name) n e leads some = record {
   path = p ++ name ∷ [];
   leads = record { above = p; leads = subst (λ k. IsPathOf at k p) (sym e) leads; whole = refl };
-  begins = record { some = some.some; begins = is_front-trans front p (p ++ name ∷ []) some.begins (is_front-append p (name ∷ [])) };
+  begins = record { some = some.some; begins = is_prefix-trans prefix p (p ++ name ∷ []) some.begins (is_prefix-append p (name ∷ [])) };
 }
 
-above_at : (at : Lookup) (front p : Names) (l : Location) (n : ℕ) → base_of l ≡ n → IsPathOf at n p → IsSomeFront front p → IsAboveAt at front l ⊎ HasPath at l front
+above_at : (at : Lookup) (prefix p : Names) (l : Location) (n : ℕ) → base_of l ≡ n → IsPathOf at n p → IsSomePrefix prefix p → IsAboveAt at prefix l ⊎ HasPath at l prefix
 unfolding prefix_at
-above_at at front p (AtNode m) n e leads some = elim (cases_Bool (is_front p front)) [
-  | inl back ↦ inr (subst (λ k. IsPathOf at k front) (sym e) (subst (λ r. IsPathOf at n r) (is_front-both p front back some.begins) leads))
+above_at at prefix p (AtNode m) n e leads some = elim (cases_Bool (is_prefix p prefix)) [
+  | inl back ↦ inr (subst (λ k. IsPathOf at k prefix) (sym e) (subst (λ r. IsPathOf at n r) (is_prefix-both p prefix back some.begins) leads))
   | inr other ↦ inl (record {
     path = p;
     leads = subst (λ k. IsPathOf at k p) (sym e) leads;
     begins = some;
-    other = λ same. true≢false (sym (is_front-same p) ∙ (ap (λ r. is_front p r) (sym same) ∙ other));
+    other = λ same. true≢false (sym (is_prefix-same p) ∙ (ap (λ r. is_prefix p r) (sym same) ∙ other));
   })
 ]
-above_at at front p (AtName m name) n e leads some =
-    let pre = prefix_at at front p (AtName m name) n e leads some in
+above_at at prefix p (AtName m name) n e leads some =
+    let pre = prefix_at at prefix p (AtName m name) n e leads some in
     inl (record {
       path = pre.path;
       leads = pre.leads;
       begins = pre.begins;
-      other = λ same. true≢false (sym some.begins ∙ (ap (λ r. is_front r p) same ∙ not_over_parent p name));
+      other = λ same. true≢false (sym some.begins ∙ (ap (λ r. is_prefix r p) same ∙ not_over_parent p name));
     })
 
 -- the pinned nodes keep the paths whose prefixes are held
 abbrev pub KeepsPaths : Lookup → Lookup → List ℕ → Held → Type 0
-KeepsPaths old new pins held = (n : ℕ) → Contains pins n → (q : Names) → HoldsFronts held q → IsPathOf old n q → IsPathOf new n q
+KeepsPaths old new pins held = (n : ℕ) → Contains pins n → (q : Names) → HoldsPrefixes held q → IsPathOf old n q → IsPathOf new n q
 
 module _ (old new : Lookup) (tree' : IsTree new) (d : Demand) (held : Held) (row : IsRow d) (holds : Holds old d held) (f : Flight)
     (pinned : (n : ℕ) → Contains d.given n → Contains f.pins n) (keeps : KeepsPaths old new f.pins held) where
   -- the prefixes of the path of a node that is given are held
-  pub fronts_given : (n : ℕ) → Contains d.given n → (p : Names) → IsPathOf old n p → HoldsFronts held p
-  fronts_given n given p leads front some = elim (row.covered n given) [
+  pub prefixes_given : (n : ℕ) → Contains d.given n → (p : Names) → IsPathOf old n p → HoldsPrefixes held p
+  prefixes_given n given p leads prefix some = elim (row.covered n given) [
     | inl any ↦
         let it = in_any (λ l. base_of l ≡ n) d.shared any in
-        inl ((holds.shared front).1 (inl (any_in (IsPrefixAt old front) d.shared it.0 it.1 (prefix_at old front p it.0 n it.2 leads some))))
+        inl ((holds.shared prefix).1 (inl (any_in (IsPrefixAt old prefix) d.shared it.0 it.1 (prefix_at old prefix p it.0 n it.2 leads some))))
     | inr any ↦
         let it = in_any (λ l. base_of l ≡ n) d.alone any in
-        elim (above_at old front p it.0 n it.2 leads some) [
-          | inl above ↦ inl ((holds.shared front).1 (inr (any_in (IsAboveAt old front) d.alone it.0 it.1 above)))
-          | inr whole ↦ inr ((holds.exclusive front).1 (any_in (λ l. HasPath old l front) d.alone it.0 it.1 whole))
+        elim (above_at old prefix p it.0 n it.2 leads some) [
+          | inl above ↦ inl ((holds.shared prefix).1 (inr (any_in (IsAboveAt old prefix) d.alone it.0 it.1 above)))
+          | inr whole ↦ inr ((holds.exclusive prefix).1 (any_in (λ l. HasPath old l prefix) d.alone it.0 it.1 whole))
         ]
   ]
 
   pub given_path : (n : ℕ) → Contains d.given n → (p : Names) × IsPathOf old n p
   given_path n given =
-      let it = in_map (λ (lead : Lead). lead.number) held.given n (subst (λ ns. Contains ns n) (sym holds.numbers) given) in
-      let leads : IsPathOf old it.0.number it.0.path = All-contains (λ (lead : Lead). IsPathOf old lead.number lead.path) held.given it.0 holds.leads it.1 in
+      let it = in_map (λ (lead : GivenPath). lead.number) held.given n (subst (λ ns. Contains ns n) (sym holds.numbers) given) in
+      let leads : IsPathOf old it.0.number it.0.path = All-contains (λ (lead : GivenPath). IsPathOf old lead.number lead.path) held.given it.0 holds.leads it.1 in
       (it.0.path, subst (λ k. IsPathOf old k it.0.path) it.2 leads)
 
   node_forth : (n : ℕ) → Contains d.given n → (q : Names) → IsPathOf old n q → IsPathOf new n q
-  node_forth n given q leads = keeps n (pinned n given) q (fronts_given n given q leads) leads
+  node_forth n given q leads = keeps n (pinned n given) q (prefixes_given n given q leads) leads
 
   node_back : (n : ℕ) → Contains d.given n → (q : Names) → IsPathOf new n q → IsPathOf old n q
   node_back n given q leads =
@@ -131,7 +131,7 @@ module _ (old new : Lookup) (tree' : IsTree new) (d : Demand) (held : Held) (row
     leads = λ k e within.
         let lead = get_or held.given k e in
         let among : Contains held.given lead = All-contains_itself held.given k e within in
-        let given : Contains d.given lead.number = subst (λ ns. Contains ns lead.number) holds.numbers (map_in (λ (x : Lead). x.number) held.given lead among) in
+        let given : Contains d.given lead.number = subst (λ ns. Contains ns lead.number) holds.numbers (map_in (λ (x : GivenPath). x.number) held.given lead among) in
         node_forth lead.number given lead.path (holds.leads k e within);
     shared = λ p. (λ h. shared_forth p ((holds.shared p).0 h), λ h. (holds.shared p).1 (shared_back p h));
     exclusive = λ p. (λ h. alone_forth p ((holds.exclusive p).0 h), λ h. (holds.exclusive p).1 (alone_back p h));
@@ -146,11 +146,11 @@ module _ (old new : Lookup) (tree' : IsTree new) (d : Demand) (held : Held) (row
       let given : Contains d.given key.parent = row.shared (AtName key.parent key.name) shared in
       let up = given_path key.parent given in
       let whole = up.0 ++ key.name ∷ [] in
-      let fronts : HoldsFronts held whole = λ front some. inl ((holds.shared front).1 (inl (any_in (IsPrefixAt old front) d.shared (AtName key.parent key.name) shared
+      let prefixes : HoldsPrefixes held whole = λ prefix some. inl ((holds.shared prefix).1 (inl (any_in (IsPrefixAt old prefix) d.shared (AtName key.parent key.name) shared
       (record { path = whole; leads = record { above = up.0; leads = up.1; whole = refl }; begins = some })))) in
       record {
         number = it.number;
-        named = named_at new tree' it.number key.parent up.0 key.name (node_forth key.parent given up.0 up.1) (keeps it.number it.pin whole fronts (path_under old it.number key.parent up.0 key.name it.named up.1));
+        named = named_at new tree' it.number key.parent up.0 key.name (node_forth key.parent given up.0 up.1) (keeps it.number it.pin whole prefixes (path_under old it.number key.parent up.0 key.name it.named up.1));
         pin = it.pin;
       }
 

@@ -1,7 +1,7 @@
 -- What contracts see of tickets and answers.
 use Rattle.std.specs.Prelude.{ℕ, Bool, List, Option, count_by, is_some}
 use Rattle.flights.specs.declared.data.Given.{Given}
-use Rattle.paths.specs.Fronts.{Names}
+use Rattle.paths.specs.Prefixes.{Names}
 
 -- a request that goes on: its id, its paths when it began, and whether a name is moved to itself
 pub record Claim : Type 0 where

@@ -4,7 +4,7 @@ use Rattle.flights.specs.declared.data.Given.{Given}
 use Rattle.flights.specs.declared.data.Want.{Want}
 use Rattle.holds.specs.declared.held.Held.{Held}
 use Rattle.ledger.specs.declared.postings.Posting.{Posting}
-use Rattle.paths.specs.Fronts.{Names}
+use Rattle.paths.specs.Prefixes.{Names}
 use Rattle.tree.specs.declared.nodes.Key.{Key}
 use Rattle.tree.specs.Places.{Lookup, IsTree}
 use Rattle.wants.specs.Asked.{ArePaths, Holds, IsDemand}

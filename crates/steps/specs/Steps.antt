@@ -4,10 +4,10 @@ use Rattle.errno.specs.declared.TheConstants.{EAGAIN, ENFILE}
 use Rattle.flights.specs.declared.data.Given.{Given}
 use Rattle.flights.specs.declared.data.Want.{Want}
 use Rattle.holds.specs.declared.held.Held.{Held}
-use Rattle.holds.specs.Clashes.{Clash}
+use Rattle.holds.specs.Conflicts.{Conflict}
 use Rattle.ledger.specs.declared.postings.Posting.{Posting}
 use Rattle.ledger.specs.declared.postings.Posting.TheVariants as posting
-use Rattle.paths.specs.Fronts.{Names}
+use Rattle.paths.specs.Prefixes.{Names}
 use Rattle.tree.specs.declared.nodes.Key.{Key}
 use Rattle.tree.specs.declared.nodes.Node.{Node}
 use Rattle.tree.specs.Moves.{Changes, IsPathOfName, after_cut, after_move}
@@ -55,7 +55,7 @@ pub record HoldsUp (flights : Flights) (wanted : Held) : Type 0 where
   pub flight : Flight
   pub work : Work
   pub here : IsAtWork flights id flight work
-  pub clash : Clash work.held wanted
+  pub conflict : Conflict work.held wanted
 
 pub record IsHeldUp (w : World) (d : Demand) : Type 0 where
   pub held : Held

@@ -1,6 +1,6 @@
 -- What holds while nodes that nothing keeps are dropped one by one.
 use Rattle.std.specs.Prelude.{ℕ, ◌+◌, ◌≡◌, ◌≢◌, ◌≤◌, ◌<◌, ◌⊎◌, Bool, List, [], ◌∷◌, Option, Some, None, length}
-use Rattle.paths.specs.Fronts.{Name}
+use Rattle.paths.specs.Prefixes.{Name}
 use Rattle.tree.specs.declared.nodes.Node.{Node}
 use Rattle.tree.specs.declared.nodes.Place.{Place}
 use Rattle.tree.specs.declared.nodes.Place.TheVariants.{Root, Named, Cut}

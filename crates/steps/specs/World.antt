@@ -2,13 +2,13 @@
 -- by is added up over what stands.
 use Rattle.std.specs.Prelude.{ℕ, ℤ, ◌+◌, ◌≤◌, ◌≡◌, ◌≢◌, ◌==◌, ◌↔◌, ◌⊎◌, Bool, true, if◌then◌else◌, List, [], Option, Some, None, All, Contains, length}
 use Rattle.holds.specs.declared.held.Held.{Held}
-use Rattle.holds.specs.Clashes.{Clash}
+use Rattle.holds.specs.Conflicts.{Conflict}
 use Rattle.ledger.specs.declared.postings.Posting.{Posting}
 use Rattle.flights.specs.declared.data.Promise.{Promise}
 use Rattle.flights.specs.declared.data.Want.{Want}
 use Rattle.tree.specs.declared.nodes.Key.{Key}
 use Rattle.tree.specs.Places.{Lookup, IsNamed, no_nodes, root_node, with_node}
-use Rattle.image.specs.Law.{IsLawful, IsLead}
+use Rattle.image.specs.Law.{IsLawful, IsGivenPath}
 use Rattle.sums.specs.Sum.{IsSum}
 use Rattle.steps.specs.declared.data.Limits.{Limits}
 use Rattle.wants.specs.Asked.{Holds, IsMisplaced, promise_of}
@@ -125,10 +125,10 @@ pub record IsReady (at : Lookup) (f : Flight) (work : Work) : Type 0 where
 -- ---- the law
 
 pub record AreHeld (at : Lookup) (flights : Flights) : Type 0 where
-  -- no two that are worked on clash
-  pub apart : (j k : ℕ) (f g : Flight) (v work : Work) → IsAtWork flights j f v → IsAtWork flights k g work → j ≢ k → Clash v.held work.held → ⊥
+  -- no two that are worked on conflict
+  pub apart : (j k : ℕ) (f g : Flight) (v work : Work) → IsAtWork flights j f v → IsAtWork flights k g work → j ≢ k → Conflict v.held work.held → ⊥
   -- the paths given still lead to their nodes, and each nonempty prefix of them is held
-  pub known : (id : ℕ) (f : Flight) (work : Work) → IsAtWork flights id f work → All (IsLead at work.held) work.held.given
+  pub known : (id : ℕ) (f : Flight) (work : Work) → IsAtWork flights id f work → All (IsGivenPath at work.held) work.held.given
 
 -- each request that is worked on has what it relies on, by its want
 abbrev pub AreReady : Lookup → Flights → Type 0

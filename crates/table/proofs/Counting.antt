@@ -6,11 +6,11 @@ use Rattle.std.proofs.lemmas.List.{take_all, take-take, take_more}
 use Rattle.ledger.specs.declared.postings.Posting.{Posting}
 use Rattle.ledger.specs.declared.shares.Totals.{Totals}
 use Rattle.ledger.specs.Shares.{plus, Fits}
-use Rattle.ledger.specs.Sums.{totals_by, totals_of, entries_of, given_of, IsNeverNegative}
+use Rattle.ledger.specs.Sums.{totals_by, totals_of, entries_of, given_back_of, IsNeverNegative}
 use Rattle.ledger.proofs.Balances.{totals_of-covered}
 use Rattle.ledger.proofs.SharesLemmas.{totals_of-push, added-le}
 
-never_where : (ps : List Posting) (i j n g : ℕ) → IsNeverNegative ps → (b : Bool) → nat_le j i ≡ b → given_of n g (take j (take i ps)) ≤ entries_of n g (take j (take i ps))
+never_where : (ps : List Posting) (i j n g : ℕ) → IsNeverNegative ps → (b : Bool) → nat_le j i ≡ b → given_back_of n g (take j (take i ps)) ≤ entries_of n g (take j (take i ps))
 never_where ps i j n g never true is =
     let short : j ≤ i = grind (arith, nat_tests) in
     rw (take-take j i ps short) (never.within j n g)

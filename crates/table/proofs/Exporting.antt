@@ -6,9 +6,9 @@ use Rattle.std.proofs.lemmas.Bool.{cases_lt}
 use Rattle.std.proofs.lemmas.List.{take_more}
 use mathlib.Core.Path.{fun_ext}
 use Rattle.ledger.specs.declared.postings.Posting.{Posting}
-use Rattle.paths.specs.Fronts.{Names}
+use Rattle.paths.specs.Prefixes.{Names}
 use Rattle.holds.specs.declared.held.Held.{Held}
-use Rattle.holds.specs.Clashes.{Clash}
+use Rattle.holds.specs.Conflicts.{Conflict}
 use Rattle.tree.specs.declared.nodes.Node.{Node}
 use Rattle.tree.specs.Listed.{node_at, IsDistinct}
 use Rattle.tree.specs.Places.{Lookup, Nodes, at_in, IsAlive}
@@ -22,7 +22,7 @@ use Rattle.flights.proofs.Lookups.{flight_in_found}
 use Rattle.image.specs.declared.data.Hold.{Hold}
 use Rattle.image.specs.declared.data.Record.{Record}
 use Rattle.image.specs.declared.data.Stage.TheVariants.{Working, Answered}
-use Rattle.image.specs.Law.{AreApart, AreCounts, AreHoldsCounted, AreKnown, IsLawfulImage, IsLead, owners_of, sharers_of}
+use Rattle.image.specs.Law.{AreApart, AreCounts, AreHoldsCounted, AreKnown, IsLawfulImage, IsGivenPath, owners_of, sharers_of}
 use Rattle.image.proofs.Exported.{ListsBelow, ListsBelow-all, IsLawfulImage-shows, Mirrors, is_pinned-mirrors, ids-mirrors}
 use Rattle.steps.specs.declared.state.State.{State}
 use Rattle.table.specs.Copies.{IsCopyOf, held_of, owners_in, sharers_in, stage_of}
@@ -152,14 +152,14 @@ module _ (flights : Flights) (fs : List Flight) (rs : List Record) (at : flight_
         within = it.1;
       }
 
-  -- requests that do not clash show records that do not
+  -- requests that do not conflict show records that do not
   pub records_apart : (l : Lookup) → AreHeld l (λ k. option_map flight_of (flights k)) → AreApart rs
   records_apart l held i j d before within = record {
-    clear = λ one two clash.
+    clear = λ one two conflict.
         let a = shown i d (omega arith) one in
         let b = shown j d within two in
         let other : a.flight.id ≢ b.flight.id = λ e. own i j a.flight before b.within (ap (λ (f : Flight). f.id) (a.place a.flight) ∙ (e ∙ sym (ap (λ (f : Flight). f.id) (b.place a.flight)))) in
-        let both : Clash a.work.held b.work.held = subst (λ (h : Held). Clash a.work.held h) b.held (subst (λ (h : Held). Clash h (get_or rs j d).held) a.held clash) in
+        let both : Conflict a.work.held b.work.held = subst (λ (h : Held). Conflict a.work.held h) b.held (subst (λ (h : Held). Conflict h (get_or rs j d).held) a.held conflict) in
         held.apart a.flight.id b.flight.id (flight_of a.flight) (flight_of b.flight) (work_of a.work) (work_of b.work)
         (at_work flights a.flight.id a.flight a.work a.there a.stage) (at_work flights b.flight.id b.flight b.work b.there b.stage) other both;
   }
@@ -169,7 +169,7 @@ module _ (flights : Flights) (fs : List Flight) (rs : List Record) (at : flight_
   records_known l held i d within = record {
     leads = λ is.
         let a = shown i d within is in
-        subst (λ (h : Held). All (IsLead l h) h.given) (sym a.held) (held.known a.flight.id (flight_of a.flight) (work_of a.work) (at_work flights a.flight.id a.flight a.work a.there a.stage));
+        subst (λ (h : Held). All (IsGivenPath l h) h.given) (sym a.held) (held.known a.flight.id (flight_of a.flight) (work_of a.work) (at_work flights a.flight.id a.flight a.work a.there a.stage));
   }
 
 module _ (s : State) (kept : IsKept s) (xs : List Node) (ps : List Posting) (rs : List Record) (fs : List Flight) (distinct : IsDistinct xs) (nodes : node_at xs ≡ at_in s.tree) (postings : ps ≡ s.ledger.made)

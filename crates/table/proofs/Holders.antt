@@ -9,8 +9,8 @@ use Rattle.std.proofs.lemmas.List.Elements.{All-push}
 use Rattle.std.proofs.lemmas.List.Sorted.{IsPermutation-remove, Contains-permutation}
 use Rattle.std.proofs.lemmas.List.Sums.{sum_by-cons, sum_by-remove}
 use mathlib.Core.Path.{fun_ext}
-use Rattle.paths.specs.Fronts.{Names}
-use Rattle.holds.specs.Clashes.{is_among}
+use Rattle.paths.specs.Prefixes.{Names}
+use Rattle.holds.specs.Conflicts.{is_among}
 use Rattle.flights.specs.declared.data.Flight.{Flight}
 use Rattle.flights.specs.declared.data.Stage as flight
 use Rattle.flights.specs.declared.data.Stage.TheVariants as flight_stage

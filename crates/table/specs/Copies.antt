@@ -1,6 +1,6 @@
 -- What a copy shows of a request as it is kept.
 use Rattle.std.specs.Prelude.{ℕ, ◌≡◌, [], List, count_by}
-use Rattle.paths.specs.Fronts.{Names}
+use Rattle.paths.specs.Prefixes.{Names}
 use Rattle.holds.specs.declared.held.Held.{Held}
 use Rattle.flights.specs.declared.data.Flight.{Flight}
 use Rattle.flights.specs.declared.data.Stage as kept

@@ -12,7 +12,7 @@ ghost use Rattle.tree.specs.Listed.{node_at, IsDistinct};
 ghost use Rattle.tree.specs.Places.{at_in};
 
 use flights::{Flight, Flights};
-use holds::{Held, Lead, Leads, Paths};
+use holds::{GivenPath, GivenPaths, Held, Paths};
 use image::{Hold, Holds, Image, Nodes, Numbers, Postings, Record, Records, Stage};
 use paths::Path;
 use std::alloc::{AllocError, Global};
@@ -89,25 +89,25 @@ fn copy_paths(alloc: Global, paths: &[Path]) -> Result<Paths, AllocError>
 }
 
 /// The same node with the same path once more.
-fn copy_lead(lead: &Lead) -> Result<Lead, AllocError>
+fn copy_lead(lead: &GivenPath) -> Result<GivenPath, AllocError>
     ensures { IfOk result (λ l. l ≡ lead.now) }
 {
     let path = lead.path.copy()?;
-    Ok(Lead {
+    Ok(GivenPath {
         number: lead.number,
         path,
     })
 }
 
 /// The same nodes with the same paths once more.
-fn copy_leads(alloc: Global, leads: &[Lead]) -> Result<Leads, AllocError>
+fn copy_leads(alloc: Global, leads: &[GivenPath]) -> Result<GivenPaths, AllocError>
     ensures { IfOk result (λ ls. ls ≡ leads.now) }
 {
     let mut copies = Vec::new(alloc);
     for lead in leads {
         copies.push(copy_lead(lead)?)?;
     }
-    Ok(Leads::from_vec(copies))
+    Ok(GivenPaths::from_vec(copies))
 }
 
 /// The same names once more.
@@ -129,7 +129,7 @@ fn nothing_held(alloc: Global) -> Held
     ensures { result ≡ record { given = []; shared = []; exclusive = [] } }
 {
     Held {
-        given: Leads::from_vec(Vec::new(alloc)),
+        given: GivenPaths::from_vec(Vec::new(alloc)),
         shared: Paths::from_vec(Vec::new(alloc)),
         exclusive: Paths::from_vec(Vec::new(alloc)),
     }

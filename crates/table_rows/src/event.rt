@@ -14,7 +14,7 @@ pub enum Event {
     BusyName,
     BusyRemoval,
     BusyMove,
-    /// One path of a move is a front of the other.
+    /// One path of a move is a prefix of the other.
     Astray,
     /// No node may be added.
     Full,

@@ -2,7 +2,7 @@
 
 use crate::shows::path_of;
 use crate::story::{Holding, ROOT};
-use holds::{Held, Lead, Leads, Paths};
+use holds::{GivenPath, GivenPaths, Held, Paths};
 use image::Stage::{Answered, Working};
 use image::{Hold, Holds, Image, Nodes, Numbers, Postings, Record, Records, Stage};
 use ledger::Posting;
@@ -43,7 +43,7 @@ fn record_of(alloc: Global, id: u64, made: &Made) -> Result<Record, AllocError> 
         stage,
         pins,
         held: Held {
-            given: Leads::from_vec(vec![in alloc; Lead { number, path }]?),
+            given: GivenPaths::from_vec(vec![in alloc; GivenPath { number, path }]?),
             shared: paths_of(alloc, shared)?,
             exclusive: paths_of(alloc, exclusive)?,
         },
@@ -217,7 +217,7 @@ const CLASHES: &[Case] = &[
 ];
 
 #[test]
-fn clashing_requests_are_not_lawful(rt: HostRuntime) -> Result<(), Fail> {
+fn conflicting_requests_are_not_lawful(rt: HostRuntime) -> Result<(), Fail> {
     judge(rt.alloc(), CLASHES)
 }
 
@@ -241,7 +241,7 @@ const LEADS: &[Case] = &[
         is_lawful: false,
     },
     Case {
-        says: "`a` is a front of itself, and is not held",
+        says: "`a` is a prefix of itself, and is not held",
         requests: &[Made(Working, 2, "a", &[], &["a/b"])],
         holds: &[Holding("a/b", 0, 1)],
         is_lawful: false,

@@ -1,4 +1,4 @@
-//! Which test of a begin comes first: the numbers, long paths, moves onto own fronts, names in the way, room, and the
+//! Which test of a begin comes first: the numbers, long paths, moves onto own prefixes, names in the way, room, and the
 //! requests in flight. Most steps fail two tests, one right after the other.
 
 use crate::long_rows::long_name;
@@ -129,7 +129,7 @@ fn order_of_tests_of_a_name(rt: HostRuntime) -> Result<(), Fail> {
     run(rt.alloc(), &story)
 }
 
-/// A move: its numbers, its paths, whether one is a front of the other, and then a name in the way.
+/// A move: its numbers, its paths, whether one is a prefix of the other, and then a name in the way.
 #[test]
 fn order_of_tests_of_a_move(rt: HostRuntime) -> Result<(), Fail> {
     let name = long_name(rt.alloc(), 4_096)?;

@@ -1,7 +1,7 @@
 //! What a list of nodes tells.
 
 ghost use Rattle.std.specs.Prelude.{true, false, ◌≡◌, ◌≢◌, ◌<◌, ◌≤◌, ◌+◌, ◌^◌, ◌↔◌, ℕ, List, [], ◌∷◌, ◌++◌, None, IfNone, IfSome, IfOk, IfErr, OnOk, IsTrue, length, slice_get, vec_len};
-ghost use Rattle.paths.specs.Fronts.{Names, path_bytes};
+ghost use Rattle.paths.specs.Prefixes.{Names, path_bytes};
 ghost use Rattle.tree.specs.declared.nodes.Place.TheVariants as Place;
 ghost use Rattle.tree.specs.Places.{IsAlive, IsNextAlive, IsNamed, Reaches, IsBelow, Leads, HasChild, IsFree};
 ghost use Rattle.tree.specs.Listed.{node_at, IsDistinct, IsGrown, IsLeastFree, IsClimbed, IsClimbFault, IsNameTooLong};

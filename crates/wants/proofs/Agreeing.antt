@@ -3,8 +3,8 @@ use Rattle.std.proofs.Common.{ℕ, ℤ, ◌*◌, ◌≤◌, ◌≡◌, ◌↔◌
 use Rattle.std.specs.Prelude.{Any, map}
 use Rattle.std.specs.List.{AllZip}
 use Rattle.std.proofs.lemmas.Bool.{and_parts, true≢false}
-use Rattle.paths.specs.Fronts.{Name, Names, is_front, is_name, path_bytes}
-use Rattle.paths.proofs.FrontLemmas.{is_front-append, is_front-trans, is_name-true, not_over_parent}
+use Rattle.paths.specs.Prefixes.{Name, Names, is_prefix, is_name, path_bytes}
+use Rattle.paths.proofs.PrefixLemmas.{is_prefix-append, is_prefix-trans, is_name-true, not_over_parent}
 use Rattle.tree.specs.Places.{Lookup, IsTree, Leads}
 use Rattle.wants.specs.declared.refusal.Refusal.{Refusal}
 use Rattle.wants.specs.declared.refusal.Refusal.TheVariants as refusal
@@ -28,18 +28,18 @@ use Rattle.wants.proofs.Members.{all_in, any_cases, any_first, any_in, any_later
 -- ---- prefixes above a name
 
 -- a prefix of a path that is not the whole path is one of the path above it
-front_above : (p up : Names) (name : Name) → is_front p (up ++ name ∷ []) ≡ true → (p ≡ up ++ name ∷ [] → ⊥) → is_front p up ≡ true
-front_above [] up name begins other = refl
-front_above (x ∷ []) [] name begins other =
+prefix_above : (p up : Names) (name : Name) → is_prefix p (up ++ name ∷ []) ≡ true → (p ≡ up ++ name ∷ [] → ⊥) → is_prefix p up ≡ true
+prefix_above [] up name begins other = refl
+prefix_above (x ∷ []) [] name begins other =
     let both = and_parts (is_name x name) true begins in
     absurd (other (ap (λ (y : Name). y ∷ []) (is_name-true x name both.0)))
-front_above (x ∷ y ∷ p) [] name begins other =
+prefix_above (x ∷ y ∷ p) [] name begins other =
     let both = and_parts (is_name x name) false begins in
     absurd (true≢false (sym both.1))
-front_above (x ∷ p) (y ∷ up) name begins other =
-    let both = and_parts (is_name x y) (is_front p (up ++ name ∷ [])) begins in
+prefix_above (x ∷ p) (y ∷ up) name begins other =
+    let both = and_parts (is_name x y) (is_prefix p (up ++ name ∷ [])) begins in
     let same : x ≡ y = is_name-true x y both.0 in
-    let rest : is_front p up ≡ true = front_above p up name both.1 (λ e. other (ap (λ (z : Name). z ∷ p) same ∙ ap (λ (q : Names). y ∷ q) e)) in
+    let rest : is_prefix p up ≡ true = prefix_above p up name both.1 (λ e. other (ap (λ (z : Name). z ∷ p) same ∙ ap (λ (q : Names). y ∷ q) e)) in
     rw (both.0, rest) refl
 
 module _ (at : Lookup) (tree : IsTree at) where
@@ -47,8 +47,8 @@ module _ (at : Lookup) (tree : IsTree at) where
   above_forth p parent name it = record {
     path = it.path ++ name ∷ [];
     leads = record { above = it.path; leads = it.leads; whole = refl };
-    begins = record { some = it.begins.some; begins = is_front-trans p it.path (it.path ++ name ∷ []) it.begins.begins (is_front-append it.path (name ∷ [])) };
-    other = λ e. true≢false (sym it.begins.begins ∙ (ap (λ (r : Names). is_front r it.path) e ∙ not_over_parent it.path name));
+    begins = record { some = it.begins.some; begins = is_prefix-trans p it.path (it.path ++ name ∷ []) it.begins.begins (is_prefix-append it.path (name ∷ [])) };
+    other = λ e. true≢false (sym it.begins.begins ∙ (ap (λ (r : Names). is_prefix r it.path) e ∙ not_over_parent it.path name));
   }
 
   above_back : (p : Names) (parent : ℕ) (name : Name) → IsAboveAt at p (AtName parent name) → IsPrefixAt at p (AtNode parent)
@@ -57,7 +57,7 @@ module _ (at : Lookup) (tree : IsTree at) where
     leads = it.leads.leads;
     begins = record {
       some = it.begins.some;
-      begins = front_above p it.leads.above name (subst (λ r. is_front p r ≡ true) it.leads.whole it.begins.begins) (λ e. it.other (e ∙ sym it.leads.whole));
+      begins = prefix_above p it.leads.above name (subst (λ r. is_prefix p r ≡ true) it.leads.whole it.begins.begins) (λ e. it.other (e ∙ sym it.leads.whole));
     };
   }
 

@@ -5,10 +5,10 @@ use Rattle.std.proofs.lemmas.Bool.{and_parts, false≢true, true≢false}
 use Rattle.std.proofs.lemmas.List.{map-append, take_more}
 use Rattle.std.proofs.lemmas.List.Elements.{All-push, Contains-append_cases, Contains-append_left, Contains-append_right}
 use Rattle.std.proofs.lemmas.Option.{none-some}
-use Rattle.paths.specs.Fronts.{Name, Names, fronts, is_front, is_name}
-use Rattle.paths.proofs.FrontLemmas.{is_name-same, is_name-true}
-use Rattle.holds.specs.declared.held.Lead.{Lead}
-use Rattle.holds.specs.Clashes.{AreFronts, IsSomeFront}
+use Rattle.paths.specs.Prefixes.{Name, Names, prefixes, is_prefix, is_name}
+use Rattle.paths.proofs.PrefixLemmas.{is_name-same, is_name-true}
+use Rattle.holds.specs.declared.held.GivenPath.{GivenPath}
+use Rattle.holds.specs.Conflicts.{ArePrefixes, IsSomePrefix}
 use Rattle.holds.proofs.Among.{contains_read}
 use Rattle.tree.specs.Places.{Lookup, IsPathOf, IsTree}
 use Rattle.wants.specs.declared.drafts.Draft.{Draft}
@@ -43,32 +43,32 @@ bad_row at ls l refusal.IntoItself here bad = absurd bad
 bad_row at ls l refusal.OntoFolder here bad = absurd bad
 bad_row at ls l refusal.Memory here bad = tt
 
--- the fronts of a path are its nonempty prefixes
-front_in : (x : Name) (path : Names) → ((f : Names) → IsSomeFront f path → Contains (fronts path) f) → (f : Names) → IsSomeFront f (x ∷ path) → Contains (fronts (x ∷ path)) f
-front_in x path rest [] h = absurd (h.some refl)
-front_in x path rest (y ∷ []) h =
+-- the prefixes of a path are its nonempty prefixes
+prefix_in : (x : Name) (path : Names) → ((f : Names) → IsSomePrefix f path → Contains (prefixes path) f) → (f : Names) → IsSomePrefix f (x ∷ path) → Contains (prefixes (x ∷ path)) f
+prefix_in x path rest [] h = absurd (h.some refl)
+prefix_in x path rest (y ∷ []) h =
     let both = and_parts (is_name y x) true h.begins in
-    subst (λ (z : Name). Contains (fronts (x ∷ path)) (z ∷ [])) (sym (is_name-true y x both.0)) (first_in (x ∷ []) (map (λ p. x ∷ p) (fronts path)))
-front_in x path rest (y ∷ z ∷ f) h =
-    let both = and_parts (is_name y x) (is_front (z ∷ f) path) h.begins in
+    subst (λ (z : Name). Contains (prefixes (x ∷ path)) (z ∷ [])) (sym (is_name-true y x both.0)) (first_in (x ∷ []) (map (λ p. x ∷ p) (prefixes path)))
+prefix_in x path rest (y ∷ z ∷ f) h =
+    let both = and_parts (is_name y x) (is_prefix (z ∷ f) path) h.begins in
     let below = rest (z ∷ f) (record { some = λ (e : z ∷ f ≡ []). cc; begins = both.1 }) in
-    subst (λ (w : Name). Contains (fronts (x ∷ path)) (w ∷ z ∷ f)) (sym (is_name-true y x both.0)) (later_in (x ∷ []) (map (λ p. x ∷ p) (fronts path)) (x ∷ z ∷ f) (map_in (λ p. x ∷ p) (fronts path) (z ∷ f) below))
+    subst (λ (w : Name). Contains (prefixes (x ∷ path)) (w ∷ z ∷ f)) (sym (is_name-true y x both.0)) (later_in (x ∷ []) (map (λ p. x ∷ p) (prefixes path)) (x ∷ z ∷ f) (map_in (λ p. x ∷ p) (prefixes path) (z ∷ f) below))
 
-front_of : (x : Name) (path : Names) → ((f : Names) → Contains (fronts path) f → IsSomeFront f path) → (f : Names) → Contains (fronts (x ∷ path)) f → IsSomeFront f (x ∷ path)
-front_of x path rest f h = elim (cases_in (x ∷ []) (map (λ p. x ∷ p) (fronts path)) f h) [
-  | inl e ↦ subst (λ g. IsSomeFront g (x ∷ path)) e (record { some = λ (bad : x ∷ [] ≡ []). cc; begins = rw (is_name-same x) refl })
+prefix_of : (x : Name) (path : Names) → ((f : Names) → Contains (prefixes path) f → IsSomePrefix f path) → (f : Names) → Contains (prefixes (x ∷ path)) f → IsSomePrefix f (x ∷ path)
+prefix_of x path rest f h = elim (cases_in (x ∷ []) (map (λ p. x ∷ p) (prefixes path)) f h) [
+  | inl e ↦ subst (λ g. IsSomePrefix g (x ∷ path)) e (record { some = λ (bad : x ∷ [] ≡ []). cc; begins = rw (is_name-same x) refl })
   | inr more ↦
-      let it = in_map (λ p. x ∷ p) (fronts path) f more in
-      subst (λ g. IsSomeFront g (x ∷ path)) it.2 (record { some = λ (bad : x ∷ it.0 ≡ []). cc; begins = rw (is_name-same x) (rest it.0 it.1).begins })
+      let it = in_map (λ p. x ∷ p) (prefixes path) f more in
+      subst (λ g. IsSomePrefix g (x ∷ path)) it.2 (record { some = λ (bad : x ∷ it.0 ≡ []). cc; begins = rw (is_name-same x) (rest it.0 it.1).begins })
 ]
 
-no_front : (f : Names) → IsSomeFront f [] → Contains (fronts []) f
-no_front [] h = absurd (h.some refl)
-no_front (x ∷ f) h = absurd (false≢true h.begins)
+no_prefix : (f : Names) → IsSomePrefix f [] → Contains (prefixes []) f
+no_prefix [] h = absurd (h.some refl)
+no_prefix (x ∷ f) h = absurd (false≢true h.begins)
 
-pub fronts_are : (path : Names) → AreFronts (fronts path) path
-fronts_are [] = record { all = no_front; only = λ f h. absurd (none_in f h) }
-fronts_are (x ∷ path) = let rest = fronts_are path in record { all = front_in x path rest.all; only = front_of x path rest.only }
+pub prefixes_are : (path : Names) → ArePrefixes (prefixes path) path
+prefixes_are [] = record { all = no_prefix; only = λ f h. absurd (none_in f h) }
+prefixes_are (x ∷ path) = let rest = prefixes_are path in record { all = prefix_in x path rest.all; only = prefix_of x path rest.only }
 
 -- who is in one list or the other
 joined : {X A B : Type 0} → (xs ys : List X) (x : X) → Contains xs x ↔ A → Contains ys x ↔ B → Contains (xs ++ ys) x ↔ (A ⊎ B)
@@ -106,14 +106,14 @@ pin_two xs a b o same n =
 -- ---- what is held of one location
 
 module _ (at : Lookup) (tree : IsTree at) (l : Location) (f : Found) (found : IsFound at l f) where
-  shared_here : (hold : Hold) (p : Names) → Contains (fronts (shared_path hold f)) p ↔ IsSharedAt at hold p l
+  shared_here : (hold : Hold) (p : Names) → Contains (prefixes (shared_path hold f)) p ↔ IsSharedAt at hold p l
   shared_here Shared p = (
-    λ h. record { path = f.path; leads = found.path; begins = (fronts_are f.path).only p h },
-    λ it. (fronts_are f.path).all p (subst (λ q. IsSomeFront p q) (location_once at tree l it.path f.path it.leads found.path) it.begins),
+    λ h. record { path = f.path; leads = found.path; begins = (prefixes_are f.path).only p h },
+    λ it. (prefixes_are f.path).all p (subst (λ q. IsSomePrefix p q) (location_once at tree l it.path f.path it.leads found.path) it.begins),
   )
   shared_here Alone p = (
-    λ h. record { path = f.above; leads = found.above; begins = (fronts_are f.above).only p h },
-    λ it. (fronts_are f.above).all p (subst (λ q. IsSomeFront p q) (location_once at tree (AtNode (base_of l)) it.path f.above it.leads found.above) it.begins),
+    λ h. record { path = f.above; leads = found.above; begins = (prefixes_are f.above).only p h },
+    λ it. (prefixes_are f.above).all p (subst (λ q. IsSomePrefix p q) (location_once at tree (AtNode (base_of l)) it.path f.above it.leads found.above) it.begins),
   )
 
   own_here : (hold : Hold) (p : Names) → Contains (own_paths hold f) p ↔ IsOwnAt at hold p l
@@ -136,13 +136,13 @@ module _ (at : Lookup) (tree : IsTree at) (l : Location) (f : Found) (found : Is
 
     pub draft_more : (old new : Draft) → IsDraft at hold ls old → Adds old (base_of l) f hold new → IsDraft at hold (ls ++ l ∷ []) new
     draft_more old new is adds = record {
-      numbers = ap (λ (leads : List Lead). map (λ (lead : Lead). lead.number) leads) adds.given
-          ∙ (map-append (λ (lead : Lead). lead.number) old.given.items (record { number = base_of l; path = f.above } ∷ [])
+      numbers = ap (λ (leads : List GivenPath). map (λ (lead : GivenPath). lead.number) leads) adds.given
+          ∙ (map-append (λ (lead : GivenPath). lead.number) old.given.items (record { number = base_of l; path = f.above } ∷ [])
           ∙ (ap (λ (ns : List ℕ). ns ++ base_of l ∷ []) is.numbers ∙ sym (map-append (λ x. base_of x) ls (l ∷ []))));
-      leads = subst (λ (leads : List Lead). All (λ (lead : Lead). IsPathOf at lead.number lead.path) leads) (sym adds.given)
-          (All-push (λ (lead : Lead). IsPathOf at lead.number lead.path) old.given.items (record { number = base_of l; path = f.above }) is.leads found.above);
+      leads = subst (λ (leads : List GivenPath). All (λ (lead : GivenPath). IsPathOf at lead.number lead.path) leads) (sym adds.given)
+          (All-push (λ (lead : GivenPath). IsPathOf at lead.number lead.path) old.given.items (record { number = base_of l; path = f.above }) is.leads found.above);
       shared = λ p. subst (λ (ps : List Names). Contains ps p ↔ Any (IsSharedAt at hold p) (ls ++ l ∷ [])) (sym adds.shared)
-          (along (joined old.shared.items (fronts (shared_path hold f)) p (is.shared p) (shared_here hold p)) (any_push (IsSharedAt at hold p) ls l));
+          (along (joined old.shared.items (prefixes (shared_path hold f)) p (is.shared p) (shared_here hold p)) (any_push (IsSharedAt at hold p) ls l));
       exclusive = λ p. subst (λ (ps : List Names). Contains ps p ↔ Any (IsOwnAt at hold p) (ls ++ l ∷ [])) (sym adds.exclusive)
           (along (joined old.exclusive.items (own_paths hold f) p (is.exclusive p) (own_here hold p)) (any_push (IsOwnAt at hold p) ls l));
       paths = rw adds.paths (zip_push (IsShortPath at) ls old.paths.items l f.path is.paths (found.path, found.short));
@@ -162,8 +162,8 @@ module _ (at : Lookup) (tree : IsTree at) (l : Location) (f : Found) (found : Is
 
 pub draft_none : (at : Lookup) (hold : Hold) (room : ℕ) (x : Draft) → IsNoDraft room x → IsDraft at hold [] x
 draft_none at hold room x is = record {
-  numbers = ap (λ (leads : List Lead). map (λ (lead : Lead). lead.number) leads) is.given;
-  leads = λ k d within. absurd (omega (arith, within, ap (λ (leads : List Lead). length leads) is.given));
+  numbers = ap (λ (leads : List GivenPath). map (λ (lead : GivenPath). lead.number) leads) is.given;
+  leads = λ k d within. absurd (omega (arith, within, ap (λ (leads : List GivenPath). length leads) is.given));
   shared = λ p. (λ h. absurd (none_in p (subst (λ (ps : List Names). Contains ps p) is.shared h)), λ h. absurd (any_none (IsSharedAt at hold p) h));
   exclusive = λ p. (λ h. absurd (none_in p (subst (λ (ps : List Names). Contains ps p) is.exclusive h)), λ h. absurd (any_none (IsOwnAt at hold p) h));
   paths = rw is.paths tt;

@@ -1,7 +1,7 @@
 -- What is found at a location, and why a location is refused.
 use Rattle.std.proofs.Common.{ℕ, ◌≡◌, ◌↔◌, ◌++◌, [], ◌∷◌, Option, Some, None, IfNone, IfSome, sym, ap, ◌∙◌, subst}
 use Rattle.std.proofs.lemmas.Option.{none-some, same_Some}
-use Rattle.paths.specs.Fronts.{Name, Names}
+use Rattle.paths.specs.Prefixes.{Name, Names}
 use Rattle.tree.specs.declared.nodes.Node.{Node}
 use Rattle.tree.specs.declared.nodes.Place.TheVariants as place
 use Rattle.tree.specs.declared.nodes.TreeFault.{TreeFault}

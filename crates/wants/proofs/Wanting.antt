@@ -3,8 +3,8 @@ use Rattle.std.proofs.Common.{ℕ, ℤ, ◌≡◌, List, [], ◌∷◌, Option, 
 use Rattle.std.specs.Prelude.{IsSome}
 use Rattle.std.proofs.lemmas.Bool.{cases_Bool, cases_eq, false≢true}
 use Rattle.std.proofs.lemmas.Option.{none-some, same_Some}
-use Rattle.paths.specs.Fronts.{Name, Names, is_name}
-use Rattle.paths.proofs.FrontLemmas.{is_name-true, is_name-yes}
+use Rattle.paths.specs.Prefixes.{Name, Names, is_name}
+use Rattle.paths.proofs.PrefixLemmas.{is_name-true, is_name-yes}
 use Rattle.flights.specs.declared.data.Want.{Want}
 use Rattle.flights.specs.declared.data.Want.TheVariants as wants
 use Rattle.flights.specs.declared.data.Work.{Work}

@@ -1,10 +1,10 @@
 -- What a row asks for, as the nodes stand. But for `IsCase`, nothing here looks at a want.
 use Rattle.std.specs.Prelude.{ℕ, ℤ, ◌*◌, ◌<◌, ◌≡◌, ◌≢◌, ◌↔◌, ◌⊎◌, true, List, [], ◌∷◌, map, length, All, Any, Contains}
 use Rattle.errno.specs.declared.TheConstants.{EINVAL, ENAMETOOLONG, ENOMEM, ENOTEMPTY, ESTALE}
-use Rattle.paths.specs.Fronts.{Name, Names, is_front, path_bytes}
+use Rattle.paths.specs.Prefixes.{Name, Names, is_prefix, path_bytes}
 use Rattle.holds.specs.declared.held.Held.{Held}
-use Rattle.holds.specs.declared.held.Lead.{Lead}
-use Rattle.holds.specs.Clashes.{IsSomeFront}
+use Rattle.holds.specs.declared.held.GivenPath.{GivenPath}
+use Rattle.holds.specs.Conflicts.{IsSomePrefix}
 use Rattle.flights.specs.declared.data.Promise.{Promise}
 use Rattle.flights.specs.declared.data.Want.{Want}
 use Rattle.flights.specs.declared.data.Want.TheVariants as wants
@@ -59,13 +59,13 @@ pub record IsLong (at : Lookup) (d : Demand) : Type 0 where
   pub long : 4096 < path_bytes path
 
 -- the path leads to the other, further down
-pub record IsProperFront (front path : Names) : Type 0 where
-  pub begins : is_front front path ≡ true
-  pub other : front ≢ path
+pub record IsProperPrefix (prefix path : Names) : Type 0 where
+  pub begins : is_prefix prefix path ≡ true
+  pub other : prefix ≢ path
 
 -- why a path may not be moved to the other: it would be moved into itself, or onto a folder that it stands in
 abbrev pub IsRefusedMove : Names → Names → ℤ → Type 0
-IsRefusedMove source target e = ((e ≡ EINVAL) × IsProperFront source target) ⊎ ((e ≡ ENOTEMPTY) × IsProperFront target source)
+IsRefusedMove source target e = ((e ≡ EINVAL) × IsProperPrefix source target) ⊎ ((e ≡ ENOTEMPTY) × IsProperPrefix target source)
 
 -- the paths of the two locations, of which the one may not be moved to the other
 pub record IsRefusedAt (at : Lookup) (source target : Location) (e : ℤ) : Type 0 where
@@ -99,13 +99,13 @@ pub data IsUnsound (at : Lookup) (d : Demand) (e : ℤ) : Type 0 where
 pub record IsPrefixAt (at : Lookup) (p : Names) (l : Location) : Type 0 where
   pub path : Names
   pub leads : HasPath at l path
-  pub begins : IsSomeFront p path
+  pub begins : IsSomePrefix p path
 
 -- the same, but not the whole path
 pub record IsAboveAt (at : Lookup) (p : Names) (l : Location) : Type 0 where
   pub path : Names
   pub leads : HasPath at l path
-  pub begins : IsSomeFront p path
+  pub begins : IsSomePrefix p path
   pub other : p ≢ path
 
 abbrev pub IsShared : Lookup → Demand → Names → Type 0
@@ -116,8 +116,8 @@ IsAlone at d p = Any (λ l. HasPath at l p) d.alone
 
 -- the nodes that the row names, in order and each with its path, and the paths that it shares and holds alone
 pub record Holds (at : Lookup) (d : Demand) (held : Held) : Type 0 where
-  pub numbers : map (λ (lead : Lead). lead.number) held.given ≡ d.given
-  pub leads : All (λ (lead : Lead). IsPathOf at lead.number lead.path) held.given
+  pub numbers : map (λ (lead : GivenPath). lead.number) held.given ≡ d.given
+  pub leads : All (λ (lead : GivenPath). IsPathOf at lead.number lead.path) held.given
   pub shared : (p : Names) → Contains held.shared p ↔ IsShared at d p
   pub exclusive : (p : Names) → Contains held.exclusive p ↔ IsAlone at d p
 

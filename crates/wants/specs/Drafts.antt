@@ -2,8 +2,8 @@
 use Rattle.std.specs.Prelude.{ℕ, ℤ, ◌+◌, ◌*◌, ◌<◌, ◌≤◌, ◌≡◌, ◌↔◌, ◌⊎◌, ◌||◌, Bool, true, false, if◌then◌else◌, List, [], ◌∷◌, ◌++◌, Some, All, Any, Contains, is_none, length, map}
 use Rattle.std.specs.List.{AllZip}
 use Rattle.errno.specs.declared.TheConstants.{EINVAL, ENAMETOOLONG, ENOMEM, ENOTEMPTY, ESTALE}
-use Rattle.paths.specs.Fronts.{Names, fronts, path_bytes}
-use Rattle.holds.specs.declared.held.Lead.{Lead}
+use Rattle.paths.specs.Prefixes.{Names, prefixes, path_bytes}
+use Rattle.holds.specs.declared.held.GivenPath.{GivenPath}
 use Rattle.flights.specs.declared.data.Want.{Want}
 use Rattle.tree.specs.declared.nodes.Key.{Key}
 use Rattle.tree.specs.declared.nodes.TreeFault.{TreeFault}
@@ -193,7 +193,7 @@ own_paths Alone f = f.path ∷ []
 -- one location more
 pub record Adds (old : Draft) (number : ℕ) (f : Found) (hold : Hold) (new : Draft) : Type 0 where
   pub given : new.given.items ≡ old.given.items ++ record { number = number; path = f.above } ∷ []
-  pub shared : new.shared.items ≡ old.shared.items ++ fronts (shared_path hold f)
+  pub shared : new.shared.items ≡ old.shared.items ++ prefixes (shared_path hold f)
   pub exclusive : new.exclusive.items ≡ old.exclusive.items ++ own_paths hold f
   pub paths : new.paths.items ≡ old.paths.items ++ f.path ∷ []
   pub pins : (n : ℕ) → Contains new.pins.numbers n ↔ (Contains old.pins.numbers n ⊎ ((number ≡ n) ⊎ (f.node ≡ Some n)))
@@ -223,8 +223,8 @@ IsTaken at l = (n : ℕ) × IsThere at l n
 
 -- all that was found at these locations
 pub record IsDraft (at : Lookup) (hold : Hold) (ls : List Location) (x : Draft) : Type 0 where
-  pub numbers : map (λ (lead : Lead). lead.number) x.given.items ≡ map (λ l. base_of l) ls
-  pub leads : All (λ (lead : Lead). IsPathOf at lead.number lead.path) x.given.items
+  pub numbers : map (λ (lead : GivenPath). lead.number) x.given.items ≡ map (λ l. base_of l) ls
+  pub leads : All (λ (lead : GivenPath). IsPathOf at lead.number lead.path) x.given.items
   pub shared : (p : Names) → Contains x.shared.items p ↔ Any (IsSharedAt at hold p) ls
   pub exclusive : (p : Names) → Contains x.exclusive.items p ↔ Any (IsOwnAt at hold p) ls
   pub paths : AllZip (IsShortPath at) ls x.paths.items

@@ -1,7 +1,7 @@
 -- What a want asks of a table: one row for each want. What a beginning tests, holds, pins and promises, and what an
 -- outcome does, follow from the row alone.
 use Rattle.std.specs.Prelude.{ℕ, ◌==◌, ◌&&◌, Bool, false, if◌then◌else◌, List, [], ◌∷◌}
-use Rattle.paths.specs.Fronts.{Name, is_name}
+use Rattle.paths.specs.Prefixes.{Name, is_name}
 use Rattle.tree.specs.declared.nodes.Key.{Key}
 use Rattle.flights.specs.declared.data.Promise.{Promise}
 use Rattle.flights.specs.declared.data.Want.{Want}

@@ -1,7 +1,7 @@
 //! What a row asks for, gathered location by location.
 
 ghost use Rattle.std.specs.Prelude.{ℕ, ◌+◌, ◌≤◌, ◌≡◌, ◌↔◌, ◌⊎◌, ◌++◌, Contains, Some, IfOk, IfErr, OnOk, length};
-ghost use Rattle.paths.specs.Fronts.{fronts};
+ghost use Rattle.paths.specs.Prefixes.{prefixes};
 ghost use Rattle.tree.specs.Places.{IsCensus, IsTree, at_in};
 ghost use Rattle.wants.specs.Asked.{IsUnsound};
 ghost use Rattle.wants.specs.Drafts.{Adds, AreRooted, IsAgreed, IsBadRow, IsDraft, IsDrawn, IsFit, IsNoDraft, demand_of, entries_of, errno_of, locations_of, own_paths, shared_path};
@@ -11,7 +11,7 @@ use crate::found::{Found, expect_change, expect_rooted, find};
 use crate::refusal::Refusal;
 use crate::rows::{Hold, Row};
 use flights::{Givens, Pins, Promise};
-use holds::{Held, Lead, Leads, Paths, fronts_of};
+use holds::{GivenPath, GivenPaths, Held, Paths, prefixes_of};
 use paths::Path;
 use std::alloc::{AllocError, Global};
 use tree::Tree;
@@ -32,7 +32,7 @@ pub(crate) struct Terms {
 /// What was gathered so far.
 #[derive(Drop)]
 pub(crate) struct Draft {
-    given: Vec<Lead>,
+    given: Vec<GivenPath>,
     shared: Vec<Path>,
     exclusive: Vec<Path>,
     pins: Pins,
@@ -43,9 +43,9 @@ pub(crate) struct Draft {
 
 /// Shares the nonempty prefixes of the path.
 fn share(alloc: Global, shared: &mut Vec<Path>, path: &Path) -> Result<(), AllocError>
-    ensures { OnOk result (shared.new.items ≡ shared.old.items ++ fronts path.now) }
+    ensures { OnOk result (shared.new.items ≡ shared.old.items ++ prefixes path.now) }
 {
-    let mut prefixes = fronts_of(alloc, path)?.into_vec();
+    let mut prefixes = prefixes_of(alloc, path)?.into_vec();
     shared.append(&mut prefixes)
 }
 
@@ -84,7 +84,7 @@ impl Draft {
 
     /// Holds the path of what was found.
     fn hold(&mut self, alloc: Global, found: &Found, hold: Hold) -> Result<(), AllocError>
-        ensures shared { OnOk result (self.new.shared.items ≡ self.old.shared.items ++ fronts (shared_path hold found.now)) }
+        ensures shared { OnOk result (self.new.shared.items ≡ self.old.shared.items ++ prefixes (shared_path hold found.now)) }
         ensures exclusive { OnOk result (self.new.exclusive.items ≡ self.old.exclusive.items ++ own_paths hold found.now) }
         ensures given { self.new.given ≡ self.old.given }
         ensures pins { self.new.pins ≡ self.old.pins }
@@ -119,7 +119,7 @@ impl Draft {
             path,
             node: _,
         } = found;
-        self.given.push(Lead {
+        self.given.push(GivenPath {
             number,
             path: above,
         })?;
@@ -146,7 +146,7 @@ impl Draft {
             absent: _,
         } = self;
         let held = Held {
-            given: Leads::from_vec(given),
+            given: GivenPaths::from_vec(given),
             shared: Paths::from_vec(shared),
             exclusive: Paths::from_vec(exclusive),
         };

@@ -1,7 +1,7 @@
 //! What stands at a location.
 
 ghost use Rattle.std.specs.Prelude.{◌<◌, ◌≡◌, ◌++◌, ◌∷◌, [], Any, IfOk, IfErr, OnOk, length};
-ghost use Rattle.paths.specs.Fronts.{Name as Spelt, Names};
+ghost use Rattle.paths.specs.Prefixes.{Name as Spelt, Names};
 ghost use Rattle.tree.specs.Places.{IsCensus, IsTree, Leads, at_in};
 ghost use Rattle.wants.specs.Drafts.{AreEnough, AreRooted, CanMove, IsBadPath, IsFound, IsLost, IsWrongChange, MayChange, errno_of, location_of, told};
 ghost use Rattle.wants.specs.Asked.{IsRefusedMove};
@@ -98,10 +98,10 @@ fn expect_movable(path: &Path, target: &Path) -> Result<(), Refusal>
     if path.is(target) {
         return Ok(());
     }
-    if path.is_front_of(target) {
+    if path.is_prefix_of(target) {
         return Err(Refusal::IntoItself);
     }
-    if target.is_front_of(path) {
+    if target.is_prefix_of(path) {
         return Err(Refusal::OntoFolder);
     }
     Ok(())

@@ -1,7 +1,7 @@
 //! The law of the nodes and the ledger together.
 
 ghost use Rattle.std.specs.Prelude.{◌≡◌, ◌≢◌, ◌↔◌, ◌+◌, IsTrue, All};
-ghost use Rattle.ledger.specs.Sums.{number_of, entries_of, given_of, IsNeverNegative};
+ghost use Rattle.ledger.specs.Sums.{number_of, entries_of, given_back_of, IsNeverNegative};
 ghost use Rattle.tree.specs.Listed.{node_at, IsDistinct};
 ghost use Rattle.image.specs.Law.{HasPlainRoot, IsBornInOrder, IsCounted, IsOrdered, IsUnborne};
 ghost use Rattle.image.specs.Parts.{BearLastBirths, BearsLastBirth, AreCountsExact, IsCountExact, AreOthersSettled, counts_in_all, IsRootPlain};

@@ -1,10 +1,10 @@
-//! The law of what requests hold: the counts of each path, and that no two requests clash.
+//! The law of what requests hold: the counts of each path, and that no two requests conflict.
 
 ghost use Rattle.std.specs.Prelude.{◌≡◌, ◌≢◌, ◌↔◌, ◌==◌, IsTrue, All, AllPairs, Any};
 ghost use Rattle.image.specs.declared.data.Hold.{Hold};
 ghost use Rattle.image.specs.declared.data.Stage.TheVariants as Stage;
 ghost use Rattle.image.specs.Law.{is_working, shares, owns, sharers_of, owners_of, AreHoldsCounted, AreClear, AreApart};
-ghost use Rattle.image.specs.Parts.{IsStored, IsCounted, HaveOtherPaths, AreStored};
+ghost use Rattle.image.specs.Parts.{IsStored, IsHoldCount, HaveOtherPaths, AreStored};
 
 use crate::data::{Hold, Record, Stage};
 use paths::Path;
@@ -57,10 +57,10 @@ fn owners_of(records: &[Record], path: &Path) -> u64
     count
 }
 
-#[tactic(auto, unfolding(crate::specs::Parts::IsCounted))]
+#[tactic(auto, unfolding(crate::specs::Parts::IsHoldCount))]
 /// Whether the numbers of the path are those of the requests, and not both 0.
 fn is_counted(hold: &Hold, records: &[Record]) -> bool
-    ensures { IsTrue result ↔ IsCounted records.now hold.now }
+    ensures { IsTrue result ↔ IsHoldCount records.now hold.now }
 {
     (hold.shared > 0 || hold.exclusive > 0)
         && hold.shared == sharers_of(records, &hold.path)
@@ -69,7 +69,7 @@ fn is_counted(hold: &Hold, records: &[Record]) -> bool
 
 /// Whether the numbers of each path are those of the requests, and not both 0.
 fn are_counted(holds: &[Hold], records: &[Record]) -> bool
-    ensures { IsTrue result ↔ All (IsCounted records.now) holds.now }
+    ensures { IsTrue result ↔ All (IsHoldCount records.now) holds.now }
 {
     holds.iter().all(|hold| is_counted(hold, records))
 }
@@ -138,21 +138,21 @@ pub fn are_holds_counted(holds: &[Hold], records: &[Record]) -> bool
     have_own_paths(holds) && are_counted(holds, records) && are_all_stored(holds, records)
 }
 
-/// Whether the two are not both worked on, or do not clash.
+/// Whether the two are not both worked on, or do not conflict.
 fn are_clear(one: &Record, two: &Record) -> bool
     ensures { IsTrue result ↔ AreClear one.now two.now }
 {
-    !is_working(one) || !is_working(two) || !one.held.clashes_with(&two.held)
+    !is_working(one) || !is_working(two) || !one.held.conflicts_with(&two.held)
 }
 
-/// Whether none of the others clashes with the one.
+/// Whether none of the others conflicts with the one.
 fn is_clear(one: &Record, others: &[Record]) -> bool
     ensures { IsTrue result ↔ All (AreClear one.now) others.now }
 {
     others.iter().all(|other| are_clear(one, other))
 }
 
-/// Whether no two requests that are worked on clash.
+/// Whether no two requests that are worked on conflict.
 pub fn are_apart(records: &[Record]) -> bool
     ensures { IsTrue result ↔ AreApart records.now }
 {

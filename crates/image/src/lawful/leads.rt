@@ -3,14 +3,14 @@
 ghost use Rattle.std.specs.Prelude.{◌≡◌, ◌↔◌, ◌<◌, ◌≤◌, ◌+◌, IsTrue, All, Contains, take, length};
 ghost use Rattle.tree.specs.Places.{IsPathOf};
 ghost use Rattle.tree.specs.Listed.{node_at};
-ghost use Rattle.holds.specs.Clashes.{IsHeld};
-ghost use Rattle.image.specs.Law.{IsLead, IsKnown, AreKnown};
-ghost use Rattle.image.specs.Parts.{AreFrontsHeld};
+ghost use Rattle.holds.specs.Conflicts.{IsHeld};
+ghost use Rattle.image.specs.Law.{IsGivenPath, IsKnown, AreKnown};
+ghost use Rattle.image.specs.Parts.{ArePrefixesHeld};
 
 use crate::data::Record;
 use crate::lawful::held::is_working;
 use crate::lawful::nodes::find;
-use holds::{Held, Lead};
+use holds::{GivenPath, Held};
 use paths::Path;
 use tree::{Node, Place};
 
@@ -36,53 +36,54 @@ fn is_path_of(nodes: &[Node], number: u64, path: &Path) -> bool
 }
 
 #[tactic(auto, using(crate::proofs::Leading::first_names))]
-/// Whether the other path is the path's front of so many names.
-fn is_front(other: &Path, path: &Path, len: usize) -> bool
+/// Whether the other path is the path's prefix of so many names.
+fn is_prefix(other: &Path, path: &Path, len: usize) -> bool
     requires { len ≤ length path.now }
     ensures { IsTrue result ↔ (other.now ≡ take len path.now) }
 {
-    other.len() == len && other.is_front_of(path)
+    other.len() == len && other.is_prefix_of(path)
 }
 
-/// Whether one of the paths is the path's front of so many names.
-fn has_front(paths: &[Path], path: &Path, len: usize) -> bool
+/// Whether one of the paths is the path's prefix of so many names.
+fn has_prefix(paths: &[Path], path: &Path, len: usize) -> bool
     requires { len ≤ length path.now }
     ensures { IsTrue result ↔ Contains paths.now (take len path.now) }
 {
-    paths.iter().any(|other| is_front(other, path, len))
+    paths.iter().any(|other| is_prefix(other, path, len))
 }
 
-/// Whether the path's front of so many names is held.
-fn is_front_held(held: &Held, path: &Path, len: usize) -> bool
+/// Whether the path's prefix of so many names is held.
+fn is_prefix_held(held: &Held, path: &Path, len: usize) -> bool
     requires { len ≤ length path.now }
     ensures { IsTrue result ↔ IsHeld held.now (take len path.now) }
 {
-    has_front(held.shared.as_slice(), path, len) || has_front(held.exclusive.as_slice(), path, len)
+    has_prefix(held.shared.as_slice(), path, len)
+        || has_prefix(held.exclusive.as_slice(), path, len)
 }
 
-/// Whether each front of the path is held, but the empty one.
-fn are_fronts_held(held: &Held, path: &Path) -> bool
-    ensures { IsTrue result ↔ AreFrontsHeld held.now path.now }
+/// Whether each prefix of the path is held, but the empty one.
+fn are_prefixes_held(held: &Held, path: &Path) -> bool
+    ensures { IsTrue result ↔ ArePrefixesHeld held.now path.now }
 {
     for i in 0..path.len() {
-        if !is_front_held(held, path, i + 1) {
+        if !is_prefix_held(held, path, i + 1) {
             return false;
         }
     }
     true
 }
 
-#[tactic(auto, unfolding(crate::specs::Parts::AreFrontsHeld))]
-/// Whether the path given for a node leads to it, and each front of it is held.
-fn is_lead(nodes: &[Node], held: &Held, lead: &Lead) -> bool
-    ensures { IsTrue result ↔ IsLead (node_at nodes.now) held.now lead.now }
+#[tactic(auto, unfolding(crate::specs::Parts::ArePrefixesHeld))]
+/// Whether the path given for a node leads to it, and each prefix of it is held.
+fn is_lead(nodes: &[Node], held: &Held, lead: &GivenPath) -> bool
+    ensures { IsTrue result ↔ IsGivenPath (node_at nodes.now) held.now lead.now }
 {
-    is_path_of(nodes, lead.number, &lead.path) && are_fronts_held(held, &lead.path)
+    is_path_of(nodes, lead.number, &lead.path) && are_prefixes_held(held, &lead.path)
 }
 
-/// Whether each path given leads to its node, and its fronts are held.
-fn are_leads(nodes: &[Node], held: &Held, leads: &[Lead]) -> bool
-    ensures { IsTrue result ↔ All (IsLead (node_at nodes.now) held.now) leads.now }
+/// Whether each path given leads to its node, and its prefixes are held.
+fn are_leads(nodes: &[Node], held: &Held, leads: &[GivenPath]) -> bool
+    ensures { IsTrue result ↔ All (IsGivenPath (node_at nodes.now) held.now) leads.now }
 {
     leads.iter().all(|lead| is_lead(nodes, held, lead))
 }

@@ -2,7 +2,7 @@
 
 ghost use Rattle.std.specs.Prelude.{◌≡◌, ◌↔◌, ◌+◌, false, if◌then◌else◌, IsTrue, IfSome, IfNone, Contains};
 ghost use Rattle.ledger.specs.declared.postings.Posting.TheVariants as Posting;
-ghost use Rattle.ledger.specs.Sums.{number_of, generation_of, is_birth, is_entry, given_by, births_of, entries_of, given_of, totals_by, IsAllowed, IsNeverNegative};
+ghost use Rattle.ledger.specs.Sums.{number_of, generation_of, is_birth, is_entry, given_by, births_of, entries_of, given_back_of, totals_by, IsAllowed, IsNeverNegative};
 ghost use Rattle.image.specs.Law.{MayStand, IsOrdered};
 ghost use Rattle.image.specs.Parts.{entered_in_all, given_in_all};
 
@@ -102,7 +102,7 @@ fn given(posting: &Posting, node: u64, life: u64) -> u64
 pub fn count(postings: &[Posting], number: u64, generation: u64) -> u64
     requires ordered { IsOrdered postings.now }
     requires never_negative { IsNeverNegative postings.now }
-    ensures { result + given_of number generation postings.now ≡ entries_of number generation postings.now }
+    ensures { result + given_back_of number generation postings.now ≡ entries_of number generation postings.now }
 {
     let mut entries: u64 = 0;
     let mut gone: u64 = 0;

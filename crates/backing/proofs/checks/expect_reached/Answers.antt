@@ -1,6 +1,6 @@
 use Rattle.std.proofs.Common.{◌≡◌, ◌<◌, length, take, sym, ap, ◌∙◌, subst, arith, Some, None}
 use Rattle.std.specs.Option.{option_map}
-use Rattle.paths.specs.Fronts.{Names}
+use Rattle.paths.specs.Prefixes.{Names}
 use Rattle.backing.specs.Tree.{kind_of}
 use Rattle.backing.specs.Entries.{tree_of}
 use Rattle.backing.proofs.Descending.{stops_absent, stops_file, folder_below}

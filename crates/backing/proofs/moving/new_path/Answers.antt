@@ -1,13 +1,13 @@
 use Rattle.std.proofs.Common.{ℕ, ◌≡◌, ◌++◌, true, Some, None, length, drop, sym, ap, ◌∙◌, arith}
 use Rattle.std.proofs.lemmas.Bool.{cond-true}
 use Rattle.std.proofs.lemmas.List.{take_all}
-use Rattle.paths.specs.Fronts.{Names, is_front}
-use Rattle.paths.proofs.FrontLemmas.{is_front-length}
+use Rattle.paths.specs.Prefixes.{Names, is_prefix}
+use Rattle.paths.proofs.PrefixLemmas.{is_prefix-length}
 use Rattle.backing.proofs.moving.new_path.Goals as goal
 
 pub split_at-requires : goal.split_at-requires
 split_at-requires c =
-    let front = is_front-length c.args.from.now c.args.path.now (sym c.is_front_of.ensures ∙ c.if-not-is_front_of.false) in
+    let prefix = is_prefix-length c.args.from.now c.args.path.now (sym c.is_prefix_of.ensures ∙ c.if-not-is_prefix_of.false) in
     let same : length c.names.result.now ≡ length c.args.path.now = ap (λ (p : Names). length p) c.names.ensures in
     omega arith
 
@@ -17,7 +17,7 @@ returns c =
     let t = c.args.to.now in
     let p = c.args.path.now in
     let below = c.split_at.result.1.now in
-    let yes : is_front s p ≡ true = sym c.is_front_of.ensures ∙ c.if-not-is_front_of.false in
+    let yes : is_prefix s p ≡ true = sym c.is_prefix_of.ensures ∙ c.if-not-is_prefix_of.false in
     let rest : below ≡ drop (length s) p = c.split_at.ensures.back ∙ (ap (λ (n : ℕ). drop n c.names.result.now) c.len.ensures ∙ ap (λ (q : Names). drop (length s) q) c.names.ensures) in
     let whole : c.loop-name.moved ≡ t ++ drop (length s) p = c.loop-name.invariant ∙ ap (λ (q : Names). t ++ q) (take_all c.loop-name.name-index below c.loop-name-test.false ∙ rest) in
-    ap (λ (q : Names). Some q) whole ∙ sym (cond-true (is_front s p) (Some (t ++ drop (length s) p)) None yes)
+    ap (λ (q : Names). Some q) whole ∙ sym (cond-true (is_prefix s p) (Some (t ++ drop (length s) p)) None yes)

@@ -1,6 +1,6 @@
 use Rattle.std.proofs.Common.{◌≡◌, ◌+◌, take, List, ◌++◌, ◌∷◌, [], None, sym, ap, ◌∙◌, subst, Vec}
 use Rattle.std.proofs.lemmas.List.{take_more, take_all}
-use Rattle.paths.specs.Fronts.{Name, Names}
+use Rattle.paths.specs.Prefixes.{Name, Names}
 use Rattle.std.specs.declared.alloc.Global.{Global}
 use Rattle.backing.specs.declared.call.Kind.{Kind}
 use Rattle.backing.specs.declared.call.Child.{Child}

@@ -1,5 +1,5 @@
 use Rattle.std.proofs.Common.{List, sym, ap, ◌∙◌, subst}
-use Rattle.paths.specs.Fronts.{Names}
+use Rattle.paths.specs.Prefixes.{Names}
 use Rattle.backing.specs.declared.entries.Entry.{Entry}
 use Rattle.backing.specs.Entries.{tree_of, IsLawful, IsFoundAt}
 use Rattle.backing.proofs.Putting.{removed_tree, removed_lawful}

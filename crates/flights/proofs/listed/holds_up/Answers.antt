@@ -6,11 +6,11 @@ use Rattle.flights.specs.Flying.{IsInTheWay}
 use Rattle.flights.proofs.InTheWay.{held_up_at, none_held_up}
 use Rattle.flights.proofs.listed.holds_up.Goals as goal
 
-pub returns-then-clashes_with : goal.returns-then-clashes_with
-returns-then-clashes_with c =
+pub returns-then-conflicts_with : goal.returns-then-conflicts_with
+returns-then-conflicts_with c =
     let x = c.flight-item.result in (
       λ _. held_up_at c.args.flights.now c.loop-flight.flight-index x c.args.wanted.now c.requires (search rules)
-          (subst (λ (f : Flight). IsInTheWay f.stage c.args.wanted.now) c.flight-item.is (c.clashes_with.ensures.0 c.if-clashes_with.true)),
+          (subst (λ (f : Flight). IsInTheWay f.stage c.args.wanted.now) c.flight-item.is (c.conflicts_with.ensures.0 c.if-conflicts_with.true)),
       λ _. refl,
     )
 
@@ -18,7 +18,7 @@ pub loop-flight-preserved : goal.loop-flight-preserved
 loop-flight-preserved c =
     let x = c.flight-item.result in
     none_more (λ (f : Flight). IsInTheWay f.stage c.args.wanted.now) c.args.flights.now c.loop-flight.flight-index x (search rules) c.flight-item.is
-    (λ h. false≢true (sym c.if-clashes_with.false ∙ c.clashes_with.ensures.1 h)) c.loop-flight.invariant
+    (λ h. false≢true (sym c.if-conflicts_with.false ∙ c.conflicts_with.ensures.1 h)) c.loop-flight.invariant
 
 pub returns : goal.returns
 returns c =

@@ -1,5 +1,5 @@
 use Rattle.std.proofs.Common.{◌≡◌, ◌∙◌, Bool, true, ap, sym, codes, [], Ok, subst}
-use Rattle.paths.specs.Fronts.{Names}
+use Rattle.paths.specs.Prefixes.{Names}
 use Rattle.backing.specs.Memory.{PutsDir, PutsFile, Memory, memory_tree}
 use Rattle.programs.specs.Samples.{tree_of}
 use Rattle.programs.proofs.Sampling.{put_all, empty_is_bare}

@@ -1,7 +1,7 @@
 use Rattle.std.proofs.Common.{ℕ, ◌≡◌, ◌==◌, ◌&&◌, ◌↔◌, Bool, true, false, refl, sym, ap, ◌∙◌, inl, inr}
 use Rattle.std.proofs.lemmas.Bool.{cases_Bool, eq-eqb}
-use Rattle.paths.specs.Fronts.{Name, is_name}
-use Rattle.paths.proofs.FrontLemmas.{is_name-true, is_name-yes}
+use Rattle.paths.specs.Prefixes.{Name, is_name}
+use Rattle.paths.proofs.PrefixLemmas.{is_name-true, is_name-yes}
 use Rattle.flights.specs.declared.data.Want.{Want}
 use Rattle.wants.specs.Rows.{is_same, plain, row_of}
 use Rattle.steps.proofs.begin.is_same.Goals as goal

@@ -1,5 +1,5 @@
 use Rattle.std.proofs.Common.{◌≡◌, All, List, sym, ap, ◌∙◌, subst}
-use Rattle.paths.specs.Fronts.{Names}
+use Rattle.paths.specs.Prefixes.{Names}
 use Rattle.flights.specs.declared.data.Stage as flight
 use Rattle.image.proofs.Exported.{IsHeldBySome}
 use Rattle.table.specs.Copies.{held_of, owners_in, sharers_in}

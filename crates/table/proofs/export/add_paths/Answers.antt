@@ -1,6 +1,6 @@
 use Rattle.std.proofs.Common.{◌≡◌, ◌+◌, [], ◌∷◌, ◌++◌, take, sym, ap, ◌∙◌, subst, List}
 use Rattle.std.proofs.lemmas.List.{take_more}
-use Rattle.paths.specs.Fronts.{Names}
+use Rattle.paths.specs.Prefixes.{Names}
 use Rattle.image.proofs.Exported.{IsHeldBySome, Stores, Stores-more}
 use Rattle.table.specs.Copies.{owners_in, sharers_in}
 use Rattle.table.proofs.export.add_paths.Goals as goal

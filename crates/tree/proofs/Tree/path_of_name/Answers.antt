@@ -1,11 +1,11 @@
 use Rattle.std.proofs.Common.{ℕ, ◌≡◌, arith, refl, sym, ap, ◌∙◌, subst, [], ◌∷◌, ◌++◌}
-use Rattle.paths.specs.Fronts.{Name}
+use Rattle.paths.specs.Prefixes.{Name}
 use Rattle.tree.specs.declared.nodes.TreeFault.{TreeFault}
 use Rattle.tree.specs.declared.nodes.TreeFault.TheVariants as fault
 use Rattle.tree.specs.Places.{Lookup, at_in, IsTree, IsPathOf, Leads}
 use Rattle.tree.specs.Listed.{node_at, IsClimbFault, IsNameTooLong}
 use Rattle.tree.specs.Moves.{IsFault, IsNameFault}
-use Rattle.paths.proofs.FrontLemmas.{path_bytes-push}
+use Rattle.paths.proofs.PrefixLemmas.{path_bytes-push}
 use Rattle.tree.proofs.Census.{census_in}
 use Rattle.tree.proofs.Counting.{look}
 use Rattle.tree.proofs.Climbing.{path_of_lead}

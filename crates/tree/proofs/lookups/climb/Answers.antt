@@ -2,8 +2,8 @@ use Rattle.std.proofs.Common.{ℕ, None, ◌≡◌, rules, arith, sym, ◌∙◌
 use Rattle.std.proofs.lemmas.List.{append-nil}
 use Rattle.std.proofs.lemmas.Option.{none-some}
 use Rattle.std.proofs.lemmas.Result.{err_from_is_err_and}
-use Rattle.paths.specs.Fronts.{Name, Names, path_bytes}
-use Rattle.paths.proofs.FrontLemmas.{path_bytes-push}
+use Rattle.paths.specs.Prefixes.{Name, Names, path_bytes}
+use Rattle.paths.proofs.PrefixLemmas.{path_bytes-push}
 use Rattle.tree.specs.declared.nodes.TreeFault.{TreeFault}
 use Rattle.tree.specs.declared.nodes.TreeFault.TheVariants as fault
 use Rattle.tree.specs.Places.{Lookup, IsNamed}

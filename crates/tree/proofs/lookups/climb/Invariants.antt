@@ -1,5 +1,5 @@
 use Rattle.std.proofs.Common.{◌≡◌, ◌≤◌}
-use Rattle.paths.specs.Fronts.{path_bytes}
+use Rattle.paths.specs.Prefixes.{path_bytes}
 use Rattle.tree.specs.Listed.{node_at}
 use Rattle.tree.proofs.Stepping.{IsOnWay}
 use Rattle.tree.proofs.lookups.climb.Given as goal

@@ -1,7 +1,7 @@
 use Rattle.std.proofs.Common.{List, length, sym, subst, ap, ◌∙◌, rules}
 use Rattle.std.proofs.lemmas.List.{length-map}
 use Rattle.std.proofs.lemmas.Result.{err_from_is_err_and}
-use Rattle.paths.specs.Fronts.{Names}
+use Rattle.paths.specs.Prefixes.{Names}
 use Rattle.tree.specs.Places.{at_in}
 use Rattle.wants.specs.declared.refusal.Refusal.{Refusal}
 use Rattle.wants.specs.declared.refusal.Refusal.TheVariants.{Memory}

@@ -1,6 +1,6 @@
 use Rattle.std.proofs.Common.{ℕ, ◌≡◌, ◌↔◌, Some, sym, subst}
 use Rattle.std.proofs.lemmas.Result.{err_from_is_err_and}
-use Rattle.paths.specs.Fronts.{Name}
+use Rattle.paths.specs.Prefixes.{Name}
 use Rattle.tree.specs.Moves.{IsNameFault, IsPathOfName}
 use Rattle.tree.specs.Places.{IsPathOf, at_in}
 use Rattle.wants.specs.Asked.{IsThere}

@@ -1,6 +1,6 @@
 use Rattle.std.proofs.Common.{ℕ, ◌≡◌, ◌<◌, List, length, get_or, rules, arith, sym, ap, ◌∙◌, subst}
-use Rattle.paths.specs.Fronts.{Names}
-use Rattle.holds.specs.Clashes.{is_among}
+use Rattle.paths.specs.Prefixes.{Names}
+use Rattle.holds.specs.Conflicts.{is_among}
 use Rattle.holds.proofs.Among.{among_found, among_none}
 use Rattle.holds.proofs.held.Paths.contains.Goals as goal
 

@@ -1,5 +1,5 @@
 use Rattle.std.proofs.Common.{ℕ, ◌≡◌, ◌<◌, get_or}
-use Rattle.paths.specs.Fronts.{Names}
+use Rattle.paths.specs.Prefixes.{Names}
 use Rattle.holds.proofs.held.Paths.contains.Given as goal
 
 abbrev pub invariant-loop-other : goal.invariant-loop-other

@@ -2,7 +2,7 @@ use Rattle.std.proofs.Common.{ℕ, ◌+◌, ◌≡◌, ◌↔◌, IsTrue, All, L
 use Rattle.ledger.specs.declared.postings.Posting.{Posting}
 use Rattle.tree.specs.declared.nodes.Node.{Node}
 use Rattle.tree.specs.Listed.{node_at, IsDistinct}
-use Rattle.ledger.specs.Sums.{entries_of, given_of}
+use Rattle.ledger.specs.Sums.{entries_of, given_back_of}
 use Rattle.tree.proofs.LookupLemmas.{node_at_number}
 use Rattle.image.specs.Parts.{AreCountsExact, IsCountExact}
 use Rattle.image.proofs.Listed.{each_led, each_listed}
@@ -13,7 +13,7 @@ count_of_led : (ps : List Posting) (xs : List Node) → All (IsCountExact ps) xs
 unfolding IsCountExact
 count_of_led ps xs each = record {
   counts = λ n x h.
-      let P : ℕ → Type 0 = λ m. x.count + given_of m x.generation ps ≡ entries_of m x.generation ps in
+      let P : ℕ → Type 0 = λ m. x.count + given_back_of m x.generation ps ≡ entries_of m x.generation ps in
       subst P (node_at_number xs n x h) (each_led (IsCountExact ps) xs each n x h);
 }
 

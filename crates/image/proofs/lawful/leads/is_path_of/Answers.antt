@@ -1,7 +1,7 @@
 use Rattle.std.proofs.Common.{ℕ, ◌-◌, ◌≡◌, ◌≢◌, [], None, Some, get_or, rules, arith, sym, ◌∙◌, subst}
 use Rattle.std.proofs.lemmas.Bool.{eqb-true, eq-eqb}
 use Rattle.std.proofs.lemmas.Option.{none-some}
-use Rattle.paths.specs.Fronts.{Name, Names}
+use Rattle.paths.specs.Prefixes.{Name, Names}
 use Rattle.tree.specs.Places.{IsNamed, IsPathOf}
 use Rattle.tree.specs.Listed.{node_at}
 use Rattle.tree.proofs.Climbing.{place_same, named_same}

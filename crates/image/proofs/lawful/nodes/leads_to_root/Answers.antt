@@ -1,6 +1,6 @@
 use Rattle.std.proofs.Common.{ℕ, ◌≡◌, None, Some, length, rules, arith, sym, ◌∙◌}
 use Rattle.std.proofs.lemmas.Option.{none-some}
-use Rattle.paths.specs.Fronts.{Name, Names}
+use Rattle.paths.specs.Prefixes.{Name, Names}
 use Rattle.tree.specs.Places.{IsNamed}
 use Rattle.tree.specs.Listed.{node_at}
 use Rattle.tree.proofs.Climbing.{place_same, climbs_short}

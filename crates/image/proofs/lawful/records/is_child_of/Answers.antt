@@ -1,6 +1,6 @@
 use Rattle.std.proofs.Common.{ℕ, ◌≡◌, rules, sym, ap, ◌∙◌}
 use Rattle.std.proofs.lemmas.Bool.{eqb-true, eq-eqb}
-use Rattle.paths.specs.Fronts.{Name}
+use Rattle.paths.specs.Prefixes.{Name}
 use Rattle.tree.specs.declared.nodes.Key.{Key}
 use Rattle.tree.specs.declared.nodes.Place.TheVariants.{Named}
 use Rattle.image.specs.Parts.{IsChildOf}

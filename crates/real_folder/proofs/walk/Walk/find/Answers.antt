@@ -1,7 +1,7 @@
 use Rattle.std.proofs.Common.{◌≡◌, ◌+◌, ◌++◌, ◌∷◌, [], take, sym, ap, ◌∙◌, subst}
 use Rattle.std.proofs.lemmas.List.{take_more}
-use Rattle.paths.specs.Fronts.{Name, Names}
-use Rattle.real_folder.specs.Routes.{LeadsDown}
+use Rattle.paths.specs.Prefixes.{Name, Names}
+use Rattle.real_folder.specs.Routes.{ResolvesDown}
 use Rattle.real_folder.proofs.RouteLemmas.{one_deeper}
 use Rattle.real_folder.proofs.walk.Walk.find.Goals as goal
 
@@ -15,5 +15,5 @@ loop-name-preserved g c =
     let deeper = one_deeper root c.loop-name.self.path c.enter.new.self.path (take i names) name c.loop-name.invariant.below c.in_ok-enter.ensures.ok c.in_ok-enter.ensures.lawful in
     record {
       root = c.enter.ensures.root ∙ c.loop-name.invariant.root;
-      below = subst (λ (ns : Names). LeadsDown root c.enter.new.self.path ns) (sym more) deeper;
+      below = subst (λ (ns : Names). ResolvesDown root c.enter.new.self.path ns) (sym more) deeper;
     }
