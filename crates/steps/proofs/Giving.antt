@@ -4,10 +4,12 @@ use Rattle.std.proofs.lemmas.Bool.{or_cases, or_left, eqb-true}
 use Rattle.ledger.specs.Postings.{Postings}
 use Rattle.tree.specs.declared.nodes.Key.{Key}
 use Rattle.tree.specs.Places.{Nodes, at_in, IsAlive, IsFree}
+use Rattle.files.specs.Filed.{files_of}
 use Rattle.flights.specs.declared.data.Given.{Given}
 use Rattle.flights.specs.Flying.{IsFlying, PinsMore, pinning}
 use Rattle.flights.specs.Listed.{InFlight, flying_of}
 use Rattle.image.specs.Law.{IsLawful}
+use Rattle.steps.specs.Keeping.{kept_by}
 use Rattle.steps.specs.declared.state.State.{State}
 use Rattle.steps.specs.Ending.{MayEnter, entering}
 use Rattle.steps.specs.Entries.{Enters, newborn}
@@ -17,6 +19,7 @@ use Rattle.steps.specs.Sweeping.{IsEntered}
 use Rattle.steps.specs.World.{AreReady, Flight, Flights, World, with_entry}
 use Rattle.wants.proofs.Members.{first_in}
 use Rattle.steps.proofs.Ends.{working_else}
+use Rattle.steps.proofs.Filing.{cases_kept, keeps_open, keeps_pinned, kept_more, nodes_entered}
 use Rattle.steps.proofs.Entering.{alive_written}
 use Rattle.steps.proofs.Guarding.{entered_path}
 use Rattle.steps.proofs.Kept.{held_ready, ready_where}
@@ -35,7 +38,7 @@ module _ (s : State) (id : ℕ) (key : Key) (may : MayEnter s id (key ∷ [])) w
     | inr named ↦ let it = named key mine in absurd (free it.0 it.1)
   ]
 
-  module _ (kept : IsKept s) (g : Given) (tree : Nodes) (ledger : Postings) (flights : InFlight) (law : IsLawful (at_in tree) ledger.made (flying_of s.flights).pinned)
+  module _ (kept : IsKept s) (g : Given) (tree : Nodes) (ledger : Postings) (flights : InFlight) (law : IsLawful (at_in tree) ledger.made (kept_by s.flights s.files))
       (enters : Enters (at_in s.tree) s.ledger.made key.parent key.name g (at_in tree) ledger.made) (entered : IsEntered s.tree s.ledger key.parent key.name tree ledger)
       (pins : PinsMore (flying_of s.flights) id may.flight g.number (flying_of flights)) (flying : IsFlying (flying_of flights)) where
     alive : IsAlive (at_in tree) g.number
@@ -67,11 +70,14 @@ module _ (s : State) (id : ℕ) (key : Key) (may : MayEnter s id (key ∷ [])) w
         let all = flying_of s.flights in
         let more = entered.more_is in
         record {
-          law = lawful_pins (at_in tree) ledger.made all.pinned (flying_of flights).pinned law
-              (λ m h. pinned_is m ∙ or_left (all.pinned m) (g.number == m) h)
-              (λ m h. elim (or_cases (all.pinned m) (g.number == m) (sym (pinned_is m) ∙ h)) [
-                | inl was ↦ law.pins m was
-                | inr here ↦ (alive.0, ap (at_in tree) (sym (eqb-true g.number m here)) ∙ alive.1)
+          law = lawful_pins (at_in tree) ledger.made (kept_by s.flights s.files) (kept_by flights s.files) law
+              (kept_more s.flights flights s.files (λ m h. pinned_is m ∙ or_left (all.pinned m) (g.number == m) h))
+              (λ m h. elim (cases_kept flights s.files m h) [
+                | inl pin ↦ elim (or_cases (all.pinned m) (g.number == m) (sym (pinned_is m) ∙ pin)) [
+                  | inl was ↦ law.alive m (keeps_pinned s.flights s.files m was)
+                  | inr here ↦ (alive.0, ap (at_in tree) (sym (eqb-true g.number m here)) ∙ alive.1)
+                ]
+                | inr opened ↦ law.alive m (keeps_open s.flights s.files m opened)
               ]);
           flying = flying;
           held = held_ready (at_in s.tree) (at_in tree) (flights_in (flying_of flights)) still_ready (fewer_held all (flying_of flights) fewer (at_in s.tree) kept.held);
@@ -85,11 +91,14 @@ module _ (s : State) (id : ℕ) (key : Key) (may : MayEnter s id (key ∷ [])) w
             nodes = omega (arith, pins.nodes, may.room.nodes_within, more.living, born_promised);
             postings = omega (arith, pins.postings, may.room.postings_within, may.postings, more.counts, more.postings, entered.one);
             flights = omega (arith, pins.many, kept.limited.flights);
+            files = kept.limited.files;
             node_limit = more.limit ∙ kept.limited.node_limit;
             posting_limit = more.posting_limit ∙ kept.limited.posting_limit;
             short = kept.limited.short;
           };
           counts = omega (arith, kept.counts, more.counts);
+          filed = kept.filed;
+          files = nodes_entered (files_of s.files).at (at_in s.tree) s.ledger.made key.parent key.name g (at_in tree) ledger.made enters kept.files;
         }
 
     -- the same request, with one more pin
@@ -120,6 +129,6 @@ module _ (s : State) (id : ℕ) (key : Key) (may : MayEnter s id (key ∷ [])) w
       enters = (still_unowned, (at_in tree, ledger.made, enters, (refl, refl)));
       altered = at_in tree;
       alters = refl;
-      sweeps = record { kept = (flying_of flights).pinned; keeps = are_kept (flying_of flights) flying; swept = IsSwept-refl (flying_of flights).pinned (at_in tree) };
+      sweeps = record { kept = kept_by flights s.files; keeps = are_kept flights s.files flying kept.filed; swept = IsSwept-refl (kept_by flights s.files) (at_in tree) };
       new_is = ap (λ (fs : Flights). let w : World = record (world_of s) { at = at_in tree; postings = ledger.made; flights = fs } in w) flights_are;
     }

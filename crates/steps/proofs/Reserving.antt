@@ -1,5 +1,6 @@
 -- More room changes nothing else.
 use Rattle.std.proofs.Common.{ℕ, ◌≤◌, ◌≡◌, Bool, List, length, sym, ap, ◌∙◌, subst, arith}
+use Rattle.files.specs.Filed.{files_of}
 use Rattle.flights.specs.Flying.{Flying, IsFlying}
 use Rattle.flights.specs.Listed.{InFlight, flying_of}
 use Rattle.image.specs.Law.{IsLawful}
@@ -8,7 +9,9 @@ use Rattle.ledger.specs.Postings.{Postings}
 use Rattle.tree.specs.Places.{Nodes, at_in}
 use Rattle.steps.specs.declared.state.State.{State}
 use Rattle.steps.specs.Kept.{AreProvided, IsKept, flights_in}
-use Rattle.steps.specs.World.{AreHeld, AreReady}
+use Rattle.steps.specs.Keeping.{kept_by}
+use Rattle.steps.specs.World.{AreHeld, AreReady, HaveNodes}
+use Rattle.steps.proofs.Filing.{kept_same}
 
 module _ (s : State) (kept : IsKept s) (tree : Nodes) (ledger : Postings) (flights : InFlight)
     (tree_is : tree ≡ record s.tree { room = tree.room }) (tree_room : s.tree.room ≤ tree.room)
@@ -22,9 +25,9 @@ module _ (s : State) (kept : IsKept s) (tree : Nodes) (ledger : Postings) (fligh
 
   pub room_kept : IsKept (record s { tree = tree; ledger = ledger; flights = flights })
   room_kept = record {
-    law = subst (λ (ps : List Posting). IsLawful (at_in tree) ps (flying_of flights).pinned) (sym made)
-        (subst (λ at. IsLawful at s.ledger.made (flying_of flights).pinned) at_same
-        (subst (λ (pinned : ℕ → Bool). IsLawful (at_in s.tree) s.ledger.made pinned) (sym (all_same (λ all. all.pinned))) kept.law));
+    law = subst (λ (ps : List Posting). IsLawful (at_in tree) ps (kept_by flights s.files)) (sym made)
+        (subst (λ at. IsLawful at s.ledger.made (kept_by flights s.files)) at_same
+        (subst (λ (keeps : ℕ → Bool). IsLawful (at_in s.tree) s.ledger.made keeps) (sym (kept_same s.flights flights s.files (all_same (λ all. all.pinned)))) kept.law));
     flying = flying;
     held = subst (λ at. AreHeld at (flights_in (flying_of flights))) at_same (subst (λ fs. AreHeld (at_in s.tree) fs) (sym (all_same flights_in)) kept.held);
     ready = subst (λ at. AreReady at (flights_in (flying_of flights))) at_same (subst (λ fs. AreReady (at_in s.tree) fs) (sym (all_same flights_in)) kept.ready);
@@ -37,9 +40,12 @@ module _ (s : State) (kept : IsKept s) (tree : Nodes) (ledger : Postings) (fligh
       nodes = omega (arith, kept.limited.nodes, all_same (λ all. all.nodes), ap (λ (t : Nodes). t.living) tree_is);
       postings = omega (arith, kept.limited.postings, all_same (λ all. all.postings), ap (λ (t : Nodes). t.counts) tree_is, ap {B = ℕ} length made);
       flights = omega (arith, kept.limited.flights, all_same (λ all. all.many));
+      files = kept.limited.files;
       node_limit = ap (λ (t : Nodes). t.limit) tree_is ∙ kept.limited.node_limit;
       posting_limit = limit ∙ kept.limited.posting_limit;
       short = kept.limited.short;
     };
     counts = kept.counts ∙ sym (ap (λ (t : Nodes). t.counts) tree_is);
+    filed = kept.filed;
+    files = subst (λ at. HaveNodes at (files_of s.files).at) at_same kept.files;
   }

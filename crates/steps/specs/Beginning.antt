@@ -37,3 +37,4 @@ pub record IsSameButRoom (old new : State) : Type 0 where
   pub flights : flying_of new.flights ≡ record (flying_of old.flights) { room = (flying_of new.flights).room }
   pub limits : new.limits ≡ old.limits
   pub counts : new.counts ≡ old.counts
+  pub files : new.files ≡ old.files

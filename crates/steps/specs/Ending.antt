@@ -16,6 +16,7 @@ use Rattle.steps.specs.declared.acts.Change.{Change as Changing}
 use Rattle.steps.specs.declared.acts.Change.TheVariants.{Stays, Cuts, Moves}
 use Rattle.steps.specs.declared.keys.Keys.{Keys}
 use Rattle.steps.specs.declared.state.State.{State}
+use Rattle.steps.specs.Keeping.{kept_by}
 use Rattle.steps.specs.Kept.{IsRoomFor, flight_of, flights_in, work_of}
 use Rattle.steps.specs.Laws.{IsPlaced}
 use Rattle.steps.specs.Steps.{Act, Alters, HoldsUp, IsOwned, Sweeps}
@@ -75,7 +76,7 @@ pub record MayAlter (s : State) (change : Change) : Type 0 where
   pub held : Held
   pub holds : Holds (at_in s.tree) demand held
   pub clear : HoldsUp (flights_in (flying_of s.flights)) held → ⊥
-  pub pinned : (n : ℕ) → Contains demand.given n → (flying_of s.flights).pinned n ≡ true
+  pub kept : (n : ℕ) → Contains demand.given n → kept_by s.flights s.files n ≡ true
   pub not_misplaced : (e : ℤ) → IsMisplaced (at_in s.tree) change e → ⊥
 
 -- ---- what it does

@@ -27,10 +27,10 @@ use Rattle.steps.specs.World.{AreKept, Answered, Flight, Flights, HasRoom, IsAtW
 abbrev pub gained : World → World → List Posting
 gained old new = drop (length old.postings) new.postings
 
--- the new nodes are these, less those that no request keeps any more
+-- the new nodes are these, less those that no request and no open file keeps any more
 pub record Sweeps (mid : Lookup) (new : World) : Type 0 where
   pub kept : ℕ → Bool
-  pub keeps : AreKept new.flights kept
+  pub keeps : AreKept new.flights new.files kept
   pub swept : IsSwept kept mid new.at
 
 -- ---- forget

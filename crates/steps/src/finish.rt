@@ -50,7 +50,13 @@ impl State {
             };
         };
         let mut given = answer;
-        let entered = enter(&mut self.tree, &mut self.ledger, &self.flights, keys);
+        let entered = enter(
+            &mut self.tree,
+            &mut self.ledger,
+            &self.flights,
+            &self.files,
+            keys,
+        );
         self.counts += 1;
         self.flights.pin(id, entered.number);
         given.add(Some(entered));
@@ -72,7 +78,7 @@ impl State {
             return;
         }
         alter(&mut self.tree, change);
-        sweep_cut(&mut self.tree, &self.flights);
+        sweep_cut(&mut self.tree, &self.flights, &self.files);
     }
 
     /// What the outcome of a request does, whose work has ended. One that does not fit its want does nothing.

@@ -1,9 +1,9 @@
 use Rattle.std.proofs.Common.{◌≡◌, List, false, refl, sym, ap, ◌∙◌, subst}
 use Rattle.std.specs.Prelude.{option_map}
-use Rattle.flights.specs.Listed.{flying_of}
 use Rattle.tree.specs.declared.nodes.Key.{Key}
 use Rattle.wants.specs.Plans.{row_in}
 use Rattle.wants.specs.Rows.{Change, case_in}
+use Rattle.steps.specs.Keeping.{kept_by}
 use Rattle.steps.specs.declared.data.Outcome.{Outcome}
 use Rattle.steps.specs.declared.data.Outcome.TheVariants.{Done, Failed}
 use Rattle.steps.specs.Answers.{Answer}
@@ -19,13 +19,12 @@ pub returns-in-Failed-clause-ends : goal.returns-in-Failed-clause-ends
 returns-in-Failed-clause-ends c e =
     let w = world_of c.args.self.now in
     let row = row_in c.args.work in
-    let all = flying_of c.args.self.now.flights in
     let entries : keys_in c.acts_of-entry.result.entry ≡ row.entries = c.acts_of-entry.ensures.entry (case_in c.args.work.promise) in
     let answer : c.give_none.result ≡ record { id = c.args.id; given = nothing_for row.entries; lost = false } =
     c.give_none.ensures ∙ ap (λ (ks : List Key). let a : Answer = record { id = c.args.id; given = nothing_for ks; lost = false } in a) entries in
     subst (λ (o : Outcome). Ends w c.args.id (flight_of e.flight) (act_of row o) row.entries c.give_none.result w) (sym c.in-Failed.is)
     (subst (λ (a : Answer). Ends w c.args.id (flight_of e.flight) (act_of row Failed) row.entries a w) (sym answer)
-    (ends_changed w w c.args.id (flight_of e.flight) (ap (λ o. option_map flight_of o) e.here) (ap stage_of e.answered) (act_of row Failed) row.entries refl (nothing_changes w all.pinned (are_kept all c.requires.kept.flying))))
+    (ends_changed w w c.args.id (flight_of e.flight) (ap (λ o. option_map flight_of o) e.here) (ap stage_of e.answered) (act_of row Failed) row.entries refl (nothing_changes w (kept_by c.args.self.now.flights c.args.self.now.files) (are_kept c.args.self.now.flights c.args.self.now.files c.requires.kept.flying c.requires.kept.filed))))
 
 pub change-requires-clause-may : goal.change-requires-clause-may
 change-requires-clause-may c =

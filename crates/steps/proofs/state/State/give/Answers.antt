@@ -1,8 +1,8 @@
 use Rattle.std.proofs.Common.{◌≡◌, ◌+◌, ◌++◌, false, List, [], ◌∷◌, Option, Some, refl, sym, ap, ◌∙◌, subst}
 use Rattle.flights.specs.declared.data.Given.{Given}
-use Rattle.flights.specs.Listed.{flying_of}
 use Rattle.flights.specs.Roomy.{Listed}
 use Rattle.tree.specs.declared.nodes.Key.{Key}
+use Rattle.steps.specs.Keeping.{kept_by}
 use Rattle.steps.specs.Answers.{Answer}
 use Rattle.steps.specs.Ending.{MayEnter, entering, keys_in}
 use Rattle.steps.specs.Kept.{flight_of, stage_of, world_of}
@@ -16,12 +16,11 @@ use Rattle.steps.proofs.state.State.give.Goals as goal
 pub returns-in_default-clause-ends : goal.returns-in_default-clause-ends
 returns-in_default-clause-ends c =
     let s = c.args.self.now in
-    let all = flying_of s.flights in
     let answer : Answer = record { id = c.args.id; given = c.args.answer.items; lost = false } in
     let none : keys_in c.args.entry ≡ [] = ap {B = List Key} keys_in c.in_default.is in
     subst (λ (ks : List Key). (may : MayEnter s c.args.id ks) → Ends (world_of s) c.args.id (flight_of may.flight) (entering ks) ks answer (world_of s)) (sym none)
     (λ may. subst (λ (gs : List (Option Given)). Ends (world_of s) c.args.id (flight_of may.flight) (entering []) [] (record { id = c.args.id; given = gs; lost = false }) (world_of s)) (sym c.requires.unanswered)
-    (ends_changed (world_of s) (world_of s) c.args.id (flight_of may.flight) (ap (λ o. option_map flight_of o) may.here) (ap stage_of may.answered) (entering []) [] refl (nothing_changes (world_of s) all.pinned (are_kept all c.requires.kept.flying))))
+    (ends_changed (world_of s) (world_of s) c.args.id (flight_of may.flight) (ap (λ o. option_map flight_of o) may.here) (ap stage_of may.answered) (entering []) [] refl (nothing_changes (world_of s) (kept_by s.flights s.files) (are_kept s.flights s.files c.requires.kept.flying c.requires.kept.filed))))
 
 pub enter-entered-requires-clause-node_room : goal.enter-entered-requires-clause-node_room
 enter-entered-requires-clause-node_room c =
