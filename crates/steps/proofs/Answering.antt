@@ -49,17 +49,18 @@ module _ (s : State) (kept : IsKept s) (flights : InFlight) (id : ℕ) (work : R
   -- the request keeps its pins and is promised nothing more
   pub answer_kept : IsKept (record s { flights = flights })
   answer_kept = record {
-    law = subst (λ (keeps : ℕ → Bool). IsLawful (at_in s.tree) s.ledger.made keeps) (sym (kept_same s.flights flights s.files a.pinned)) kept.law;
+    law = subst (λ (keeps : ℕ → Bool). IsLawful (at_in s.tree) s.ledger.made keeps) (sym (kept_same s.flights flights s.files s.files a.pinned refl)) kept.law;
     flying = law;
     held = fewer_held (flying_of s.flights) (flying_of flights) fewer (at_in s.tree) kept.held;
     ready = still_ready;
     provided = fewer_provided (flying_of s.flights) (flying_of flights) fewer kept.provided;
-    reserved = record { nodes = omega (arith, a.nodes, kept.reserved.nodes); postings = omega (arith, a.postings, kept.reserved.postings) };
+    reserved = record { nodes = omega (arith, a.nodes, kept.reserved.nodes); postings = omega (arith, a.postings, kept.reserved.postings); files = omega (arith, a.files, kept.reserved.files) };
     limited = record {
       nodes = omega (arith, a.nodes, kept.limited.nodes);
       postings = omega (arith, a.postings, kept.limited.postings);
       flights = omega (arith, a.many, kept.limited.flights);
-      files = kept.limited.files;
+      files = omega (arith, a.files, kept.limited.files);
+      handles = omega (arith, a.files, kept.limited.handles);
       node_limit = kept.limited.node_limit;
       posting_limit = kept.limited.posting_limit;
       short = kept.limited.short;
@@ -110,6 +111,9 @@ module _ (s : State) (kept : IsKept s) (flights : InFlight) (id : ℕ) (work : R
       postings = omega (arith, a.postings, kept.reserved.postings);
       nodes_within = omega (arith, a.nodes, kept.limited.nodes);
       postings_within = omega (arith, a.postings, kept.limited.postings);
+      files = omega (arith, a.files, kept.reserved.files);
+      files_within = omega (arith, a.files, kept.limited.files);
+      handles = omega (arith, a.files, kept.limited.handles);
     };
   }
 

@@ -1,6 +1,5 @@
 -- What holds of the parts makes a lawful world.
-use Rattle.std.proofs.Common.{◌<◌, ◌^◌, arith}
-use Rattle.files.specs.Filed.{files_of}
+use Rattle.std.proofs.Common.{arith}
 use Rattle.flights.specs.Flying.{IsTallied}
 use Rattle.flights.specs.Listed.{flying_of}
 use Rattle.tree.specs.Places.{IsCensus, at_in}
@@ -11,8 +10,8 @@ use Rattle.steps.specs.World.{IsLawfulWorld}
 use Rattle.steps.proofs.Tallying.{tallied}
 use Rattle.steps.proofs.Viewed.{are_kept}
 
-pub kept_lawful : (s : State) → (files_of s.files).last < 2 ^ 64 → IsCensus (at_in s.tree) s.tree.living s.tree.counts → IsTallied (flying_of s.flights) → IsKept s → IsLawfulWorld (world_of s)
-kept_lawful s handles census totals kept = record {
+pub kept_lawful : (s : State) → IsCensus (at_in s.tree) s.tree.living s.tree.counts → IsTallied (flying_of s.flights) → IsKept s → IsLawfulWorld (world_of s)
+kept_lawful s census totals kept = record {
   kept = kept_by s.flights s.files;
   keeps = are_kept s.flights s.files kept.flying kept.filed;
   law = kept.law;
@@ -21,10 +20,8 @@ kept_lawful s handles census totals kept = record {
   within = record {
     tally = tally_of s;
     tallied = tallied s census totals kept.provided kept.filed;
-    room = record { nodes = omega (arith, kept.limited.nodes); postings = omega (arith, kept.limited.postings) };
+    room = record { nodes = omega (arith, kept.limited.nodes); postings = omega (arith, kept.limited.postings); files = omega (arith, kept.limited.files); handles = omega (arith, kept.limited.handles) };
     flights = kept.limited.flights;
-    files = kept.limited.files;
-    handles = handles;
   };
   files = record { nodes = kept.files; given = kept.filed.given };
 }

@@ -42,10 +42,12 @@ kept_more old new files more n h = elim (cases_kept old files n h) [
   | inr opened ↦ keeps_open new files n opened
 ]
 
--- the same pins keep the same
-pub kept_same : (old new : InFlight) (files : Filing) → (flying_of new).pinned ≡ (flying_of old).pinned → kept_by new files ≡ kept_by old files
+-- the same pins and the same open files keep the same
+pub kept_same : (old new : InFlight) (files now : Filing) → (flying_of new).pinned ≡ (flying_of old).pinned → (files_of now).opened ≡ (files_of files).opened → kept_by new now ≡ kept_by old files
 unfolding kept_by
-kept_same old new files e = ap {B = ℕ → Bool} (λ (pinned : ℕ → Bool). λ (n : ℕ). pinned n || (files_of files).opened n) e
+kept_same old new files now e f =
+    ap {B = ℕ → Bool} (λ (pinned : ℕ → Bool). λ (n : ℕ). pinned n || (files_of now).opened n) e
+    ∙ ap {B = ℕ → Bool} (λ (opened : ℕ → Bool). λ (n : ℕ). (flying_of old).pinned n || opened n) f
 
 -- the node of an open file is kept
 pub file_kept : (flights : InFlight) (files : Filing) → IsFiled (files_of files) → (handle : ℕ) (file : OpenFile) → (files_of files).at handle ≡ Some file → kept_by flights files file.number ≡ true

@@ -86,12 +86,14 @@ module _ (s : State) (id : ℕ) (key : Key) (may : MayEnter s id (key ∷ [])) w
           reserved = record {
             nodes = omega (arith, pins.nodes, may.room.nodes, more.room, born_promised);
             postings = omega (arith, pins.postings, may.room.postings, may.postings, more.counts, more.posting_room, entered.one);
+            files = omega (arith, pins.files, kept.reserved.files);
           };
           limited = record {
             nodes = omega (arith, pins.nodes, may.room.nodes_within, more.living, born_promised);
             postings = omega (arith, pins.postings, may.room.postings_within, may.postings, more.counts, more.postings, entered.one);
             flights = omega (arith, pins.many, kept.limited.flights);
-            files = kept.limited.files;
+            files = omega (arith, pins.files, kept.limited.files);
+            handles = omega (arith, pins.files, kept.limited.handles);
             node_limit = more.limit ∙ kept.limited.node_limit;
             posting_limit = more.posting_limit ∙ kept.limited.posting_limit;
             short = kept.limited.short;

@@ -87,12 +87,13 @@ kept_changed s tree ledger counts kept law ready nodes room living limit posting
   held = held_ready (at_in s.tree) (at_in tree) (flights_in (flying_of s.flights)) ready kept.held;
   ready = ready;
   provided = kept.provided;
-  reserved = record { nodes = omega (arith, kept.reserved.nodes); postings = omega (arith, kept.reserved.postings) };
+  reserved = record { nodes = omega (arith, kept.reserved.nodes); postings = omega (arith, kept.reserved.postings); files = kept.reserved.files };
   limited = record {
     nodes = omega (arith, kept.limited.nodes);
     postings = omega (arith, kept.limited.postings);
     flights = kept.limited.flights;
     files = kept.limited.files;
+    handles = kept.limited.handles;
     node_limit = limit ∙ kept.limited.node_limit;
     posting_limit = posting_limit ∙ kept.limited.posting_limit;
     short = kept.limited.short;

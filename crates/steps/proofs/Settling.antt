@@ -97,12 +97,13 @@ module _ (s : State) (kept : IsKept s) (flights : InFlight) (id : ℕ) (pins : L
           held = held_ready (at_in s.tree) (at_in new) (flights_in (flying_of flights)) still_ready (fewer_held all (flying_of flights) fewer (at_in s.tree) kept.held);
           ready = still_ready;
           provided = fewer_provided all (flying_of flights) fewer kept.provided;
-          reserved = record { nodes = omega (arith, kept.reserved.nodes, goes.nodes, rest.room, after.room); postings = omega (arith, kept.reserved.postings, goes.postings, rest.posting_room, after.counts) };
+          reserved = record { nodes = omega (arith, kept.reserved.nodes, goes.nodes, rest.room, after.room); postings = omega (arith, kept.reserved.postings, goes.postings, rest.posting_room, after.counts); files = omega (arith, kept.reserved.files, goes.files) };
           limited = record {
             nodes = omega (arith, kept.limited.nodes, goes.nodes, rest.living, after.fewer);
             postings = omega (arith, kept.limited.postings, goes.postings, rest.postings, after.counts);
             flights = omega (arith, kept.limited.flights, goes.many);
-            files = kept.limited.files;
+            files = omega (arith, kept.limited.files, goes.files);
+            handles = omega (arith, kept.limited.handles, goes.files);
             node_limit = after.limit ∙ (rest.limit ∙ kept.limited.node_limit);
             posting_limit = rest.posting_limit ∙ kept.limited.posting_limit;
             short = kept.limited.short;

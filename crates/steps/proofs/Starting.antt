@@ -3,6 +3,8 @@ use Rattle.std.proofs.Common.{ℕ, ◌≡◌, ◌||◌, ◌⊎◌, Bool, true, r
 use Rattle.std.specs.Prelude.{option_map}
 use Rattle.std.proofs.lemmas.Bool.{or_cases, or_left}
 use Rattle.holds.specs.declared.held.Held.{Held}
+use Rattle.files.specs.Filed.{files_of}
+use Rattle.files.specs.Handles.{Opened}
 use Rattle.flights.specs.declared.data.Flight.{Flight as Recorded}
 use Rattle.flights.specs.declared.data.Stage.TheVariants as recorded
 use Rattle.flights.specs.declared.data.Want.{Want}
@@ -180,12 +182,16 @@ module _ (s mid : State) (unique id : ℕ) (plan : Plan) (is : IsPlan (at_in s.t
           | inr opened ↦ kept.law.alive n (keeps_open mid.flights mid.files n opened)
         ])
 
+    same_file : {X : Type 0} → (of : Opened → X) → of (files_of mid.files) ≡ of (record (files_of s.files) { room = (files_of mid.files).room })
+    same_file of = ap of same.files
+
     all_limited : IsLimited (record mid { flights = flights })
     all_limited = record {
       nodes = omega (arith, adds.nodes, allows.nodes, ap (λ (t : Nodes). t.living) same.tree, ap (λ (x : Flying). x.nodes) same.flights, ap (λ (l : Limits). l.nodes) same.limits);
       postings = omega (arith, adds.postings, allows.postings, ap {B = ℕ} length same.made, ap (λ (t : Nodes). t.counts) same.tree, ap (λ (x : Flying). x.postings) same.flights, ap (λ (l : Limits). l.postings) same.limits);
       flights = omega (arith, adds.many, allows.flights, ap (λ (x : Flying). x.many) same.flights, ap (λ (l : Limits). l.flights) same.limits);
-      files = kept.limited.files;
+      files = omega (arith, adds.files, allows.handles.files, same_file (λ x. x.many), ap (λ (x : Flying). x.files) same.flights, ap (λ (l : Limits). l.files) same.limits);
+      handles = omega (arith, adds.files, allows.handles.handles, same_file (λ x. x.last), ap (λ (x : Flying). x.files) same.flights);
       node_limit = kept.limited.node_limit;
       posting_limit = kept.limited.posting_limit;
       short = kept.limited.short;
@@ -198,7 +204,7 @@ module _ (s mid : State) (unique id : ℕ) (plan : Plan) (is : IsPlan (at_in s.t
       held = all_held;
       ready = all_ready;
       provided = all_provided;
-      reserved = record { nodes = omega (arith, adds.nodes, room.nodes); postings = omega (arith, adds.postings, room.postings) };
+      reserved = record { nodes = omega (arith, adds.nodes, room.nodes); postings = omega (arith, adds.postings, room.postings); files = omega (arith, adds.files, room.files) };
       limited = all_limited;
       counts = kept.counts;
       filed = kept.filed;

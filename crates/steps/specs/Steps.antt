@@ -62,7 +62,7 @@ pub record IsHeldUp (w : World) (d : Demand) : Type 0 where
   pub holds : Holds w.at d held
   pub up : HoldsUp w.flights held
 
--- with what is promised, the nodes or the postings would pass their limit
+-- with what is promised, the nodes, the postings, the open files or the handles would pass their limit
 pub record IsFull (w : World) (d : Demand) : Type 0 where
   pub tally : Tally
   pub tallied : IsTally w tally

@@ -74,10 +74,13 @@ AreKept flights files kept = (n : ℕ) → (kept n ≡ true) ↔ (IsPinned fligh
 
 -- ---- what stands, added up
 
+abbrev pub no_promise : Promise
+no_promise = record { nodes = 0; postings = 0; files = 0 }
+
 -- what is promised to a request that is worked on
 abbrev pub promised_to : Stage → Promise
 promised_to (Working work) = promise_of work.row
-promised_to Answered = record { nodes = 0; postings = 0 }
+promised_to Answered = no_promise
 
 pub record Tally : Type 0 where
   -- living nodes with the root, and their lookup counts
@@ -95,22 +98,23 @@ pub record IsTally (w : World) (t : Tally) : Type 0 where
   pub flights : IsSum w.flights (λ f. 1) t.flights
   pub nodes : IsSum w.flights (λ f. (promised_to f.stage).nodes) t.promised.nodes
   pub postings : IsSum w.flights (λ f. (promised_to f.stage).postings) t.promised.postings
+  pub opening : IsSum w.flights (λ f. (promised_to f.stage).files) t.promised.files
   pub files : IsSum w.files (λ f. 1) t.files
 
--- beside what stands and what is promised there is room for this: each lookup count may be forgotten one by one
+-- beside what stands and what is promised there is room for this: each lookup count may be forgotten one by one, and a handle is
+-- a number of 64 bits that is never given again
 pub record HasRoom (w : World) (t : Tally) (p : Promise) : Type 0 where
   pub nodes : t.living + t.promised.nodes + p.nodes ≤ w.limits.nodes
   pub postings : length w.postings + t.counts + t.promised.postings + p.postings ≤ w.limits.postings
+  pub files : t.files + t.promised.files + p.files ≤ w.limits.files
+  pub handles : w.last_handle + t.promised.files + p.files < 2 ^ 64
 
 -- what stands and what is promised keeps within the limits
 pub record IsWithin (w : World) : Type 0 where
   pub tally : Tally
   pub tallied : IsTally w tally
-  pub room : HasRoom w tally (record { nodes = 0; postings = 0 })
+  pub room : HasRoom w tally no_promise
   pub flights : tally.flights ≤ w.limits.flights
-  pub files : tally.files ≤ w.limits.files
-  -- a handle is a number of 64 bits
-  pub handles : w.last_handle < 2 ^ 64
 
 -- ---- what a request that is worked on may rely on
 

@@ -54,6 +54,5 @@ impl State {
     {
         let _nodes = self.tree.len();
         let _promised = self.flights.promised();
-        let _handles = self.files.handles_left();
     }
 }

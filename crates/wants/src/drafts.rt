@@ -136,6 +136,7 @@ impl Draft {
         let promise = Promise {
             nodes: if self.absent { entries as u64 } else { 0 },
             postings: ENTRY_POSTINGS * entries as u64,
+            files: 0,
         };
         let Draft {
             given,

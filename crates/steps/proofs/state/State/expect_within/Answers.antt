@@ -12,3 +12,6 @@ returns-then-self-len-clause-tally c = tallied c.args.self.now c.len.ensures.cen
 
 pub returns-clause-tally : goal.returns-clause-tally
 returns-clause-tally c = tallied c.args.self.now c.len.ensures.census c.promised-promised.ensures.tallied c.requires.provided c.requires.filed
+
+pub returns-then-not-has_handles-clause-tally : goal.returns-then-not-has_handles-clause-tally
+returns-then-not-has_handles-clause-tally c = tallied c.args.self.now c.len.ensures.census c.promised-promised.ensures.tallied c.requires.provided c.requires.filed
