@@ -34,6 +34,7 @@ names_of (ops.MakeDir name) = name.now ∷ []
 names_of (ops.Unlink name) = name.now ∷ []
 names_of (ops.RemoveDir name) = name.now ∷ []
 names_of (ops.Rename name new_parent new_name) = name.now ∷ new_name.now ∷ []
+names_of (ops.Create name flags) = name.now ∷ []
 names_of operation = []
 
 abbrev pub reserved_errno : Operation → ℤ
@@ -72,6 +73,13 @@ intended node (ops.RemoveDir name) = Begin (wants.Remove node name.now)
 intended node (ops.Rename name new_parent new_name) = Begin (wants.Move node name.now new_parent new_name.now)
 intended node ops.StatFs = Reply StatFs
 intended node (ops.Init major minor max_readahead flags) = Nothing
+intended node (ops.Open flags) = refused ENOSYS
+intended node (ops.Read fh offset size) = refused ENOSYS
+intended node (ops.Write fh offset written) = refused ENOSYS
+intended node (ops.Release fh) = refused ENOSYS
+intended node (ops.Sync fh) = refused ENOSYS
+intended node (ops.Flush fh) = refused ENOSYS
+intended node (ops.Create name flags) = refused ENOSYS
 intended node ops.OpenDir = refused ENOSYS
 intended node (ops.ReadDir fh offset size) = refused ENOSYS
 intended node (ops.ReleaseDir fh) = refused ENOSYS

@@ -40,13 +40,20 @@ fn names_reserved(operation: &Operation<'_>) -> bool
         Operation::Lookup { name }
         | Operation::MakeDir { name }
         | Operation::Unlink { name }
-        | Operation::RemoveDir { name } => is_reserved(name),
+        | Operation::RemoveDir { name }
+        | Operation::Create { name, .. } => is_reserved(name),
         Operation::Rename { name, new_name, .. } => is_reserved(name) || is_reserved(new_name),
         Operation::Forget { .. }
         | Operation::GetAttr
         | Operation::SetAttr { .. }
         | Operation::StatFs
         | Operation::Init { .. }
+        | Operation::Open { .. }
+        | Operation::Read { .. }
+        | Operation::Write { .. }
+        | Operation::Release { .. }
+        | Operation::Sync { .. }
+        | Operation::Flush { .. }
         | Operation::OpenDir
         | Operation::ReadDir { .. }
         | Operation::ReleaseDir { .. }
@@ -138,7 +145,14 @@ fn intended<'a>(node: u64, operation: Operation<'a>) -> Intent<'a>
             new_name,
         }),
         Operation::StatFs => Intent::Reply(ReplyBody::StatFs),
-        Operation::OpenDir
+        Operation::Open { .. }
+        | Operation::Read { .. }
+        | Operation::Write { .. }
+        | Operation::Release { .. }
+        | Operation::Sync { .. }
+        | Operation::Flush { .. }
+        | Operation::Create { .. }
+        | Operation::OpenDir
         | Operation::ReadDir { .. }
         | Operation::ReleaseDir { .. }
         | Operation::SyncDir { .. }

@@ -147,6 +147,13 @@ impl<'a> Script<'a> {
             Operation::Forget { .. }
             | Operation::StatFs
             | Operation::Init { .. }
+            | Operation::Open { .. }
+            | Operation::Read { .. }
+            | Operation::Write { .. }
+            | Operation::Release { .. }
+            | Operation::Sync { .. }
+            | Operation::Flush { .. }
+            | Operation::Create { .. }
             | Operation::OpenDir
             | Operation::ReadDir { .. }
             | Operation::ReleaseDir { .. }

@@ -4,10 +4,11 @@ use Rattle.wire.specs.declared.reply.Entry.{Entry}
 use Rattle.wire.specs.declared.reply.Kind.TheVariants.{File, Folder}
 use Rattle.wire.specs.declared.reply.Kind.{Kind}
 use Rattle.wire.specs.Dirents.{Dirent, PlusDirent, IsDirent, IsPlusDirent, dirent_bytes, dirent_in, dirent_layout, dirent_values, given_values, ino_of, padding_of, plus_bytes, plus_layout, plus_values, type_of}
-use Rattle.wire.specs.Fields.{Field, number, Value, num, CanTell}
+use Rattle.wire.specs.Fields.{Value, num, CanTell}
 use Rattle.wire.specs.Replies.{entry_layout}
 use Rattle.wire.specs.Written.{le, zeros, u32s, u64s, written}
 use Rattle.wire.proofs.Again.{written_spelled}
+use Rattle.wire.proofs.Entries.{entry_lens, tells_on}
 use Rattle.wire.proofs.Lengths.{cat_assoc, cat_nil, length-zeros}
 
 pub dirent_parts : (d : Dirent) → dirent_bytes d ≡ le 8 d.ino ++ (le 8 d.next ++ (le 4 (length d.name) ++ (le 4 (type_of d.kind) ++ (d.name ++ zeros (padding_of d.name)))))
@@ -40,15 +41,6 @@ given_len (Some e) = refl
 pub plus_parts : (p : PlusDirent) → plus_bytes p ≡ written entry_layout (given_values p.entry) ++ dirent_bytes (dirent_in p)
 unfolding plus_bytes dirent_bytes le
 plus_parts p = elim p.entry as (λ e. written (entry_layout ++ dirent_layout (dirent_in (record p { entry = e }))) (given_values e ++ dirent_values (dirent_in (record p { entry = e }))) ≡ written entry_layout (given_values e) ++ dirent_bytes (dirent_in (record p { entry = e }))) [ None ↦ refl | Some e ↦ refl ]
-
--- numbers of so many bytes, and then other fields
-tells_on : (lens : List ℕ) (vs : List Value) (gs : List Field) (ws : List Value) → CanTell (map number lens) vs → CanTell gs ws → CanTell (map number lens ++ gs) (vs ++ ws)
-tells_on [] [] gs ws h k = k
-tells_on (len ∷ lens) (num n ∷ vs) gs ws h k = (h.0, tells_on lens vs gs ws h.1 k)
-tells_on _ _ gs ws h k = absurd h
-
-abbrev entry_lens : List ℕ
-entry_lens = 8 ∷ 8 ∷ 8 ∷ 8 ∷ 4 ∷ 4 ∷ 8 ∷ 8 ∷ 8 ∷ 8 ∷ 8 ∷ 8 ∷ 4 ∷ 4 ∷ 4 ∷ 4 ∷ 4 ∷ 4 ∷ 4 ∷ 4 ∷ 4 ∷ 4 ∷ []
 
 ino_fits : (e : Option Entry) → CanTell entry_layout (given_values e) → ino_of e < 256 ^ 8
 ino_fits None h = lit< tt
