@@ -1,4 +1,4 @@
-use Rattle.programs.proofs.runs.serve_new.Given as goal
+use Rattle.server.proofs.hosting.serve_alone.Given as goal
 
 -- the table's four ledgers are those of the blanks
 abbrev pub ghosts-serve_link : goal.ghosts-serve_link

@@ -1,7 +1,7 @@
 use Rattle.std.proofs.Common.{◌≡◌, true, map, refl, sym, ap, ◌∙◌}
 use Rattle.clap.specs.Words.{App, fault_of, is_simple_and_free, takes}
 use Rattle.programs.specs.CommandLine.{mirrord_app}
-use Rattle.programs.proofs.command.read_options.Goals as goal
+use Rattle.programs.proofs.options.read_options.Goals as goal
 
 -- no argument of the program has a rule on another
 simple : is_simple_and_free mirrord_app ≡ true
