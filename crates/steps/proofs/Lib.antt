@@ -27,3 +27,4 @@ pub mod Rooted
 pub mod Giving
 pub mod Changing
 pub mod Answering
+mod Filling
