@@ -1,6 +1,6 @@
 -- What holds of open files in a list with rising handles.
-use Rattle.std.proofs.Common.{ℕ, ◌+◌, ◌-◌, ◌<◌, ◌≤◌, ◌≡◌, ◌==◌, List, [], ◌∷◌, Some, None, Vec, vec_len, vec_capacity, length, refl, sym, ap, ◌∙◌, subst, arith}
-use Rattle.std.specs.Prelude.{count_by, sum_by}
+use Rattle.std.proofs.Common.{ℕ, ◌+◌, ◌-◌, ◌<◌, ◌≤◌, ◌≡◌, ◌==◌, List, [], ◌∷◌, Some, None, Vec, vec_len, vec_capacity, length, get_or, refl, sym, ap, ◌∙◌, subst, arith}
+use Rattle.std.specs.Prelude.{AllPairs, count_by, sum_by}
 use Rattle.std.proofs.lemmas.Bool.{eq-eqb, eqb-true}
 use Rattle.std.proofs.lemmas.List.Folds.{Any-from_list_any, list_any_at}
 use Rattle.std.proofs.lemmas.List.Sums.{sum_by-cons}
@@ -21,6 +21,10 @@ value f = f.file
 -- handles that rise are apart
 pub apart : (fs : List Filed) (last : ℕ) → IsNumbered fs last → HaveOwnKeys key value fs
 apart fs last numbered i j d before within e = let less = numbered.rising i j d before within in omega (arith, less, e)
+
+-- each of the list is found under its handle
+pub listed_at : (fs : List Filed) → AllPairs (λ (f g : Filed). f.handle < g.handle) fs → (k : ℕ) (d : Filed) → k < length fs → file_in fs (get_or fs k d).handle ≡ Some (get_or fs k d).file
+listed_at fs rising k d within = found_at key value fs k d (λ i j e before last same. let less = rising i j e before last in omega (arith, less, same)) within
 
 -- a handle that was not given yet leads to none
 pub fresh : (fs : List Filed) (last : ℕ) → IsNumbered fs last → file_in fs (last + 1) ≡ None

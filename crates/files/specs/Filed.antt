@@ -1,5 +1,5 @@
 -- Open files, one after another, as they were opened.
-use Rattle.std.specs.Prelude.{ℕ, ◌-◌, ◌<◌, ◌≤◌, ◌==◌, All, AllPairs, List, Vec, find, length, option_map, vec_len, vec_capacity}
+use Rattle.std.specs.Prelude.{ℕ, ◌-◌, ◌<◌, ◌≤◌, ◌==◌, Bool, All, AllPairs, List, Vec, find, length, option_map, vec_len, vec_capacity}
 use Rattle.std.specs.List.{list_any}
 use Rattle.std.specs.declared.alloc.Global.{Global}
 use Rattle.files.specs.declared.listed.Filed.{Filed}
@@ -18,11 +18,15 @@ filing files last = record { files = files.items; last = last; room = vec_capaci
 abbrev pub file_in : List Filed → Files
 file_in files handle = option_map (λ (f : Filed). f.file) (find (λ (f : Filed). f.handle == handle) files)
 
+-- whether a file of the node is among them
+abbrev pub opened_in : List Filed → ℕ → Bool
+opened_in files number = list_any (λ (f : Filed). f.file.number == number) files
+
 -- all of them by their handles
 unfoldable pub files_of : Filing → Opened
 files_of all = record {
   at = file_in all.files;
-  opened = λ number. list_any (λ (f : Filed). f.file.number == number) all.files;
+  opened = opened_in all.files;
   many = length all.files;
   last = all.last;
   room = all.room;

@@ -1,8 +1,9 @@
 //! Open files, each under a handle of its own.
 
-ghost use Rattle.std.specs.Prelude.{◌≡◌, ◌<◌, ◌≤◌, ◌+◌, ◌^◌, ◌==◌, IfNone, IfSome, IsOk, OnOk};
+ghost use Rattle.std.specs.Prelude.{◌≡◌, ◌<◌, ◌≤◌, ◌+◌, ◌^◌, ◌==◌, AllPairs, IfNone, IfSome, IsOk, OnOk};
 ghost use Rattle.sums.specs.Sum.{IsSum};
-ghost use Rattle.files.specs.Filed.{files_of};
+ghost use Rattle.files.specs.declared.listed.Filed.{Filed};
+ghost use Rattle.files.specs.Filed.{file_in, files_of, opened_in};
 ghost use Rattle.files.specs.Handles.{IsFiled, after_close, after_open, no_files, of_node};
 
 use crate::data::OpenFile;
@@ -93,6 +94,16 @@ impl Files {
         ensures { IsSum (files_of self.now).at (of_node number) result }
     {
         openings(&self.files, number)
+    }
+
+    /// All of them, by rising handle.
+    pub fn as_slice(&self) -> &[Filed]
+        ensures at { file_in result.now ≡ (files_of self.now).at }
+        ensures opened { opened_in result.now ≡ (files_of self.now).opened }
+        ensures rising { AllPairs (λ (f g : Filed). f.handle < g.handle) result.now }
+        ensures law { IsFiled (files_of self.now) }
+    {
+        self.files.as_slice()
     }
 
     /// Makes room for so many. Want of memory is the only error, and then there is the room that there was.

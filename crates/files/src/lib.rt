@@ -7,3 +7,4 @@ mod listed;
 
 pub use data::{Access, Need, OpenFile};
 pub use files::Files;
+pub use listed::Filed;

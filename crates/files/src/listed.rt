@@ -8,7 +8,7 @@ ghost use Rattle.files.specs.Filed.{file_in};
 use crate::data::OpenFile;
 
 /// A file under its handle.
-#[derive(Clone, Copy)]
+#[derive(Clone, Copy, Debug, PartialEq, Eq)]
 pub struct Filed {
     pub handle: u64,
     pub file: OpenFile,

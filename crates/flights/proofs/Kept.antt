@@ -8,7 +8,7 @@ use mathlib.Core.Path.{fun_ext}
 use Rattle.sums.specs.Sum.{IsSum}
 use Rattle.std.specs.declared.alloc.Global.{Global}
 use Rattle.flights.specs.declared.data.Flight.{Flight}
-use Rattle.flights.specs.Flying.{pins_number, pinning, nodes_promised, postings_promised, IsFlying, IsTallied}
+use Rattle.flights.specs.Flying.{files_promised, pins_number, pinning, nodes_promised, postings_promised, IsFlying, IsTallied}
 use Rattle.flights.specs.Listed.{flight_in, pinned_in, InFlight, in_flight, flying_of, HaveOwnIds}
 use Rattle.flights.proofs.ById.{or_none, pins_number-pinning}
 use Rattle.flights.proofs.Summing.{sum_of_flights}
@@ -83,6 +83,7 @@ tallied fs room apart = record {
   many = subst (λ n. IsSum (flight_in fs) (λ (f : Flight). 1) n) (one_each fs) (sum_of_flights fs (λ f. 1) apart);
   nodes = sum_of_flights fs (λ f. nodes_promised f.stage) apart;
   postings = sum_of_flights fs (λ f. postings_promised f.stage) apart;
+  files = sum_of_flights fs (λ f. files_promised f.stage) apart;
 }
 
 pub IsTallied_listed : (v : Vec Flight Global) (all : InFlight) → HaveOwnIds v.items → in_flight v ≡ all → IsTallied (flying_of all)

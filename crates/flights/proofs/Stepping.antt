@@ -11,7 +11,7 @@ use Rattle.flights.specs.declared.data.Work.{Work}
 use Rattle.flights.specs.declared.data.Stage.{Stage}
 use Rattle.flights.specs.declared.data.Stage.TheVariants.{Working, Answered}
 use Rattle.flights.specs.Roomy.{Pinned}
-use Rattle.flights.specs.Flying.{with_flight, without_flight, pins_number, pinning, answered, is_working, nodes_promised, postings_promised, HasNoneWorking, HasNoneAnswered, Adds, Answers, PinsMore, Goes}
+use Rattle.flights.specs.Flying.{with_flight, without_flight, pins_number, pinning, answered, files_promised, is_working, nodes_promised, postings_promised, HasNoneWorking, HasNoneAnswered, Adds, Answers, PinsMore, Goes}
 use Rattle.flights.specs.Listed.{flight_in, pinned_in, InFlight, in_flight, flying_of, HaveOwnIds}
 use Rattle.flights.proofs.Lookups.{alive_at, flight_in-push, flight_in-set, flight_in-remove, HaveOwnIds-set, HaveOwnIds-remove}
 use Rattle.flights.proofs.Kept.{pinned_in-push, pinned_in-same, pinned_in-pinning, pinned_in-remove}
@@ -33,6 +33,7 @@ Adds-listed fs g room room' fresh = record {
   many = length-append fs (g ∷ []);
   nodes = sum_by_push (λ (f : Flight). nodes_promised f.stage) fs g;
   postings = sum_by_push (λ (f : Flight). postings_promised f.stage) fs g;
+  files = sum_by_push (λ (f : Flight). files_promised f.stage) fs g;
 }
 
 module _ (fs : List Flight) (i id : ℕ) (within : i < length fs) (found : slice_get fs i ≡ flight_in fs id) where
@@ -68,6 +69,7 @@ module _ (fs : List Flight) (i id : ℕ) (within : i < length fs) (found : slice
       let stage : x.stage ≡ Working work = ap (λ (f : Flight). f.stage) (sym (read x)) ∙ working x in
       let n = sum_by-set (λ (f : Flight). nodes_promised f.stage) fs i y x within in
       let p = sum_by-set (λ (f : Flight). postings_promised f.stage) fs i y x within in
+      let q = sum_by-set (λ (f : Flight). files_promised f.stage) fs i y x within in
       rw is (record {
         flight = x;
         here = stood;
@@ -77,6 +79,7 @@ module _ (fs : List Flight) (i id : ℕ) (within : i < length fs) (found : slice
         many = length-set fs i y;
         nodes = omega (arith, n, ap nodes_promised (working x));
         postings = omega (arith, p, ap postings_promised (working x));
+        files = omega (arith, q, ap files_promised (working x));
       })
 
   pub PinsMore-listed : (gs : List Flight) (room room' n : ℕ) (f : Flight) → HaveOwnIds fs → flight_in fs id ≡ Some f → ((d : Flight) → gs ≡ set fs i (pinning (get_or fs i d) n))
@@ -88,12 +91,14 @@ module _ (fs : List Flight) (i id : ℕ) (within : i < length fs) (found : slice
       let y : Flight = pinning (get_or fs i x) n in
       let s = sum_by-set (λ (g : Flight). nodes_promised g.stage) fs i y x within in
       let p = sum_by-set (λ (g : Flight). postings_promised g.stage) fs i y x within in
+      let q = sum_by-set (λ (g : Flight). files_promised g.stage) fs i y x within in
       rw (written x) (record {
         at = changed y apart (ap (λ (g : Flight). g.id) (read x) ∙ id_here) ∙ ap (λ (g : Flight). with_flight (flight_in fs) id (pinning g n)) same;
         pinned = pinned_in-pinning fs i x n within;
         many = length-set fs i y;
         nodes = omega (arith, s);
         postings = omega (arith, p);
+        files = omega (arith, q);
       })
 
   pub Goes-listed : (gs : List Flight) (room room' : ℕ) (numbers : List ℕ) → HaveOwnIds fs → ((d : Flight) → (get_or fs i d).stage ≡ Answered) → ((d : Flight) → (get_or fs i d).pins.numbers ≡ numbers) → gs ≡ remove fs i
@@ -103,6 +108,7 @@ module _ (fs : List Flight) (i id : ℕ) (within : i < length fs) (found : slice
       let x = (alive_at fs i id within found).0 in
       let n = sum_by-remove (λ (f : Flight). nodes_promised f.stage) fs i x within in
       let p = sum_by-remove (λ (f : Flight). postings_promised f.stage) fs i x within in
+      let q = sum_by-remove (λ (f : Flight). files_promised f.stage) fs i x within in
       rw is (record {
         flight = x;
         here = stood;
@@ -113,6 +119,7 @@ module _ (fs : List Flight) (i id : ℕ) (within : i < length fs) (found : slice
         many = omega (arith, length-remove fs i within);
         nodes = omega (arith, n, ap nodes_promised (stage x));
         postings = omega (arith, p, ap postings_promised (stage x));
+        files = omega (arith, q, ap files_promised (stage x));
       })
 
   -- the one under the id is at another stage

@@ -1,5 +1,5 @@
 -- The path of a name under a path.
-use Rattle.std.proofs.Common.{◌+◌, ◌≡◌, ◌++◌, true, List, [], ◌∷◌, length, get_or, length-append, refl, sym, ap, ◌∙◌, subst, arith}
+use Rattle.std.proofs.Common.{◌+◌, ◌≡◌, ◌++◌, true, [], ◌∷◌, length, get_or, length-append, sym, ap, ◌∙◌, subst, arith}
 use Rattle.std.proofs.Math.Seq.{get_or-append_seam}
 use Rattle.paths.specs.Prefixes.{Name, Names, is_prefix}
 use Rattle.paths.proofs.PrefixLemmas.{is_prefix-append, is_prefix-more}

@@ -30,7 +30,7 @@ abbrev pub is_working : Stage → Bool
 is_working (Working work) = true
 is_working Answered = false
 
--- the nodes and postings that are promised
+-- the nodes, postings and open files that are promised
 abbrev pub nodes_promised : Stage → ℕ
 nodes_promised (Working work) = work.promise.nodes
 nodes_promised Answered = 0
@@ -38,6 +38,10 @@ nodes_promised Answered = 0
 abbrev pub postings_promised : Stage → ℕ
 postings_promised (Working work) = work.promise.postings
 postings_promised Answered = 0
+
+abbrev pub files_promised : Stage → ℕ
+files_promised (Working work) = work.promise.files
+files_promised Answered = 0
 
 -- what the request holds while it is worked on conflicts with these names
 abbrev pub IsInTheWay : Stage → Held → Type 0
@@ -83,6 +87,7 @@ pub record Flying : Type 0 where
   -- what is promised to all of them together
   pub nodes : ℕ
   pub postings : ℕ
+  pub files : ℕ
   -- how many more there is room for
   pub room : ℕ
 
@@ -98,6 +103,7 @@ pub record IsTallied (all : Flying) : Type 0 where
   pub many : IsSum all.at (λ f. 1) all.many
   pub nodes : IsSum all.at (λ f. nodes_promised f.stage) all.nodes
   pub postings : IsSum all.at (λ f. postings_promised f.stage) all.postings
+  pub files : IsSum all.at (λ f. files_promised f.stage) all.files
 
 -- none is worked on under the id
 abbrev pub HasNoneWorking : Flights → ℕ → Type 0
@@ -126,6 +132,7 @@ pub record Adds (old : Flying) (f : Flight) (new : Flying) : Type 0 where
   pub many : new.many ≡ old.many + 1
   pub nodes : new.nodes ≡ old.nodes + nodes_promised f.stage
   pub postings : new.postings ≡ old.postings + postings_promised f.stage
+  pub files : new.files ≡ old.files + files_promised f.stage
 
 -- the work on a request ends: it gives its work back, keeps its pins and is promised nothing more
 pub record Answers (old : Flying) (id : ℕ) (work : Work) (new : Flying) : Type 0 where
@@ -137,6 +144,7 @@ pub record Answers (old : Flying) (id : ℕ) (work : Work) (new : Flying) : Type
   pub many : new.many ≡ old.many
   pub nodes : new.nodes + work.promise.nodes ≡ old.nodes
   pub postings : new.postings + work.promise.postings ≡ old.postings
+  pub files : new.files + work.promise.files ≡ old.files
 
 -- a request pins one more number
 pub record PinsMore (old : Flying) (id : ℕ) (f : Flight) (n : ℕ) (new : Flying) : Type 0 where
@@ -145,6 +153,7 @@ pub record PinsMore (old : Flying) (id : ℕ) (f : Flight) (n : ℕ) (new : Flyi
   pub many : new.many ≡ old.many
   pub nodes : new.nodes ≡ old.nodes
   pub postings : new.postings ≡ old.postings
+  pub files : new.files ≡ old.files
 
 -- an answered request goes, with its pins
 pub record Goes (old : Flying) (id : ℕ) (numbers : List ℕ) (new : Flying) : Type 0 where
@@ -157,3 +166,4 @@ pub record Goes (old : Flying) (id : ℕ) (numbers : List ℕ) (new : Flying) : 
   pub many : new.many + 1 ≡ old.many
   pub nodes : new.nodes ≡ old.nodes
   pub postings : new.postings ≡ old.postings
+  pub files : new.files ≡ old.files

@@ -4,7 +4,7 @@ use Rattle.std.specs.List.{list_any}
 use Rattle.std.specs.declared.alloc.Global.{Global}
 use Rattle.flights.specs.declared.data.Flight.{Flight}
 use Rattle.flights.specs.declared.data.Promise.{Promise}
-use Rattle.flights.specs.Flying.{Flights, Flying, pins_number, nodes_promised, postings_promised}
+use Rattle.flights.specs.Flying.{Flights, Flying, files_promised, pins_number, nodes_promised, postings_promised}
 
 -- requests, with room for more, which takes no memory
 pub record InFlight : Type 0 where
@@ -29,6 +29,9 @@ nodes_in fs = sum_by (λ (f : Flight). nodes_promised f.stage) fs
 abbrev pub postings_in : List Flight → ℕ
 postings_in fs = sum_by (λ (f : Flight). postings_promised f.stage) fs
 
+abbrev pub files_in : List Flight → ℕ
+files_in fs = sum_by (λ (f : Flight). files_promised f.stage) fs
+
 -- all of them by their ids, with their pins and totals
 unfoldable pub flying_of : InFlight → Flying
 flying_of all = record {
@@ -37,6 +40,7 @@ flying_of all = record {
   many = length all.flights;
   nodes = nodes_in all.flights;
   postings = postings_in all.flights;
+  files = files_in all.flights;
   room = all.room;
 }
 
@@ -49,3 +53,4 @@ pub record IsTotalled (fs : List Flight) (promised : Promise) : Type 0 where
   pub apart : HaveOwnIds fs
   pub nodes : promised.nodes ≡ nodes_in fs
   pub postings : promised.postings ≡ postings_in fs
+  pub files : promised.files ≡ files_in fs

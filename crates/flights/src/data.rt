@@ -47,6 +47,8 @@ pub struct Promise {
     pub nodes: u64,
     /// Postings that it may make, with those by which they are taken back.
     pub postings: u64,
+    /// Files that it may open, each under a handle of its own.
+    pub files: u64,
 }
 
 impl Promise {
@@ -54,6 +56,7 @@ impl Promise {
     pub const NONE: Promise = Promise {
         nodes: 0,
         postings: 0,
+        files: 0,
     };
 }
 
@@ -194,7 +197,7 @@ pub enum Stage {
 
 impl Stage {
     ghost use Rattle.std.specs.Prelude.{◌↔◌, IsTrue};
-    ghost use Rattle.flights.specs.Flying.{is_working, nodes_promised, postings_promised, IsInTheWay, has_exclusive, has_shared};
+    ghost use Rattle.flights.specs.Flying.{files_promised, is_working, nodes_promised, postings_promised, IsInTheWay, has_exclusive, has_shared};
 
     /// Whether the request is worked on, and what it holds conflicts with these names.
     pub fn conflicts_with(&self, wanted: &Held) -> bool
@@ -237,6 +240,7 @@ impl Stage {
     pub fn promise(&self) -> Promise
         ensures nodes { result.nodes ≡ nodes_promised self.now }
         ensures postings { result.postings ≡ postings_promised self.now }
+        ensures files { result.files ≡ files_promised self.now }
     {
         match self {
             Stage::Working(work) => work.promise,

@@ -2,7 +2,7 @@
 
 ghost use Rattle.std.specs.Prelude.{true, false, ◌≡◌, ◌≢◌, ◌<◌, ◌≤◌, ◌+◌, ◌^◌, ◌++◌, ◌∷◌, [], ℕ, None, Some, IfNone, IfSome, IsOk, OnOk, IsTrue, AllPairs, ◌↔◌, option_copied, count_by, length};
 ghost use Rattle.flights.specs.declared.data.Flight.{Flight};
-ghost use Rattle.flights.specs.Flying.{none_flying, nodes_promised, postings_promised, IsFlying, IsTallied, HasNoneWorking, HasNoneAnswered, Adds, Answers, PinsMore, Goes, HoldsUp, IsOwned, has_exclusive, has_shared};
+ghost use Rattle.flights.specs.Flying.{files_promised, none_flying, nodes_promised, postings_promised, IsFlying, IsTallied, HasNoneWorking, HasNoneAnswered, Adds, Answers, PinsMore, Goes, HoldsUp, IsOwned, has_exclusive, has_shared};
 ghost use Rattle.flights.specs.Listed.{flying_of, flight_in, pinned_in};
 
 use crate::data::{Flight, Pins, Promise, Work};
@@ -41,6 +41,7 @@ impl Flights {
         ensures many { (flying_of result).many ≡ 0 }
         ensures nodes { (flying_of result).nodes ≡ 0 }
         ensures postings { (flying_of result).postings ≡ 0 }
+        ensures files { (flying_of result).files ≡ 0 }
         ensures law { IsFlying (flying_of result) }
     {
         Flights {
@@ -69,6 +70,7 @@ impl Flights {
     pub fn promised(&self) -> Promise
         ensures nodes { result.nodes ≡ (flying_of self.now).nodes }
         ensures postings { result.postings ≡ (flying_of self.now).postings }
+        ensures files { result.files ≡ (flying_of self.now).files }
         ensures tallied { IsTallied (flying_of self.now) }
         ensures law { IsFlying (flying_of self.now) }
     {
@@ -146,6 +148,7 @@ impl Flights {
         requires fresh { (flying_of self.old).at flight.id ≡ None }
         requires nodes { (flying_of self.old).nodes + nodes_promised flight.stage < 2 ^ 64 }
         requires postings { (flying_of self.old).postings + postings_promised flight.stage < 2 ^ 64 }
+        requires files { (flying_of self.old).files + files_promised flight.stage < 2 ^ 64 }
         ensures adds { Adds (flying_of self.old) flight (flying_of self.new) }
         ensures room { (flying_of self.old).room ≤ (flying_of self.new).room + 1 }
         ensures law { IsFlying (flying_of self.new) }
@@ -153,6 +156,7 @@ impl Flights {
         let promise = flight.stage.promise();
         self.promised.nodes += promise.nodes;
         self.promised.postings += promise.postings;
+        self.promised.files += promise.files;
         self.flights.push_reserved(flight);
     }
 
@@ -168,6 +172,7 @@ impl Flights {
         let work = end_work(&mut self.flights, id)?;
         self.promised.nodes -= work.promise.nodes;
         self.promised.postings -= work.promise.postings;
+        self.promised.files -= work.promise.files;
         Some(work)
     }
 

@@ -18,41 +18,47 @@ use Rattle.paths.specs.Prefixes.{Names}
 use Rattle.image.specs.declared.data.Hold.{Hold}
 use Rattle.image.specs.declared.data.Image.{Image}
 use Rattle.image.specs.declared.data.Record.{Record}
-use Rattle.image.specs.Law.{AreApart, AreHoldsCounted, AreKnown, IsCountOf, IsLawful, IsLawfulImage, is_pinned}
+use Rattle.image.specs.Law.{AreApart, AreHoldsCounted, AreKnown, IsCountOf, IsKnownFile, IsLawful, IsLawfulImage, is_kept, is_pinned}
 use Rattle.image.specs.Parts.{IsStored}
 
 -- ---- the law, from what is said of each number
 
--- the law is about where each number leads and which numbers are pinned, and nothing else of them
+-- the law is about where each number leads and which numbers are kept, and nothing else of them
 pub IsLawful-same : (old new : Lookup) (ps : List Posting) (p q : ℕ → Bool) → ((n : ℕ) → new n ≡ old n) → ((n : ℕ) → q n ≡ p n) → IsLawful old ps p → IsLawful new ps q
-IsLawful-same old new ps p q nodes pins law =
+IsLawful-same old new ps p q nodes keeps law =
     let at : old ≡ new = fun_ext (λ n. sym (nodes n)) in
-    let pinned : p ≡ q = fun_ext (λ n. sym (pins n)) in
-    subst (λ (r : ℕ → Bool). IsLawful new ps r) pinned (subst (λ (l : Lookup). IsLawful l ps p) at law)
+    let kept : p ≡ q = fun_ext (λ n. sym (keeps n)) in
+    subst (λ (r : ℕ → Bool). IsLawful new ps r) kept (subst (λ (l : Lookup). IsLawful l ps p) at law)
 
--- an image shows nodes, a ledger, pins and holds that keep the law
-pub record Shows (image : Image) (at : Lookup) (ps : List Posting) (pinned : ℕ → Bool) : Type 0 where
+-- an image shows nodes, a ledger, what is kept, open files and holds that keep the law
+pub record Shows (image : Image) (at : Lookup) (ps : List Posting) (kept : ℕ → Bool) : Type 0 where
   pub distinct : IsDistinct image.nodes
   pub nodes : (n : ℕ) → node_at image.nodes n ≡ at n
   pub postings : image.postings ≡ ps
   pub ids : AllPairs (λ r s. r.id ≢ s.id) image.records
-  pub pins : (n : ℕ) → is_pinned image.records n ≡ pinned n
+  pub handles : AllPairs (λ f g. f.handle ≢ g.handle) image.files
+  pub keeps : (n : ℕ) → is_kept image.records image.files n ≡ kept n
+  pub files : All (IsKnownFile at image.last_handle) image.files
   pub counted : AreHoldsCounted image.holds image.records
   pub apart : AreApart image.records
   pub known : AreKnown at image.records
 
 -- so it is lawful
-pub IsLawfulImage-shows : (image : Image) (at : Lookup) (ps : List Posting) (pinned : ℕ → Bool) → Shows image at ps pinned → IsLawful at ps pinned → IsLawfulImage image
-IsLawfulImage-shows image at ps pinned shows law = record {
-  numbers = shows.distinct;
-  ids = shows.ids;
-  law =
-      let here = IsLawful-same at (node_at image.nodes) ps pinned (is_pinned image.records) shows.nodes shows.pins law in
-      subst (λ (qs : List Posting). IsLawful (node_at image.nodes) qs (is_pinned image.records)) (sym shows.postings) here;
-  counted = shows.counted;
-  apart = shows.apart;
-  known = subst (λ (l : Lookup). AreKnown l image.records) (fun_ext (λ n. sym (shows.nodes n))) shows.known;
-}
+pub IsLawfulImage-shows : (image : Image) (at : Lookup) (ps : List Posting) (kept : ℕ → Bool) → Shows image at ps kept → IsLawful at ps kept → IsLawfulImage image
+IsLawfulImage-shows image at ps kept shows law =
+    let same : at ≡ node_at image.nodes = fun_ext (λ n. sym (shows.nodes n)) in
+    record {
+      numbers = shows.distinct;
+      ids = shows.ids;
+      handles = shows.handles;
+      law =
+          let here = IsLawful-same at (node_at image.nodes) ps kept (is_kept image.records image.files) shows.nodes shows.keeps law in
+          subst (λ (qs : List Posting). IsLawful (node_at image.nodes) qs (is_kept image.records image.files)) (sym shows.postings) here;
+      files = subst (λ (l : Lookup). All (IsKnownFile l image.last_handle) image.files) same shows.files;
+      counted = shows.counted;
+      apart = shows.apart;
+      known = subst (λ (l : Lookup). AreKnown l image.records) same shows.known;
+    }
 
 -- ---- nodes listed by rising numbers
 

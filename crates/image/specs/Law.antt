@@ -1,7 +1,10 @@
--- The law of a table. It is said of where each number leads (`at`), the ledger, which numbers the records pin,
--- and what they hold.
-use Rattle.std.specs.Prelude.{ℕ, ◌+◌, ◌<◌, ◌≡◌, ◌≢◌, ◌==◌, ◌&&◌, ◌⊎◌, Bool, true, false, List, Some, All, AllPairs, Contains, take, length, slice_index_or, count_by}
+-- The law of a table. It is said of where each number leads (`at`), the ledger, which numbers are kept (those that the
+-- records pin and those of open files), and what the records hold.
+use Rattle.std.specs.Prelude.{ℕ, ◌+◌, ◌<◌, ◌≤◌, ◌≡◌, ◌≢◌, ◌==◌, ◌&&◌, ◌||◌, ◌⊎◌, Bool, true, false, List, Some, All, AllPairs, Contains, take, length, slice_index_or, count_by}
 use Rattle.std.specs.List.{list_any}
+use Rattle.files.specs.declared.data.OpenFile.{OpenFile}
+use Rattle.files.specs.declared.listed.Filed.{Filed}
+use Rattle.files.specs.Filed.{opened_in}
 use Rattle.paths.specs.Prefixes.{Names}
 use Rattle.holds.specs.declared.held.Held.{Held}
 use Rattle.holds.specs.declared.held.GivenPath.{GivenPath}
@@ -61,19 +64,30 @@ pub record HasPlainRoot (at : Lookup) (ps : List Posting) : Type 0 where
 abbrev pub AreMarksNamed : Lookup → Type 0
 AreMarksNamed at = (n : ℕ) (x : Node) → at n ≡ Some x → x.hidden ≡ true → (key : Key) × (x.place ≡ Named key)
 
--- ---- nodes and the records
+-- ---- nodes, and what keeps them
 
--- a pin names a living node
-abbrev pub ArePinsAlive : Lookup → (ℕ → Bool) → Type 0
-ArePinsAlive at pinned = (n : ℕ) → pinned n ≡ true → IsAlive at n
+-- each of the numbers is that of a living node
+abbrev pub AreAlive : Lookup → (ℕ → Bool) → Type 0
+AreAlive at kept = (n : ℕ) → kept n ≡ true → IsAlive at n
 
--- why a node lives: a lookup count, a hidden mark, a pin or a named child
+-- why a node lives: a lookup count, a hidden mark, a pin or an open file, or a named child
 abbrev pub HasReason : Lookup → (ℕ → Bool) → ℕ → Node → Type 0
-HasReason at pinned n x = (0 < x.count) ⊎ (x.hidden ≡ true) ⊎ (pinned n ≡ true) ⊎ HasChild at n
+HasReason at kept n x = (0 < x.count) ⊎ (x.hidden ≡ true) ⊎ (kept n ≡ true) ⊎ HasChild at n
 
 -- each node but the root has a reason
 abbrev pub HaveReasons : Lookup → (ℕ → Bool) → Type 0
-HaveReasons at pinned = (n : ℕ) (x : Node) → at n ≡ Some x → n ≢ 1 → HasReason at pinned n x
+HaveReasons at kept = (n : ℕ) (x : Node) → at n ≡ Some x → n ≢ 1 → HasReason at kept n x
+
+-- the node of the open file lives, with the generation that it had then
+pub record HasNode (at : Lookup) (file : OpenFile) : Type 0 where
+  pub node : Node
+  pub here : at file.number ≡ Some node
+  pub generation : node.generation ≡ file.generation
+
+-- besides, its handle was given
+pub record IsKnownFile (at : Lookup) (last : ℕ) (f : Filed) : Type 0 where
+  pub node : HasNode at f.file
+  pub given : f.handle ≤ last
 
 -- ---- what requests hold
 
@@ -135,25 +149,33 @@ AreKnown at records = All (IsKnown at) records
 
 -- ---- the law
 
-pub record IsLawful (at : Lookup) (ps : List Posting) (pinned : ℕ → Bool) : Type 0 where
+pub record IsLawful (at : Lookup) (ps : List Posting) (kept : ℕ → Bool) : Type 0 where
   -- the root alone is the root, names under a parent are distinct, and parents lead to the root
   pub tree : IsTree at
   pub root : HasPlainRoot at ps
   pub counted : IsCounted at ps
   pub born : IsBornInOrder at ps
   pub marks : AreMarksNamed at
-  pub pins : ArePinsAlive at pinned
-  pub reasons : HaveReasons at pinned
+  -- a pin and an open file name a living node
+  pub alive : AreAlive at kept
+  pub reasons : HaveReasons at kept
 
 -- one of the records pins the number
 abbrev pub is_pinned : List Record → ℕ → Bool
 is_pinned records n = list_any (λ r. list_any (λ m. m == n) r.pins) records
 
--- the law of an image, which is any data: its numbers and its ids are distinct besides
+-- one of the records pins the number, or a file of it is open
+abbrev pub is_kept : List Record → List Filed → ℕ → Bool
+is_kept records files n = is_pinned records n || opened_in files n
+
+-- the law of an image, which is any data: its numbers, its ids and its handles are distinct besides
 pub record IsLawfulImage (image : Image) : Type 0 where
   pub numbers : IsDistinct image.nodes
   pub ids : AllPairs (λ r s. r.id ≢ s.id) image.records
-  pub law : IsLawful (node_at image.nodes) image.postings (is_pinned image.records)
+  pub handles : AllPairs (λ f g. f.handle ≢ g.handle) image.files
+  pub law : IsLawful (node_at image.nodes) image.postings (is_kept image.records image.files)
+  -- each open file names a living node with its generation, under a handle that was given
+  pub files : All (IsKnownFile (node_at image.nodes) image.last_handle) image.files
   -- the holds are those of the requests that are worked on
   pub counted : AreHoldsCounted image.holds image.records
   -- no two of these conflict

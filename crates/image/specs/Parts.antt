@@ -1,5 +1,6 @@
 -- The parts of the law that one test decides, each said of a single node, posting or record.
 use Rattle.std.specs.Prelude.{ℕ, ◌+◌, ◌≡◌, ◌≢◌, Bool, true, false, List, Some, All, Any, sum_by}
+use Rattle.files.specs.declared.listed.Filed.{Filed}
 use Rattle.paths.specs.Prefixes.{Name, Names}
 use Rattle.holds.specs.declared.held.Held.{Held}
 use Rattle.holds.specs.Conflicts.{IsHeld, IsSomePrefix}
@@ -100,8 +101,18 @@ unfoldable pub IsChildOf : ℕ → Node → Type 0
 IsChildOf parent x = (name : Name) × (x.place ≡ Named (record { parent = parent; name = name }))
 
 -- the node is the root, or has a reason to live
-pub record IsReasoned (at : Lookup) (pinned : ℕ → Bool) (x : Node) : Type 0 where
-  pub reason : x.number ≢ 1 → HasReason at pinned x.number x
+pub record IsReasoned (at : Lookup) (kept : ℕ → Bool) (x : Node) : Type 0 where
+  pub reason : x.number ≢ 1 → HasReason at kept x.number x
+
+-- ---- open files
+
+-- the two files have two handles
+abbrev pub HaveOtherHandles : Filed → Filed → Type 0
+HaveOtherHandles f g = f.handle ≢ g.handle
+
+-- the node of the file lives
+unfoldable pub IsOfLiving : Lookup → Filed → Type 0
+IsOfLiving at f = IsAlive at f.file.number
 
 -- ---- what requests hold
 

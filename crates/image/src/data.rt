@@ -1,6 +1,7 @@
 //! The data of a table.
 
 use crate::items::Items;
+use files::Filed;
 use holds::Held;
 use ledger::Posting;
 use paths::Path;
@@ -30,6 +31,9 @@ pub type Records = Items<Record>;
 /// The paths that are held in a table, in any order.
 pub type Holds = Items<Hold>;
 
+/// The open files of a table, each under its handle, in any order.
+pub type OpenFiles = Items<Filed>;
+
 /// A request in flight.
 #[derive(Drop)]
 pub struct Record {
@@ -54,11 +58,16 @@ pub struct Hold {
     pub exclusive: u64,
 }
 
-/// A table as plain data: any nodes, postings, records and holds, lawful or not.
+/// A table as plain data: any nodes, postings, records, holds and open files, lawful or not.
 #[derive(Drop)]
 pub struct Image {
     pub nodes: Nodes,
     pub postings: Postings,
     pub records: Records,
     pub holds: Holds,
+    pub files: OpenFiles,
+    /// The counter of the next hidden name.
+    pub counter: u32,
+    /// The last handle that was given to an open file, or 0.
+    pub last_handle: u64,
 }

@@ -2,36 +2,39 @@
 
 ghost use Rattle.std.specs.Prelude.{◌↔◌, IsTrue};
 ghost use Rattle.tree.specs.Listed.{node_at, IsDistinct};
-ghost use Rattle.image.specs.Law.{IsLawful, is_pinned};
+ghost use Rattle.image.specs.Law.{IsLawful, is_kept};
 
 mod counts;
 mod held;
 mod leads;
 mod nodes;
+mod opened;
 mod postings;
 mod records;
 
 use crate::data::{Image, Record};
 use counts::{are_born_in_order, are_counted, has_plain_root};
+use files::Filed;
 use held::{are_apart, are_holds_counted};
 use leads::are_known;
 use ledger::Posting;
 use nodes::{are_distinct, are_marks_named, is_tree};
-use records::{are_ids_distinct, are_pins_alive, have_reasons};
+use opened::{are_files_known, are_handles_distinct};
+use records::{are_all_alive, are_ids_distinct, have_reasons};
 use tree::Node;
 
-/// Whether nodes with distinct numbers, the ledger and the records keep the law together.
-fn keep_law(nodes: &[Node], postings: &[Posting], records: &[Record]) -> bool
+/// Whether nodes with distinct numbers, the ledger, the records and the open files keep the law together.
+fn keep_law(nodes: &[Node], postings: &[Posting], records: &[Record], files: &[Filed]) -> bool
     requires { IsDistinct nodes.now }
-    ensures { IsTrue result ↔ IsLawful (node_at nodes.now) postings.now (is_pinned records.now) }
+    ensures { IsTrue result ↔ IsLawful (node_at nodes.now) postings.now (is_kept records.now files.now) }
 {
     is_tree(nodes)
         && has_plain_root(nodes, postings)
         && are_born_in_order(nodes, postings)
         && are_counted(nodes, postings)
         && are_marks_named(nodes)
-        && are_pins_alive(nodes, records)
-        && have_reasons(nodes, records)
+        && are_all_alive(nodes, records, files)
+        && have_reasons(nodes, records, files)
 }
 
 impl Image {
@@ -43,9 +46,12 @@ impl Image {
     {
         let nodes = self.nodes.as_slice();
         let records = self.records.as_slice();
+        let files = self.files.as_slice();
         are_distinct(nodes)
             && are_ids_distinct(records)
-            && keep_law(nodes, self.postings.as_slice(), records)
+            && are_handles_distinct(files)
+            && keep_law(nodes, self.postings.as_slice(), records, files)
+            && are_files_known(nodes, files, self.last_handle)
             && are_holds_counted(self.holds.as_slice(), records)
             && are_apart(records)
             && are_known(nodes, records)

@@ -7,5 +7,7 @@ mod data;
 mod items;
 mod lawful;
 
-pub use data::{Hold, Holds, Image, Nodes, Numbers, Postings, Record, Records, Stage};
+pub use data::{
+    Hold, Holds, Image, Nodes, Numbers, OpenFiles, Postings, Record, Records, Stage,
+};
 pub use items::Items;

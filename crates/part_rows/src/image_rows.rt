@@ -1,7 +1,8 @@
 //! Images made by hand, lawful and not.
 
+use files::{Access, Filed, OpenFile};
 use holds::{GivenPaths, Held, Paths};
-use image::{Holds, Image, Nodes, Numbers, Postings, Record, Records, Stage};
+use image::{Holds, Image, Nodes, Numbers, OpenFiles, Postings, Record, Records, Stage};
 use ledger::Posting;
 use paths::Name;
 use std::alloc::{AllocError, Global};
@@ -24,11 +25,13 @@ struct Living<'a>(u64, u64, Spot<'a>, u64);
 const ROOT: Living = Living(1, 0, Spot::Root, 0);
 
 /// The nodes, the postings, the oldest first, and the requests, whose work goes on: of each its id, and the number that it
-/// pins. No name is held.
+/// pins; and the open files: of each its handle, and the number and the generation of its node. No name is held, and the last
+/// handle is 2.
 struct Sketch<'a> {
     nodes: &'a [Living<'a>],
     postings: &'a [Posting],
     pinning: &'a [(u64, u64)],
+    opened: &'a [(u64, u64, u64)],
 }
 
 const BORN: Posting = Posting::Born {
@@ -74,6 +77,7 @@ const LAWFUL: &[(&str, Sketch)] = &[
             nodes: &[ROOT],
             postings: &[],
             pinning: &[],
+            opened: &[],
         },
     ),
     (
@@ -82,6 +86,7 @@ const LAWFUL: &[(&str, Sketch)] = &[
             nodes: &[ROOT, Living(2, 0, Spot::At(1, "a"), 1)],
             postings: &[BORN, ENTRY],
             pinning: &[],
+            opened: &[],
         },
     ),
     (
@@ -90,6 +95,7 @@ const LAWFUL: &[(&str, Sketch)] = &[
             nodes: &[ROOT, Living(2, 0, Spot::Cut, 0)],
             postings: &[BORN, ENTRY, BACK],
             pinning: &[(5, 2)],
+            opened: &[],
         },
     ),
     (
@@ -98,6 +104,25 @@ const LAWFUL: &[(&str, Sketch)] = &[
             nodes: &[Living(2, 1, Spot::At(1, "b"), 1), ROOT],
             postings: &[BORN, ENTRY, BACK, BORN_AGAIN, ENTRY_AGAIN],
             pinning: &[],
+            opened: &[],
+        },
+    ),
+    (
+        "a cut node that lives by two open files",
+        Sketch {
+            nodes: &[ROOT, Living(2, 0, Spot::Cut, 0)],
+            postings: &[BORN, ENTRY, BACK],
+            pinning: &[],
+            opened: &[(2, 2, 0), (1, 2, 0)],
+        },
+    ),
+    (
+        "an open file under the handle 0",
+        Sketch {
+            nodes: &[ROOT],
+            postings: &[],
+            pinning: &[],
+            opened: &[(0, 1, 0)],
         },
     ),
 ];
@@ -109,6 +134,7 @@ const UNLAWFUL: &[(&str, Sketch)] = &[
             nodes: &[],
             postings: &[],
             pinning: &[],
+            opened: &[],
         },
     ),
     (
@@ -117,6 +143,7 @@ const UNLAWFUL: &[(&str, Sketch)] = &[
             nodes: &[ROOT, Living(2, 0, Spot::At(1, "a"), 1)],
             postings: &[BORN, ENTRY, ENTRY],
             pinning: &[],
+            opened: &[],
         },
     ),
     (
@@ -125,6 +152,7 @@ const UNLAWFUL: &[(&str, Sketch)] = &[
             nodes: &[ROOT, Living(2, 0, Spot::Cut, 0)],
             postings: &[BORN, ENTRY, BACK],
             pinning: &[],
+            opened: &[],
         },
     ),
     (
@@ -133,6 +161,7 @@ const UNLAWFUL: &[(&str, Sketch)] = &[
             nodes: &[ROOT],
             postings: &[],
             pinning: &[(5, 1), (5, 1)],
+            opened: &[],
         },
     ),
     (
@@ -145,6 +174,7 @@ const UNLAWFUL: &[(&str, Sketch)] = &[
             ],
             postings: &[BORN, OTHER_BORN],
             pinning: &[],
+            opened: &[],
         },
     ),
     (
@@ -153,6 +183,43 @@ const UNLAWFUL: &[(&str, Sketch)] = &[
             nodes: &[ROOT],
             postings: &[BORN, ENTRY, FORGET_ALL, FORGET_ALL],
             pinning: &[],
+            opened: &[],
+        },
+    ),
+    (
+        "an open file of a node that does not live",
+        Sketch {
+            nodes: &[ROOT],
+            postings: &[],
+            pinning: &[],
+            opened: &[(1, 2, 0)],
+        },
+    ),
+    (
+        "an open file of an earlier node of that number",
+        Sketch {
+            nodes: &[ROOT, Living(2, 1, Spot::At(1, "a"), 1)],
+            postings: &[BORN, ENTRY, BACK, BORN_AGAIN, ENTRY_AGAIN],
+            pinning: &[],
+            opened: &[(1, 2, 0)],
+        },
+    ),
+    (
+        "two open files with one handle",
+        Sketch {
+            nodes: &[ROOT],
+            postings: &[],
+            pinning: &[],
+            opened: &[(1, 1, 0), (1, 1, 0)],
+        },
+    ),
+    (
+        "a handle that was not given yet",
+        Sketch {
+            nodes: &[ROOT],
+            postings: &[],
+            pinning: &[],
+            opened: &[(3, 1, 0)],
         },
     ),
 ];
@@ -212,6 +279,21 @@ fn records_of(alloc: Global, requests: &[(u64, u64)]) -> Result<Records, AllocEr
     Ok(all)
 }
 
+fn files_of(alloc: Global, opened: &[(u64, u64, u64)]) -> Result<OpenFiles, AllocError> {
+    let mut all = OpenFiles::new(alloc);
+    for (handle, number, generation) in opened {
+        all.add(Filed {
+            handle: *handle,
+            file: OpenFile {
+                number: *number,
+                generation: *generation,
+                access: Access::Both,
+            },
+        })?;
+    }
+    Ok(all)
+}
+
 /// The image that is sketched so.
 fn image(alloc: Global, sketch: &Sketch) -> Result<Image, AllocError> {
     Ok(Image {
@@ -219,6 +301,9 @@ fn image(alloc: Global, sketch: &Sketch) -> Result<Image, AllocError> {
         postings: Postings::from(Vec::from_slice(alloc, sketch.postings)?),
         records: records_of(alloc, sketch.pinning)?,
         holds: Holds::from(Vec::new(alloc)),
+        files: files_of(alloc, sketch.opened)?,
+        counter: 0,
+        last_handle: 2,
     })
 }
 

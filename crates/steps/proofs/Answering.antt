@@ -9,6 +9,7 @@ use Rattle.flights.specs.declared.data.Work.{Work as RecordedWork}
 use Rattle.flights.specs.Flying.{Flights as Recordeds, Flying, IsFlying, Answers, HasNoneWorking, is_working, with_flight}
 use Rattle.flights.specs.Flying as flying
 use Rattle.flights.specs.Listed.{InFlight, flying_of}
+use Rattle.image.specs.Law.{IsLawful}
 use Rattle.wants.specs.Plans.{row_in}
 use Rattle.steps.specs.declared.data.Outcome.{Outcome}
 use Rattle.steps.specs.declared.state.State.{State}
@@ -18,7 +19,7 @@ use Rattle.steps.specs.Kept.{IsKept, flight_of, flights_in, work_of, world_of}
 use Rattle.steps.specs.Steps.{Ends, Finishes, HoldsUp, act_of, answered}
 use Rattle.steps.specs.World.{Answered, AreReady, Flight, Flights, IsAtWork, IsReady, Work, Working, World, with_entry}
 use Rattle.steps.proofs.Ends.{ends_answered}
-use Rattle.steps.proofs.Lawful.{lawful_pins}
+use Rattle.steps.proofs.Filing.{kept_same}
 use Rattle.steps.proofs.Viewed.{IsFewer, at_work, fewer_at_work, fewer_held, fewer_idle, fewer_provided, fewer_ready, flights_with, recorded_at}
 
 -- ---- none is worked on
@@ -48,22 +49,25 @@ module _ (s : State) (kept : IsKept s) (flights : InFlight) (id : ℕ) (work : R
   -- the request keeps its pins and is promised nothing more
   pub answer_kept : IsKept (record s { flights = flights })
   answer_kept = record {
-    law = lawful_pins (at_in s.tree) s.ledger.made (flying_of s.flights).pinned (flying_of flights).pinned kept.law
-        (λ m h. ap (λ (f : ℕ → Bool). f m) a.pinned ∙ h) (λ m h. kept.law.pins m (sym (ap (λ (f : ℕ → Bool). f m) a.pinned) ∙ h));
+    law = subst (λ (keeps : ℕ → Bool). IsLawful (at_in s.tree) s.ledger.made keeps) (sym (kept_same s.flights flights s.files s.files a.pinned refl)) kept.law;
     flying = law;
     held = fewer_held (flying_of s.flights) (flying_of flights) fewer (at_in s.tree) kept.held;
     ready = still_ready;
     provided = fewer_provided (flying_of s.flights) (flying_of flights) fewer kept.provided;
-    reserved = record { nodes = omega (arith, a.nodes, kept.reserved.nodes); postings = omega (arith, a.postings, kept.reserved.postings) };
+    reserved = record { nodes = omega (arith, a.nodes, kept.reserved.nodes); postings = omega (arith, a.postings, kept.reserved.postings); files = omega (arith, a.files, kept.reserved.files) };
     limited = record {
       nodes = omega (arith, a.nodes, kept.limited.nodes);
       postings = omega (arith, a.postings, kept.limited.postings);
       flights = omega (arith, a.many, kept.limited.flights);
+      files = omega (arith, a.files, kept.limited.files);
+      handles = omega (arith, a.files, kept.limited.handles);
       node_limit = kept.limited.node_limit;
       posting_limit = kept.limited.posting_limit;
       short = kept.limited.short;
     };
     counts = kept.counts;
+    filed = kept.filed;
+    files = kept.files;
   }
 
   pub here_now : (flying_of flights).at id ≡ Some (flying.answered a.flight)
@@ -107,6 +111,9 @@ module _ (s : State) (kept : IsKept s) (flights : InFlight) (id : ℕ) (work : R
       postings = omega (arith, a.postings, kept.reserved.postings);
       nodes_within = omega (arith, a.nodes, kept.limited.nodes);
       postings_within = omega (arith, a.postings, kept.limited.postings);
+      files = omega (arith, a.files, kept.reserved.files);
+      files_within = omega (arith, a.files, kept.limited.files);
+      handles = omega (arith, a.files, kept.limited.handles);
     };
   }
 

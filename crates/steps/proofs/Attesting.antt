@@ -3,6 +3,7 @@ use Rattle.std.proofs.Common.{arith}
 use Rattle.flights.specs.Flying.{IsTallied}
 use Rattle.flights.specs.Listed.{flying_of}
 use Rattle.tree.specs.Places.{IsCensus, at_in}
+use Rattle.steps.specs.Keeping.{kept_by}
 use Rattle.steps.specs.declared.state.State.{State}
 use Rattle.steps.specs.Kept.{IsKept, tally_of, world_of}
 use Rattle.steps.specs.World.{IsLawfulWorld}
@@ -11,15 +12,16 @@ use Rattle.steps.proofs.Viewed.{are_kept}
 
 pub kept_lawful : (s : State) → IsCensus (at_in s.tree) s.tree.living s.tree.counts → IsTallied (flying_of s.flights) → IsKept s → IsLawfulWorld (world_of s)
 kept_lawful s census totals kept = record {
-  kept = (flying_of s.flights).pinned;
-  keeps = are_kept (flying_of s.flights) kept.flying;
+  kept = kept_by s.flights s.files;
+  keeps = are_kept s.flights s.files kept.flying kept.filed;
   law = kept.law;
   held = kept.held;
   ready = kept.ready;
   within = record {
     tally = tally_of s;
-    tallied = tallied s census totals kept.provided;
-    room = record { nodes = omega (arith, kept.limited.nodes); postings = omega (arith, kept.limited.postings) };
+    tallied = tallied s census totals kept.provided kept.filed;
+    room = record { nodes = omega (arith, kept.limited.nodes); postings = omega (arith, kept.limited.postings); files = omega (arith, kept.limited.files); handles = omega (arith, kept.limited.handles) };
     flights = kept.limited.flights;
   };
+  files = record { nodes = kept.files; given = kept.filed.given };
 }

@@ -11,13 +11,13 @@ use Rattle.ledger.proofs.Touches.{Touches, cases_pair, entries_of-touched, given
 use Rattle.tree.specs.declared.nodes.Node.{Node}
 use Rattle.tree.specs.Places.{Lookup, with_node}
 use Rattle.tree.proofs.LookupLemmas.{with_same, with_other, with_some, cases_option}
-use Rattle.image.specs.Law.{MayStand, IsCounted, IsBornInOrder, HasPlainRoot, AreMarksNamed, ArePinsAlive}
+use Rattle.image.specs.Law.{MayStand, IsCounted, IsBornInOrder, HasPlainRoot, AreMarksNamed, AreAlive}
 use Rattle.steps.specs.Swept.{IsSwept}
 use Rattle.steps.specs.Sweeping.{IsBooked}
 use Rattle.steps.proofs.Ordered.{IsOrdered-push}
 
 -- a pinned number leads somewhere after a write
-pins_write : (at : Lookup) (pinned : ℕ → Bool) (n : ℕ) (y : Node) → ArePinsAlive at pinned → ArePinsAlive (with_node at n y) pinned
+pins_write : (at : Lookup) (pinned : ℕ → Bool) (n : ℕ) (y : Node) → AreAlive at pinned → AreAlive (with_node at n y) pinned
 pins_write at pinned n y pins m h = elim (cases_eq n m) [
   | inl e ↦ (y, subst (λ k. with_node at n y k ≡ Some y) e (with_same at n y))
   | inr ne ↦ let was = pins m h in (was.0, with_other at n y m ne ∙ was.1)
@@ -85,7 +85,7 @@ module _ (at : Lookup) (ps : List Posting) (pinned : ℕ → Bool) (n : ℕ) (x 
     counted = counted_post booked.counted change may;
     born = born_post booked.born stand;
     marks = marks_post booked.marks;
-    pins = pins_write at pinned n (record x { count = c }) booked.pins;
+    alive = pins_write at pinned n (record x { count = c }) booked.alive;
   }
 
 -- a number that no node bears is born
@@ -135,7 +135,7 @@ module _ (at : Lookup) (ps : List Posting) (pinned : ℕ → Bool) (n : ℕ) (y 
     counted = counted_born booked.counted;
     born = born_born booked.born;
     marks = marks_born booked.marks;
-    pins = pins_write at pinned n y booked.pins;
+    alive = pins_write at pinned n y booked.alive;
   }
 
 -- nodes that nothing keeps are dropped
@@ -162,12 +162,12 @@ IsBooked-swept old new ps pinned swept booked = record {
   };
   born = record { ordered = booked.born.ordered; generations = λ m z h not_one. booked.born.generations m z (swept.kept m z h) not_one };
   marks = λ m x h marked. booked.marks m x (swept.kept m x h) marked;
-  pins = λ m h. elim (cases_option (new m)) [
-    | inl none ↦ let was = booked.pins m h in absurd (true≢false (sym h ∙ (swept.gone m was.0 was.1 none).unpinned))
+  alive = λ m h. elim (cases_option (new m)) [
+    | inl none ↦ let was = booked.alive m h in absurd (true≢false (sym h ∙ (swept.gone m was.0 was.1 none).unkept))
     | inr found ↦ found
   ];
 }
 
 -- other numbers are pinned, all of them alive
-pub IsBooked-pins : (at : Lookup) (ps : List Posting) (old new : ℕ → Bool) → ArePinsAlive at new → IsBooked at ps old → IsBooked at ps new
-IsBooked-pins at ps old new pins booked = record { root = booked.root; counted = booked.counted; born = booked.born; marks = booked.marks; pins = pins }
+pub IsBooked-pins : (at : Lookup) (ps : List Posting) (old new : ℕ → Bool) → AreAlive at new → IsBooked at ps old → IsBooked at ps new
+IsBooked-pins at ps old new pins booked = record { root = booked.root; counted = booked.counted; born = booked.born; marks = booked.marks; alive = pins }

@@ -10,9 +10,11 @@ use Rattle.tree.specs.declared.nodes.Place.TheVariants as place
 use Rattle.tree.specs.Places.{Lookup, Nodes, at_in, IsTree}
 use Rattle.tree.specs.Moves.{Changes, IsChanged, Where, after_cut, after_move, is_cut, is_moved, stays}
 use Rattle.tree.proofs.Transfers.{changed_count, changed_generation, changed_mark, changes_alive, changes_back}
+use Rattle.files.specs.Filed.{files_of}
 use Rattle.flights.specs.Listed.{flying_of}
 use Rattle.image.specs.Law.{HasReason, HaveReasons}
 use Rattle.wants.specs.Rows as rows
+use Rattle.steps.specs.Keeping.{kept_by}
 use Rattle.steps.specs.declared.state.State.{State}
 use Rattle.steps.specs.Ending.{ChangesNames, IsUnder, KeepsChildren, MayAlter}
 use Rattle.steps.specs.Kept.{IsKept, flights_in, world_of}
@@ -21,6 +23,7 @@ use Rattle.steps.specs.Swept.{IsSwept}
 use Rattle.steps.specs.Sweeping.{HaveReasonsBelow, IsBooked, IsSameRest}
 use Rattle.steps.specs.World.{AreReady, Flight, Flights, IsAtWork, Work}
 use Rattle.steps.proofs.Booked.{IsBooked-swept}
+use Rattle.steps.proofs.Filing.{nodes_changed, nodes_swept}
 use Rattle.steps.proofs.Guarding.{left_where, path_stays}
 use Rattle.steps.proofs.Kept.{kept_changed, ready_swept}
 use Rattle.steps.proofs.Lawful.{booked_of, lawful_from}
@@ -67,7 +70,7 @@ module _ (f : Where → Where) (old new : Lookup) (c : Changes f old new) (ps : 
           ap (λ (i : ℕ). i + 1) (changed_generation was.0 y was.2) ∙ booked.born.generations n was.0 was.1 not_one;
     };
     marks = λ n y h marked. let was = changes_back f old new c n y h in mark_named was.0 y was.2 (booked.marks n was.0 was.1) marked;
-    pins = λ n h. changes_alive f old new c n (booked.pins n h);
+    alive = λ n h. changes_alive f old new c n (booked.alive n h);
   }
 
 -- ---- a change of names that nothing is in the way of
@@ -86,11 +89,11 @@ change_of old new (rows.cuts l) it = record { f = after_cut it.path; changes = i
 change_of old new (rows.moves s t) it = record { f = after_move it.path it.new_path; changes = it.changes }
 
 -- the nodes that names change under are given
-under_given : (s : State) (change : rows.Change) (may : MayAlter s change) (n : ℕ) → IsUnder change n → (flying_of s.flights).pinned n ≡ true
+under_given : (s : State) (change : rows.Change) (may : MayAlter s change) (n : ℕ) → IsUnder change n → (kept_by s.flights s.files) n ≡ true
 under_given s rows.stays may n bad = absurd bad
-under_given s (rows.cuts l) may n e = may.pinned n (subst (λ k. Contains may.demand.given k) (sym e) (may.row.alone l may.own))
-under_given s (rows.moves l m) may n (inl e) = may.pinned n (subst (λ k. Contains may.demand.given k) (sym e) (may.row.alone l may.own.0))
-under_given s (rows.moves l m) may n (inr e) = may.pinned n (subst (λ k. Contains may.demand.given k) (sym e) (may.row.alone m may.own.1))
+under_given s (rows.cuts l) may n e = may.kept n (subst (λ k. Contains may.demand.given k) (sym e) (may.row.alone l may.own))
+under_given s (rows.moves l m) may n (inl e) = may.kept n (subst (λ k. Contains may.demand.given k) (sym e) (may.row.alone l may.own.0))
+under_given s (rows.moves l m) may n (inr e) = may.kept n (subst (λ k. Contains may.demand.given k) (sym e) (may.row.alone m may.own.1))
 
 module _ (s : State) (kept : IsKept s) (change : rows.Change) (may : MayAlter s change) (mid : Nodes) (alters : Alters (at_in s.tree) change (at_in mid))
     (children : KeepsChildren (at_in s.tree) (IsUnder change) (at_in mid)) (rest : mid ≡ record s.tree { nodes = mid.nodes; next = mid.next }) (tree : IsTree (at_in mid)) where
@@ -106,10 +109,10 @@ module _ (s : State) (kept : IsKept s) (change : rows.Change) (may : MayAlter s 
   mid_ready : AreReady (at_in mid) flights
   mid_ready id f work here = (left_where (at_in s.tree) (at_in mid) flights tree keeps).ready id f work here (kept.ready id f work here)
 
-  mid_booked : IsBooked (at_in mid) s.ledger.made (flying_of s.flights).pinned
-  mid_booked = IsBooked-changes it.f (at_in s.tree) (at_in mid) it.changes s.ledger.made (flying_of s.flights).pinned (booked_of (at_in s.tree) s.ledger.made (flying_of s.flights).pinned kept.law)
+  mid_booked : IsBooked (at_in mid) s.ledger.made (kept_by s.flights s.files)
+  mid_booked = IsBooked-changes it.f (at_in s.tree) (at_in mid) it.changes s.ledger.made (kept_by s.flights s.files) (booked_of (at_in s.tree) s.ledger.made (kept_by s.flights s.files) kept.law)
 
-  kept_reason : (n : ℕ) (x y : Node) → IsChanged x y → at_in mid n ≡ Some y → (y.place ≡ place.Cut → ⊥) → HasReason (at_in s.tree) (flying_of s.flights).pinned n x → HasReason (at_in mid) (flying_of s.flights).pinned n y
+  kept_reason : (n : ℕ) (x y : Node) → IsChanged x y → at_in mid n ≡ Some y → (y.place ≡ place.Cut → ⊥) → HasReason (at_in s.tree) (kept_by s.flights s.files) n x → HasReason (at_in mid) (kept_by s.flights s.files) n y
   kept_reason n x y change now whole (inl counted) = inl (subst (λ c. 0 < c) (sym (changed_count x y change)) counted)
   kept_reason n x y change now whole (inr (inl hidden)) = inr (inl (changed_mark x y change whole ∙ hidden))
   kept_reason n x y change now whole (inr (inr (inl pin))) = inr (inr (inl pin))
@@ -120,24 +123,25 @@ module _ (s : State) (kept : IsKept s) (change : rows.Change) (may : MayAlter s 
   ]
 
   -- but for nodes that are cut, each has a reason
-  pub mid_reasons : HaveReasonsBelow (at_in mid) (flying_of s.flights).pinned 1
+  pub mid_reasons : HaveReasonsBelow (at_in mid) (kept_by s.flights s.files) 1
   mid_reasons = record {
     reasons = λ n y now not_root below.
         let was = changes_back it.f (at_in s.tree) (at_in mid) it.changes n y now in
         kept_reason n was.0 y was.2 now (λ lost. let bad = below lost in absurd (omega (arith, bad.0, bad.1))) (kept.law.reasons n was.0 was.1 not_root);
   }
 
-  module _ (new : Nodes) (tree' : IsTree (at_in new)) (reasons : HaveReasons (at_in new) (flying_of s.flights).pinned) (swept : IsSwept (flying_of s.flights).pinned (at_in mid) (at_in new)) (same : IsSameRest mid new) where
+  module _ (new : Nodes) (tree' : IsTree (at_in new)) (reasons : HaveReasons (at_in new) (kept_by s.flights s.files)) (swept : IsSwept (kept_by s.flights s.files) (at_in mid) (at_in new)) (same : IsSameRest mid new) where
     pub change_kept : IsKept (record s { tree = new })
     change_kept =
-        let pinned = (flying_of s.flights).pinned in
+        let kept_now = kept_by s.flights s.files in
         let living = ap (λ (t : Nodes). t.living) rest in
         let counts = ap (λ (t : Nodes). t.counts) rest in
         let room = ap (λ (t : Nodes). t.room) rest in
         let limit = ap (λ (t : Nodes). t.limit) rest in
         kept_changed s new s.ledger s.counts kept
-        (lawful_from (at_in new) s.ledger.made pinned tree' (IsBooked-swept (at_in mid) (at_in new) s.ledger.made pinned swept mid_booked) reasons)
-        (ready_swept (at_in mid) (at_in new) (flying_of s.flights) kept.flying tree' swept mid_ready)
+        (lawful_from (at_in new) s.ledger.made kept_now tree' (IsBooked-swept (at_in mid) (at_in new) s.ledger.made kept_now swept mid_booked) reasons)
+        (ready_swept (at_in mid) (at_in new) s.flights s.files kept.flying kept.filed tree' swept mid_ready)
+        (nodes_swept s.flights s.files kept.filed (at_in mid) (at_in new) swept (nodes_changed (files_of s.files).at it.f (at_in s.tree) (at_in mid) it.changes kept.files))
         (omega (arith, same.room, room)) (omega (arith, same.fewer, living)) (same.limit ∙ limit)
         (omega (arith, same.counts, counts)) (omega (arith, same.counts, counts)) refl
         (omega (arith, kept.counts, same.counts, counts))
@@ -146,6 +150,6 @@ module _ (s : State) (kept : IsKept s) (change : rows.Change) (may : MayAlter s 
     changes_names = record {
       altered = at_in mid;
       alters = alters;
-      sweeps = record { kept = (flying_of s.flights).pinned; keeps = are_kept (flying_of s.flights) kept.flying; swept = swept };
+      sweeps = record { kept = (kept_by s.flights s.files); keeps = are_kept s.flights s.files kept.flying kept.filed; swept = swept };
       new_is = refl;
     }

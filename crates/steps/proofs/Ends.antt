@@ -58,7 +58,7 @@ answered_same f given idle none =
     let one : (let g : Flight = record f { stage = Answered; pins = f.pins ++ numbers_of given } in g) ≡ record f { pins = f.pins ++ numbers_of given } = ap (λ s. let g : Flight = record f { stage = s; pins = f.pins ++ numbers_of given } in g) (sym idle) in
     one ∙ ap (λ (ps : List ℕ). let g : Flight = record f { pins = ps } in g) (ap (λ (ns : List ℕ). f.pins ++ ns) none ∙ append-nil f.pins)
 
-pub nothing_changes : (w : World) (kept : ℕ → Bool) → AreKept w.flights kept → ChangesNames w stays w
+pub nothing_changes : (w : World) (kept : ℕ → Bool) → AreKept w.flights w.files kept → ChangesNames w stays w
 nothing_changes w kept keeps = record { altered = w.at; alters = refl; sweeps = record { kept = kept; keeps = keeps; swept = IsSwept-refl kept w.at }; new_is = refl }
 
 -- a change of names alone

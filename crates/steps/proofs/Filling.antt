@@ -117,7 +117,7 @@ pub gives_owned : (w : World) (id : ℕ) (f : Flight) (key : Key) → w.flights 
 gives_owned w id f key here idle owned = record { enters = (owned, (refl, refl)); new_is = same_world w id f (None ∷ []) here idle refl }
 
 -- entries alone are the end of a request
-pub ends_given : (old new : World) (id : ℕ) (f : Flight) (keys : List Key) (found : List Bool) (given : List (Option Given)) (kept : ℕ → Bool) → old.flights id ≡ Some f → f.stage ≡ Answered → AreKept new.flights kept
+pub ends_given : (old new : World) (id : ℕ) (f : Flight) (keys : List Key) (found : List Bool) (given : List (Option Given)) (kept : ℕ → Bool) → old.flights id ≡ Some f → f.stage ≡ Answered → AreKept new.flights new.files kept
     → GivesAll old id f keys found given new → Ends old id f (record { found = found; change = stays }) keys (record { id = id; given = given; lost = false }) new
 ends_given old new id f keys found given kept here idle keeps gives =
     let owners : with_entry old.flights id (Some (answered f [])) ≡ old.flights =
@@ -170,7 +170,7 @@ module _ (s : State) (id : ℕ) (key : Key) (rest : List Key) (fill : MayFill s 
     answered = fill.answered;
     pin_room = omega (arith, fill.pin_room);
     leads = λ k h. fill.leads k (subst (λ (j : Key). Contains (key ∷ rest) j) (only_in key k h) (first_in key rest));
-    promise = record { nodes = 1; postings = 3 };
+    promise = record { nodes = 1; postings = 3; files = 0 };
     births = inl refl;
     postings = refl;
     room = record {
@@ -178,6 +178,9 @@ module _ (s : State) (id : ℕ) (key : Key) (rest : List Key) (fill : MayFill s 
       postings = omega (arith, fill.room.postings);
       nodes_within = omega (arith, fill.room.nodes_within);
       postings_within = omega (arith, fill.room.postings_within);
+      files = omega (arith, fill.room.files);
+      files_within = omega (arith, fill.room.files_within);
+      handles = omega (arith, fill.room.handles);
     };
   }
 
@@ -193,6 +196,9 @@ module _ (s : State) (id : ℕ) (key : Key) (rest : List Key) (fill : MayFill s 
       postings = omega (arith, fill.room.postings);
       nodes_within = omega (arith, fill.room.nodes_within);
       postings_within = omega (arith, fill.room.postings_within);
+      files = omega (arith, fill.room.files);
+      files_within = omega (arith, fill.room.files_within);
+      handles = omega (arith, fill.room.handles);
     };
   }
 

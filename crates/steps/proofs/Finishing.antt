@@ -37,7 +37,7 @@ module _ (old new : World) (id : ℕ) (f : Flight) (work : Work) (outcome : Outc
   keeps k g v here n pin q prefixes h =
       let altered : IsPathOf e.altered n q = path_stays e.entered (with_entry old.flights id None) work.row work.held holds clear placed k g v here q prefixes (act_of work.row outcome).change e.altered (act_own work.row row outcome) e.alters n (entered n q h) in
       let there : new.flights k ≡ Some g = ap (λ (w : World). w.flights k) e.new_is ∙ entry_other old.flights id k (Some (answered f answer.given)) g here.here in
-      let held : e.sweeps.kept n ≡ true = (e.sweeps.keeps n).1 (record { id = k; flight = g; here = there; pin = pin }) in
+      let held : e.sweeps.kept n ≡ true = (e.sweeps.keeps n).1 (inl (record { id = k; flight = g; here = there; pin = pin })) in
       reaches_swept e.sweeps.kept e.altered new.at e.sweeps.swept n (reverse q) (λ x was none. none-some x (sym none ∙ stays_pinned e.sweeps.kept e.altered new.at n x e.sweeps.swept was held)) altered
 
   left : LeavesWork old.at new.at (with_entry old.flights id None)

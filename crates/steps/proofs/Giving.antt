@@ -5,11 +5,13 @@ use Rattle.std.proofs.lemmas.Option.{same_Some}
 use Rattle.ledger.specs.Postings.{Postings}
 use Rattle.tree.specs.declared.nodes.Key.{Key}
 use Rattle.tree.specs.Places.{Nodes, at_in, IsAlive, IsFree}
+use Rattle.files.specs.Filed.{files_of}
 use Rattle.flights.specs.declared.data.Flight.{Flight as Recorded}
 use Rattle.flights.specs.declared.data.Given.{Given}
 use Rattle.flights.specs.Flying.{Flights as Recordeds, IsFlying, PinsMore, pinning}
 use Rattle.flights.specs.Listed.{InFlight, flying_of}
 use Rattle.image.specs.Law.{IsLawful}
+use Rattle.steps.specs.Keeping.{kept_by}
 use Rattle.steps.specs.declared.state.State.{State}
 use Rattle.steps.specs.Ending.{EntersName, MayEnter, MayFill}
 use Rattle.steps.specs.Entries.{Enters, newborn}
@@ -18,6 +20,7 @@ use Rattle.steps.specs.Steps.{answered}
 use Rattle.steps.specs.Sweeping.{IsEntered}
 use Rattle.steps.specs.World.{AreReady, Flight, Flights, World, with_entry}
 use Rattle.wants.proofs.Members.{first_in, later_in}
+use Rattle.steps.proofs.Filing.{cases_kept, keeps_open, keeps_pinned, kept_more, nodes_entered}
 use Rattle.steps.proofs.Entering.{alive_written}
 use Rattle.steps.proofs.Guarding.{entered_path, entered_way}
 use Rattle.steps.proofs.Kept.{held_ready, ready_where}
@@ -35,7 +38,7 @@ module _ (s : State) (id : ℕ) (key : Key) (may : MayEnter s id (key ∷ [])) w
     | inr named ↦ let it = named key mine in absurd (free it.0 it.1)
   ]
 
-  module _ (kept : IsKept s) (g : Given) (tree : Nodes) (ledger : Postings) (flights : InFlight) (law : IsLawful (at_in tree) ledger.made (flying_of s.flights).pinned)
+  module _ (kept : IsKept s) (g : Given) (tree : Nodes) (ledger : Postings) (flights : InFlight) (law : IsLawful (at_in tree) ledger.made (kept_by s.flights s.files))
       (enters : Enters (at_in s.tree) s.ledger.made key.parent key.name g (at_in tree) ledger.made) (entered : IsEntered s.tree s.ledger key.parent key.name tree ledger)
       (pins : PinsMore (flying_of s.flights) id may.flight g.number (flying_of flights)) (flying : IsFlying (flying_of flights)) where
     alive : IsAlive (at_in tree) g.number
@@ -67,11 +70,14 @@ module _ (s : State) (id : ℕ) (key : Key) (may : MayEnter s id (key ∷ [])) w
         let all = flying_of s.flights in
         let more = entered.more_is in
         record {
-          law = lawful_pins (at_in tree) ledger.made all.pinned (flying_of flights).pinned law
-              (λ m h. pinned_is m ∙ or_left (all.pinned m) (g.number == m) h)
-              (λ m h. elim (or_cases (all.pinned m) (g.number == m) (sym (pinned_is m) ∙ h)) [
-                | inl was ↦ law.pins m was
-                | inr here ↦ (alive.0, ap (at_in tree) (sym (eqb-true g.number m here)) ∙ alive.1)
+          law = lawful_pins (at_in tree) ledger.made (kept_by s.flights s.files) (kept_by flights s.files) law
+              (kept_more s.flights flights s.files (λ m h. pinned_is m ∙ or_left (all.pinned m) (g.number == m) h))
+              (λ m h. elim (cases_kept flights s.files m h) [
+                | inl pin ↦ elim (or_cases (all.pinned m) (g.number == m) (sym (pinned_is m) ∙ pin)) [
+                  | inl was ↦ law.alive m (keeps_pinned s.flights s.files m was)
+                  | inr here ↦ (alive.0, ap (at_in tree) (sym (eqb-true g.number m here)) ∙ alive.1)
+                ]
+                | inr opened ↦ law.alive m (keeps_open s.flights s.files m opened)
               ]);
           flying = flying;
           held = held_ready (at_in s.tree) (at_in tree) (flights_in (flying_of flights)) still_ready (fewer_held all (flying_of flights) fewer (at_in s.tree) kept.held);
@@ -80,16 +86,21 @@ module _ (s : State) (id : ℕ) (key : Key) (may : MayEnter s id (key ∷ [])) w
           reserved = record {
             nodes = omega (arith, pins.nodes, may.room.nodes, more.room, born_promised);
             postings = omega (arith, pins.postings, may.room.postings, may.postings, more.counts, more.posting_room, entered.one);
+            files = omega (arith, pins.files, kept.reserved.files);
           };
           limited = record {
             nodes = omega (arith, pins.nodes, may.room.nodes_within, more.living, born_promised);
             postings = omega (arith, pins.postings, may.room.postings_within, may.postings, more.counts, more.postings, entered.one);
             flights = omega (arith, pins.many, kept.limited.flights);
+            files = omega (arith, pins.files, kept.limited.files);
+            handles = omega (arith, pins.files, kept.limited.handles);
             node_limit = more.limit ∙ kept.limited.node_limit;
             posting_limit = more.posting_limit ∙ kept.limited.posting_limit;
             short = kept.limited.short;
           };
           counts = omega (arith, kept.counts, more.counts);
+          filed = kept.filed;
+          files = nodes_entered (files_of s.files).at (at_in s.tree) s.ledger.made key.parent key.name g (at_in tree) ledger.made enters kept.files;
         }
 
     -- the same request, with one more pin
@@ -132,5 +143,8 @@ module _ (s : State) (id : ℕ) (key : Key) (may : MayEnter s id (key ∷ [])) w
             postings = omega (arith, pins.postings, fill.room.postings, more.counts, more.posting_room, entered.one);
             nodes_within = omega (arith, pins.nodes, fill.room.nodes_within, more.living, entered.one);
             postings_within = omega (arith, pins.postings, fill.room.postings_within, more.counts, more.postings, entered.one);
+            files = omega (arith, pins.files, fill.room.files);
+            files_within = omega (arith, pins.files, fill.room.files_within);
+            handles = omega (arith, pins.files, fill.room.handles);
           };
         }

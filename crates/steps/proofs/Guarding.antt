@@ -130,7 +130,7 @@ reaches_swept kept old new swept n (name ∷ way) remains h = elim (cases_option
 ]
 
 pub sweeps_harmless : AreSweepsHarmless
-sweeps_harmless flights old new kept tree' keeps swept =
+sweeps_harmless flights files old new kept tree' keeps swept =
     left_where old new flights tree' (λ id f work here n pin q prefixes h.
-    let held : kept n ≡ true = (keeps n).1 (record { id = id; flight = f; here = here.here; pin = pin }) in
+    let held : kept n ≡ true = (keeps n).1 (inl (record { id = id; flight = f; here = here.here; pin = pin })) in
     reaches_swept kept old new swept n (reverse q) (λ x was none. none-some x (sym none ∙ stays_pinned kept old new n x swept was held)) h)

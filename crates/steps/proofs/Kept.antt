@@ -9,15 +9,19 @@ use Rattle.tree.specs.declared.nodes.Node.{Node}
 use Rattle.tree.specs.Places.{Lookup, Nodes, at_in, with_node, IsPathOf, IsTree}
 use Rattle.tree.specs.Moves.{Writes}
 use Rattle.tree.proofs.Writing.{reaches_now}
-use Rattle.flights.specs.Flying.{Flying, IsFlying}
-use Rattle.flights.specs.Listed.{flying_of}
+use Rattle.files.specs.Filed.{Filing, files_of}
+use Rattle.files.specs.Handles.{IsFiled}
+use Rattle.flights.specs.Flying.{IsFlying}
+use Rattle.flights.specs.Listed.{InFlight, flying_of}
 use Rattle.image.specs.Law.{IsLawful}
+use Rattle.steps.specs.Keeping.{kept_by}
 use Rattle.steps.specs.declared.state.State.{State}
 use Rattle.steps.specs.Kept.{IsKept, flights_in, world_of}
 use Rattle.steps.specs.Steps.{Forgets, Takes}
 use Rattle.steps.specs.Swept.{IsSwept}
 use Rattle.steps.specs.Sweeping.{HaveReasonsBut, IsPruned, IsSameRest, IsBooked}
-use Rattle.steps.specs.World.{AreHeld, AreReady, Flights, World}
+use Rattle.steps.specs.World.{AreHeld, AreReady, Flights, HaveNodes, World}
+use Rattle.steps.proofs.Filing.{nodes_swept, nodes_written}
 use Rattle.steps.proofs.Guarding.{left_where, sweeps_harmless}
 use Rattle.steps.proofs.Lawful.{booked_of, booked_forget, lawful_swept}
 use Rattle.steps.proofs.Reasons.{HaveReasons-some, HaveReasons-write}
@@ -50,9 +54,10 @@ pub ready_where : (old new : Lookup) (flights : Flights) → IsTree new → Keep
 ready_where old new flights tree keeps ready id f work here =
     (left_where old new flights tree (λ _ _ _ _ n pin q prefixes h. keeps n q h)).ready id f work here (ready id f work here)
 
-pub ready_swept : (old new : Lookup) (all : Flying) → IsFlying all → IsTree new → IsSwept all.pinned old new → AreReady old (flights_in all) → AreReady new (flights_in all)
-ready_swept old new all flying tree swept ready id f work here =
-    (sweeps_harmless (flights_in all) old new all.pinned tree (are_kept all flying) swept).ready id f work here (ready id f work here)
+pub ready_swept : (old new : Lookup) (flights : InFlight) (files : Filing) → IsFlying (flying_of flights) → IsFiled (files_of files) → IsTree new → IsSwept (kept_by flights files) old new
+    → AreReady old (flights_in (flying_of flights)) → AreReady new (flights_in (flying_of flights))
+ready_swept old new flights files flying filed tree swept ready id f work here =
+    (sweeps_harmless (flights_in (flying_of flights)) (files_of files).at old new (kept_by flights files) tree (are_kept flights files flying filed) swept).ready id f work here (ready id f work here)
 
 -- the paths given stay known to who has what it relies on
 pub held_ready : (old new : Lookup) (flights : Flights) → AreReady new flights → AreHeld old flights → AreHeld new flights
@@ -72,53 +77,60 @@ paths_written at n x c stood m q h = reaches_now at n x (record x { count = c })
 
 -- nodes and ledger may change where the law stays, requests that go on have what they rely on, and there is room
 pub kept_changed : (s : State) (tree : Nodes) (ledger : Postings) (counts : ℕ) → IsKept s
-    → IsLawful (at_in tree) ledger.made (flying_of s.flights).pinned → AreReady (at_in tree) (flights_in (flying_of s.flights))
+    → IsLawful (at_in tree) ledger.made (kept_by s.flights s.files) → AreReady (at_in tree) (flights_in (flying_of s.flights)) → HaveNodes (at_in tree) (files_of s.files).at
     → s.tree.room ≤ tree.room → tree.living ≤ s.tree.living → tree.limit ≡ s.tree.limit
     → s.ledger.room + tree.counts ≤ ledger.room + s.tree.counts → length ledger.made + tree.counts ≤ length s.ledger.made + s.tree.counts → ledger.limit ≡ s.ledger.limit → counts ≡ tree.counts
     → IsKept (record s { tree = tree; ledger = ledger; counts = counts })
-kept_changed s tree ledger counts kept law ready room living limit posting_room made posting_limit same = record {
+kept_changed s tree ledger counts kept law ready nodes room living limit posting_room made posting_limit same = record {
   law = law;
   flying = kept.flying;
   held = held_ready (at_in s.tree) (at_in tree) (flights_in (flying_of s.flights)) ready kept.held;
   ready = ready;
   provided = kept.provided;
-  reserved = record { nodes = omega (arith, kept.reserved.nodes); postings = omega (arith, kept.reserved.postings) };
+  reserved = record { nodes = omega (arith, kept.reserved.nodes); postings = omega (arith, kept.reserved.postings); files = kept.reserved.files };
   limited = record {
     nodes = omega (arith, kept.limited.nodes);
     postings = omega (arith, kept.limited.postings);
     flights = kept.limited.flights;
+    files = kept.limited.files;
+    handles = kept.limited.handles;
     node_limit = limit ∙ kept.limited.node_limit;
     posting_limit = posting_limit ∙ kept.limited.posting_limit;
     short = kept.limited.short;
   };
   counts = same;
+  filed = kept.filed;
+  files = nodes;
 }
 
 -- ---- forget
 
 module _ (s : State) (kept : IsKept s) (number : ℕ) (x : Node) (stood : at_in s.tree number ≡ Some x) (amount : ℕ) (some : amount ≢ 0) (fits : amount ≤ x.count) (tree : Nodes) (writes : Writes s.tree number x (record x { count = x.count - amount }) tree) (law : IsTree (at_in tree)) where
-  pub forget_pruned : IsPruned (at_in tree) (flying_of s.flights).pinned (number ∷ [])
+  pub forget_pruned : IsPruned (at_in tree) (kept_by s.flights s.files) (number ∷ [])
   forget_pruned = record {
     tree = law;
     reasons =
-        let pinned = (flying_of s.flights).pinned in
+        let pinned = (kept_by s.flights s.files) in
         subst (λ a. HaveReasonsBut a pinned (number ∷ [])) (sym writes.nodes)
         (HaveReasons-write (at_in s.tree) pinned number x (record x { count = x.count - amount }) [] stood refl (HaveReasons-some (at_in s.tree) pinned [] kept.law.reasons));
   }
 
-  module _ (ledger : Postings) (new : Nodes) (made : ledger.made ≡ s.ledger.made ++ Forget number x.generation amount ∷ []) (swept : IsSwept (flying_of s.flights).pinned (at_in tree) (at_in new)) where
-    pub forget_kept : ledger.limit ≡ s.ledger.limit → s.ledger.room ≤ ledger.room + 1 → IsPruned (at_in new) (flying_of s.flights).pinned [] → IsSameRest tree new
+  module _ (ledger : Postings) (new : Nodes) (made : ledger.made ≡ s.ledger.made ++ Forget number x.generation amount ∷ []) (swept : IsSwept (kept_by s.flights s.files) (at_in tree) (at_in new)) where
+    pub forget_kept : ledger.limit ≡ s.ledger.limit → s.ledger.room ≤ ledger.room + 1 → IsPruned (at_in new) (kept_by s.flights s.files) [] → IsSameRest tree new
         → IsKept (record s { tree = new; ledger = ledger; counts = s.counts - amount })
     forget_kept limit room pruned rest =
         let all = flying_of s.flights in
         let w = written s.tree tree number x (record x { count = x.count - amount }) writes in
-        let booked : IsBooked (at_in tree) ledger.made all.pinned =
-        rw (writes.nodes, made) (booked_forget (at_in s.tree) s.ledger.made all.pinned (booked_of (at_in s.tree) s.ledger.made all.pinned kept.law) number x stood amount (omega arith) fits) in
+        let booked : IsBooked (at_in tree) ledger.made (kept_by s.flights s.files) =
+        rw (writes.nodes, made) (booked_forget (at_in s.tree) s.ledger.made (kept_by s.flights s.files) (booked_of (at_in s.tree) s.ledger.made (kept_by s.flights s.files) kept.law) number x stood amount (omega arith) fits) in
         let paths : KeepsAllPaths (at_in s.tree) (at_in tree) = subst (λ a. KeepsAllPaths (at_in s.tree) a) (sym writes.nodes) (paths_written (at_in s.tree) number x (x.count - amount) stood) in
+        let files = (files_of s.files).at in
+        let nodes : HaveNodes (at_in tree) files = subst (λ a. HaveNodes a files) (sym writes.nodes) (nodes_written files (at_in s.tree) number x (record x { count = x.count - amount }) stood refl kept.files) in
         let one : AreReady (at_in tree) (flights_in all) = ready_where (at_in s.tree) (at_in tree) (flights_in all) law paths kept.ready in
         kept_changed s new ledger (s.counts - amount) kept
-        (lawful_swept (at_in tree) (at_in new) ledger.made all.pinned booked swept pruned)
-        (ready_swept (at_in tree) (at_in new) all kept.flying pruned.tree swept one)
+        (lawful_swept (at_in tree) (at_in new) ledger.made (kept_by s.flights s.files) booked swept pruned)
+        (ready_swept (at_in tree) (at_in new) s.flights s.files kept.flying kept.filed pruned.tree swept one)
+        (nodes_swept s.flights s.files kept.filed (at_in tree) (at_in new) swept nodes)
         (omega (arith, rest.room, w.room)) (omega (arith, rest.fewer, w.living)) (rest.limit ∙ w.limit)
         (omega (arith, writes.counts, rest.counts)) (omega (arith, writes.counts, rest.counts, length_push s.ledger.made ledger.made _ made)) limit
         (omega (arith, writes.counts, rest.counts, kept.counts))
@@ -126,9 +138,9 @@ module _ (s : State) (kept : IsKept s) (number : ℕ) (x : Node) (stood : at_in 
     pub takes : Takes (world_of s) number amount x (world_of (record s { tree = new; ledger = ledger; counts = s.counts - amount }))
     takes = record {
       sweeps = record {
-        kept = (flying_of s.flights).pinned;
-        keeps = are_kept (flying_of s.flights) kept.flying;
-        swept = subst (λ a. IsSwept (flying_of s.flights).pinned a (at_in new)) writes.nodes swept;
+        kept = kept_by s.flights s.files;
+        keeps = are_kept s.flights s.files kept.flying kept.filed;
+        swept = subst (λ a. IsSwept (kept_by s.flights s.files) a (at_in new)) writes.nodes swept;
       };
       new_is = ap (λ (ps : List Posting). let w : World = record (world_of s) { at = at_in new; postings = ps } in w) made;
     }

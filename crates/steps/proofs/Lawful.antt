@@ -9,7 +9,7 @@ use Rattle.tree.specs.declared.nodes.Node.{Node}
 use Rattle.tree.specs.declared.nodes.Place.TheVariants.{Root, Named}
 use Rattle.tree.specs.Places.{Lookup, with_node, IsNamed, IsTree}
 use Rattle.tree.proofs.LookupLemmas.{with_same}
-use Rattle.image.specs.Law.{IsLawful, HaveReasons, ArePinsAlive}
+use Rattle.image.specs.Law.{IsLawful, HaveReasons, AreAlive}
 use Rattle.steps.specs.Swept.{IsSwept}
 use Rattle.steps.specs.Sweeping.{IsBooked, IsPruned}
 use Rattle.steps.proofs.Ordered.{born_before}
@@ -18,7 +18,7 @@ use Rattle.steps.proofs.Reasons.{HaveReasons-none, HaveReasons-some, HaveReasons
 
 -- the law is the tree, what is booked, and the reasons
 pub booked_of : (at : Lookup) (ps : List Posting) (pinned : ℕ → Bool) → IsLawful at ps pinned → IsBooked at ps pinned
-booked_of at ps pinned law = record { root = law.root; counted = law.counted; born = law.born; marks = law.marks; pins = law.pins }
+booked_of at ps pinned law = record { root = law.root; counted = law.counted; born = law.born; marks = law.marks; alive = law.alive }
 
 pub lawful_from : (at : Lookup) (ps : List Posting) (pinned : ℕ → Bool) → IsTree at → IsBooked at ps pinned → HaveReasons at pinned → IsLawful at ps pinned
 lawful_from at ps pinned tree booked reasons = record {
@@ -27,7 +27,7 @@ lawful_from at ps pinned tree booked reasons = record {
   counted = booked.counted;
   born = booked.born;
   marks = booked.marks;
-  pins = booked.pins;
+  alive = booked.alive;
   reasons = reasons;
 }
 
@@ -115,6 +115,6 @@ lawful_birth at ps pinned n y law fresh gen zero_count unmarked tree tree' =
     (HaveReasons-write one pinned n y z (n ∷ []) stood refl (HaveReasons-born at pinned n y [] fresh (HaveReasons-some at pinned [] law.reasons))))))
 
 -- more numbers are pinned, all of them alive
-pub lawful_pins : (at : Lookup) (ps : List Posting) (old new : ℕ → Bool) → IsLawful at ps old → ((m : ℕ) → old m ≡ true → new m ≡ true) → ArePinsAlive at new → IsLawful at ps new
+pub lawful_pins : (at : Lookup) (ps : List Posting) (old new : ℕ → Bool) → IsLawful at ps old → ((m : ℕ) → old m ≡ true → new m ≡ true) → AreAlive at new → IsLawful at ps new
 lawful_pins at ps old new law more pins =
     lawful_from at ps new law.tree (IsBooked-pins at ps old new pins (booked_of at ps old law)) (HaveReasons-none at new (HaveReasons-pins at old new [] more (HaveReasons-some at old [] law.reasons)))

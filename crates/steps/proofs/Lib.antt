@@ -1,4 +1,5 @@
 pub mod Standing
+mod Filing
 pub mod Staying
 pub mod Guarding
 pub mod Beginning

@@ -134,7 +134,7 @@ IsSwept-drop pinned at n x stood needless =
       gone = λ m y h none. elim (cases_eq n m) [
         | inl e ↦
             let same : x ≡ y = same_Some x y (sym (subst (λ k. at k ≡ Some x) e stood) ∙ h) in
-            subst (λ w. IsNeedless (without at n) pinned m w) same (subst (λ k. IsNeedless (without at n) pinned k x) e (record { not_root = needless.not_root; count = needless.count; unmarked = needless.unmarked; unpinned = needless.unpinned; childless = λ h'. needless.childless (fewer n h') }))
+            subst (λ w. IsNeedless (without at n) pinned m w) same (subst (λ k. IsNeedless (without at n) pinned k x) e (record { not_root = needless.not_root; count = needless.count; unmarked = needless.unmarked; unkept = needless.unkept; childless = λ h'. needless.childless (fewer n h') }))
         | inr ne ↦ absurd (none-some y (sym none ∙ (without_other at n m ne ∙ h)))
       ];
     }
@@ -145,7 +145,7 @@ IsSwept-trans pinned a b c first then = record {
   gone = λ n x h none. elim (cases_option (b n)) [
     | inl before ↦
         let was = first.gone n x h before in
-        record { not_root = was.not_root; count = was.count; unmarked = was.unmarked; unpinned = was.unpinned; childless = λ k. was.childless (k.0, k.1, (k.2.0, then.kept k.0 k.2.0 k.2.1, k.2.2)) }
+        record { not_root = was.not_root; count = was.count; unmarked = was.unmarked; unkept = was.unkept; childless = λ k. was.childless (k.0, k.1, (k.2.0, then.kept k.0 k.2.0 k.2.1, k.2.2)) }
     | inr (y, stands) ↦
         let same : y ≡ x = same_Some y x (sym (first.kept n y stands) ∙ h) in
         subst (λ w. IsNeedless c pinned n w) same (then.gone n y stands none)

@@ -1,5 +1,7 @@
 -- More room changes nothing else.
 use Rattle.std.proofs.Common.{ℕ, ◌≤◌, ◌≡◌, Bool, List, length, sym, ap, ◌∙◌, subst, arith}
+use Rattle.files.specs.Filed.{Filing, files_of}
+use Rattle.files.specs.Handles.{Files, IsFiled, Opened}
 use Rattle.flights.specs.Flying.{Flying, IsFlying}
 use Rattle.flights.specs.Listed.{InFlight, flying_of}
 use Rattle.image.specs.Law.{IsLawful}
@@ -8,23 +10,29 @@ use Rattle.ledger.specs.Postings.{Postings}
 use Rattle.tree.specs.Places.{Nodes, at_in}
 use Rattle.steps.specs.declared.state.State.{State}
 use Rattle.steps.specs.Kept.{AreProvided, IsKept, flights_in}
-use Rattle.steps.specs.World.{AreHeld, AreReady}
+use Rattle.steps.specs.Keeping.{kept_by}
+use Rattle.steps.specs.World.{AreHeld, AreReady, HaveNodes}
+use Rattle.steps.proofs.Filing.{kept_same}
 
 module _ (s : State) (kept : IsKept s) (tree : Nodes) (ledger : Postings) (flights : InFlight)
     (tree_is : tree ≡ record s.tree { room = tree.room }) (tree_room : s.tree.room ≤ tree.room)
     (made : ledger.made ≡ s.ledger.made) (limit : ledger.limit ≡ s.ledger.limit) (ledger_room : s.ledger.room ≤ ledger.room)
-    (all_is : flying_of flights ≡ record (flying_of s.flights) { room = (flying_of flights).room }) (flying : IsFlying (flying_of flights)) where
+    (all_is : flying_of flights ≡ record (flying_of s.flights) { room = (flying_of flights).room }) (flying : IsFlying (flying_of flights))
+    (files : Filing) (files_is : files_of files ≡ record (files_of s.files) { room = (files_of files).room }) (files_room : (files_of s.files).room ≤ (files_of files).room) (filed : IsFiled (files_of files)) where
   at_same : at_in s.tree ≡ at_in tree
   at_same = sym (ap at_in tree_is)
 
   all_same : {X : Type 0} → (of : Flying → X) → of (flying_of flights) ≡ of (record (flying_of s.flights) { room = (flying_of flights).room })
   all_same of = ap of all_is
 
-  pub room_kept : IsKept (record s { tree = tree; ledger = ledger; flights = flights })
+  file_same : {X : Type 0} → (of : Opened → X) → of (files_of files) ≡ of (record (files_of s.files) { room = (files_of files).room })
+  file_same of = ap of files_is
+
+  pub room_kept : IsKept (record s { tree = tree; ledger = ledger; flights = flights; files = files })
   room_kept = record {
-    law = subst (λ (ps : List Posting). IsLawful (at_in tree) ps (flying_of flights).pinned) (sym made)
-        (subst (λ at. IsLawful at s.ledger.made (flying_of flights).pinned) at_same
-        (subst (λ (pinned : ℕ → Bool). IsLawful (at_in s.tree) s.ledger.made pinned) (sym (all_same (λ all. all.pinned))) kept.law));
+    law = subst (λ (ps : List Posting). IsLawful (at_in tree) ps (kept_by flights files)) (sym made)
+        (subst (λ at. IsLawful at s.ledger.made (kept_by flights files)) at_same
+        (subst (λ (keeps : ℕ → Bool). IsLawful (at_in s.tree) s.ledger.made keeps) (sym (kept_same s.flights flights s.files files (all_same (λ all. all.pinned)) (file_same (λ all. all.opened)))) kept.law));
     flying = flying;
     held = subst (λ at. AreHeld at (flights_in (flying_of flights))) at_same (subst (λ fs. AreHeld (at_in s.tree) fs) (sym (all_same flights_in)) kept.held);
     ready = subst (λ at. AreReady at (flights_in (flying_of flights))) at_same (subst (λ fs. AreReady (at_in s.tree) fs) (sym (all_same flights_in)) kept.ready);
@@ -32,14 +40,19 @@ module _ (s : State) (kept : IsKept s) (tree : Nodes) (ledger : Postings) (fligh
     reserved = record {
       nodes = omega (arith, kept.reserved.nodes, all_same (λ all. all.nodes));
       postings = omega (arith, kept.reserved.postings, all_same (λ all. all.postings), ap (λ (t : Nodes). t.counts) tree_is);
+      files = omega (arith, kept.reserved.files, all_same (λ all. all.files), files_room);
     };
     limited = record {
       nodes = omega (arith, kept.limited.nodes, all_same (λ all. all.nodes), ap (λ (t : Nodes). t.living) tree_is);
       postings = omega (arith, kept.limited.postings, all_same (λ all. all.postings), ap (λ (t : Nodes). t.counts) tree_is, ap {B = ℕ} length made);
       flights = omega (arith, kept.limited.flights, all_same (λ all. all.many));
+      files = omega (arith, kept.limited.files, all_same (λ all. all.files), file_same (λ all. all.many));
+      handles = omega (arith, kept.limited.handles, all_same (λ all. all.files), file_same (λ all. all.last));
       node_limit = ap (λ (t : Nodes). t.limit) tree_is ∙ kept.limited.node_limit;
       posting_limit = limit ∙ kept.limited.posting_limit;
       short = kept.limited.short;
     };
     counts = kept.counts ∙ sym (ap (λ (t : Nodes). t.counts) tree_is);
+    filed = filed;
+    files = subst (λ at. HaveNodes at (files_of files).at) at_same (subst (λ (fs : Files). HaveNodes (at_in s.tree) fs) (sym (file_same (λ all. all.at))) kept.files);
   }

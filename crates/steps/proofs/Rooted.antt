@@ -166,6 +166,9 @@ module _ (s : State) (id : ℕ) (work : RecordedWork) (kept : IsKept s) (e : IsE
           postings = omega (arith, postings, e.room.postings);
           nodes_within = omega (arith, nodes, e.room.nodes_within);
           postings_within = omega (arith, postings, e.room.postings_within);
+          files = omega (arith, e.room.files);
+          files_within = omega (arith, e.room.files_within);
+          handles = omega (arith, e.room.handles);
         };
       }
 
@@ -181,6 +184,6 @@ module _ (s : State) (id : ℕ) (work : RecordedWork) (kept : IsKept s) (e : IsE
     held = work.held;
     holds = e.ready.holds;
     clear = e.clear;
-    pinned = λ n given. (are_kept (flying_of s.flights) kept.flying n).1 (record { id = id; flight = flight_of e.flight; here = ap (λ o. option_map flight_of o) e.here; pin = e.ready.pinned n given });
+    kept = λ n given. (are_kept s.flights s.files kept.flying kept.filed n).1 (inl (record { id = id; flight = flight_of e.flight; here = ap (λ o. option_map flight_of o) e.here; pin = e.ready.pinned n given }));
     not_misplaced = e.ready.placed;
   }

@@ -7,9 +7,11 @@ use Rattle.ledger.specs.declared.postings.Posting.{Posting}
 use Rattle.ledger.specs.Postings.{Postings}
 use Rattle.tree.specs.Places.{Lookup, Nodes, at_in, IsPathOf}
 use Rattle.flights.specs.declared.data.Flight.{Flight as Recorded}
+use Rattle.files.specs.Filed.{files_of}
 use Rattle.flights.specs.declared.data.Given.{Given}
 use Rattle.flights.specs.Flying.{Flying, IsFlying, Goes, HasNoneAnswered, is_working}
 use Rattle.flights.specs.Listed.{InFlight, flying_of}
+use Rattle.steps.specs.Keeping.{kept_by}
 use Rattle.steps.specs.declared.state.State.{State}
 use Rattle.steps.specs.Answers.{Answer, Settlement, entries_in}
 use Rattle.steps.specs.Entries.{TakesAllBack, untaken_of}
@@ -19,6 +21,7 @@ use Rattle.steps.specs.Swept.{IsSwept}
 use Rattle.steps.specs.Sweeping.{IsAmong, IsPruned, IsSameRest, IsNearly, IsTakenBack}
 use Rattle.steps.specs.World.{AreReady, Answered, Flight, Flights, Working, World}
 use Rattle.steps.proofs.Booked.{IsBooked-pins}
+use Rattle.steps.proofs.Filing.{cases_kept, keeps_open, keeps_pinned, kept_more, nodes_back, nodes_swept}
 use Rattle.steps.proofs.Kept.{KeepsAllPaths, held_ready, paths_written, ready_swept, ready_where}
 use Rattle.steps.proofs.Lawful.{booked_of, lawful_swept}
 use Rattle.steps.proofs.Reasons.{HaveReasons-some, HaveReasons-unpin, IsSwept-trans, IsSameRest-trans}
@@ -46,17 +49,21 @@ paths_back (Some g ∷ gs) at new ps qs (mid, ms, inr none, rest) n q leads = pa
 
 module _ (s : State) (kept : IsKept s) (flights : InFlight) (id : ℕ) (pins : List ℕ) (goes : Goes (flying_of s.flights) id pins (flying_of flights)) (law : IsFlying (flying_of flights)) where
   -- the pins that went may have been the last reasons of their nodes
-  pub taken_nearly : (numbers : List ℕ) → IsNearly (at_in s.tree) s.ledger.made (flying_of flights).pinned (numbers ++ pins)
+  pub taken_nearly : (numbers : List ℕ) → IsNearly (at_in s.tree) s.ledger.made (kept_by flights s.files) (numbers ++ pins)
   taken_nearly numbers =
-      let old = (flying_of s.flights).pinned in
-      let new = (flying_of flights).pinned in
-      let was : (m : ℕ) → new m ≡ true → old m ≡ true = λ m h. goes.pinned m ∙ or_left (new m) (list_any (λ a. a == m) pins) h in
-      let gone : (m : ℕ) → old m ≡ true → (new m ≡ true) ⊎ IsAmong m (numbers ++ pins) = λ m h. elim (or_cases (new m) (list_any (λ a. a == m) pins) (sym (goes.pinned m) ∙ h)) [
-        | inl still ↦ inl still
-        | inr left ↦ inr (among_after numbers pins m (among_any pins m left))
+      let old = kept_by s.flights s.files in
+      let new = kept_by flights s.files in
+      let pinned = (flying_of flights).pinned in
+      let was : (m : ℕ) → new m ≡ true → old m ≡ true = kept_more flights s.flights s.files (λ m h. goes.pinned m ∙ or_left (pinned m) (list_any (λ a. a == m) pins) h) in
+      let gone : (m : ℕ) → old m ≡ true → (new m ≡ true) ⊎ IsAmong m (numbers ++ pins) = λ m h. elim (cases_kept s.flights s.files m h) [
+        | inl pin ↦ elim (or_cases (pinned m) (list_any (λ a. a == m) pins) (sym (goes.pinned m) ∙ pin)) [
+          | inl still ↦ inl (keeps_pinned flights s.files m still)
+          | inr left ↦ inr (among_after numbers pins m (among_any pins m left))
+        ]
+        | inr opened ↦ inl (keeps_open flights s.files m opened)
       ] in
       record {
-        booked = IsBooked-pins (at_in s.tree) s.ledger.made old new (λ m h. kept.law.pins m (was m h)) (booked_of (at_in s.tree) s.ledger.made old kept.law);
+        booked = IsBooked-pins (at_in s.tree) s.ledger.made old new (λ m h. kept.law.alive m (was m h)) (booked_of (at_in s.tree) s.ledger.made old kept.law);
         pruned = record {
           tree = kept.law.tree;
           reasons = HaveReasons-unpin (at_in s.tree) old new [] (numbers ++ pins) gone (λ m h. absurd h) (HaveReasons-some (at_in s.tree) old [] kept.law.reasons);
@@ -67,16 +74,16 @@ module _ (s : State) (kept : IsKept s) (flights : InFlight) (id : ℕ) (pins : L
   fewer = fewer_without (flying_of s.flights) (flying_of flights) id goes.at
 
   module _ (given : List (Option Given)) (tree two new : Nodes) (ledger : Postings) (back : TakesAllBack (at_in s.tree) s.ledger.made given (at_in tree) ledger.made)
-      (nearly : IsNearly (at_in tree) ledger.made (flying_of flights).pinned (numbers_of given ++ pins)) (rest : IsTakenBack s.tree s.ledger tree ledger)
-      (swept_given : IsSwept (flying_of flights).pinned (at_in tree) (at_in two)) (swept_pins : IsSwept (flying_of flights).pinned (at_in two) (at_in new)) (rest_given : IsSameRest tree two) (rest_pins : IsSameRest two new)
-      (pruned : IsPruned (at_in new) (flying_of flights).pinned []) (counts : ℕ) where
-    swept : IsSwept (flying_of flights).pinned (at_in tree) (at_in new)
-    swept = IsSwept-trans (flying_of flights).pinned (at_in tree) (at_in two) (at_in new) swept_given swept_pins
+      (nearly : IsNearly (at_in tree) ledger.made (kept_by flights s.files) (numbers_of given ++ pins)) (rest : IsTakenBack s.tree s.ledger tree ledger)
+      (swept_given : IsSwept (kept_by flights s.files) (at_in tree) (at_in two)) (swept_pins : IsSwept (kept_by flights s.files) (at_in two) (at_in new)) (rest_given : IsSameRest tree two) (rest_pins : IsSameRest two new)
+      (pruned : IsPruned (at_in new) (kept_by flights s.files) []) (counts : ℕ) where
+    swept : IsSwept (kept_by flights s.files) (at_in tree) (at_in new)
+    swept = IsSwept-trans (kept_by flights s.files) (at_in tree) (at_in two) (at_in new) swept_given swept_pins
 
     still_ready : AreReady (at_in new) (flights_in (flying_of flights))
     still_ready =
         let all = flying_of s.flights in
-        ready_swept (at_in tree) (at_in new) (flying_of flights) law pruned.tree swept
+        ready_swept (at_in tree) (at_in new) flights s.files law kept.filed pruned.tree swept
         (fewer_ready all (flying_of flights) fewer (at_in tree)
         (ready_where (at_in s.tree) (at_in tree) (flights_in all) nearly.pruned.tree (paths_back given (at_in s.tree) (at_in tree) s.ledger.made ledger.made back) kept.ready))
 
@@ -85,21 +92,25 @@ module _ (s : State) (kept : IsKept s) (flights : InFlight) (id : ℕ) (pins : L
         let all = flying_of s.flights in
         let after = IsSameRest-trans tree two new rest_given rest_pins in
         record {
-          law = lawful_swept (at_in tree) (at_in new) ledger.made (flying_of flights).pinned nearly.booked swept pruned;
+          law = lawful_swept (at_in tree) (at_in new) ledger.made (kept_by flights s.files) nearly.booked swept pruned;
           flying = law;
           held = held_ready (at_in s.tree) (at_in new) (flights_in (flying_of flights)) still_ready (fewer_held all (flying_of flights) fewer (at_in s.tree) kept.held);
           ready = still_ready;
           provided = fewer_provided all (flying_of flights) fewer kept.provided;
-          reserved = record { nodes = omega (arith, kept.reserved.nodes, goes.nodes, rest.room, after.room); postings = omega (arith, kept.reserved.postings, goes.postings, rest.posting_room, after.counts) };
+          reserved = record { nodes = omega (arith, kept.reserved.nodes, goes.nodes, rest.room, after.room); postings = omega (arith, kept.reserved.postings, goes.postings, rest.posting_room, after.counts); files = omega (arith, kept.reserved.files, goes.files) };
           limited = record {
             nodes = omega (arith, kept.limited.nodes, goes.nodes, rest.living, after.fewer);
             postings = omega (arith, kept.limited.postings, goes.postings, rest.postings, after.counts);
             flights = omega (arith, kept.limited.flights, goes.many);
+            files = omega (arith, kept.limited.files, goes.files);
+            handles = omega (arith, kept.limited.handles, goes.files);
             node_limit = after.limit ∙ (rest.limit ∙ kept.limited.node_limit);
             posting_limit = rest.posting_limit ∙ kept.limited.posting_limit;
             short = kept.limited.short;
           };
           counts = same ∙ sym after.counts;
+          filed = kept.filed;
+          files = nodes_swept flights s.files kept.filed (at_in tree) (at_in new) swept (nodes_back (files_of s.files).at given (at_in s.tree) (at_in tree) s.ledger.made ledger.made back kept.files);
         }
 
     is_answered : IsAnswered (flights_in (flying_of s.flights)) id
@@ -110,7 +121,7 @@ module _ (s : State) (kept : IsKept s) (flights : InFlight) (id : ℕ) (pins : L
     ends_for all taken lost some = record {
       mid = at_in tree;
       back = subst (λ gs. TakesAllBack (at_in s.tree) s.ledger.made gs (at_in tree) ledger.made) some back;
-      sweeps = record { kept = (flying_of flights).pinned; keeps = are_kept (flying_of flights) law; swept = swept };
+      sweeps = record { kept = (kept_by flights s.files); keeps = are_kept flights s.files law kept.filed; swept = swept };
       new_is = ap (λ (fs : Flights). let w : World = record (world_of s) { at = at_in new; postings = ledger.made; flights = fs } in w) (flights_without (flying_of s.flights) (flying_of flights) id goes.at);
     }
 

@@ -27,6 +27,6 @@ named_born at n y fresh m p name h = (h.0, with_other at n y m (λ e. none-some 
 
 pub stays_pinned : (pinned : ℕ → Bool) (old new : Lookup) (n : ℕ) (x : Node) → IsSwept pinned old new → old n ≡ Some x → pinned n ≡ true → new n ≡ Some x
 stays_pinned pinned old new n x swept stood pin = elim (cases_option (new n)) [
-  | inl none ↦ absurd (true≢false (sym pin ∙ (swept.gone n x stood none).unpinned))
+  | inl none ↦ absurd (true≢false (sym pin ∙ (swept.gone n x stood none).unkept))
   | inr (y, stands) ↦ stands ∙ ap (λ (w : Node). Some w) (same_Some y x (sym (swept.kept n y stands) ∙ stood))
 ]

@@ -3,6 +3,8 @@ use Rattle.std.proofs.Common.{ℕ, ◌≡◌, ◌||◌, ◌⊎◌, Bool, true, r
 use Rattle.std.specs.Prelude.{option_map}
 use Rattle.std.proofs.lemmas.Bool.{or_cases, or_left}
 use Rattle.holds.specs.declared.held.Held.{Held}
+use Rattle.files.specs.Filed.{files_of}
+use Rattle.files.specs.Handles.{Opened}
 use Rattle.flights.specs.declared.data.Flight.{Flight as Recorded}
 use Rattle.flights.specs.declared.data.Stage.TheVariants as recorded
 use Rattle.flights.specs.declared.data.Want.{Want}
@@ -12,7 +14,7 @@ use Rattle.flights.specs.Flying as flying
 use Rattle.flights.specs.Flying.{Adds, Flying, IsFlying, nodes_promised, postings_promised, pins_number}
 use Rattle.flights.specs.Listed.{InFlight, flying_of}
 use Rattle.flights.proofs.ById.{Adds_found}
-use Rattle.image.specs.Law.{ArePinsAlive, IsLawful, IsGivenPath}
+use Rattle.image.specs.Law.{AreAlive, IsLawful, IsGivenPath}
 use Rattle.ledger.specs.declared.postings.Posting.{Posting}
 use Rattle.tree.specs.Places.{Lookup, Nodes, at_in, IsAlive, IsTree}
 use Rattle.tree.proofs.Climbing.{climbs_alive}
@@ -26,25 +28,27 @@ use Rattle.wants.proofs.RowLemmas.{are_rows}
 use Rattle.steps.specs.declared.data.Limits.{Limits}
 use Rattle.steps.specs.declared.state.State.{State}
 use Rattle.steps.specs.Beginning.{Allows, IsRoomForOne, IsSameButRoom}
+use Rattle.steps.specs.Keeping.{kept_by}
 use Rattle.steps.specs.Kept.{AreProvided, IsKept, IsLimited, flight_of, flights_in, work_of, world_of}
 use Rattle.steps.specs.Steps.{GoesOn, HoldsUp, MayBegin}
 use Rattle.steps.specs.World.{AreHeld, AreReady, Flight, Flights, IsAtWork, IsReady, Work, World, with_entry}
 use Rattle.steps.proofs.Apart.{AreApart, at_work_more, apart_more, held_up_recorded, known_held}
 use Rattle.steps.proofs.Beginning.{begun_ready}
+use Rattle.steps.proofs.Filing.{cases_kept, keeps_open, keeps_pinned, kept_more}
 use Rattle.steps.proofs.Staying.{given_path}
 use Rattle.steps.proofs.Viewed.{flights_with, in_any_of}
 
 -- ---- more pins
 
 -- more numbers are pinned, all of them alive
-lawful_pins : (at : Lookup) (ps : List Posting) (old new : ℕ → Bool) → IsLawful at ps old → ((n : ℕ) → old n ≡ true → new n ≡ true) → ArePinsAlive at new → IsLawful at ps new
+lawful_pins : (at : Lookup) (ps : List Posting) (old new : ℕ → Bool) → IsLawful at ps old → ((n : ℕ) → old n ≡ true → new n ≡ true) → AreAlive at new → IsLawful at ps new
 lawful_pins at ps old new law more alive = record {
   tree = law.tree;
   root = law.root;
   counted = law.counted;
   born = law.born;
   marks = law.marks;
-  pins = alive;
+  alive = alive;
   reasons = λ n x here other. elim (law.reasons n x here other) [
     | inl count ↦ inl count
     | inr (inl mark) ↦ inr (inl mark)
@@ -168,19 +172,27 @@ module _ (s mid : State) (unique id : ℕ) (plan : Plan) (is : IsPlan (at_in s.t
     pinned_now : (n : ℕ) → (flying_of flights).pinned n ≡ ((flying_of mid.flights).pinned n || pins_number begun n)
     pinned_now n = ap (λ (g : ℕ → Bool). g n) adds.pinned
 
-    all_lawful : IsLawful (at_in mid.tree) mid.ledger.made (flying_of flights).pinned
-    all_lawful = lawful_pins (at_in mid.tree) mid.ledger.made (flying_of mid.flights).pinned (flying_of flights).pinned kept.law
-        (λ n h. pinned_now n ∙ or_left ((flying_of mid.flights).pinned n) (pins_number begun n) h)
-        (λ n h. elim (or_cases ((flying_of mid.flights).pinned n) (pins_number begun n) (sym (pinned_now n) ∙ h)) [
-          | inl was ↦ kept.law.pins n was
-          | inr here ↦ new_alive n here
+    all_lawful : IsLawful (at_in mid.tree) mid.ledger.made (kept_by flights mid.files)
+    all_lawful = lawful_pins (at_in mid.tree) mid.ledger.made (kept_by mid.flights mid.files) (kept_by flights mid.files) kept.law
+        (kept_more mid.flights flights mid.files (λ n h. pinned_now n ∙ or_left ((flying_of mid.flights).pinned n) (pins_number begun n) h))
+        (λ n h. elim (cases_kept flights mid.files n h) [
+          | inl pin ↦ elim (or_cases ((flying_of mid.flights).pinned n) (pins_number begun n) (sym (pinned_now n) ∙ pin)) [
+            | inl was ↦ kept.law.alive n (keeps_pinned mid.flights mid.files n was)
+            | inr here ↦ new_alive n here
+          ]
+          | inr opened ↦ kept.law.alive n (keeps_open mid.flights mid.files n opened)
         ])
+
+    same_file : {X : Type 0} → (of : Opened → X) → of (files_of mid.files) ≡ of (record (files_of s.files) { room = (files_of mid.files).room })
+    same_file of = ap of same.files
 
     all_limited : IsLimited (record mid { flights = flights })
     all_limited = record {
       nodes = omega (arith, adds.nodes, allows.nodes, ap (λ (t : Nodes). t.living) same.tree, ap (λ (x : Flying). x.nodes) same.flights, ap (λ (l : Limits). l.nodes) same.limits);
       postings = omega (arith, adds.postings, allows.postings, ap {B = ℕ} length same.made, ap (λ (t : Nodes). t.counts) same.tree, ap (λ (x : Flying). x.postings) same.flights, ap (λ (l : Limits). l.postings) same.limits);
       flights = omega (arith, adds.many, allows.flights, ap (λ (x : Flying). x.many) same.flights, ap (λ (l : Limits). l.flights) same.limits);
+      files = omega (arith, adds.files, allows.handles.files, same_file (λ x. x.many), ap (λ (x : Flying). x.files) same.flights, ap (λ (l : Limits). l.files) same.limits);
+      handles = omega (arith, adds.files, allows.handles.handles, same_file (λ x. x.last), ap (λ (x : Flying). x.files) same.flights);
       node_limit = kept.limited.node_limit;
       posting_limit = kept.limited.posting_limit;
       short = kept.limited.short;
@@ -193,7 +205,9 @@ module _ (s mid : State) (unique id : ℕ) (plan : Plan) (is : IsPlan (at_in s.t
       held = all_held;
       ready = all_ready;
       provided = all_provided;
-      reserved = record { nodes = omega (arith, adds.nodes, room.nodes); postings = omega (arith, adds.postings, room.postings) };
+      reserved = record { nodes = omega (arith, adds.nodes, room.nodes); postings = omega (arith, adds.postings, room.postings); files = omega (arith, adds.files, room.files) };
       limited = all_limited;
       counts = kept.counts;
+      filed = kept.filed;
+      files = kept.files;
     }

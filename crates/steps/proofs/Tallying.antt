@@ -2,11 +2,13 @@
 use Rattle.std.proofs.Common.{ℕ, ◌≡◌, Option, Some, None, refl, sym, ap, ◌∙◌}
 use Rattle.std.specs.Prelude.{is_some, option_map, sum_by, unwrap_or}
 use mathlib.Core.Path.{fun_ext}
+use Rattle.files.specs.Filed.{files_of}
+use Rattle.files.specs.Handles.{IsFiled}
 use Rattle.flights.specs.declared.data.Flight.{Flight as Recorded}
 use Rattle.flights.specs.declared.data.Stage.{Stage as Recording}
 use Rattle.flights.specs.declared.data.Stage.TheVariants as recorded
 use Rattle.flights.specs.declared.data.Promise.{Promise}
-use Rattle.flights.specs.Flying.{Flying, IsTallied, nodes_promised, postings_promised}
+use Rattle.flights.specs.Flying.{Flying, IsTallied, files_promised, nodes_promised, postings_promised}
 use Rattle.flights.specs.Listed.{flying_of}
 use Rattle.sums.specs.Sum.{IsSum}
 use Rattle.tree.specs.Places.{IsCensus, at_in}
@@ -41,8 +43,12 @@ module _ (all : Flying) (provided : AreProvided all) where
   same_postings id f here (recorded.Working work) is = ap (λ (p : Promise). p.postings) (provided id f work here is).promise
   same_postings id f here recorded.Answered is = refl
 
-pub tallied : (s : State) → IsCensus (at_in s.tree) s.tree.living s.tree.counts → IsTallied (flying_of s.flights) → AreProvided (flying_of s.flights) → IsTally (world_of s) (tally_of s)
-tallied s census totals provided =
+  same_files : (id : ℕ) (f : Recorded) → all.at id ≡ Some f → (st : Recording) → f.stage ≡ st → files_promised st ≡ (promised_to (stage_of st)).files
+  same_files id f here (recorded.Working work) is = ap (λ (p : Promise). p.files) (provided id f work here is).promise
+  same_files id f here recorded.Answered is = refl
+
+pub tallied : (s : State) → IsCensus (at_in s.tree) s.tree.living s.tree.counts → IsTallied (flying_of s.flights) → AreProvided (flying_of s.flights) → IsFiled (files_of s.files) → IsTally (world_of s) (tally_of s)
+tallied s census totals provided filed =
     let all = flying_of s.flights in
     record {
       living = census.living_is;
@@ -50,4 +56,6 @@ tallied s census totals provided =
       flights = sum_seen all.at flight_of (λ f. 1) (λ f. 1) all.many (λ k x here. refl) totals.many;
       nodes = sum_seen all.at flight_of (λ f. nodes_promised f.stage) (λ f. (promised_to f.stage).nodes) all.nodes (λ k x here. same_nodes all provided k x here x.stage refl) totals.nodes;
       postings = sum_seen all.at flight_of (λ f. postings_promised f.stage) (λ f. (promised_to f.stage).postings) all.postings (λ k x here. same_postings all provided k x here x.stage refl) totals.postings;
+      opening = sum_seen all.at flight_of (λ f. files_promised f.stage) (λ f. (promised_to f.stage).files) all.files (λ k x here. same_files all provided k x here x.stage refl) totals.files;
+      files = filed.many;
     }

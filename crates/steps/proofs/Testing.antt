@@ -1,5 +1,6 @@
 -- What the tests of a plan decide.
-use Rattle.std.proofs.Common.{ℤ, ◌+◌, ◌<◌, ◌≡◌, length, sym, subst, inl, inr, arith}
+use Rattle.std.proofs.Common.{ℤ, ◌+◌, ◌^◌, ◌<◌, ◌≤◌, ◌≡◌, length, sym, subst, inl, inr, arith}
+use Rattle.files.specs.Filed.{files_of}
 use Rattle.flights.specs.declared.data.Promise.{Promise}
 use Rattle.flights.specs.declared.data.Want.{Want}
 use Rattle.flights.specs.Flying as flying
@@ -20,17 +21,20 @@ use Rattle.steps.proofs.Apart.{held_up_recorded, held_up_same, held_up_seen}
 
 module _ (s : State) (p : Promise) where
   room_of : Allows s p → HasRoom (world_of s) (tally_of s) p
-  room_of allows = record { nodes = allows.nodes; postings = allows.postings }
+  room_of allows = record { nodes = allows.nodes; postings = allows.postings; files = allows.handles.files; handles = allows.handles.handles }
 
   no_room : IsTooMuch s p → HasRoom (world_of s) (tally_of s) p → ⊥
   no_room (inl much) room = omega (arith, room.nodes)
-  no_room (inr much) room = omega (arith, room.postings)
+  no_room (inr (inl much)) room = omega (arith, room.postings)
+  no_room (inr (inr none)) room = none (record { files = room.files; handles = room.handles })
 
   room_from : (IsTooMuch s p → ⊥) → HasRoom (world_of s) (tally_of s) p
   room_from fits =
       let nodes : s.limits.nodes < s.tree.living + (flying_of s.flights).nodes + p.nodes → ⊥ = λ h. fits (inl h) in
-      let postings : s.limits.postings < length s.ledger.made + s.tree.counts + (flying_of s.flights).postings + p.postings → ⊥ = λ h. fits (inr h) in
-      record { nodes = omega (arith, nodes); postings = omega (arith, postings) }
+      let postings : s.limits.postings < length s.ledger.made + s.tree.counts + (flying_of s.flights).postings + p.postings → ⊥ = λ h. fits (inr (inl h)) in
+      let files : s.limits.files < (files_of s.files).many + (flying_of s.flights).files + p.files → ⊥ = λ less. fits (inr (inr (λ h. let enough = h.files in omega arith))) in
+      let handles : 2 ^ 64 ≤ (files_of s.files).last + (flying_of s.flights).files + p.files → ⊥ = λ over. fits (inr (inr (λ h. let enough = h.handles in omega arith))) in
+      record { nodes = omega (arith, nodes); postings = omega (arith, postings); files = omega (arith, files); handles = omega (arith, handles) }
 
 -- ---- tests of a plan
 

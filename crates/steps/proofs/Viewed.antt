@@ -1,10 +1,13 @@
 -- Requests in flight as the world sees them, and what is kept where some of them are no longer worked on.
-use Rattle.std.proofs.Common.{ℕ, ◌≡◌, ◌==◌, Bool, true, false, if◌then◌else◌, List, [], ◌∷◌, Contains, Option, Some, None, refl, sym, ap, ◌∙◌, subst, ◌⊎◌, inl, inr}
+use Rattle.std.proofs.Common.{ℕ, ◌≡◌, ◌↔◌, ◌==◌, Bool, true, false, if◌then◌else◌, List, [], ◌∷◌, Contains, Option, Some, None, refl, sym, ap, ◌∙◌, subst, ◌⊎◌, inl, inr}
 use Rattle.std.specs.Prelude.{option_map}
 use Rattle.std.specs.List.{list_any}
 use Rattle.std.proofs.lemmas.Bool.{or_cases, or_left, or_right, true≢false, eqb-true, eq-eqb, cases_eq, ne_eqb, cond-true, cond-false}
 use Rattle.std.proofs.lemmas.Option.{none-some, same_Some}
 use mathlib.Core.Path.{fun_ext}
+use Rattle.files.specs.Filed.{Filing, files_of}
+use Rattle.files.specs.Handles.{IsFiled}
+use Rattle.flights.specs.Listed.{InFlight, flying_of}
 use Rattle.flights.specs.declared.data.Flight.{Flight as Recorded}
 use Rattle.flights.specs.declared.data.Stage.{Stage as Recording}
 use Rattle.flights.specs.declared.data.Stage.TheVariants as recorded
@@ -12,7 +15,9 @@ use Rattle.flights.specs.declared.data.Work.{Work as RecordedWork}
 use Rattle.flights.specs.Flying.{Flights as Recordeds, Flying, IsFlying, with_flight, without_flight}
 use Rattle.tree.specs.Places.{Lookup}
 use Rattle.steps.specs.Kept.{AreProvided, flight_of, flights_in, stage_of, work_of}
-use Rattle.steps.specs.World.{AreHeld, AreKept, AreReady, Flight, IsAtWork, Work, Working, with_entry}
+use Rattle.steps.specs.World.{AreHeld, AreKept, AreReady, Flight, IsAtWork, IsPinned, Work, Working, with_entry}
+use Rattle.steps.specs.Keeping.{kept_by}
+use Rattle.steps.proofs.Filing.{cases_kept, keeps_open, keeps_pinned}
 use Rattle.wants.proofs.Members.{cases_in, first_in, later_in, none_in}
 
 -- ---- pins
@@ -64,11 +69,24 @@ pub at_work : (all : Flying) (id : ℕ) (f : Recorded) (work : RecordedWork) →
 at_work all id f work here working = record { here = ap (λ o. option_map flight_of o) here; working = ap stage_of working }
 
 -- the numbers that are pinned are those that a request pins
-pub are_kept : (all : Flying) → IsFlying all → AreKept (flights_in all) all.pinned
-are_kept all flying n = (
+are_pinned : (all : Flying) → IsFlying all → (n : ℕ) → (all.pinned n ≡ true) ↔ IsPinned (flights_in all) n
+are_pinned all flying n = (
   λ h. let it = (flying.pins n).0 h in record { id = it.0; flight = flight_of it.1; here = ap (λ o. option_map flight_of o) it.2; pin = in_any_of it.1.pins.numbers n it.3 },
   λ h. let found = found_in (all.at h.id) h.flight h.here in
       (flying.pins n).1 (h.id, found.0, found.1, any_of found.0.pins.numbers n (subst (λ (f : Flight). Contains f.pins n) (sym found.2) h.pin)),
+)
+
+-- the numbers that are kept are those that a request pins or a file is open of
+pub are_kept : (flights : InFlight) (files : Filing) → IsFlying (flying_of flights) → IsFiled (files_of files) → AreKept (flights_in (flying_of flights)) (files_of files).at (kept_by flights files)
+are_kept flights files flying filed n = (
+  λ h. elim (cases_kept flights files n h) [
+    | inl pin ↦ inl ((are_pinned (flying_of flights) flying n).0 pin)
+    | inr opened ↦ inr ((filed.opens n).0 opened)
+  ],
+  λ h. elim h [
+    | inl pin ↦ keeps_pinned flights files n ((are_pinned (flying_of flights) flying n).1 pin)
+    | inr opened ↦ keeps_open flights files n ((filed.opens n).1 opened)
+  ],
 )
 
 -- ---- all requests

@@ -20,6 +20,7 @@ use Rattle.steps.specs.declared.acts.Entries.{Entries}
 use Rattle.steps.specs.declared.acts.Entries.TheVariants.{Nothing, One, Page}
 use Rattle.steps.specs.declared.state.State.{State}
 use Rattle.steps.specs.Entries.{Enters}
+use Rattle.steps.specs.Keeping.{kept_by}
 use Rattle.steps.specs.Kept.{IsRoomFor, flight_of, flights_in, work_of}
 use Rattle.steps.specs.Laws.{IsPlaced}
 use Rattle.steps.specs.Steps.{Alters, EntersAll, HoldsUp, IsOwned, Sweeps, answered}
@@ -91,7 +92,7 @@ pub record MayFill (s : State) (id : ℕ) (keys : List Key) : Type 0 where
   pub answered : flight.stage ≡ recorded.Answered
   pub pin_room : length keys ≤ flight.pins.room
   pub leads : (key : Key) → Contains keys key → Leads (at_in s.tree) key.parent
-  pub room : IsRoomFor s (record { nodes = length keys; postings = 3 * length keys })
+  pub room : IsRoomFor s (record { nodes = length keys; postings = 3 * length keys; files = 0 })
 
 -- the request named that node alone, by its path
 pub record LeadsTo (at : Lookup) (given : List GivenPath) (number : ℕ) : Type 0 where
@@ -108,7 +109,7 @@ pub record MayAlter (s : State) (change : Change) : Type 0 where
   pub held : Held
   pub holds : Holds (at_in s.tree) demand held
   pub clear : HoldsUp (flights_in (flying_of s.flights)) held → ⊥
-  pub pinned : (n : ℕ) → Contains demand.given n → (flying_of s.flights).pinned n ≡ true
+  pub kept : (n : ℕ) → Contains demand.given n → kept_by s.flights s.files n ≡ true
   pub not_misplaced : (e : ℤ) → IsMisplaced (at_in s.tree) change e → ⊥
 
 -- ---- what it does

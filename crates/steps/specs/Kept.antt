@@ -1,5 +1,7 @@
 -- The parts of a table as a world, and what holds of the parts.
 use Rattle.std.specs.Prelude.{ℕ, ◌+◌, ◌^◌, ◌<◌, ◌≤◌, ◌≡◌, Some, length, option_map}
+use Rattle.files.specs.Filed.{files_of}
+use Rattle.files.specs.Handles.{IsFiled, Opened}
 use Rattle.flights.specs.declared.data.Flight.{Flight as Recorded}
 use Rattle.flights.specs.declared.data.Promise.{Promise}
 use Rattle.flights.specs.declared.data.Stage.{Stage as Recording}
@@ -12,7 +14,8 @@ use Rattle.ledger.specs.Postings.{Postings}
 use Rattle.tree.specs.Places.{Nodes, at_in}
 use Rattle.wants.specs.Plans.{IsProvided, row_in}
 use Rattle.steps.specs.declared.state.State.{State}
-use Rattle.steps.specs.World.{AreHeld, AreReady, Answered, Flight, Flights, Stage, Tally, Work, Working, World}
+use Rattle.steps.specs.Keeping.{kept_by}
+use Rattle.steps.specs.World.{AreHeld, AreReady, Answered, Flight, Flights, HaveNodes, Stage, Tally, Work, Working, World}
 
 -- ---- the parts as a world
 
@@ -35,6 +38,9 @@ world_of s = record {
   postings = s.ledger.made;
   flights = flights_in (flying_of s.flights);
   limits = s.limits;
+  files = (files_of s.files).at;
+  counter = s.counter;
+  last_handle = (files_of s.files).last;
 }
 
 -- the totals that run along
@@ -43,7 +49,8 @@ tally_of s = record {
   living = s.tree.living;
   counts = s.tree.counts;
   flights = (flying_of s.flights).many;
-  promised = record { nodes = (flying_of s.flights).nodes; postings = (flying_of s.flights).postings };
+  promised = record { nodes = (flying_of s.flights).nodes; postings = (flying_of s.flights).postings; files = (flying_of s.flights).files };
+  files = (files_of s.files).many;
 }
 
 -- ---- what holds of the parts
@@ -53,30 +60,35 @@ abbrev pub AreProvided : Flying → Type 0
 AreProvided all = (id : ℕ) (f : Recorded) (work : RecordedWork) → all.at id ≡ Some f → f.stage ≡ recorded.Working work → IsProvided work f.pins
 
 -- there is room for all that may still come, so that only a begin takes memory
-pub record IsReserved (tree : Nodes) (ledger : Postings) (flying : Flying) : Type 0 where
+pub record IsReserved (tree : Nodes) (ledger : Postings) (flying : Flying) (filed : Opened) : Type 0 where
   pub nodes : flying.nodes ≤ tree.room
   pub postings : tree.counts + flying.postings ≤ ledger.room
+  pub files : flying.files ≤ filed.room
 
 -- what stands and what is promised keeps within the limits
 pub record IsLimited (s : State) : Type 0 where
   pub nodes : s.tree.living + (flying_of s.flights).nodes ≤ s.limits.nodes
   pub postings : length s.ledger.made + s.tree.counts + (flying_of s.flights).postings ≤ s.limits.postings
   pub flights : (flying_of s.flights).many ≤ s.limits.flights
+  pub files : (files_of s.files).many + (flying_of s.flights).files ≤ s.limits.files
+  pub handles : (files_of s.files).last + (flying_of s.flights).files < 2 ^ 64
   -- each part knows its limit, and the limits fit their type
   pub node_limit : s.tree.limit ≡ s.limits.nodes
   pub posting_limit : s.ledger.limit ≡ s.limits.postings
-  pub short : (s.limits.nodes < 2 ^ 64) × (s.limits.postings < 2 ^ 64)
+  pub short : (s.limits.nodes < 2 ^ 64) × (s.limits.postings < 2 ^ 64) × (s.limits.files < 2 ^ 64)
 
 -- the parts fit each other
 pub record IsKept (s : State) : Type 0 where
-  pub law : IsLawful (at_in s.tree) s.ledger.made (flying_of s.flights).pinned
+  pub law : IsLawful (at_in s.tree) s.ledger.made (kept_by s.flights s.files)
   pub flying : IsFlying (flying_of s.flights)
   pub held : AreHeld (at_in s.tree) (flights_in (flying_of s.flights))
   pub ready : AreReady (at_in s.tree) (flights_in (flying_of s.flights))
   pub provided : AreProvided (flying_of s.flights)
-  pub reserved : IsReserved s.tree s.ledger (flying_of s.flights)
+  pub reserved : IsReserved s.tree s.ledger (flying_of s.flights) (files_of s.files)
   pub limited : IsLimited s
   pub counts : s.counts ≡ s.tree.counts
+  pub filed : IsFiled (files_of s.files)
+  pub files : HaveNodes (at_in s.tree) (files_of s.files).at
 
 -- beside what is promised to others there is room for this promise
 pub record IsRoomFor (s : State) (promise : Promise) : Type 0 where
@@ -84,3 +96,6 @@ pub record IsRoomFor (s : State) (promise : Promise) : Type 0 where
   pub postings : s.tree.counts + (flying_of s.flights).postings + promise.postings ≤ s.ledger.room
   pub nodes_within : s.tree.living + (flying_of s.flights).nodes + promise.nodes ≤ s.limits.nodes
   pub postings_within : length s.ledger.made + s.tree.counts + (flying_of s.flights).postings + promise.postings ≤ s.limits.postings
+  pub files : (flying_of s.flights).files + promise.files ≤ (files_of s.files).room
+  pub files_within : (files_of s.files).many + (flying_of s.flights).files + promise.files ≤ s.limits.files
+  pub handles : (files_of s.files).last + (flying_of s.flights).files + promise.files < 2 ^ 64

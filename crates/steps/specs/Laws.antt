@@ -1,5 +1,6 @@
 -- What is proved of the steps, whatever the want.
 use Rattle.std.specs.Prelude.{ℕ, ◌≡◌, Bool, List, Option, None, Contains, ◌++◌}
+use Rattle.files.specs.Handles.{Files}
 use Rattle.flights.specs.declared.data.Given.{Given}
 use Rattle.flights.specs.declared.data.Want.{Want}
 use Rattle.holds.specs.declared.held.Held.{Held}
@@ -48,8 +49,8 @@ AreEntriesHarmless = (flights owners : Flights) (old new : Lookup) (ps qs : List
     → EntersAll owners old ps keys found given new qs → LeavesWork old new flights
 
 abbrev pub AreSweepsHarmless : Type 0
-AreSweepsHarmless = (flights : Flights) (old new : Lookup) (kept : ℕ → Bool) → IsTree new
-    → AreKept flights kept → IsSwept kept old new → LeavesWork old new flights
+AreSweepsHarmless = (flights : Flights) (files : Files) (old new : Lookup) (kept : ℕ → Bool) → IsTree new
+    → AreKept flights files kept → IsSwept kept old new → LeavesWork old new flights
 
 -- so does the end of a request's work, whatever its want and its outcome
 abbrev pub AreEndsHarmless : Type 0

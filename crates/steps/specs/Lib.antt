@@ -1,6 +1,7 @@
 pub mod Answers
 pub mod World
 pub mod Swept
+pub mod Keeping
 pub mod Entries
 pub mod Steps
 pub mod Kept

@@ -27,10 +27,10 @@ use Rattle.steps.specs.World.{AreKept, Answered, Flight, Flights, HasRoom, IsAtW
 abbrev pub gained : World → World → List Posting
 gained old new = drop (length old.postings) new.postings
 
--- the new nodes are these, less those that no request keeps any more
+-- the new nodes are these, less those that no request and no open file keeps any more
 pub record Sweeps (mid : Lookup) (new : World) : Type 0 where
   pub kept : ℕ → Bool
-  pub keeps : AreKept new.flights kept
+  pub keeps : AreKept new.flights new.files kept
   pub swept : IsSwept kept mid new.at
 
 -- ---- forget
@@ -62,7 +62,7 @@ pub record IsHeldUp (w : World) (d : Demand) : Type 0 where
   pub holds : Holds w.at d held
   pub up : HoldsUp w.flights held
 
--- with what is promised, the nodes or the postings would pass their limit
+-- with what is promised, the nodes, the postings, the open files or the handles would pass their limit
 pub record IsFull (w : World) (d : Demand) : Type 0 where
   pub tally : Tally
   pub tallied : IsTally w tally

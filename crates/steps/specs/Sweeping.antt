@@ -7,37 +7,37 @@ use Rattle.tree.specs.declared.nodes.Place.TheVariants.{Root, Named, Cut}
 use Rattle.tree.specs.Places.{Lookup, Nodes, at_in, IsNamed, IsTree}
 use Rattle.ledger.specs.Postings.{Postings}
 use Rattle.ledger.specs.declared.postings.Posting.{Posting}
-use Rattle.image.specs.Law.{HasPlainRoot, IsCounted, IsBornInOrder, AreMarksNamed, ArePinsAlive, HasReason}
+use Rattle.image.specs.Law.{HasPlainRoot, IsCounted, IsBornInOrder, AreMarksNamed, AreAlive, HasReason}
 
 abbrev pub IsAmong : ℕ → List ℕ → Type 0
 IsAmong n [] = ⊥
 IsAmong n (b ∷ bs) = (n ≡ b) ⊎ IsAmong n bs
 
--- what the law says of nodes, ledger and pins, but for the tree and the reasons
-pub record IsBooked (at : Lookup) (ps : List Posting) (pinned : ℕ → Bool) : Type 0 where
+-- what the law says of nodes, ledger and what is kept, but for the tree and the reasons
+pub record IsBooked (at : Lookup) (ps : List Posting) (kept : ℕ → Bool) : Type 0 where
   pub root : HasPlainRoot at ps
   pub counted : IsCounted at ps
   pub born : IsBornInOrder at ps
   pub marks : AreMarksNamed at
-  pub pins : ArePinsAlive at pinned
+  pub alive : AreAlive at kept
 
 -- each node but the root has a reason, those that are left out aside
 abbrev pub HaveReasonsBut : Lookup → (ℕ → Bool) → List ℕ → Type 0
-HaveReasonsBut at pinned but = (n : ℕ) (x : Node) → at n ≡ Some x → n ≢ 1 → (IsAmong n but → ⊥) → HasReason at pinned n x
+HaveReasonsBut at kept but = (n : ℕ) (x : Node) → at n ≡ Some x → n ≢ 1 → (IsAmong n but → ⊥) → HasReason at kept n x
 
 -- each node but the root has a reason, those aside that are cut and whose number is 0 or not below that one
-pub record HaveReasonsBelow (at : Lookup) (pinned : ℕ → Bool) (bound : ℕ) : Type 0 where
-  pub reasons : (n : ℕ) (x : Node) → at n ≡ Some x → n ≢ 1 → (x.place ≡ Cut → (0 < n) × (n < bound)) → HasReason at pinned n x
+pub record HaveReasonsBelow (at : Lookup) (kept : ℕ → Bool) (bound : ℕ) : Type 0 where
+  pub reasons : (n : ℕ) (x : Node) → at n ≡ Some x → n ≢ 1 → (x.place ≡ Cut → (0 < n) × (n < bound)) → HasReason at kept n x
 
 -- the nodes are a tree in which all have a reason, those that are left out aside
-pub record IsPruned (at : Lookup) (pinned : ℕ → Bool) (but : List ℕ) : Type 0 where
+pub record IsPruned (at : Lookup) (kept : ℕ → Bool) (but : List ℕ) : Type 0 where
   pub tree : IsTree at
-  pub reasons : HaveReasonsBut at pinned but
+  pub reasons : HaveReasonsBut at kept but
 
 -- the law, but that some nodes may lack a reason
-pub record IsNearly (at : Lookup) (ps : List Posting) (pinned : ℕ → Bool) (but : List ℕ) : Type 0 where
-  pub booked : IsBooked at ps pinned
-  pub pruned : IsPruned at pinned but
+pub record IsNearly (at : Lookup) (ps : List Posting) (kept : ℕ → Bool) (but : List ℕ) : Type 0 where
+  pub booked : IsBooked at ps kept
+  pub pruned : IsPruned at kept but
 
 -- the number that a place is under
 abbrev pub parent_in : Place → Option ℕ

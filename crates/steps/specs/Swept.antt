@@ -4,14 +4,14 @@ use Rattle.tree.specs.declared.nodes.Node.{Node}
 use Rattle.tree.specs.Places.{Lookup, HasChild}
 
 -- nothing keeps the node
-pub record IsNeedless (at : Lookup) (pinned : ℕ → Bool) (n : ℕ) (x : Node) : Type 0 where
+pub record IsNeedless (at : Lookup) (kept_alive : ℕ → Bool) (n : ℕ) (x : Node) : Type 0 where
   pub not_root : n ≡ 1 → ⊥
   pub count : x.count ≡ 0
   pub unmarked : x.hidden ≡ false
-  pub unpinned : pinned n ≡ false
+  pub unkept : kept_alive n ≡ false
   pub childless : HasChild at n → ⊥
 
 -- the same nodes, less some that nothing keeps any more
-pub record IsSwept (pinned : ℕ → Bool) (old new : Lookup) : Type 0 where
+pub record IsSwept (kept_alive : ℕ → Bool) (old new : Lookup) : Type 0 where
   pub kept : (n : ℕ) (x : Node) → new n ≡ Some x → old n ≡ Some x
-  pub gone : (n : ℕ) (x : Node) → old n ≡ Some x → new n ≡ None → IsNeedless new pinned n x
+  pub gone : (n : ℕ) (x : Node) → old n ≡ Some x → new n ≡ None → IsNeedless new kept_alive n x

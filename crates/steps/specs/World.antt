@@ -1,14 +1,16 @@
 -- All that a table keeps, and the law of it. No number stands here that the rest already fixes: what the limits are judged
 -- by is added up over what stands.
-use Rattle.std.specs.Prelude.{ℕ, ℤ, ◌+◌, ◌≤◌, ◌≡◌, ◌≢◌, ◌==◌, ◌↔◌, ◌⊎◌, Bool, true, if◌then◌else◌, List, [], Option, Some, None, All, Contains, length}
+use Rattle.std.specs.Prelude.{ℕ, ℤ, ◌+◌, ◌^◌, ◌<◌, ◌≤◌, ◌≡◌, ◌≢◌, ◌==◌, ◌↔◌, ◌⊎◌, Bool, true, if◌then◌else◌, List, [], Option, Some, None, All, Contains, length}
 use Rattle.holds.specs.declared.held.Held.{Held}
 use Rattle.holds.specs.Conflicts.{Conflict}
 use Rattle.ledger.specs.declared.postings.Posting.{Posting}
 use Rattle.flights.specs.declared.data.Promise.{Promise}
 use Rattle.flights.specs.declared.data.Want.{Want}
+use Rattle.files.specs.declared.data.OpenFile.{OpenFile}
+use Rattle.files.specs.Handles.{Files, IsOpen, no_files}
 use Rattle.tree.specs.declared.nodes.Key.{Key}
 use Rattle.tree.specs.Places.{Lookup, IsNamed, no_nodes, root_node, with_node}
-use Rattle.image.specs.Law.{IsLawful, IsGivenPath}
+use Rattle.image.specs.Law.{HasNode, IsLawful, IsGivenPath}
 use Rattle.sums.specs.Sum.{IsSum}
 use Rattle.steps.specs.declared.data.Limits.{Limits}
 use Rattle.wants.specs.Asked.{Holds, IsMisplaced, promise_of}
@@ -43,6 +45,12 @@ pub record World : Type 0 where
   pub postings : List Posting
   pub flights : Flights
   pub limits : Limits
+  -- open files by their handles
+  pub files : Files
+  -- the counter of the next hidden name
+  pub counter : ℕ
+  -- the last handle that was given, or 0
+  pub last_handle : ℕ
 
 -- the same look-up, but that the key leads to x, or to none
 abbrev pub with_entry : {X : Type 0} → (ℕ → Option X) → ℕ → Option X → ℕ → Option X
@@ -60,16 +68,19 @@ pub record IsPinned (flights : Flights) (n : ℕ) : Type 0 where
   pub here : flights id ≡ Some flight
   pub pin : Contains flight.pins n
 
--- the numbers that are pinned
-abbrev pub AreKept : Flights → (ℕ → Bool) → Type 0
-AreKept flights kept = (n : ℕ) → (kept n ≡ true) ↔ IsPinned flights n
+-- the numbers that are pinned or have an open file
+abbrev pub AreKept : Flights → Files → (ℕ → Bool) → Type 0
+AreKept flights files kept = (n : ℕ) → (kept n ≡ true) ↔ (IsPinned flights n ⊎ IsOpen files n)
 
 -- ---- what stands, added up
+
+abbrev pub no_promise : Promise
+no_promise = record { nodes = 0; postings = 0; files = 0 }
 
 -- what is promised to a request that is worked on
 abbrev pub promised_to : Stage → Promise
 promised_to (Working work) = promise_of work.row
-promised_to Answered = record { nodes = 0; postings = 0 }
+promised_to Answered = no_promise
 
 pub record Tally : Type 0 where
   -- living nodes with the root, and their lookup counts
@@ -78,6 +89,8 @@ pub record Tally : Type 0 where
   -- requests in flight, and what is promised to them
   pub flights : ℕ
   pub promised : Promise
+  -- open files
+  pub files : ℕ
 
 pub record IsTally (w : World) (t : Tally) : Type 0 where
   pub living : IsSum w.at (λ x. 1) t.living
@@ -85,17 +98,22 @@ pub record IsTally (w : World) (t : Tally) : Type 0 where
   pub flights : IsSum w.flights (λ f. 1) t.flights
   pub nodes : IsSum w.flights (λ f. (promised_to f.stage).nodes) t.promised.nodes
   pub postings : IsSum w.flights (λ f. (promised_to f.stage).postings) t.promised.postings
+  pub opening : IsSum w.flights (λ f. (promised_to f.stage).files) t.promised.files
+  pub files : IsSum w.files (λ f. 1) t.files
 
--- beside what stands and what is promised there is room for this: each lookup count may be forgotten one by one
+-- beside what stands and what is promised there is room for this: each lookup count may be forgotten one by one, and a handle is
+-- a number of 64 bits that is never given again
 pub record HasRoom (w : World) (t : Tally) (p : Promise) : Type 0 where
   pub nodes : t.living + t.promised.nodes + p.nodes ≤ w.limits.nodes
   pub postings : length w.postings + t.counts + t.promised.postings + p.postings ≤ w.limits.postings
+  pub files : t.files + t.promised.files + p.files ≤ w.limits.files
+  pub handles : w.last_handle + t.promised.files + p.files < 2 ^ 64
 
 -- what stands and what is promised keeps within the limits
 pub record IsWithin (w : World) : Type 0 where
   pub tally : Tally
   pub tallied : IsTally w tally
-  pub room : HasRoom w tally (record { nodes = 0; postings = 0 })
+  pub room : HasRoom w tally no_promise
   pub flights : tally.flights ≤ w.limits.flights
 
 -- ---- what a request that is worked on may rely on
@@ -124,6 +142,15 @@ pub record IsReady (at : Lookup) (f : Flight) (work : Work) : Type 0 where
 
 -- ---- the law
 
+-- the node of each open file lives, with the generation that it had then
+abbrev pub HaveNodes : Lookup → Files → Type 0
+HaveNodes at files = (handle : ℕ) (file : OpenFile) → files handle ≡ Some file → HasNode at file
+
+-- besides, each handle was given, and they rise from 1
+pub record AreFilesKnown (at : Lookup) (files : Files) (last : ℕ) : Type 0 where
+  pub nodes : HaveNodes at files
+  pub given : (handle : ℕ) (file : OpenFile) → files handle ≡ Some file → (0 < handle) × (handle ≤ last)
+
 pub record AreHeld (at : Lookup) (flights : Flights) : Type 0 where
   -- no two that are worked on conflict
   pub apart : (j k : ℕ) (f g : Flight) (v work : Work) → IsAtWork flights j f v → IsAtWork flights k g work → j ≢ k → Conflict v.held work.held → ⊥
@@ -136,11 +163,12 @@ AreReady at flights = (id : ℕ) (f : Flight) (work : Work) → IsAtWork flights
 
 pub record IsLawfulWorld (w : World) : Type 0 where
   pub kept : ℕ → Bool
-  pub keeps : AreKept w.flights kept
+  pub keeps : AreKept w.flights w.files kept
   pub law : IsLawful w.at w.postings kept
   pub held : AreHeld w.at w.flights
   pub ready : AreReady w.at w.flights
   pub within : IsWithin w
+  pub files : AreFilesKnown w.at w.files w.last_handle
 
 -- ---- a table of the root alone
 
@@ -150,4 +178,7 @@ opened_world limits = record {
   postings = [];
   flights = no_flights;
   limits = limits;
+  files = no_files;
+  counter = 0;
+  last_handle = 0;
 }

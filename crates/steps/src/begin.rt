@@ -1,7 +1,7 @@
 //! The beginning of a request.
 
-ghost use Rattle.std.specs.Prelude.{◌≡◌, ◌≤◌, ◌<◌, ◌+◌, true, IfErr, OnOk};
-ghost use Rattle.steps.specs.Beginning.{Allows, Forbids, IsRoomForOne, IsSameButRoom};
+ghost use Rattle.std.specs.Prelude.{◌≡◌, ◌≤◌, ◌<◌, ◌+◌, ◌↔◌, true, IfErr, IsTrue, OnOk};
+ghost use Rattle.steps.specs.Beginning.{Allows, Forbids, HasHandles, IsRoomForOne, IsSameButRoom};
 ghost use Rattle.steps.specs.Kept.{IsKept, tally_of, world_of};
 ghost use Rattle.steps.specs.Steps.{Begins};
 ghost use Rattle.steps.specs.World.{IsTally};
@@ -92,10 +92,24 @@ impl State {
         if free_postings < promise.postings {
             return Err(ENFILE);
         }
+        if !self.has_handles(promise) {
+            return Err(ENFILE);
+        }
         if self.limits.flights <= self.flights.len() as u64 {
             return Err(EAGAIN);
         }
         Ok(())
+    }
+
+    /// Whether the files that it may open keep within the limit, and handles are left for them.
+    fn has_handles(&self, promise: &Promise) -> bool
+        requires { IsKept self.now }
+        ensures { IsTrue result ↔ HasHandles self.now promise.now }
+    {
+        let promised = self.flights.promised();
+        let free_files = self.limits.files - self.files.len() as u64 - promised.files;
+        let free_handles = self.files.handles_left() - promised.files;
+        promise.files <= free_files && promise.files <= free_handles
     }
 
     /// Makes room for one request more that is promised so much.
@@ -109,10 +123,14 @@ impl State {
         let promised = self.flights.promised();
         let nodes = promised.nodes + promise.nodes;
         let postings = self.counts + promised.postings + promise.postings;
+        let files = promised.files + promise.files;
         if self.tree.reserve(nodes as usize).is_err() {
             return Err(AllocError);
         }
         if self.ledger.reserve(postings as usize).is_err() {
+            return Err(AllocError);
+        }
+        if self.files.reserve(files as usize).is_err() {
             return Err(AllocError);
         }
         self.flights.reserve()

@@ -58,7 +58,8 @@ impl Ticket {
         self.id
     }
 
-    /// The paths that the request is about, as they were when it began: of a move the old one and then the new one.
+    /// The paths that the request is about, as they were when it began: of a move the old one and then the new one, of a page
+    /// that of its folder and then that of each name.
     pub fn paths(&self) -> &[Path]
         ensures { result.now ≡ self.now.paths }
     {

@@ -1,13 +1,14 @@
 //! Entries of names that are given to the client.
 
 ghost use Rattle.std.specs.Prelude.{◌≡◌, ◌≤◌, ◌<◌, ◌+◌, ◌^◌, ℕ, length};
-ghost use Rattle.flights.specs.Listed.{flying_of};
 ghost use Rattle.image.specs.Law.{IsLawful};
 ghost use Rattle.steps.specs.Entries.{Bears, Enters, EntersAgain};
+ghost use Rattle.steps.specs.Keeping.{kept_by};
 ghost use Rattle.steps.specs.Sweeping.{IsEntered, IsOneMore};
 ghost use Rattle.tree.specs.Places.{at_in, IsFree, IsNamed, IsTree, Leads};
 
 use crate::keys::Keys;
+use files::Files;
 use flights::{Flights, Given};
 use ledger::{Ledger, Posting};
 use tree::{Key, Tree};
@@ -17,15 +18,16 @@ fn enter_again(
     tree: &mut Tree,
     ledger: &mut Ledger,
     _flights: &Flights,
+    _files: &Files,
     number: u64,
     _key: &Key,
 ) -> Given
-    requires law { IsLawful (at_in tree.old) ledger.old.made (flying_of _flights.now).pinned }
+    requires law { IsLawful (at_in tree.old) ledger.old.made (kept_by _flights.now _files.now) }
     requires named { IsNamed (at_in tree.old) number _key.now.parent _key.now.name }
     requires room { 0 < ledger.old.room }
     requires short { length ledger.old.made + 1 < 2 ^ 64 }
     ensures enters { EntersAgain (at_in tree.old) ledger.old.made _key.now.parent _key.now.name result (at_in tree.new) ledger.new.made }
-    ensures law { IsLawful (at_in tree.new) ledger.new.made (flying_of _flights.now).pinned }
+    ensures law { IsLawful (at_in tree.new) ledger.new.made (kept_by _flights.now _files.now) }
     ensures more { IsOneMore 0 tree.old ledger.old tree.new ledger.new }
 {
     let Some(node) = tree.at(number) else {
@@ -38,14 +40,20 @@ fn enter_again(
 }
 
 /// Bears a node at the name, and counts its first entry.
-fn bear(tree: &mut Tree, ledger: &mut Ledger, _flights: &Flights, keys: Keys) -> Given
-    requires law { IsLawful (at_in tree.old) ledger.old.made (flying_of _flights.now).pinned }
+fn bear(
+    tree: &mut Tree,
+    ledger: &mut Ledger,
+    _flights: &Flights,
+    _files: &Files,
+    keys: Keys,
+) -> Given
+    requires law { IsLawful (at_in tree.old) ledger.old.made (kept_by _flights.now _files.now) }
     requires free { IsFree (at_in tree.old) keys.key.parent keys.key.name }
     requires above { Leads (at_in tree.old) keys.key.parent }
     requires node_room { 0 < tree.old.room }
     requires room { 2 ≤ ledger.old.room }
     ensures bears { Bears (at_in tree.old) ledger.old.made keys.key.parent keys.key.name result (at_in tree.new) ledger.new.made }
-    ensures law { IsLawful (at_in tree.new) ledger.new.made (flying_of _flights.now).pinned }
+    ensures law { IsLawful (at_in tree.new) ledger.new.made (kept_by _flights.now _files.now) }
     ensures more { IsOneMore 1 tree.old ledger.old tree.new ledger.new }
 {
     let Keys { key, copy } = keys;
@@ -59,18 +67,24 @@ fn bear(tree: &mut Tree, ledger: &mut Ledger, _flights: &Flights, keys: Keys) ->
 }
 
 /// Gives an entry of the name: of the node that stands there, or of one that is born.
-pub(crate) fn enter(tree: &mut Tree, ledger: &mut Ledger, flights: &Flights, keys: Keys) -> Given
-    requires law { IsLawful (at_in tree.old) ledger.old.made (flying_of flights.now).pinned }
+pub(crate) fn enter(
+    tree: &mut Tree,
+    ledger: &mut Ledger,
+    flights: &Flights,
+    files: &Files,
+    keys: Keys,
+) -> Given
+    requires law { IsLawful (at_in tree.old) ledger.old.made (kept_by flights.now files.now) }
     requires above { Leads (at_in tree.old) keys.key.parent }
     requires node_room { IsFree (at_in tree.old) keys.key.parent keys.key.name → 0 < tree.old.room }
     requires room { 2 ≤ ledger.old.room }
     requires short { length ledger.old.made + 1 < 2 ^ 64 }
     ensures enters { Enters (at_in tree.old) ledger.old.made keys.key.parent keys.key.name result (at_in tree.new) ledger.new.made }
-    ensures law { IsLawful (at_in tree.new) ledger.new.made (flying_of flights.now).pinned }
+    ensures law { IsLawful (at_in tree.new) ledger.new.made (kept_by flights.now files.now) }
     ensures more { IsEntered tree.old ledger.old keys.key.parent keys.key.name tree.new ledger.new }
 {
     match tree.find(&keys.key) {
-        Some(number) => enter_again(tree, ledger, flights, number, &keys.key),
-        None => bear(tree, ledger, flights, keys),
+        Some(number) => enter_again(tree, ledger, flights, files, number, &keys.key),
+        None => bear(tree, ledger, flights, files, keys),
     }
 }

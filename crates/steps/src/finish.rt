@@ -25,7 +25,7 @@ impl State {
             return;
         }
         alter(&mut self.tree, change);
-        sweep_cut(&mut self.tree, &self.flights);
+        sweep_cut(&mut self.tree, &self.flights, &self.files);
     }
 
     /// What the outcome of a request does, whose work has ended. One that does not fit its want does nothing.

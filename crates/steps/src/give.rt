@@ -68,7 +68,13 @@ impl State {
         ensures more { (rest : List Under) → MayFill self.old id (keys.key ∷ rest) → MayFill self.new id rest }
         ensures kept { IsKept self.new }
     {
-        let entered = enter(&mut self.tree, &mut self.ledger, &self.flights, keys);
+        let entered = enter(
+            &mut self.tree,
+            &mut self.ledger,
+            &self.flights,
+            &self.files,
+            keys,
+        );
         self.counts += 1;
         self.flights.pin(id, entered.number);
         entered

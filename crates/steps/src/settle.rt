@@ -1,8 +1,8 @@
 //! The end of a request whose reply was sent, or was not.
 
 ghost use Rattle.std.specs.Prelude.{◌≡◌, ◌≤◌, ◌+◌, ◌⊎◌, ◌++◌};
-ghost use Rattle.flights.specs.Listed.{flying_of};
 ghost use Rattle.steps.specs.Entries.{TakesAllBack, TakesBack, TakesNone, untaken_of};
+ghost use Rattle.steps.specs.Keeping.{kept_by};
 ghost use Rattle.steps.specs.Steps.{Settles, numbers_of};
 ghost use Rattle.steps.specs.Sweeping.{IsAmong, IsNearly, IsTakenBack};
 ghost use Rattle.steps.specs.Kept.{IsKept, world_of};
@@ -11,6 +11,7 @@ ghost use Rattle.tree.specs.Places.{at_in};
 use crate::data::{Answered, Settled};
 use crate::state::State;
 use crate::sweep::{sweep_given, sweep_pins};
+use files::Files;
 use flights::{Flights, Given, Givens};
 use ledger::{Ledger, Posting};
 use tree::Tree;
@@ -21,16 +22,17 @@ fn take_back(
     ledger: &mut Ledger,
     counts: &mut u64,
     _flights: &Flights,
+    _files: &Files,
     entry: Given,
     _given: &[Option<Given>],
     _pins: &[u64],
 )
     requires counts { counts.old ≡ tree.old.counts }
-    requires nearly { IsNearly (at_in tree.old) ledger.old.made (flying_of _flights.now).pinned (numbers_of _given.now ++ _pins.now) }
+    requires nearly { IsNearly (at_in tree.old) ledger.old.made (kept_by _flights.now _files.now) (numbers_of _given.now ++ _pins.now) }
     requires suspect { IsAmong entry.number (numbers_of _given.now ++ _pins.now) }
     requires room { tree.old.counts ≤ ledger.old.room }
     ensures back { TakesBack (at_in tree.old) ledger.old.made entry (at_in tree.new) ledger.new.made ⊎ TakesNone (at_in tree.old) ledger.old.made entry (at_in tree.new) ledger.new.made }
-    ensures nearly { IsNearly (at_in tree.new) ledger.new.made (flying_of _flights.now).pinned (numbers_of _given.now ++ _pins.now) }
+    ensures nearly { IsNearly (at_in tree.new) ledger.new.made (kept_by _flights.now _files.now) (numbers_of _given.now ++ _pins.now) }
     ensures rest { IsTakenBack tree.old ledger.old tree.new ledger.new }
     ensures counts { counts.new ≡ tree.new.counts }
 {
@@ -58,20 +60,23 @@ fn take_all_back(
     ledger: &mut Ledger,
     counts: &mut u64,
     flights: &Flights,
+    files: &Files,
     given: &[Option<Given>],
     pins: &[u64],
 )
     requires counts { counts.old ≡ tree.old.counts }
-    requires nearly { IsNearly (at_in tree.old) ledger.old.made (flying_of flights.now).pinned (numbers_of given.now ++ pins.now) }
+    requires nearly { IsNearly (at_in tree.old) ledger.old.made (kept_by flights.now files.now) (numbers_of given.now ++ pins.now) }
     requires room { tree.old.counts ≤ ledger.old.room }
     ensures back { TakesAllBack (at_in tree.old) ledger.old.made given.now (at_in tree.new) ledger.new.made }
-    ensures nearly { IsNearly (at_in tree.new) ledger.new.made (flying_of flights.now).pinned (numbers_of given.now ++ pins.now) }
+    ensures nearly { IsNearly (at_in tree.new) ledger.new.made (kept_by flights.now files.now) (numbers_of given.now ++ pins.now) }
     ensures rest { IsTakenBack tree.old ledger.old tree.new ledger.new }
     ensures counts { counts.new ≡ tree.new.counts }
 {
     for entry in given {
         match entry {
-            Some(entry) => take_back(tree, ledger, counts, flights, *entry, given, pins),
+            Some(entry) => {
+                take_back(tree, ledger, counts, flights, files, *entry, given, pins);
+            }
             None => {}
         }
     }
@@ -110,11 +115,12 @@ impl State {
             &mut self.ledger,
             &mut self.counts,
             &self.flights,
+            &self.files,
             untaken,
             pins,
         );
-        sweep_given(&mut self.tree, &self.flights, untaken, pins);
-        sweep_pins(&mut self.tree, &self.flights, pins);
+        sweep_given(&mut self.tree, &self.flights, &self.files, untaken, pins);
+        sweep_pins(&mut self.tree, &self.flights, &self.files, pins);
         settled
     }
 }

@@ -5,6 +5,7 @@ ghost use Rattle.steps.specs.Kept.{IsKept, world_of};
 ghost use Rattle.steps.specs.World.{IsLawfulWorld, opened_world};
 
 use crate::data::Limits;
+use files::Files;
 use flights::Flights;
 use ledger::Ledger;
 use std::alloc::{AllocError, Global};
@@ -20,6 +21,10 @@ pub struct State {
     pub limits: Limits,
     /// The sum of all lookup counts.
     pub counts: u64,
+    /// The open files.
+    pub files: Files,
+    /// The counter of the next hidden name.
+    pub counter: u32,
 }
 
 impl State {
@@ -37,6 +42,8 @@ impl State {
             flights: Flights::new(alloc),
             limits,
             counts: 0,
+            files: Files::new(alloc),
+            counter: 0,
         })
     }
 

@@ -1,20 +1,29 @@
 //! Dropping nodes that nothing keeps.
 
 ghost use Rattle.std.specs.Prelude.{true, false, ◌≡◌, ◌≤◌, ◌<◌, ◌+◌, ◌⊎◌, ℕ, Some, None, IfNone, IfSome, MatchOption, [], ◌∷◌, ◌++◌};
-ghost use Rattle.flights.specs.Listed.{flying_of};
 ghost use Rattle.image.specs.Law.{HasReason, HaveReasons};
+ghost use Rattle.steps.specs.Keeping.{kept_by};
 ghost use Rattle.steps.specs.Swept.{IsNeedless, IsSwept};
 ghost use Rattle.steps.specs.Sweeping.{HaveReasonsBelow, IsPruned, IsSameRest, parent_in};
 ghost use Rattle.steps.specs.Steps.{numbers_of};
 ghost use Rattle.tree.specs.Places.{at_in, IsTree};
 
+use files::Files;
 use flights::{Flights, Given};
 use tree::{Node, Place, Tree};
 
+#[tactic(auto, unfolding(crate::specs::Keeping::kept_by))]
+/// Whether a request pins the number, or a file of its node is open.
+fn is_kept(flights: &Flights, files: &Files, number: u64) -> bool
+    ensures { result ≡ kept_by flights.now files.now number }
+{
+    flights.pins(number) || files.is_open(number)
+}
+
 /// Whether something keeps the node.
-fn is_needed(tree: &Tree, flights: &Flights, number: u64, node: &Node) -> bool
-    ensures yes { result ≡ true → HasReason (at_in tree.now) (flying_of flights.now).pinned number node.now ⊎ (number ≡ 1) }
-    ensures no { result ≡ false → IsNeedless (at_in tree.now) (flying_of flights.now).pinned number node.now }
+fn is_needed(tree: &Tree, flights: &Flights, files: &Files, number: u64, node: &Node) -> bool
+    ensures yes { result ≡ true → HasReason (at_in tree.now) (kept_by flights.now files.now) number node.now ⊎ (number ≡ 1) }
+    ensures no { result ≡ false → IsNeedless (at_in tree.now) (kept_by flights.now files.now) number node.now }
 {
     if number == 1 {
         return true;
@@ -25,7 +34,7 @@ fn is_needed(tree: &Tree, flights: &Flights, number: u64, node: &Node) -> bool
     if node.hidden {
         return true;
     }
-    if flights.pins(number) {
+    if is_kept(flights, files, number) {
         return true;
     }
     tree.has_child(number)
@@ -45,20 +54,21 @@ fn parent_of(place: &Place) -> Option<u64>
 fn drop_needless(
     tree: &mut Tree,
     flights: &Flights,
+    files: &Files,
     number: u64,
     _given: &[Option<Given>],
     _pins: &[u64],
 ) -> Option<u64>
-    requires { IsPruned (at_in tree.old) (flying_of flights.now).pinned (number ∷ (numbers_of _given.now ++ _pins.now)) }
-    ensures pruned { MatchOption result (IsPruned (at_in tree.new) (flying_of flights.now).pinned (numbers_of _given.now ++ _pins.now)) (λ p. IsPruned (at_in tree.new) (flying_of flights.now).pinned (p ∷ (numbers_of _given.now ++ _pins.now))) }
-    ensures swept { IsSwept (flying_of flights.now).pinned (at_in tree.old) (at_in tree.new) }
+    requires { IsPruned (at_in tree.old) (kept_by flights.now files.now) (number ∷ (numbers_of _given.now ++ _pins.now)) }
+    ensures pruned { MatchOption result (IsPruned (at_in tree.new) (kept_by flights.now files.now) (numbers_of _given.now ++ _pins.now)) (λ p. IsPruned (at_in tree.new) (kept_by flights.now files.now) (p ∷ (numbers_of _given.now ++ _pins.now))) }
+    ensures swept { IsSwept (kept_by flights.now files.now) (at_in tree.old) (at_in tree.new) }
     ensures fewer { IfSome result (λ p. tree.new.living < tree.old.living) }
     ensures rest { IsSameRest tree.old tree.new }
 {
     let Some(node) = tree.at(number) else {
         return None;
     };
-    if is_needed(tree, flights, number, node) {
+    if is_needed(tree, flights, files, number, node) {
         return None;
     }
     let parent = parent_of(&node.place);
@@ -67,29 +77,42 @@ fn drop_needless(
 }
 
 /// Drops the node if nothing keeps it, then its parent, and so on. The nodes given and pinned may lack a reason.
-pub fn sweep(tree: &mut Tree, flights: &Flights, number: u64, given: &[Option<Given>], pins: &[u64])
-    requires { IsPruned (at_in tree.old) (flying_of flights.now).pinned (number ∷ (numbers_of given.now ++ pins.now)) }
-    ensures pruned { IsPruned (at_in tree.new) (flying_of flights.now).pinned (numbers_of given.now ++ pins.now) }
-    ensures swept { IsSwept (flying_of flights.now).pinned (at_in tree.old) (at_in tree.new) }
+pub fn sweep(
+    tree: &mut Tree,
+    flights: &Flights,
+    files: &Files,
+    number: u64,
+    given: &[Option<Given>],
+    pins: &[u64],
+)
+    requires { IsPruned (at_in tree.old) (kept_by flights.now files.now) (number ∷ (numbers_of given.now ++ pins.now)) }
+    ensures pruned { IsPruned (at_in tree.new) (kept_by flights.now files.now) (numbers_of given.now ++ pins.now) }
+    ensures swept { IsSwept (kept_by flights.now files.now) (at_in tree.old) (at_in tree.new) }
     ensures rest { IsSameRest tree.old tree.new }
 {
     let mut number = number;
-    while let Some(parent) = drop_needless(tree, flights, number, given, pins) {
+    while let Some(parent) = drop_needless(tree, flights, files, number, given, pins) {
         number = parent;
     }
 }
 
 /// Drops what nothing keeps of the nodes given, and then of their parents.
-pub fn sweep_given(tree: &mut Tree, flights: &Flights, given: &[Option<Given>], pins: &[u64])
-    requires { IsPruned (at_in tree.old) (flying_of flights.now).pinned (numbers_of given.now ++ pins.now) }
-    ensures pruned { IsPruned (at_in tree.new) (flying_of flights.now).pinned pins.now }
-    ensures swept { IsSwept (flying_of flights.now).pinned (at_in tree.old) (at_in tree.new) }
+pub fn sweep_given(
+    tree: &mut Tree,
+    flights: &Flights,
+    files: &Files,
+    given: &[Option<Given>],
+    pins: &[u64],
+)
+    requires { IsPruned (at_in tree.old) (kept_by flights.now files.now) (numbers_of given.now ++ pins.now) }
+    ensures pruned { IsPruned (at_in tree.new) (kept_by flights.now files.now) pins.now }
+    ensures swept { IsSwept (kept_by flights.now files.now) (at_in tree.old) (at_in tree.new) }
     ensures rest { IsSameRest tree.old tree.new }
 {
     let mut left = given;
     while let Some((entry, rest)) = left.split_first() {
         match entry {
-            Some(entry) => sweep(tree, flights, entry.number, rest, pins),
+            Some(entry) => sweep(tree, flights, files, entry.number, rest, pins),
             None => {}
         }
         left = rest;
@@ -97,26 +120,26 @@ pub fn sweep_given(tree: &mut Tree, flights: &Flights, given: &[Option<Given>], 
 }
 
 /// Drops what nothing keeps of the nodes pinned, and then of their parents.
-pub fn sweep_pins(tree: &mut Tree, flights: &Flights, pins: &[u64])
-    requires { IsPruned (at_in tree.old) (flying_of flights.now).pinned pins.now }
-    ensures pruned { IsPruned (at_in tree.new) (flying_of flights.now).pinned [] }
-    ensures swept { IsSwept (flying_of flights.now).pinned (at_in tree.old) (at_in tree.new) }
+pub fn sweep_pins(tree: &mut Tree, flights: &Flights, files: &Files, pins: &[u64])
+    requires { IsPruned (at_in tree.old) (kept_by flights.now files.now) pins.now }
+    ensures pruned { IsPruned (at_in tree.new) (kept_by flights.now files.now) [] }
+    ensures swept { IsSwept (kept_by flights.now files.now) (at_in tree.old) (at_in tree.new) }
     ensures rest { IsSameRest tree.old tree.new }
 {
     let mut left = pins;
     while let Some((number, rest)) = left.split_first() {
-        sweep(tree, flights, *number, &[], rest);
+        sweep(tree, flights, files, *number, &[], rest);
         left = rest;
     }
 }
 
 /// Drops the node if it is cut and nothing keeps it.
-fn drop_cut(tree: &mut Tree, flights: &Flights, number: u64)
+fn drop_cut(tree: &mut Tree, flights: &Flights, files: &Files, number: u64)
     requires tree { IsTree (at_in tree.old) }
-    requires below { HaveReasonsBelow (at_in tree.old) (flying_of flights.now).pinned number }
+    requires below { HaveReasonsBelow (at_in tree.old) (kept_by flights.now files.now) number }
     ensures tree { IsTree (at_in tree.new) }
-    ensures below { HaveReasonsBelow (at_in tree.new) (flying_of flights.now).pinned (number + 1) }
-    ensures swept { IsSwept (flying_of flights.now).pinned (at_in tree.old) (at_in tree.new) }
+    ensures below { HaveReasonsBelow (at_in tree.new) (kept_by flights.now files.now) (number + 1) }
+    ensures swept { IsSwept (kept_by flights.now files.now) (at_in tree.old) (at_in tree.new) }
     ensures rest { IsSameRest tree.old tree.new }
 {
     let Some(node) = tree.at(number) else {
@@ -126,24 +149,24 @@ fn drop_cut(tree: &mut Tree, flights: &Flights, number: u64)
         Place::Cut => {}
         Place::Root | Place::Named(_) => return,
     }
-    if is_needed(tree, flights, number, node) {
+    if is_needed(tree, flights, files, number, node) {
         return;
     }
     tree.drop_node(number);
 }
 
 /// Drops each node that is cut and that nothing keeps. No node loses a child by it.
-pub fn sweep_cut(tree: &mut Tree, flights: &Flights)
+pub fn sweep_cut(tree: &mut Tree, flights: &Flights, files: &Files)
     requires tree { IsTree (at_in tree.old) }
-    requires below { HaveReasonsBelow (at_in tree.old) (flying_of flights.now).pinned 1 }
+    requires below { HaveReasonsBelow (at_in tree.old) (kept_by flights.now files.now) 1 }
     ensures tree { IsTree (at_in tree.new) }
-    ensures reasons { HaveReasons (at_in tree.new) (flying_of flights.now).pinned }
-    ensures swept { IsSwept (flying_of flights.now).pinned (at_in tree.old) (at_in tree.new) }
+    ensures reasons { HaveReasons (at_in tree.new) (kept_by flights.now files.now) }
+    ensures swept { IsSwept (kept_by flights.now files.now) (at_in tree.old) (at_in tree.new) }
     ensures rest { IsSameRest tree.old tree.new }
 {
     let mut number = 0;
     while let Some(next) = tree.after(number) {
-        drop_cut(tree, flights, next);
+        drop_cut(tree, flights, files, next);
         number = next;
     }
 }

@@ -1,5 +1,5 @@
 -- What is exported of a table shows it, and is lawful.
-use Rattle.std.proofs.Common.{ℕ, suc, zero, All, ◌+◌, ◌<◌, ◌≤◌, ◌≡◌, ◌≢◌, ◌==◌, Bool, true, false, cond, List, [], ◌∷◌, ◌++◌, Option, Some, None, MatchOption, AllPairs, length, get_or, take, refl, sym, ap, ◌∙◌, subst, arith, inl, inr}
+use Rattle.std.proofs.Common.{ℕ, suc, zero, All, ◌+◌, ◌<◌, ◌≤◌, ◌≡◌, ◌≢◌, ◌==◌, ◌||◌, Bool, true, false, cond, List, [], ◌∷◌, ◌++◌, Option, Some, None, MatchOption, AllPairs, length, get_or, take, refl, sym, ap, ◌∙◌, subst, arith, inl, inr}
 use Rattle.std.specs.Prelude.{option_map}
 use Rattle.std.specs.List.{AllZip}
 use Rattle.std.proofs.lemmas.Bool.{cases_lt}
@@ -12,6 +12,10 @@ use Rattle.holds.specs.Conflicts.{Conflict}
 use Rattle.tree.specs.declared.nodes.Node.{Node}
 use Rattle.tree.specs.Listed.{node_at, IsDistinct}
 use Rattle.tree.specs.Places.{Lookup, Nodes, at_in, IsAlive}
+use Rattle.files.specs.declared.listed.Filed.{Filed}
+use Rattle.files.specs.Filed.{file_in, files_of, opened_in}
+use Rattle.files.specs.Handles.{Files}
+use Rattle.files.proofs.Listing.{listed_at}
 use Rattle.flights.specs.declared.data.Flight.{Flight}
 use Rattle.flights.specs.declared.data.Stage as flight
 use Rattle.flights.specs.declared.data.Stage.TheVariants as flight_stage
@@ -20,9 +24,10 @@ use Rattle.flights.specs.Flying.{Flights, has_exclusive, has_shared}
 use Rattle.flights.specs.Listed.{flight_in, flying_of, pinned_in}
 use Rattle.flights.proofs.Lookups.{flight_in_found}
 use Rattle.image.specs.declared.data.Hold.{Hold}
+use Rattle.image.specs.declared.data.Image.{Image}
 use Rattle.image.specs.declared.data.Record.{Record}
 use Rattle.image.specs.declared.data.Stage.TheVariants.{Working, Answered}
-use Rattle.image.specs.Law.{AreApart, AreCounts, AreHoldsCounted, AreKnown, IsLawfulImage, IsGivenPath, owners_of, sharers_of}
+use Rattle.image.specs.Law.{AreApart, AreCounts, AreHoldsCounted, AreKnown, IsGivenPath, IsKnownFile, IsLawfulImage, is_kept, is_pinned, owners_of, sharers_of}
 use Rattle.image.proofs.Exported.{ListsBelow, ListsBelow-all, IsLawfulImage-shows, Mirrors, is_pinned-mirrors, ids-mirrors}
 use Rattle.steps.specs.declared.state.State.{State}
 use Rattle.table.specs.Copies.{IsCopyOf, held_of, owners_in, sharers_in, stage_of}
@@ -31,6 +36,7 @@ use Rattle.steps.specs.World.{AreHeld, IsAtWork}
 use Rattle.steps.specs.Kept.{flight_of, work_of}
 use Rattle.steps.specs.Kept as seen
 use Rattle.table.proofs.Holders.{counts_same, owners_same, sharers_same}
+use Rattle.steps.specs.Keeping.{kept_by}
 use Rattle.steps.specs.Kept.{IsKept, world_of}
 
 -- a record more
@@ -174,7 +180,28 @@ module _ (flights : Flights) (fs : List Flight) (rs : List Record) (at : flight_
 
 module _ (s : State) (kept : IsKept s) (xs : List Node) (ps : List Posting) (rs : List Record) (fs : List Flight) (distinct : IsDistinct xs) (nodes : node_at xs ≡ at_in s.tree) (postings : ps ≡ s.ledger.made)
     (at : flight_in fs ≡ (flying_of s.flights).at) (pinned : pinned_in fs ≡ (flying_of s.flights).pinned) (many : length fs ≡ (flying_of s.flights).many) (apart : AllPairs (λ (f g : Flight). f.id ≢ g.id) fs) (zip : AllZip IsCopyOf fs rs)
-    (hs : List Hold) (counts : AreCounts (sharers_in s.flights.flights) (owners_in s.flights.flights) hs) where
+    (hs : List Hold) (counts : AreCounts (sharers_in s.flights.flights) (owners_in s.flights.flights) hs)
+    (opened : List Filed) (files_at : file_in opened ≡ (files_of s.files).at) (are_opened : opened_in opened ≡ (files_of s.files).opened) (rising : AllPairs (λ (f g : Filed). f.handle < g.handle) opened)
+    (last : ℕ) (last_is : last ≡ (files_of s.files).last) where
+  abbrev image : Image
+  image = record { nodes = xs; postings = ps; records = rs; holds = hs; files = opened; counter = s.counter; last_handle = last }
+
+  handles : AllPairs (λ (f g : Filed). f.handle ≢ g.handle) opened
+  handles i j d before within same = let less = rising i j d before within in omega (arith, less, same)
+
+  -- each file is found under its handle, and so known
+  known_files : All (IsKnownFile (at_in s.tree) last) opened
+  known_files k d within =
+      let f : Filed = get_or opened k d in
+      let here : (files_of s.files).at f.handle ≡ Some f.file = ap (λ (at : Files). at f.handle) (sym files_at) ∙ listed_at opened rising k d within in
+      record { node = kept.files f.handle f.file here; given = omega (arith, last_is, (kept.filed.given f.handle f.file here).1) }
+
+  keeps : (n : ℕ) → is_kept rs opened n ≡ kept_by s.flights s.files n
+  unfolding kept_by
+  keeps n =
+      let pins : is_pinned rs n ≡ (flying_of s.flights).pinned n = is_pinned-mirrors (λ (f : Flight). f.id) (λ (f : Flight). f.pins.numbers) fs rs (mirrors fs rs zip) n ∙ ap (λ (p : ℕ → Bool). p n) pinned in
+      ap {B = Bool} (λ (b : Bool). b || opened_in opened n) pins ∙ ap {B = Bool} (λ (p : ℕ → Bool). (flying_of s.flights).pinned n || p n) are_opened
+
   ids : AllPairs (λ (r t : Record). r.id ≢ t.id) rs
   ids = ids-mirrors (λ (f : Flight). f.id) (λ (f : Flight). f.pins.numbers) fs rs (mirrors fs rs zip) apart
 
@@ -184,7 +211,7 @@ module _ (s : State) (kept : IsKept s) (xs : List Node) (ps : List Posting) (rs 
       let owning : owners_of rs ≡ owners_in s.flights.flights = owners_same fs rs zip ∙ fun_ext (λ path. counts_same (λ (f : Flight). has_exclusive f.stage path) fs s.flights apart at many) in
       subst (λ (S : Names → ℕ). AreCounts S (owners_of rs) hs) (sym sharing) (subst (λ (O : Names → ℕ). AreCounts (sharers_in s.flights.flights) O hs) (sym owning) counts)
 
-  pub exports : Exports (world_of s) (record { nodes = xs; postings = ps; records = rs; holds = hs })
+  pub exports : Exports (world_of s) image
   exports = record {
     distinct = distinct;
     nodes = nodes;
@@ -193,15 +220,21 @@ module _ (s : State) (kept : IsKept s) (xs : List Node) (ps : List Posting) (rs 
     records = λ id. record_seen rs id ((flying_of s.flights).at id) (kept.flying.numbered id)
         (subst (λ (a : Flights). MatchOption (a id) (record_in rs id ≡ None) (λ f. (r : Record) × (record_in rs id ≡ Some r) × IsCopyOf f r)) at (records_found fs rs id zip));
     holds = counted;
+    handles = handles;
+    files = files_at;
+    counter = refl;
+    last_handle = last_is;
   }
 
-  pub exports_lawful : IsLawfulImage (record { nodes = xs; postings = ps; records = rs; holds = hs })
-  exports_lawful = IsLawfulImage-shows (record { nodes = xs; postings = ps; records = rs; holds = hs }) (at_in s.tree) s.ledger.made (flying_of s.flights).pinned (record {
+  pub exports_lawful : IsLawfulImage image
+  exports_lawful = IsLawfulImage-shows image (at_in s.tree) s.ledger.made (kept_by s.flights s.files) (record {
     distinct = distinct;
     nodes = λ n. ap (λ (a : Lookup). a n) nodes;
     postings = postings;
     ids = ids;
-    pins = λ n. is_pinned-mirrors (λ (f : Flight). f.id) (λ (f : Flight). f.pins.numbers) fs rs (mirrors fs rs zip) n ∙ ap (λ (p : ℕ → Bool). p n) pinned;
+    handles = handles;
+    keeps = keeps;
+    files = known_files;
     counted = counted;
     apart = records_apart (flying_of s.flights).at fs rs at apart zip (at_in s.tree) kept.held;
     known = records_known (flying_of s.flights).at fs rs at apart zip (at_in s.tree) kept.held;

@@ -1,5 +1,6 @@
 -- What an image shows of a table.
 use Rattle.std.specs.Prelude.{ℕ, ◌≡◌, ◌==◌, ◌≢◌, [], Option, Some, None, List, MatchOption, AllPairs, find}
+use Rattle.files.specs.Filed.{file_in}
 use Rattle.holds.specs.declared.held.Held.{Held}
 use Rattle.tree.specs.Listed.{node_at, IsDistinct}
 use Rattle.image.specs.declared.data.Image.{Image}
@@ -31,7 +32,8 @@ abbrev pub record_in : List Record → ℕ → Option Record
 record_in rs id = find (λ (r : Record). r.id == id) rs
 
 -- the nodes by their numbers, each once; the whole ledger; the requests by their ids, each once; and each path that
--- they hold, once, with how many share it and how many hold it alone
+-- they hold, once, with how many share it and how many hold it alone; the open files by their handles, each once; the counter of
+-- the next hidden name, and the last handle that was given
 pub record Exports (w : World) (image : Image) : Type 0 where
   pub distinct : IsDistinct image.nodes
   pub nodes : node_at image.nodes ≡ w.at
@@ -39,3 +41,7 @@ pub record Exports (w : World) (image : Image) : Type 0 where
   pub ids : AllPairs (λ r s. r.id ≢ s.id) image.records
   pub records : (id : ℕ) → MatchOption (w.flights id) (record_in image.records id ≡ None) (λ f. (r : Record) × (record_in image.records id ≡ Some r) × IsRecordOf id f r)
   pub holds : AreHoldsCounted image.holds image.records
+  pub handles : AllPairs (λ f g. f.handle ≢ g.handle) image.files
+  pub files : file_in image.files ≡ w.files
+  pub counter : image.counter ≡ w.counter
+  pub last_handle : image.last_handle ≡ w.last_handle

@@ -13,7 +13,7 @@ ghost use Rattle.tree.specs.Places.{at_in};
 
 use flights::{Flight, Flights};
 use holds::{GivenPath, GivenPaths, Held, Paths};
-use image::{Hold, Holds, Image, Nodes, Numbers, Postings, Record, Records, Stage};
+use image::{Hold, Holds, Image, Nodes, Numbers, OpenFiles, Postings, Record, Records, Stage};
 use paths::Path;
 use std::alloc::{AllocError, Global};
 use steps::State;
@@ -264,10 +264,14 @@ pub fn export(state: &State) -> Result<Image, AllocError>
     let postings = Vec::from_slice(state.alloc, state.ledger.postings())?;
     let records = copy_records(state.alloc, state.flights.as_slice())?;
     let holds = copy_holds(state.alloc, &state.flights)?;
+    let files = Vec::from_slice(state.alloc, state.files.as_slice())?;
     Ok(Image {
         nodes: Nodes::from(nodes),
         postings: Postings::from(postings),
         records: Records::from(records),
         holds: Holds::from(holds),
+        files: OpenFiles::from(files),
+        counter: state.counter,
+        last_handle: state.files.last(),
     })
 }

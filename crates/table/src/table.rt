@@ -11,6 +11,7 @@ ghost use Rattle.steps.specs.Steps.{Begins, Finishes, Forgets, Settles, gained};
 ghost use Rattle.steps.specs.World.{IsLawfulWorld, opened_world};
 
 use crate::export::export;
+use files::OpenFile;
 use flights::Want;
 use image::Image;
 use ledger::{Blanks, Book, Gather, Ledger, Ledgers, Share, Totals};
@@ -96,7 +97,8 @@ impl<L: Ledgers> Table<L> {
         begin
     }
 
-    /// Ends the work on a request. It takes no memory.
+    /// Ends the work on a request. Of a page an entry is given for each name that was found, in order, but for those that another
+    /// request holds alone. It takes no memory.
     pub fn finish(&mut self, share: &mut Share<L>, ticket: Ticket, outcome: Outcome) -> Answered
         ensures finishes { Finishes (world_of self.old) ticket.id outcome result (world_of self.new) }
         ensures lawful { IsLawfulWorld (world_of self.new) }
@@ -136,6 +138,13 @@ impl<L: Ledgers> Table<L> {
         self.state.attest();
         post_since(&self.state.ledger, &mut self.book, share, made);
         amount
+    }
+
+    /// The open file under the handle.
+    pub fn file(&self, handle: u64) -> Option<OpenFile>
+        ensures { result ≡ (world_of self.now).files handle }
+    {
+        self.state.files.get(handle)
     }
 
     /// All that the table keeps, as plain data. It is lawful.

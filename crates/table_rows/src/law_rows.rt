@@ -4,7 +4,7 @@ use crate::shows::path_of;
 use crate::story::{Holding, ROOT};
 use holds::{GivenPath, GivenPaths, Held, Paths};
 use image::Stage::{Answered, Working};
-use image::{Hold, Holds, Image, Nodes, Numbers, Postings, Record, Records, Stage};
+use image::{Hold, Holds, Image, Nodes, Numbers, OpenFiles, Postings, Record, Records, Stage};
 use ledger::Posting;
 use paths::Name;
 use std::alloc::{AllocError, Global};
@@ -114,6 +114,9 @@ fn image_of(alloc: Global, case: &Case) -> Result<Image, AllocError> {
         postings: Postings::from(Vec::from_slice(alloc, POSTINGS)?),
         records: records_of(alloc, case.requests)?,
         holds: holds_of(alloc, case.holds)?,
+        files: OpenFiles::new(alloc),
+        counter: 0,
+        last_handle: 0,
     })
 }
 

@@ -192,7 +192,7 @@ module _ (at : Lookup) (tree : IsTree at) where
   -- ---- promises
 
   pub case_for : (enters none : Bool) (ls : List Location) (postings : ℕ) → (none ≡ true → Any (IsVacant at) ls) → (none ≡ false → All (IsTaken at) ls)
-      → IsCaseOf at enters ls (entered_case (record { nodes = if none then (if enters then 1 else 0) else 0; postings = postings }))
+      → IsCaseOf at enters ls (entered_case (record { nodes = if none then (if enters then 1 else 0) else 0; postings = postings; files = 0 }))
   case_for true true ls postings vacant taken = vacant refl
   case_for true false ls postings vacant taken = taken refl
   case_for false true ls postings vacant taken = refl
@@ -205,7 +205,7 @@ one_entry true (AtNode n ∷ ls) entered = absurd entered
 one_entry true (AtName parent name ∷ ls) entered = refl
 
 pub promise_for : (enters none : Bool) (ls : List Location) (hold : Hold) (change : told_change.Change) → IsEntered enters ls
-    → (let p : Promise = record { nodes = if none then (if enters then 1 else 0) else 0; postings = 3 * (if enters then 1 else 0) } in p ≡ promise_of (demand_in ls hold enters change (entered_case p)))
+    → (let p : Promise = record { nodes = if none then (if enters then 1 else 0) else 0; postings = 3 * (if enters then 1 else 0); files = 0 } in p ≡ promise_of (demand_in ls hold enters change (entered_case p)))
 promise_for false true ls hold change entered = refl
 promise_for false false ls hold change entered = refl
 promise_for true true [] hold change entered = absurd entered
@@ -235,8 +235,8 @@ agreed at tree row x births entries t fit rooted is may e b room drawn =
     let ls = locations_of row in
     let c = entered_case t.promise in
     let few : length (if row.enters then key_in ls else []) ≡ entries_of row = one_entry row.enters ls fit.entry in
-    let promised : t.promise ≡ record { nodes = if x.absent then entries_of row else 0; postings = 3 * entries_of row }
-    = subst (λ (n : ℕ). t.promise ≡ record { nodes = if x.absent then n else 0; postings = 3 * n }) e (subst (λ (m : ℕ). t.promise ≡ record { nodes = m; postings = 3 * entries }) b drawn.promise) in
+    let promised : t.promise ≡ record { nodes = if x.absent then entries_of row else 0; postings = 3 * entries_of row; files = 0 }
+    = subst (λ (n : ℕ). t.promise ≡ record { nodes = if x.absent then n else 0; postings = 3 * n; files = 0 }) e (subst (λ (m : ℕ). t.promise ≡ record { nodes = m; postings = 3 * entries; files = 0 }) b drawn.promise) in
     record {
       fits = subst (λ (p : Promise). IsCaseOf at row.enters ls (entered_case p)) (sym promised) (case_for at tree row.enters x.absent ls (3 * entries_of row) is.vacant is.taken);
       terms = record {

@@ -136,7 +136,7 @@ module _ (at : Lookup) (tree : IsTree at) (folder : ℕ) where
       holds = subst (λ (held : Held). Holds at (page_row folder names) held) (sym drawn.held) (page_holds x is);
       pins = subst (λ (p : Pinned). (n : ℕ) → Contains p.numbers n ↔ IsPin at (page_row folder names) n) (sym drawn.pins) (page_pins x is);
       paths = subst (λ (ps : List Names). ArePaths at (AtNode folder ∷ page_names folder names) ps) (sym drawn.paths) (paths_for at tree (AtNode folder ∷ page_names folder names) x.paths.items is.paths);
-      promise = drawn.promise ∙ ap (λ (n : ℕ). let p : Promise = record { nodes = length names; postings = 3 * n } in p) (sym many);
+      promise = drawn.promise ∙ ap (λ (n : ℕ). let p : Promise = record { nodes = length names; postings = 3 * n; files = 0 } in p) (sym many);
       pin_room = subst (λ (p : Pinned). length (page_keys folder names) ≤ p.room) (sym drawn.pins) (subst (λ n. n ≤ x.pins.room) (sym many) room);
       answer_room = subst (λ (g : Listed). length (page_keys folder names) ≤ g.room) (sym drawn.answer) (omega (arith, many));
       unanswered = ap (λ (g : Listed). g.items) drawn.answer;

@@ -1,5 +1,5 @@
 -- What a row asks for, as the nodes stand. But for `IsCase`, nothing here looks at a want.
-use Rattle.std.specs.Prelude.{ℕ, ℤ, ◌*◌, ◌<◌, ◌≡◌, ◌≢◌, ◌↔◌, ◌⊎◌, true, List, [], ◌∷◌, map, length, All, Any, Contains}
+use Rattle.std.specs.Prelude.{ℕ, ℤ, ◌*◌, ◌<◌, ◌≡◌, ◌≢◌, ◌↔◌, ◌⊎◌, if◌then◌else◌, is_some, true, List, [], ◌∷◌, map, length, All, Any, Contains}
 use Rattle.errno.specs.declared.TheConstants.{EINVAL, ENAMETOOLONG, ENOMEM, ENOTEMPTY, ESTALE}
 use Rattle.paths.specs.Prefixes.{Name, Names, is_prefix, path_bytes}
 use Rattle.holds.specs.declared.held.Held.{Held}
@@ -128,9 +128,9 @@ pub record Holds (at : Lookup) (d : Demand) (held : Held) : Type 0 where
 abbrev pub IsPin : Lookup → Demand → ℕ → Type 0
 IsPin at d n = Contains d.given n ⊎ Any (λ l. IsThere at l n) d.paths
 
--- three postings for each entry: its birth, itself, and what takes it back
+-- three postings for each entry: its birth, itself, and what takes it back; and one file that may be opened
 abbrev pub promise_of : Demand → Promise
-promise_of d = record { nodes = d.births; postings = 3 * length d.entries }
+promise_of d = record { nodes = d.births; postings = 3 * length d.entries; files = if is_some d.opens then 1 else 0 }
 
 -- these are the paths of the locations, in order
 abbrev pub ArePaths : Lookup → List Location → List Names → Type 0

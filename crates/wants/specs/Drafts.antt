@@ -1,5 +1,5 @@
 -- What the code gathers of a row, location by location.
-use Rattle.std.specs.Prelude.{ℕ, ℤ, ◌+◌, ◌*◌, ◌<◌, ◌≤◌, ◌≡◌, ◌↔◌, ◌⊎◌, ◌||◌, Bool, true, false, if◌then◌else◌, List, [], ◌∷◌, ◌++◌, Some, All, Any, Contains, is_none, length, map}
+use Rattle.std.specs.Prelude.{ℕ, ℤ, ◌+◌, ◌*◌, ◌<◌, ◌≤◌, ◌≡◌, ◌↔◌, ◌⊎◌, ◌||◌, Bool, true, false, if◌then◌else◌, List, [], ◌∷◌, ◌++◌, Some, None, All, Any, Contains, is_none, length, map}
 use Rattle.std.specs.List.{AllZip}
 use Rattle.errno.specs.declared.TheConstants.{EINVAL, ENAMETOOLONG, ENOMEM, ENOTEMPTY, ESTALE}
 use Rattle.paths.specs.Prefixes.{Names, prefixes, path_bytes}
@@ -86,6 +86,7 @@ demand_in ls hold enters change c = record {
   births = if enters then births_in c else 0;
   page = false;
   done = change_in change ls;
+  opens = None;
 }
 
 abbrev pub demand_of : Row → Case → Demand
@@ -245,7 +246,7 @@ pub record IsNoDraft (room : ℕ) (x : Draft) : Type 0 where
 
 pub record IsDrawn (x : Draft) (births entries : ℕ) (t : Terms) : Type 0 where
   pub held : t.held ≡ record { given = x.given.items; shared = x.shared.items; exclusive = x.exclusive.items }
-  pub promise : t.promise ≡ record { nodes = births; postings = 3 * entries }
+  pub promise : t.promise ≡ record { nodes = births; postings = 3 * entries; files = 0 }
   pub answer : t.answer ≡ record { items = []; room = entries }
   pub pins : t.pins ≡ x.pins
   pub paths : t.paths ≡ x.paths.items

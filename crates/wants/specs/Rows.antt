@@ -1,6 +1,7 @@
 -- What a want asks of a table: one row for each want. What a beginning tests, holds, pins and promises, and what an
 -- outcome does, follow from the row alone.
-use Rattle.std.specs.Prelude.{ℕ, ◌==◌, ◌&&◌, Bool, true, false, if◌then◌else◌, List, [], ◌∷◌, length, map}
+use Rattle.std.specs.Prelude.{ℕ, ◌==◌, ◌&&◌, Bool, true, false, if◌then◌else◌, List, [], ◌∷◌, Option, None, length, map}
+use Rattle.files.specs.declared.data.Access.{Access}
 use Rattle.paths.specs.Prefixes.{Name, is_name}
 use Rattle.tree.specs.declared.nodes.Key.{Key}
 use Rattle.flights.specs.declared.data.Promise.{Promise}
@@ -24,6 +25,11 @@ pub data Change : Type 0 where
   -- what stands at the first is moved to the second, where what stood is cut
   moves : Location → Location → Change
 
+-- a file that may be opened: of the node that stands there
+pub record Opening : Type 0 where
+  pub target : Location
+  pub access : Access
+
 pub record Demand : Type 0 where
   -- the nodes that it names: each must have a path, and is pinned
   pub given : List ℕ
@@ -40,9 +46,11 @@ pub record Demand : Type 0 where
   pub page : Bool
   -- what becomes of the names once the work is done
   pub done : Change
+  -- the file that may be opened
+  pub opens : Option Opening
 
 abbrev pub no_demand : Demand
-no_demand = record { given = []; paths = []; shared = []; alone = []; entries = []; births = 0; page = false; done = stays }
+no_demand = record { given = []; paths = []; shared = []; alone = []; entries = []; births = 0; page = false; done = stays; opens = None }
 
 -- ---- cases
 

@@ -141,6 +141,7 @@ impl Draft {
         let promise = Promise {
             nodes: births,
             postings: ENTRY_POSTINGS * entries as u64,
+            files: 0,
         };
         let Draft {
             given,

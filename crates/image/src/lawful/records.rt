@@ -5,11 +5,13 @@ ghost use Rattle.tree.specs.declared.nodes.Node.{Node};
 ghost use Rattle.image.specs.declared.data.Record.{Record};
 ghost use Rattle.tree.specs.Places.{HasChild};
 ghost use Rattle.tree.specs.Listed.{node_at, IsDistinct};
-ghost use Rattle.image.specs.Law.{ArePinsAlive, HaveReasons, is_pinned};
+ghost use Rattle.image.specs.Law.{AreAlive, HaveReasons, is_kept, is_pinned};
 ghost use Rattle.image.specs.Parts.{IsLiving, PinsLiving, HaveOtherIds, IsChildOf, IsReasoned};
 
 use crate::data::Record;
+use crate::lawful::opened::{are_files_alive, is_open};
 use crate::lawful::nodes::find;
+use files::Filed;
 use tree::{Node, Place};
 
 /// Whether the two records have two ids.
@@ -45,9 +47,16 @@ fn is_pinned(records: &[Record], number: u64) -> bool
     records.iter().any(|record| record.pins.contains(number))
 }
 
+/// Whether one of the records pins the number, or a file of it is open.
+fn is_kept(records: &[Record], files: &[Filed], number: u64) -> bool
+    ensures { result ≡ is_kept records.now files.now number }
+{
+    is_pinned(records, number) || is_open(files, number)
+}
+
 #[tactic(auto, unfolding(crate::specs::Parts::IsLiving))]
 /// Whether a node bears the number.
-fn is_alive(nodes: &[Node], number: u64) -> bool
+pub fn is_alive(nodes: &[Node], number: u64) -> bool
     ensures { IsTrue result ↔ IsLiving (node_at nodes.now) number }
 {
     find(nodes, number).is_some()
@@ -68,10 +77,17 @@ fn pins_living(nodes: &[Node], holder: &Record) -> bool
 }
 
 /// Whether each pin names a living node.
-pub fn are_pins_alive(nodes: &[Node], records: &[Record]) -> bool
-    ensures { IsTrue result ↔ ArePinsAlive (node_at nodes.now) (is_pinned records.now) }
+fn are_pins_alive(nodes: &[Node], records: &[Record]) -> bool
+    ensures { IsTrue result ↔ AreAlive (node_at nodes.now) (is_pinned records.now) }
 {
     records.iter().all(|record| pins_living(nodes, record))
+}
+
+/// Whether each pin and each open file names a living node.
+pub fn are_all_alive(nodes: &[Node], records: &[Record], files: &[Filed]) -> bool
+    ensures { IsTrue result ↔ AreAlive (node_at nodes.now) (is_kept records.now files.now) }
+{
+    are_pins_alive(nodes, records) && are_files_alive(nodes, files)
 }
 
 /// Whether the node is named under the parent.
@@ -92,22 +108,24 @@ fn has_child(nodes: &[Node], number: u64) -> bool
     nodes.iter().any(|node| is_child_of(node, number))
 }
 
-/// Whether the node is the root, or has a lookup count, a mark, a pin or a named child.
-fn is_reasoned(nodes: &[Node], records: &[Record], node: &Node) -> bool
+/// Whether the node is the root, or has a lookup count, a mark, a pin, an open file or a named child.
+fn is_reasoned(nodes: &[Node], records: &[Record], files: &[Filed], node: &Node) -> bool
     requires { IsDistinct nodes.now }
-    ensures { IsTrue result ↔ IsReasoned (node_at nodes.now) (is_pinned records.now) node.now }
+    ensures { IsTrue result ↔ IsReasoned (node_at nodes.now) (is_kept records.now files.now) node.now }
 {
     node.number == 1
         || node.count > 0
         || node.hidden
-        || is_pinned(records, node.number)
+        || is_kept(records, files, node.number)
         || has_child(nodes, node.number)
 }
 
 /// Whether each node but the root has a reason to live.
-pub fn have_reasons(nodes: &[Node], records: &[Record]) -> bool
+pub fn have_reasons(nodes: &[Node], records: &[Record], files: &[Filed]) -> bool
     requires { IsDistinct nodes.now }
-    ensures { IsTrue result ↔ HaveReasons (node_at nodes.now) (is_pinned records.now) }
+    ensures { IsTrue result ↔ HaveReasons (node_at nodes.now) (is_kept records.now files.now) }
 {
-    nodes.iter().all(|node| is_reasoned(nodes, records, node))
+    nodes
+        .iter()
+        .all(|node| is_reasoned(nodes, records, files, node))
 }

@@ -1,4 +1,4 @@
-use Rattle.std.proofs.Common.{◌+◌, ◌≡◌, ◌++◌, true, false, [], ◌∷◌, length, get_or, arith, sym, ap, ◌∙◌, subst}
+use Rattle.std.proofs.Common.{◌+◌, ◌≡◌, ◌++◌, true, [], ◌∷◌, length, get_or, arith, sym, ap, ◌∙◌, subst}
 use Rattle.std.proofs.lemmas.Bool.{false≢true}
 use Rattle.paths.specs.Prefixes.{Names, is_prefix}
 use Rattle.flights.proofs.Under.{under_begins, under_is, under_last, under_length}

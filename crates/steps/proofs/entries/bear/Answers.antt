@@ -1,11 +1,11 @@
 use Rattle.std.proofs.Common.{ℕ, ◌≡◌, Some, List, ◌∷◌, ◌++◌, [], ap, ◌∙◌, subst, sym}
-use Rattle.flights.specs.Listed.{flying_of}
 use Rattle.ledger.specs.declared.postings.Posting.{Posting}
 use Rattle.ledger.specs.declared.postings.Posting.TheVariants.{Entry}
 use Rattle.ledger.specs.Sums.{births_of}
 use Rattle.tree.specs.declared.nodes.Node.{Node}
 use Rattle.tree.specs.Places.{Lookup, at_in, born_node, with_node}
 use Rattle.tree.proofs.LookupLemmas.{with_same}
+use Rattle.steps.specs.Keeping.{kept_by}
 use Rattle.steps.proofs.Entering.{alive_written, law_born}
 use Rattle.steps.proofs.entries.bear.Goals as goal
 
@@ -28,6 +28,6 @@ returns-clause-law c =
     let born : g ≡ births_of n c.args.ledger.now.made =
     c.births-generation.ensures ∙ ap (λ (k : ℕ). births_of k c.args.ledger.now.made) (c.vacant-next.ensures.next ∙ sym c.birth-number.ensures.number) in
     let stood : at_in c.birth-number.new.self n ≡ Some y = ap (λ (a : Lookup). a n) nodes ∙ with_same at n y in
-    law_born at (at_in c.birth-number.new.self) (at_in c.set_count.new.self) c.args.ledger.now.made c.post-2.new.self.made (flying_of c.args._flights.now).pinned
+    law_born at (at_in c.birth-number.new.self) (at_in c.set_count.new.self) c.args.ledger.now.made c.post-2.new.self.made (kept_by c.args._flights.now c.args._files.now)
     n g key.parent key.name c.requires.law (ap at c.birth-number.ensures.number ∙ c.vacant-next.ensures.free) born nodes (c.set_count.ensures.writes y stood).nodes
     (c.post-2.ensures.made ∙ ap (λ (ps : List Posting). ps ++ Entry n g ∷ []) c.post.ensures.made) c.birth-number.ensures.tree c.set_count.ensures.tree

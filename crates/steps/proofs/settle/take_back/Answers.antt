@@ -1,7 +1,7 @@
 use Rattle.std.proofs.Common.{◌≡◌, ◌<◌, ◌∷◌, ◌++◌, [], arith, sym}
-use Rattle.flights.specs.Listed.{flying_of}
 use Rattle.ledger.specs.declared.postings.Posting.TheVariants.{Back}
 use Rattle.tree.specs.Places.{at_in}
+use Rattle.steps.specs.Keeping.{kept_by}
 use Rattle.steps.specs.Steps.{numbers_of}
 use Rattle.steps.proofs.Backs.{nearly_back}
 use Rattle.steps.proofs.settle.take_back.Goals as goal
@@ -12,5 +12,5 @@ returns-clause-nearly c =
     let stood = sym c.in-Some.ensures.found in
     let some : 0 < x.count = omega arith in
     let made : c.post.new.self.made ≡ c.args.ledger.now.made ++ Back c.args.entry.number x.generation ∷ [] = rw c.if-node-entry.false c.post.ensures.made in
-    nearly_back (at_in c.args.tree.now) (at_in c.set_count.new.self) c.args.ledger.now.made c.post.new.self.made (flying_of c.args._flights.now).pinned (numbers_of c.args._given.now ++ c.args._pins.now) c.args.entry.number x
+    nearly_back (at_in c.args.tree.now) (at_in c.set_count.new.self) c.args.ledger.now.made c.post.new.self.made (kept_by c.args._flights.now c.args._files.now) (numbers_of c.args._given.now ++ c.args._pins.now) c.args.entry.number x
     c.requires.nearly stood some c.requires.suspect (c.set_count.ensures.writes x stood).nodes made c.set_count.ensures.tree

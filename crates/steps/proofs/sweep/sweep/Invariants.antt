@@ -1,6 +1,6 @@
 use Rattle.std.proofs.Common.{◌∷◌, ◌++◌}
-use Rattle.flights.specs.Listed.{flying_of}
 use Rattle.tree.specs.Places.{at_in}
+use Rattle.steps.specs.Keeping.{kept_by}
 use Rattle.steps.specs.Swept.{IsSwept}
 use Rattle.steps.specs.Sweeping.{IsPruned, IsSameRest}
 use Rattle.steps.specs.Steps.{numbers_of}
@@ -8,8 +8,8 @@ use Rattle.steps.proofs.sweep.sweep.Given as goal
 
 abbrev pub invariant-loop-parent : goal.invariant-loop-parent
 invariant-loop-parent l = record {
-  pruned : IsPruned (at_in l.tree) (flying_of l.flights).pinned (l.number ∷ (numbers_of l.given ++ l.pins));
-  swept : IsSwept (flying_of l.flights).pinned (at_in l.fn.tree) (at_in l.tree);
+  pruned : IsPruned (at_in l.tree) (kept_by l.flights l.files) (l.number ∷ (numbers_of l.given ++ l.pins));
+  swept : IsSwept (kept_by l.flights l.files) (at_in l.fn.tree) (at_in l.tree);
   rest : IsSameRest l.fn.tree l.tree;
 }
 

@@ -1,6 +1,6 @@
 use Rattle.std.proofs.Common.{◌+◌, ◌-◌, ◌^◌}
-use Rattle.flights.specs.Listed.{flying_of}
 use Rattle.tree.specs.Places.{at_in, IsTree}
+use Rattle.steps.specs.Keeping.{kept_by}
 use Rattle.steps.specs.Swept.{IsSwept}
 use Rattle.steps.specs.Sweeping.{HaveReasonsBelow, IsSameRest}
 use Rattle.steps.proofs.sweep.sweep_cut.Given as goal
@@ -8,8 +8,8 @@ use Rattle.steps.proofs.sweep.sweep_cut.Given as goal
 abbrev pub invariant-loop-next : goal.invariant-loop-next
 invariant-loop-next l = record {
   tree : IsTree (at_in l.tree);
-  below : HaveReasonsBelow (at_in l.tree) (flying_of l.flights).pinned (l.number + 1);
-  swept : IsSwept (flying_of l.flights).pinned (at_in l.fn.tree) (at_in l.tree);
+  below : HaveReasonsBelow (at_in l.tree) (kept_by l.flights l.files) (l.number + 1);
+  swept : IsSwept (kept_by l.flights l.files) (at_in l.fn.tree) (at_in l.tree);
   rest : IsSameRest l.fn.tree l.tree;
 }
 

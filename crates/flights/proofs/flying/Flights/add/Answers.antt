@@ -1,7 +1,7 @@
 use Rattle.std.proofs.Common.{arith}
 use Rattle.std.proofs.lemmas.List.Sums.{sum_by_push}
 use Rattle.flights.specs.declared.data.Flight.{Flight}
-use Rattle.flights.specs.Flying.{nodes_promised, postings_promised}
+use Rattle.flights.specs.Flying.{files_promised, nodes_promised, postings_promised}
 use Rattle.flights.proofs.Lookups.{HaveOwnIds-push}
 use Rattle.flights.proofs.Kept.{IsFlying_kept}
 use Rattle.flights.proofs.Stepping.{Adds-listed, fresh_in}
@@ -16,6 +16,7 @@ invariant_of-self c =
       apart = HaveOwnIds-push fs g c.self.invariant.apart fresh;
       nodes = omega (arith, c.self.invariant.nodes, c.promise-promise.ensures.nodes, sum_by_push (λ (f : Flight). nodes_promised f.stage) fs g);
       postings = omega (arith, c.self.invariant.postings, c.promise-promise.ensures.postings, sum_by_push (λ (f : Flight). postings_promised f.stage) fs g);
+      files = omega (arith, c.self.invariant.files, c.promise-promise.ensures.files, sum_by_push (λ (f : Flight). files_promised f.stage) fs g);
     })
 
 pub returns-clause-adds : goal.returns-clause-adds

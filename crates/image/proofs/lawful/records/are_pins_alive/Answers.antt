@@ -5,7 +5,7 @@ use Rattle.std.proofs.lemmas.List.Folds.{Any-from_list_any, list_any_at}
 use Rattle.tree.specs.Places.{Lookup}
 use Rattle.tree.specs.Listed.{node_at}
 use Rattle.image.specs.declared.data.Record.{Record}
-use Rattle.image.specs.Law.{ArePinsAlive, is_pinned}
+use Rattle.image.specs.Law.{AreAlive, is_pinned}
 use Rattle.image.specs.Parts.{IsLiving, PinsLiving}
 use Rattle.image.proofs.lawful.records.are_pins_alive.Goals as goal
 
@@ -14,14 +14,14 @@ among at numbers n each is =
     let some = Any-from_list_any (λ m. m == n) numbers is in
     subst (IsLiving at) (some.3 ∙ eqb-true some.1 n some.4) (each some.0 some.1 some.2)
 
-living : (at : Lookup) (records : List Record) → All (PinsLiving at) records → ArePinsAlive at (is_pinned records)
+living : (at : Lookup) (records : List Record) → All (PinsLiving at) records → AreAlive at (is_pinned records)
 unfolding IsLiving PinsLiving
 living at records each n is =
     let some = Any-from_list_any (λ (r : Record). list_any (λ m. m == n) r.pins) records is in
     let here : PinsLiving at some.1 = subst (PinsLiving at) some.3 (each some.0 some.1 some.2) in
     among at some.1.pins n here some.4
 
-pinned : (at : Lookup) (records : List Record) → ArePinsAlive at (is_pinned records) → All (PinsLiving at) records
+pinned : (at : Lookup) (records : List Record) → AreAlive at (is_pinned records) → All (PinsLiving at) records
 unfolding IsLiving PinsLiving
 pinned at records alive k d within j e inside =
     let r : Record = get_or records k d in

@@ -1,8 +1,8 @@
 use Rattle.std.proofs.Common.{subst, sym, ap, ◌∙◌}
 use Rattle.std.proofs.lemmas.Bool.{true≢false}
 use Rattle.tree.specs.Places.{at_in}
-use Rattle.flights.specs.Listed.{flying_of}
 use Rattle.wants.specs.Rows.{Change}
+use Rattle.steps.specs.Keeping.{kept_by}
 use Rattle.steps.specs.Ending.{ChangesNames, change_in}
 use Rattle.steps.specs.Kept.{world_of}
 use Rattle.steps.proofs.Changing.{change_kept, changes_names, mid_reasons}
@@ -23,8 +23,7 @@ pub returns-then-matches-clause-changes : goal.returns-then-matches-clause-chang
 returns-then-matches-clause-changes c = elim c.match-matches.branch [
   | in-Stays w ↦
       let old = world_of c.args.self.now in
-      let all = flying_of c.args.self.now.flights in
-      subst (λ (change : Change). ChangesNames old change old) (ap change_in (sym w.in-Stays.is)) (nothing_changes old all.pinned (are_kept all c.requires.kept.flying))
+      subst (λ (change : Change). ChangesNames old change old) (ap change_in (sym w.in-Stays.is)) (nothing_changes old (kept_by c.args.self.now.flights c.args.self.now.files) (are_kept c.args.self.now.flights c.args.self.now.files c.requires.kept.flying c.requires.kept.filed))
   | in_default w ↦ absurd (true≢false (sym c.if-matches.true ∙ w.matches-is))
 ]
 

@@ -6,6 +6,7 @@ use Rattle.tree.specs.declared.nodes.Key.{Key}
 use Rattle.wants.specs.Plans.{row_in}
 use Rattle.wants.specs.Rows.{Change, Demand, case_in, stays}
 use Rattle.steps.specs.declared.acts.Entries.{Entries as Entered}
+use Rattle.steps.specs.Keeping.{kept_by}
 use Rattle.steps.specs.declared.data.Outcome.{Outcome}
 use Rattle.steps.specs.declared.data.Outcome.TheVariants.{Done, Failed}
 use Rattle.steps.specs.declared.state.State.{State}
@@ -25,13 +26,12 @@ returns-in-Failed-clause-ends c e =
     let w = world_of c.args.self.now in
     let work = c.args.work in
     let row = row_in work in
-    let all = flying_of c.args.self.now.flights in
     let entries : keys_in c.acts_of-entries.result.entries ≡ row.entries = c.acts_of-entries.ensures.entries (case_in work.want work.promise) in
     let answer : c.give_none.result ≡ record { id = c.args.id; given = nothing_for row.entries; lost = false } =
     c.give_none.ensures ∙ ap (λ (ks : List Key). let a : Answer = record { id = c.args.id; given = nothing_for ks; lost = false } in a) entries in
     subst (λ (o : Outcome). Ends w c.args.id (flight_of e.flight) (act_of row o) row.entries c.give_none.result w) (sym c.in-Failed.is)
     (subst (λ (a : Answer). Ends w c.args.id (flight_of e.flight) (act_of row Failed) row.entries a w) (sym answer)
-    (ends_changed w w c.args.id (flight_of e.flight) (ap (λ o. option_map flight_of o) e.here) (ap stage_of e.answered) (act_of row Failed) row.entries refl (nothing_changes w all.pinned (are_kept all c.requires.kept.flying))))
+    (ends_changed w w c.args.id (flight_of e.flight) (ap (λ o. option_map flight_of o) e.here) (ap stage_of e.answered) (act_of row Failed) row.entries refl (nothing_changes w (kept_by c.args.self.now.flights c.args.self.now.files) (are_kept c.args.self.now.flights c.args.self.now.files c.requires.kept.flying c.requires.kept.filed))))
 
 pub change-requires-clause-may : goal.change-requires-clause-may
 change-requires-clause-may c =
@@ -88,12 +88,11 @@ ends_with : (s new : State) → IsKept new → (id : ℕ) (x : Recorded) → (fl
     → GivesAll (world_of s) id (flight_of x) (keys_in entered) (found (is_page entered) (keys_in entered)) answer.given (world_of new)
     → Ends (world_of s) id (flight_of x) (record { found = found row.page row.entries; change = stays }) row.entries answer (world_of new)
 ends_with s new kept id x here idle entered row found answer keys page is gives =
-    let all = flying_of new.flights in
     let one : GivesAll (world_of s) id (flight_of x) row.entries (found row.page row.entries) answer.given (world_of new) =
     subst (λ (b : Bool). GivesAll (world_of s) id (flight_of x) row.entries (found b row.entries) answer.given (world_of new)) page
     (subst (λ (ks : List Key). GivesAll (world_of s) id (flight_of x) ks (found (is_page entered) ks) answer.given (world_of new)) keys gives) in
     subst (λ (a : Answer). Ends (world_of s) id (flight_of x) (record { found = found row.page row.entries; change = stays }) row.entries a (world_of new)) (sym is)
-    (ends_given (world_of s) (world_of new) id (flight_of x) row.entries (found row.page row.entries) answer.given all.pinned (ap (λ o. option_map flight_of o) here) idle (are_kept all kept.flying) one)
+    (ends_given (world_of s) (world_of new) id (flight_of x) row.entries (found row.page row.entries) answer.given (kept_by new.flights new.files) (ap (λ o. option_map flight_of o) here) idle (are_kept new.flights new.files kept.flying kept.filed) one)
 
 pub returns-in-Entry-clause-ends : goal.returns-in-Entry-clause-ends
 returns-in-Entry-clause-ends c e =

@@ -1,6 +1,7 @@
 use Rattle.std.proofs.Common.{ℕ, ◌++◌, ap, subst, sym}
-use Rattle.flights.specs.Listed.{InFlight, flying_of}
+use Rattle.flights.specs.Listed.{InFlight}
 use Rattle.tree.specs.Places.{at_in}
+use Rattle.steps.specs.Keeping.{kept_by}
 use Rattle.steps.specs.Answers.{Answer, Settlement}
 use Rattle.steps.specs.Steps.{Settles, numbers_of}
 use Rattle.steps.specs.Sweeping.{IsNearly}
@@ -22,7 +23,7 @@ take_all_back-requires-clause-nearly c =
 pub returns-clause-settles : goal.returns-clause-settles
 returns-clause-settles c =
     let r : Settlement = record { id = c.answered.inside.id; entries = c.entries.result; taken = c.args.taken } in
-    let nearly : IsNearly (at_in c.take_all_back.new.tree) c.take_all_back.new.ledger.made (flying_of c.take.new.self).pinned (numbers_of c.untaken-untaken.result.now ++ c.in-Some.pins.numbers) = rw c.as_slice-pins.ensures at c.take_all_back.ensures.nearly in
+    let nearly : IsNearly (at_in c.take_all_back.new.tree) c.take_all_back.new.ledger.made (kept_by c.take.new.self c.args.self.now.files) (numbers_of c.untaken-untaken.result.now ++ c.in-Some.pins.numbers) = rw c.as_slice-pins.ensures at c.take_all_back.ensures.nearly in
     subst (λ (a : Answer). Settles (world_of c.args.self.now) a c.args.taken r (world_of (record c.args.self.now { tree = c.sweep_pins.new.tree; ledger = c.take_all_back.new.ledger; flights = c.take.new.self; counts = c.take_all_back.new.counts }))) c.answered.view_is
     (Settles-found c.args.self.now c.requires c.take.new.self c.answered.inside.id c.in-Some.pins.numbers c.in-Some.ensures.some c.in-Some.ensures.law
     c.untaken-untaken.result.now c.take_all_back.new.tree c.sweep_given.new.tree c.sweep_pins.new.tree c.take_all_back.new.ledger c.take_all_back.ensures.back nearly c.take_all_back.ensures.rest
@@ -32,7 +33,7 @@ returns-clause-settles c =
 
 pub returns-clause-kept : goal.returns-clause-kept
 returns-clause-kept c =
-    let nearly : IsNearly (at_in c.take_all_back.new.tree) c.take_all_back.new.ledger.made (flying_of c.take.new.self).pinned (numbers_of c.untaken-untaken.result.now ++ c.in-Some.pins.numbers) = rw c.as_slice-pins.ensures at c.take_all_back.ensures.nearly in
+    let nearly : IsNearly (at_in c.take_all_back.new.tree) c.take_all_back.new.ledger.made (kept_by c.take.new.self c.args.self.now.files) (numbers_of c.untaken-untaken.result.now ++ c.in-Some.pins.numbers) = rw c.as_slice-pins.ensures at c.take_all_back.ensures.nearly in
     settle_kept c.args.self.now c.requires c.take.new.self c.answered.inside.id c.in-Some.pins.numbers c.in-Some.ensures.some c.in-Some.ensures.law
     c.untaken-untaken.result.now c.take_all_back.new.tree c.sweep_given.new.tree c.sweep_pins.new.tree c.take_all_back.new.ledger c.take_all_back.ensures.back nearly c.take_all_back.ensures.rest
     c.sweep_given.ensures.swept c.sweep_pins.ensures.swept c.sweep_given.ensures.rest c.sweep_pins.ensures.rest c.sweep_pins.ensures.pruned

@@ -1,0 +1,122 @@
+-- What the parts keep alive, and that open files keep their nodes in each step.
+use Rattle.std.proofs.Common.{ℕ, ◌+◌, ◌-◌, ◌≡◌, ◌||◌, Bool, true, false, List, [], ◌∷◌, Option, Some, None, refl, sym, ap, ◌∙◌, subst, ◌⊎◌, inl, inr}
+use Rattle.std.proofs.lemmas.Bool.{cases_Bool, cases_eq, true≢false, or_cases, or_left, or_right}
+use Rattle.std.proofs.lemmas.Option.{none-some, same_Some}
+use mathlib.Core.Path.{fun_ext}
+use Rattle.files.specs.declared.data.OpenFile.{OpenFile}
+use Rattle.files.specs.Filed.{Filing, files_of}
+use Rattle.files.specs.Handles.{Files, IsFiled, no_files}
+use Rattle.flights.specs.declared.data.Given.{Given}
+use Rattle.flights.specs.Listed.{InFlight, flying_of}
+use Rattle.ledger.specs.declared.postings.Posting.{Posting}
+use Rattle.tree.specs.declared.nodes.Node.{Node}
+use Rattle.tree.specs.Moves.{Changes, Where}
+use Rattle.tree.specs.Places.{Lookup, with_node}
+use Rattle.tree.proofs.LookupLemmas.{with_same, with_other}
+use Rattle.tree.proofs.Transfers.{changed_generation}
+use Rattle.steps.specs.Entries.{Enters, TakesAllBack, newborn}
+use Rattle.steps.specs.Keeping.{kept_by}
+use Rattle.steps.specs.Swept.{IsSwept}
+use Rattle.steps.specs.World.{HaveNodes}
+use Rattle.steps.proofs.Standing.{stays_pinned}
+
+-- ---- what is kept
+
+module _ (flights : InFlight) (files : Filing) (n : ℕ) where
+  pub cases_kept : kept_by flights files n ≡ true → ((flying_of flights).pinned n ≡ true) ⊎ ((files_of files).opened n ≡ true)
+  unfolding kept_by
+  cases_kept h = or_cases ((flying_of flights).pinned n) ((files_of files).opened n) h
+
+  pub keeps_pinned : (flying_of flights).pinned n ≡ true → kept_by flights files n ≡ true
+  unfolding kept_by
+  keeps_pinned h = or_left ((flying_of flights).pinned n) ((files_of files).opened n) h
+
+  pub keeps_open : (files_of files).opened n ≡ true → kept_by flights files n ≡ true
+  unfolding kept_by
+  keeps_open h = or_right ((flying_of flights).pinned n) ((files_of files).opened n) h
+
+-- more pins keep more
+pub kept_more : (old new : InFlight) (files : Filing) → ((n : ℕ) → (flying_of old).pinned n ≡ true → (flying_of new).pinned n ≡ true) → (n : ℕ) → kept_by old files n ≡ true → kept_by new files n ≡ true
+kept_more old new files more n h = elim (cases_kept old files n h) [
+  | inl pin ↦ keeps_pinned new files n (more n pin)
+  | inr opened ↦ keeps_open new files n opened
+]
+
+-- the same pins and the same open files keep the same
+pub kept_same : (old new : InFlight) (files now : Filing) → (flying_of new).pinned ≡ (flying_of old).pinned → (files_of now).opened ≡ (files_of files).opened → kept_by new now ≡ kept_by old files
+unfolding kept_by
+kept_same old new files now e f =
+    ap {B = ℕ → Bool} (λ (pinned : ℕ → Bool). λ (n : ℕ). pinned n || (files_of now).opened n) e
+    ∙ ap {B = ℕ → Bool} (λ (opened : ℕ → Bool). λ (n : ℕ). (flying_of old).pinned n || opened n) f
+
+-- the node of an open file is kept
+pub file_kept : (flights : InFlight) (files : Filing) → IsFiled (files_of files) → (handle : ℕ) (file : OpenFile) → (files_of files).at handle ≡ Some file → kept_by flights files file.number ≡ true
+file_kept flights files filed handle file here = keeps_open flights files file.number ((filed.opens file.number).1 (record { handle = handle; file = file; here = here; node = refl }))
+
+-- ---- the nodes of open files
+
+module _ (files : Files) where
+  -- a node is written with the same generation
+  pub nodes_written : (at : Lookup) (n : ℕ) (x y : Node) → at n ≡ Some x → y.generation ≡ x.generation → HaveNodes at files → HaveNodes (with_node at n y) files
+  nodes_written at n x y stood same have handle file here =
+      let it = have handle file here in
+      elim (cases_eq n file.number) [
+        | inl e ↦
+            let one : it.node ≡ x = same_Some it.node x (sym it.here ∙ (ap at (sym e) ∙ stood)) in
+            record {
+              node = y;
+              here = subst (λ k. with_node at n y k ≡ Some y) e (with_same at n y);
+              generation = same ∙ (ap (λ (w : Node). w.generation) (sym one) ∙ it.generation);
+            }
+        | inr ne ↦ record { node = it.node; here = with_other at n y file.number ne ∙ it.here; generation = it.generation }
+      ]
+
+  -- a node is born
+  pub nodes_born : (at : Lookup) (n : ℕ) (y : Node) → at n ≡ None → HaveNodes at files → HaveNodes (with_node at n y) files
+  nodes_born at n y fresh have handle file here =
+      let it = have handle file here in
+      record {
+        node = it.node;
+        here = with_other at n y file.number (λ e. none-some it.node (sym fresh ∙ (ap at e ∙ it.here))) ∙ it.here;
+        generation = it.generation;
+      }
+
+  pub nodes_entered : (at : Lookup) (ps : List Posting) (parent : ℕ) (name : List ℕ) (g : Given) (new : Lookup) (qs : List Posting) → Enters at ps parent name g new qs → HaveNodes at files → HaveNodes new files
+  nodes_entered at ps parent name g new qs (inl again) have =
+      subst (λ a. HaveNodes a files) (sym again.nodes) (nodes_written at g.number again.node (record again.node { count = again.node.count + 1 }) again.here refl have)
+  nodes_entered at ps parent name g new qs (inr born) have =
+      subst (λ a. HaveNodes a files) (sym born.nodes) (nodes_born at g.number (newborn g parent name) born.fresh have)
+
+  pub nodes_back : (gs : List (Option Given)) (at new : Lookup) (ps qs : List Posting) → TakesAllBack at ps gs new qs → HaveNodes at files → HaveNodes new files
+  nodes_back [] at new ps qs h have = subst (λ a. HaveNodes a files) (sym h.0) have
+  nodes_back (None ∷ gs) at new ps qs h have = nodes_back gs at new ps qs h have
+  nodes_back (Some g ∷ gs) at new ps qs (mid, ms, inl back, rest) have =
+      nodes_back gs mid new ms qs rest (subst (λ a. HaveNodes a files) (sym back.nodes) (nodes_written at g.number back.node (record back.node { count = back.node.count - 1 }) back.here refl have))
+  nodes_back (Some g ∷ gs) at new ps qs (mid, ms, inr none, rest) have = nodes_back gs mid new ms qs rest (subst (λ a. HaveNodes a files) (sym none.nodes) have)
+
+  -- places change
+  pub nodes_changed : (f : Where → Where) (old new : Lookup) → Changes f old new → HaveNodes old files → HaveNodes new files
+  nodes_changed f old new c have handle file here =
+      let it = have handle file here in
+      let now = c.kept file.number it.node it.here in
+      record { node = now.0; here = now.1; generation = changed_generation it.node now.0 now.2 ∙ it.generation }
+
+-- nodes that nothing keeps are dropped
+pub nodes_swept : (flights : InFlight) (files : Filing) → IsFiled (files_of files) → (old new : Lookup) → IsSwept (kept_by flights files) old new → HaveNodes old (files_of files).at → HaveNodes new (files_of files).at
+nodes_swept flights files filed old new swept have handle file here =
+    let it = have handle file here in
+    record {
+      node = it.node;
+      here = stays_pinned (kept_by flights files) old new file.number it.node swept it.here (file_kept flights files filed handle file here);
+      generation = it.generation;
+    }
+
+-- where none is in flight and no file is open, nothing is kept
+pub none_kept : (flights : InFlight) (files : Filing) → (flying_of flights).pinned ≡ (λ _. false) → IsFiled (files_of files) → (files_of files).at ≡ no_files → kept_by flights files ≡ (λ _. false)
+none_kept flights files none filed empty = fun_ext (λ n. elim (cases_Bool (kept_by flights files n)) [
+  | inl held ↦ elim (cases_kept flights files n held) [
+    | inl pin ↦ absurd (true≢false (sym pin ∙ ap (λ (p : ℕ → Bool). p n) none))
+    | inr opened ↦ let it = (filed.opens n).0 opened in absurd (none-some it.file (sym (ap (λ (at : Files). at it.handle) empty) ∙ it.here))
+  ]
+  | inr left ↦ left
+])
