@@ -13,7 +13,7 @@ use Rattle.steps.proofs.Starting.{begun_kept, goes_on}
 use Rattle.steps.proofs.state.State.admit.Goals as goal
 
 demanded : (at : Lookup) (plan : Plan) → IsPlan at plan.work.want plan → IsDemand at plan.work.want (row_in plan.work)
-demanded at plan is = record { case = case_in plan.work.promise; fits = is.fits; row = refl }
+demanded at plan is = record { case = case_in plan.work.want plan.work.promise; fits = is.fits; row = refl }
 
 pub returns-then-holds_up-clause-begins : goal.returns-then-holds_up-clause-begins
 returns-then-holds_up-clause-begins c =
