@@ -12,6 +12,7 @@ use crate::samples::new_tree;
 use backing::{Calls, MemTree};
 use clap::error::ErrorKind;
 use engine::{Link, SessionEnd, Settings, serve};
+use handles::Dirs;
 use ledger::{Blanks, Ledgers};
 use std::alloc::Global;
 use std::convert::AsStr;
@@ -52,7 +53,10 @@ fn serve_link<H: Wait, T: Ledgers, L: Link, C: Calls + Drop>(
     };
     let mut share = shares.pop().unwrap();
     shares.destroy_empty();
-    let end = serve(rt, alloc, link, &mut tree, &mut table, &mut share, NOBODY);
+    let dirs = Dirs::new(alloc);
+    let end = serve(
+        rt, alloc, link, &mut tree, &mut table, &mut share, &dirs, NOBODY,
+    );
     share.leave();
     end
 }
