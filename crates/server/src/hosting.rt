@@ -5,6 +5,7 @@ ghost use Rattle.server.specs.Sessions.{ServesLink};
 
 use backing::Calls;
 use engine::{Link, SessionEnd, Settings, serve};
+use handles::Dirs;
 use ledger::{Blanks, Ledgers};
 use std::alloc::Global;
 use std::marker::Brand;
@@ -30,7 +31,10 @@ fn serve_link<H: Wait, T: Ledgers, L: Link, C: Calls + Drop>(
     };
     let mut share = shares.pop().unwrap();
     shares.destroy_empty();
-    let end = serve(rt, alloc, link, &mut tree, &mut table, &mut share, settings);
+    let dirs = Dirs::new(alloc);
+    let end = serve(
+        rt, alloc, link, &mut tree, &mut table, &mut share, &dirs, settings,
+    );
     share.leave();
     end
 }

@@ -1,5 +1,5 @@
 -- Entries of a folder as runs of numbers, a name and zeros.
-use Rattle.std.proofs.Common.{◌≡◌, ℕ, ◌^◌, ◌<◌, List, [], ◌∷◌, ◌++◌, length, map, refl, ap, lit<, arith, Option, Some, None}
+use Rattle.std.proofs.Common.{◌≡◌, ℕ, ◌+◌, ◌^◌, ◌<◌, List, [], ◌∷◌, ◌++◌, length, map, refl, ap, lit<, arith, Option, Some, None}
 use Rattle.wire.specs.declared.reply.Entry.{Entry}
 use Rattle.wire.specs.declared.reply.Kind.TheVariants.{File, Folder}
 use Rattle.wire.specs.declared.reply.Kind.{Kind}
@@ -9,7 +9,7 @@ use Rattle.wire.specs.Replies.{entry_layout}
 use Rattle.wire.specs.Written.{le, zeros, u32s, u64s, written}
 use Rattle.wire.proofs.Again.{written_spelled}
 use Rattle.wire.proofs.Entries.{entry_lens, tells_on}
-use Rattle.wire.proofs.Lengths.{cat_assoc, cat_nil, length-zeros}
+use Rattle.wire.proofs.Lengths.{cat_assoc, cat_nil, length-cat, length-le, length-zeros}
 
 pub dirent_parts : (d : Dirent) → dirent_bytes d ≡ le 8 d.ino ++ (le 8 d.next ++ (le 4 (length d.name) ++ (le 4 (type_of d.kind) ++ (d.name ++ zeros (padding_of d.name)))))
 unfolding dirent_bytes
@@ -53,3 +53,6 @@ is_plus_dirent p given next name =
     written_spelled (plus_layout p) (plus_values p) (tells_on entry_lens (given_values p.entry) (dirent_layout (dirent_in p)) (dirent_values (dirent_in p)) given dirent)
 
 pub ruleset dirents = (dirent_parts, none_parts, given_len, plus_parts, cat_assoc)
+
+pub length-dirent : (d : Dirent) → length (dirent_bytes d) ≡ 24 + length d.name + padding_of d.name
+length-dirent d = rw (dirent_parts d, length-cat, length-cat, length-cat, length-cat, length-cat, length-le, length-le, length-le, length-le, length-zeros) (omega arith)
