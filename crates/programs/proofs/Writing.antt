@@ -2,15 +2,15 @@
 use Rattle.std.proofs.lemmas.Bool.{true≢false}
 use Rattle.std.proofs.Common.{ℕ, ◌≡◌, Bool, false, List, [], ◌∷◌, ◌++◌, Option, Some, None, refl, sym, subst, ap, ◌∙◌, append_assoc, append-nil, arith, inl, inr}
 use Rattle.std.specs.Io.KnownBytes.{Appends}
-use Rattle.backing.specs.Memory.{Memory as MemTree, Gives}
+use Rattle.backing.specs.Memory.{Memory as MemTree, Gives, memory_tree}
 use Rattle.engine.specs.Chain.{Chain}
 use Rattle.engine.specs.Links.{Event, Happens, Heard, In, Out, Piece, Ended, Broke}
 use Rattle.engine.specs.Serving.{events_of}
 use Rattle.engine.specs.declared.ends.SessionEnd.{SessionEnd}
 use Rattle.engine.specs.declared.links.Sent.TheVariants as sent
 use Rattle.programs.specs.Lines.{Hexing, HasPiece, Receives, Sends, has_broken, line, lines_in}
-use Rattle.server.specs.Sessions.{ServesLink}
-use Rattle.programs.specs.Runs.{ServesHex, nobody}
+use Rattle.server.specs.Known.{ServesKnown}
+use Rattle.programs.specs.Runs.{ServesHex, failed_in, nobody}
 use Rattle.programs.specs.Samples.{IsStart}
 
 appends_none : (known : Option (List ℕ)) → Appends known known []
@@ -42,11 +42,11 @@ written old new (Out frame sent.Untaken ∷ events) chain whole = absurd chain.1
 written old new (Out frame sent.Broken ∷ events) chain whole = absurd (true≢false whole)
 
 -- a link that was served from a new tree
-pub hex_served : (sampled : Bool) (tree : MemTree) (old : Hexing) (over : SessionEnd) (new : Hexing) → IsStart sampled tree → ServesLink nobody Receives Sends Gives tree old over new → ServesHex sampled old over new
-hex_served sampled tree old over new start (inl served) = inl (record {
+pub hex_served : (sampled : Bool) (tree : MemTree) (old : Hexing) (over : SessionEnd) (new : Hexing) → IsStart sampled tree → ServesKnown nobody Receives Sends Gives memory_tree failed_in tree old over new → ServesHex sampled old over new
+hex_served sampled tree old over new start (inl known) = inl (record {
   tree = tree;
   start = start;
-  served = served;
-  written = written old new (events_of served.run.steps) served.run.passes;
+  known = known;
+  written = written old new (events_of known.served.run.steps) known.served.run.passes;
 })
 hex_served sampled tree old over new start (inr none) = inr none

@@ -2,7 +2,7 @@
 use Rattle.std.specs.Prelude.{ℕ, ◌≡◌, ◌≢◌, ◌⊎◌, Bool, true, false, List, [], Option, Result}
 use Rattle.std.specs.Borrow.{Bor}
 use Rattle.std.specs.Io.KnownBytes.{Appends}
-use Rattle.backing.specs.Memory.{Memory as MemTree, Gives}
+use Rattle.backing.specs.Memory.{Memory as MemTree, Gives, memory_tree}
 use Rattle.clap.specs.Words.{IsAmong, Text, fault_of as refusals_of, subcommand_of, takes}
 use Rattle.clap.specs.declared.error.kind.ErrorKind.{ErrorKind}
 use Rattle.clap.specs.declared.error.kind.ErrorKind.TheVariants.{OutOfMemory, DisplayHelp, DisplayVersion}
@@ -11,7 +11,7 @@ use Rattle.engine.specs.declared.ends.SessionEnd.{SessionEnd}
 use Rattle.engine.specs.declared.ends.SessionEnd.TheVariants as end
 use Rattle.ops.specs.declared.replies.Settings.{Settings}
 use Rattle.server.specs.Folders.{ServesFolder, ServesSocket}
-use Rattle.server.specs.Sessions.{IsServed}
+use Rattle.server.specs.Known.{IsKnownServed}
 use Rattle.server.specs.declared.folder.Unserved.{Unserved}
 use Rattle.programs.specs.CommandLine.{mirrord_app, IsAsked}
 use Rattle.programs.specs.Ends.{exit_of, failure_after, failure_of, Tells}
@@ -26,13 +26,17 @@ use Rattle.programs.specs.declared.options.Options.TheVariants.{Serve, Pipe, Hex
 abbrev pub nobody : Settings
 nobody = record { uid = 0; gid = 0 }
 
+-- how often calls of a memory tree have failed
+abbrev pub failed_in : MemTree → ℕ
+failed_in m = m.failed
+
 -- A link of hexadecimal lines is served from a new tree in memory. Its writer is given the replies that were taken, a line each,
 -- unless a reply broke it.
 pub record IsHexServed (sampled : Bool) (old : Hexing) (over : SessionEnd) (new : Hexing) : Type 0 where
   pub tree : MemTree
   pub start : IsStart sampled tree
-  pub served : IsServed nobody Receives Sends Gives tree old over new
-  pub written : has_broken (events_of served.run.steps) ≡ false → Appends old.output new.output (lines_in (events_of served.run.steps))
+  pub known : IsKnownServed nobody Receives Sends Gives memory_tree failed_in tree old over new
+  pub written : has_broken (events_of known.served.run.steps) ≡ false → Appends old.output new.output (lines_in (events_of known.served.run.steps))
 
 -- the same, unless there is no memory for a tree or a table
 abbrev pub ServesHex : Bool → Hexing → SessionEnd → Hexing → Type 0

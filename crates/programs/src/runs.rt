@@ -12,7 +12,7 @@ use crate::options::{Options, read_options};
 use crate::samples::new_tree;
 use clap::error::ErrorKind;
 use engine::{SessionEnd, Settings};
-use server::serve_alone;
+use server::serve_known;
 use std::alloc::Global;
 use std::convert::AsStr;
 use std::fs::File;
@@ -36,7 +36,7 @@ fn serve_new<H: Wait, I: BufRead + Drop, O: Write + Drop>(
     let Ok(tree) = new_tree(alloc, sample) else {
         return SessionEnd::Memory;
     };
-    serve_alone(rt, alloc, tree, link, NOBODY)
+    serve_known(rt, alloc, tree, link, NOBODY)
 }
 
 /// Serves a tree in memory over hexadecimal lines: the program `hex` but for its command line.

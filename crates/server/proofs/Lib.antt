@@ -1,1 +1,2 @@
+pub mod KnownRuns
 pub mod Streaming

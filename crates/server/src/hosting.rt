@@ -1,9 +1,10 @@
 //! A session with a table of its own.
 
 ghost use Rattle.std.specs.Prelude.{◌≡◌};
+ghost use Rattle.server.specs.Known.{ServesKnown};
 ghost use Rattle.server.specs.Sessions.{ServesLink};
 
-use backing::Calls;
+use backing::{Calls, KnownTree};
 use engine::{Link, SessionEnd, Settings, serve};
 use handles::Dirs;
 use ledger::{Blanks, Ledgers};
@@ -50,4 +51,17 @@ pub fn serve_alone<H: Wait, L: Link, C: Calls + Drop>(
     ensures { ServesLink settings L.receives L.sends C.gives tree link.old result link.new }
 {
     serve_link::<H, Brand, L, C>(rt, alloc, Blanks::new(1), tree, link, settings)
+}
+
+/// The same from a tree that tells itself.
+pub fn serve_known<H: Wait, L: Link, C: KnownTree + Drop>(
+    rt: &H,
+    alloc: Global,
+    tree: C,
+    link: &mut L,
+    settings: Settings,
+) -> SessionEnd
+    ensures { ServesKnown settings L.receives L.sends C.gives C.tree C.faults tree link.old result link.new }
+{
+    serve_alone(rt, alloc, tree, link, settings)
 }

@@ -6,5 +6,5 @@ mod hosting;
 mod socket;
 
 pub use folder::{Served, Unserved, serve_folder};
-pub use hosting::serve_alone;
+pub use hosting::{serve_alone, serve_known};
 pub use socket::{RECEIVED, serve_socket};
