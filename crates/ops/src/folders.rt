@@ -2,6 +2,9 @@
 
 ghost use Rattle.std.specs.Prelude.{◌≡◌, ◌+◌, ◌^◌, ◌<◌, ◌++◌, false, length, List, Option, Some, IfOk, OnErr, OnOk};
 ghost use Rattle.backing.specs.declared.call.Child.{Child};
+ghost use Rattle.handles.specs.Names.{is_dot};
+ghost use Rattle.ops.specs.Entries.{plus_entry};
+ghost use Rattle.wire.specs.Dirents.{plus_bytes};
 ghost use Rattle.ops.specs.Folders.{CarriesAtMost, IsPaged, names_bytes, names_reply};
 
 use crate::replies::kind_of;
@@ -9,7 +12,11 @@ use backing::Child;
 use errno::EINVAL;
 use handles::{Listing, PageFault};
 use std::alloc::{AllocError, Global};
-use wire::{Data, NO_INO, ReplyBody, encode_dirent};
+use crate::findings::Found;
+use crate::replies::{Settings, entry_of};
+use flights::Given;
+use paths::Name;
+use wire::{Data, NO_INO, ReplyBody, encode_dirent, encode_plus_dirent};
 
 /// Puts entries at the end of a vector. The first stands at index `from`.
 fn put_names(out: &mut Vec<u8>, from: u64, children: &[Child]) -> Result<(), AllocError>
@@ -22,6 +29,35 @@ fn put_names(out: &mut Vec<u8>, from: u64, children: &[Child]) -> Result<(), All
         encode_dirent(out, NO_INO, next, kind_of(child.kind), child.name.as_str())?;
     }
     Ok(())
+}
+
+/// Whether it is `.` or `..`.
+fn is_dot(name: &Name) -> bool
+    ensures { result ≡ is_dot name.now }
+{
+    let bytes = name.as_str().as_bytes();
+    bytes == b".".as_slice() || bytes == b"..".as_slice()
+}
+
+/// Puts an entry at the end of a vector, with the node of what was found and given.
+fn put_entry(
+    out: &mut Vec<u8>,
+    settings: Settings,
+    next: u64,
+    child: &Child,
+    found: Option<Found>,
+    given: Option<Given>,
+) -> Result<(), AllocError>
+    ensures { OnOk result (out.new.items ≡ out.old.items ++ plus_bytes (plus_entry settings next child.now found given)) }
+{
+    let name = child.name.as_str();
+    match (found, given) {
+        (Some(found), Some(given)) => {
+            let entry = entry_of(settings, found, given);
+            encode_plus_dirent(out, Some(entry), next, kind_of(found.kind), name)
+        }
+        _ => encode_plus_dirent(out, None, next, kind_of(child.kind), name),
+    }
 }
 
 /// What READDIR is answered: as many entries as fit, from an index on. Where one stands there and does not fit, it is EINVAL (own).
