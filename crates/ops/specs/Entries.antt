@@ -41,6 +41,9 @@ plus_from s at (child ∷ children) founds givens =
     if is_dot child.name then plus_entry s (at + 1) child None None ∷ plus_from s (at + 1) children founds givens
     else plus_entry s (at + 1) child (first founds) (first givens) ∷ plus_from s (at + 1) children (drop 1 founds) (drop 1 givens)
 
+abbrev pub entries_bytes : Settings → ℕ → List Child → List (Option Found) → List (Option Given) → List ℕ
+entries_bytes s at children founds givens = flat_map plus_bytes (plus_from s at children founds givens)
+
 abbrev pub entries_reply : Settings → (offset : ℕ) → Option (List Child) → List (Option Found) → List (Option Given) → ReplyBody
 entries_reply s offset None founds givens = Failed EINVAL
-entries_reply s offset (Some run) founds givens = Data (flat_map plus_bytes (plus_from s offset run founds givens))
+entries_reply s offset (Some run) founds givens = Data (entries_bytes s offset run founds givens)

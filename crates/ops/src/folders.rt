@@ -3,19 +3,20 @@
 ghost use Rattle.std.specs.Prelude.{◌≡◌, ◌+◌, ◌^◌, ◌<◌, ◌++◌, false, length, List, Option, Some, IfOk, OnErr, OnOk};
 ghost use Rattle.backing.specs.declared.call.Child.{Child};
 ghost use Rattle.handles.specs.Names.{is_dot};
-ghost use Rattle.ops.specs.Entries.{plus_entry};
+ghost use Rattle.ops.specs.Entries.{entries_bytes, entries_reply, plus_entry};
+ghost use Rattle.ops.specs.Replies.{first};
+ghost use Rattle.std.specs.Prelude.{drop};
 ghost use Rattle.wire.specs.Dirents.{plus_bytes};
 ghost use Rattle.ops.specs.Folders.{CarriesAtMost, IsPaged, names_bytes, names_reply};
 
-use crate::replies::kind_of;
+use crate::findings::Found;
+use crate::replies::{Settings, entry_of, kind_of};
 use backing::Child;
 use errno::EINVAL;
-use handles::{Listing, PageFault};
-use std::alloc::{AllocError, Global};
-use crate::findings::Found;
-use crate::replies::{Settings, entry_of};
 use flights::Given;
+use handles::{Listing, PageFault};
 use paths::Name;
+use std::alloc::{AllocError, Global};
 use wire::{Data, NO_INO, ReplyBody, encode_dirent, encode_plus_dirent};
 
 /// Puts entries at the end of a vector. The first stands at index `from`.
@@ -60,6 +61,61 @@ fn put_entry(
     }
 }
 
+/// What stands first, if anything.
+fn first_of<T: Copy>(items: &[Option<T>]) -> Option<T>
+    ensures { result ≡ first items.now }
+{
+    match items.first() {
+        Some(item) => *item,
+        None => None,
+    }
+}
+
+/// What comes after the first.
+fn rest_of<T: Copy>(items: &[Option<T>]) -> &[Option<T>]
+    ensures { result.now ≡ drop 1 items.now }
+{
+    match items {
+        [_, rest @ ..] => rest,
+        [] => items,
+    }
+}
+
+/// Puts entries at the end of a vector, each with the node of what was found and given for its name. The first stands at index `from`.
+fn put_entries(
+    out: &mut Vec<u8>,
+    settings: Settings,
+    from: u64,
+    children: &[Child],
+    founds: &[Option<Found>],
+    givens: &[Option<Given>],
+) -> Result<(), AllocError>
+    requires { from + length children.now < 2 ^ 64 }
+    ensures { OnOk result (out.new.items ≡ out.old.items ++ entries_bytes settings from children.now founds.now givens.now) }
+{
+    let mut next = from;
+    let mut founds = founds;
+    let mut givens = givens;
+    for child in children {
+        next += 1;
+        if is_dot(&child.name) {
+            put_entry(out, settings, next, child, None, None)?;
+        } else {
+            put_entry(
+                out,
+                settings,
+                next,
+                child,
+                first_of(founds),
+                first_of(givens),
+            )?;
+            founds = rest_of(founds);
+            givens = rest_of(givens);
+        }
+    }
+    Ok(())
+}
+
 /// What READDIR is answered: as many entries as fit, from an index on. Where one stands there and does not fit, it is EINVAL (own).
 pub fn names_reply(
     alloc: Global,
@@ -78,4 +134,22 @@ pub fn names_reply(
     let mut names = Vec::new(alloc);
     put_names(&mut names, page.from, page.entries)?;
     Ok(ReplyBody::Data(Data::new(names)))
+}
+
+/// What READDIRPLUS is answered whose page is these entries, the first at index `from`: each with the node of what was found and given
+/// for its name, but `.` and `..`, for which nothing is looked up.
+pub fn entries_reply(
+    alloc: Global,
+    settings: Settings,
+    from: u64,
+    children: &[Child],
+    founds: &[Option<Found>],
+    givens: &[Option<Given>],
+) -> Result<ReplyBody, AllocError>
+    requires { from + length children.now < 2 ^ 64 }
+    ensures { IfOk result (λ body. body ≡ entries_reply settings from (Some children.now) founds.now givens.now) }
+{
+    let mut entries = Vec::new(alloc);
+    put_entries(&mut entries, settings, from, children, founds, givens)?;
+    Ok(ReplyBody::Data(Data::new(entries)))
 }

@@ -1,4 +1,4 @@
-use Rattle.std.proofs.Common.{◌≡◌, ◌≤◌, ℕ, Some, List, refl, sym, ap, subst, ◌∙◌, length, arith}
+use Rattle.std.proofs.Common.{◌≡◌, ◌≤◌, ℕ, Some, List, sym, ap, subst, ◌∙◌, length, arith}
 use Rattle.wire.specs.declared.reply.ReplyBody.TheVariants.{Data}
 use Rattle.ops.specs.Folders.{names_bytes}
 use Rattle.ops.proofs.Told.{length-names}
