@@ -1,4 +1,5 @@
 pub mod Ahead
+pub mod Entries
 pub mod Folders
 pub mod Intents
 pub mod Judged

@@ -13,7 +13,7 @@ mod script;
 mod wanted;
 
 pub use findings::{Finding, Found};
-pub use folders::names_reply;
+pub use folders::{entries_reply, names_reply};
 pub use intents::{FolderUse, Intent, intent_of};
 pub use replies::{Settings, opened_reply, reply_to};
 pub use script::Script;

@@ -1,7 +1,7 @@
 //! Replies to requests.
 
 ghost use Rattle.std.specs.Prelude.{◌≡◌};
-ghost use Rattle.ops.specs.Replies.{attributes_of, entry_reply, first, kind_of, opened_reply, reply_to};
+ghost use Rattle.ops.specs.Replies.{attributes_of, entry_of, entry_reply, first, kind_of, opened_reply, reply_to};
 
 use crate::findings::{Finding, Found};
 use errno::{EIO, ENFILE};
@@ -48,16 +48,23 @@ fn first_given(answered: &Answered) -> Option<Given>
     }
 }
 
+/// The entry of what was found and given.
+pub(crate) fn entry_of(settings: Settings, found: Found, given: Given) -> Entry
+    ensures { result ≡ entry_of settings found given }
+{
+    Entry {
+        node: given.number,
+        generation: given.generation,
+        attributes: attributes_of(settings, found),
+    }
+}
+
 /// The entry that was given, or EIO (own) where none was.
 fn entry_reply(settings: Settings, found: Found, given: Option<Given>) -> ReplyBody
     ensures { result ≡ entry_reply settings found given }
 {
     match given {
-        Some(given) => ReplyBody::Entry(Entry {
-            node: given.number,
-            generation: given.generation,
-            attributes: attributes_of(settings, found),
-        }),
+        Some(given) => ReplyBody::Entry(entry_of(settings, found, given)),
         None => ReplyBody::Failed { errno: EIO },
     }
 }
