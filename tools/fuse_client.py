@@ -2,6 +2,7 @@
 import struct
 
 LOOKUP, FORGET, GETATTR, MKDIR, UNLINK, RMDIR, RENAME, STATFS, INIT, DESTROY = 1, 2, 3, 9, 10, 11, 12, 17, 26, 38
+OPENDIR, READDIR, RELEASEDIR = 27, 28, 29
 ROOT = 1
 HEADER = struct.Struct("<IIQQIIII")
 REPLY = struct.Struct("<IiQ")
@@ -35,6 +36,18 @@ def rename(unique, parent, name, new_parent, new_name):
     return request(RENAME, unique, parent, struct.pack("<Q", new_parent) + name.encode() + b"\0" + new_name.encode() + b"\0")
 
 
+def opendir(unique, node):
+    return request(OPENDIR, unique, node, bytes(8))
+
+
+def readdir(unique, node, handle, offset, size):
+    return request(READDIR, unique, node, struct.pack("<QQIIQII", handle, offset, size, 0, 0, 0, 0))
+
+
+def releasedir(unique, node, handle):
+    return request(RELEASEDIR, unique, node, struct.pack("<QIIQ", handle, 0, 0, 0))
+
+
 def destroy(unique):
     return request(DESTROY, unique)
 
@@ -63,3 +76,18 @@ def read_reply(read):
 def node_of(body):
     """The node of an entry."""
     return struct.unpack_from("<Q", body)[0]
+
+
+def handle_of(body):
+    """The handle of an open folder."""
+    return struct.unpack_from("<Q", body)[0]
+
+
+def names_of(body):
+    """The names of a page, each with the index of the next one."""
+    names, at = [], 0
+    while at < len(body):
+        _, following, length, _ = struct.unpack_from("<QQII", body, at)
+        names.append((body[at + 24:at + 24 + length].decode(), following))
+        at += (24 + length + 7) // 8 * 8
+    return names
