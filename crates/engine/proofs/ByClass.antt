@@ -42,6 +42,12 @@ asks_version (ops.RemoveDir _) e none = absurd (omega (arith, e))
 asks_version (ops.Rename _ _ _) e none = absurd (omega (arith, e))
 asks_version ops.StatFs e none = absurd (omega (arith, e))
 asks_version (ops.Init _ _ _ _) e none = absurd cc
+asks_version ops.OpenDir e none = absurd (omega (arith, e))
+asks_version (ops.ReadDir _ _ _) e none = absurd (omega (arith, e))
+asks_version (ops.ReleaseDir _) e none = absurd (omega (arith, e))
+asks_version (ops.SyncDir _) e none = absurd (omega (arith, e))
+asks_version (ops.BatchForget _) e none = absurd (omega (arith, e))
+asks_version (ops.ReadDirPlus _ _ _) e none = absurd (omega (arith, e))
 asks_version ops.Interrupt e none = absurd (omega (arith, e))
 asks_version ops.Destroy e none = absurd (omega (arith, e))
 

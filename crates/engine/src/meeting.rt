@@ -86,7 +86,7 @@ impl Desk {
         ensures settings { self.new.settings ≡ self.old.settings }
     {
         let body = greeting_of(answer);
-        match self.offer(link, &Reply { unique, body }) {
+        match self.offer(link, Reply { unique, body }) {
             Some(sent) => {
                 self.agreed = agrees(answer, self.agreed);
                 sent

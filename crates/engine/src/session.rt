@@ -78,9 +78,9 @@ pub(crate) struct Desk {
 
 impl Desk {
     /// Offers a reply. None says that there was no memory for it.
-    pub fn offer<L: LinkOut>(&mut self, link: &mut L, reply: &Reply) -> Option<Sent>
-        ensures some { IfSome result (λ sent. L.sends link.old (reply_bytes reply.now) sent link.new) }
-        ensures none { IfNone result (TakesMemory reply.now.body × (link.new ≡ link.old)) }
+    pub fn offer<L: LinkOut>(&mut self, link: &mut L, reply: Reply) -> Option<Sent>
+        ensures some { IfSome result (λ sent. L.sends link.old (reply_bytes reply) sent link.new) }
+        ensures none { IfNone result (TakesMemory reply.body × (link.new ≡ link.old)) }
         ensures settings { self.new.settings ≡ self.old.settings }
         ensures agreed { self.new.agreed ≡ self.old.agreed }
     {
@@ -90,21 +90,22 @@ impl Desk {
             _ => {}
         }
         self.buffer.clear();
-        match encode_reply(reply, &mut self.buffer) {
+        match encode_reply(&reply, &mut self.buffer) {
             Ok(()) => Some(link.send(&self.buffer)),
             Err(_) => None,
         }
     }
 
     /// Answers a request at once: with the reply, or with ENOMEM where there is no memory for it.
-    fn answer<L: LinkOut>(&mut self, link: &mut L, reply: &Reply) -> Sent
-        ensures said { IsAnswered L.sends reply.now link.old result link.new }
+    fn answer<L: LinkOut>(&mut self, link: &mut L, reply: Reply) -> Sent
+        ensures said { IsAnswered L.sends reply link.old result link.new }
         ensures settings { self.new.settings ≡ self.old.settings }
         ensures agreed { self.new.agreed ≡ self.old.agreed }
     {
+        let unique = reply.unique;
         match self.offer(link, reply) {
             Some(sent) => sent,
-            None => refuse(link, reply.unique, ENOMEM),
+            None => refuse(link, unique, ENOMEM),
         }
     }
 
@@ -131,7 +132,7 @@ impl Desk {
             unique: request.unique,
             body: reply_to(self.settings, request.node, found, &answered),
         };
-        match self.offer(link, &reply) {
+        match self.offer(link, reply) {
             Some(sent) => {
                 table.settle(share, answered, is_taken(sent));
                 sent
@@ -166,7 +167,7 @@ impl Desk {
             Begin::Refused(errno) => {
                 let unique = request.unique;
                 let body = ReplyBody::Failed { errno };
-                self.answer(link, &Reply { unique, body })
+                self.answer(link, Reply { unique, body })
             }
             Begin::Busy => unreachable!(),
         }
@@ -198,7 +199,7 @@ impl Desk {
         match intent_of(&request) {
             Intent::Reply(body) => {
                 let unique = request.unique;
-                Some(self.answer(link, &Reply { unique, body }))
+                Some(self.answer(link, Reply { unique, body }))
             }
             Intent::Want(wanted) => match wanted.own(self.alloc) {
                 Ok(want) => Some(self.carry(link, calls, table, share, request, want)),

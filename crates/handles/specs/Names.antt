@@ -1,6 +1,6 @@
 -- Names in a folder.
 use Rattle.std.specs.Prelude.{◌&&◌, ◌||◌, Bool, not, nat_eq, nat_le, codes, bytes_eq, length}
-use Rattle.std.specs.List.{list_any, starts_with}
+use Rattle.std.specs.List.{list_any}
 use Rattle.std.specs.declared.cmp.Ordering.{Ordering}
 use Rattle.std.specs.Ordering.{nat_cmp}
 use Rattle.std.specs.Cmp.Lexicographic.{slice_cmp}
@@ -14,10 +14,6 @@ is_dot name = bytes_eq name (codes ".") || bytes_eq name (codes "..")
 -- 1 to 255 bytes, neither `.` nor `..`, and no slash and no zero byte
 abbrev pub is_lawful : Name → Bool
 is_lawful name = nat_le 1 (length name) && nat_le (length name) 255 && not (is_dot name) && not (list_any (λ b. nat_eq b 47) name) && not (list_any (λ b. nat_eq b 0) name)
-
--- a name that the server keeps for itself
-abbrev pub is_reserved : Name → Bool
-is_reserved name = starts_with nat_eq name (codes ".fuse_hidden")
 
 -- by the bytes of the names
 abbrev pub by_name : Child → Child → Ordering

@@ -4,17 +4,16 @@ ghost use Rattle.std.specs.Prelude.{◌≡◌, ◌↔◌, IsTrue, MatchOption, f
 ghost use Rattle.std.specs.List.{AllPass, filter};
 ghost use Rattle.std.specs.List.Sorted.{IsPermutation, IsSorted, IsStrictlySortedBy};
 ghost use Rattle.handles.specs.Listings.{are_lawful, IsInOrder};
-ghost use Rattle.handles.specs.Names.{is_lawful, is_reserved, by_name};
+ghost use Rattle.handles.specs.Names.{is_lawful, by_name};
+ghost use Rattle.hidden.specs.Hidden.{is_reserved};
 
 use backing::{Child, Children};
+use hidden::is_reserved;
 use paths::Name;
 use std::cmp::Ordering;
 
 /// The most bytes of a name (own).
 const MAX_NAME_LEN: usize = 255;
-
-/// What the names begin with that the server keeps for itself (own).
-const RESERVED: &str = ".fuse_hidden";
 
 /// Whether a folder may have the name.
 fn is_lawful(name: &Name) -> bool
@@ -27,13 +26,6 @@ fn is_lawful(name: &Name) -> bool
         && bytes != b"..".as_slice()
         && !bytes.contains(&b'/')
         && !bytes.contains(&0)
-}
-
-/// Whether the server keeps the name for itself.
-fn is_reserved(name: &Name) -> bool
-    ensures { result ≡ is_reserved name.now }
-{
-    name.as_str().as_bytes().starts_with(RESERVED.as_bytes())
 }
 
 /// By the bytes of their names.
@@ -84,5 +76,5 @@ pub(crate) fn in_order(children: Children) -> Option<Vec<Child>>
 pub(crate) fn drop_reserved(children: &mut Vec<Child>)
     ensures { children.new.items ≡ filter (λ child. not (is_reserved child.name)) children.old.items }
 {
-    children.retain(|child| !is_reserved(&child.name));
+    children.retain(|child| !is_reserved(child.name.as_str()));
 }

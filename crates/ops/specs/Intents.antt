@@ -1,10 +1,11 @@
 -- What a request needs before its script.
-use Rattle.std.specs.Prelude.{ℕ, ℤ, ◌+◌, ◌*◌, ◌^◌, ◌==◌, Bool, true, false, if◌then◌else◌, List, [], ◌∷◌, codes, nat_eq}
+use Rattle.std.specs.Prelude.{ℕ, ℤ, ◌+◌, ◌*◌, ◌^◌, ◌==◌, Bool, true, false, if◌then◌else◌, List, [], ◌∷◌}
 use Rattle.std.specs.Int.{bit_at}
-use Rattle.std.specs.List.{list_any, starts_with}
-use Rattle.errno.specs.declared.TheConstants.{EPERM, ENOENT, EBADF}
+use Rattle.std.specs.List.{list_any}
+use Rattle.errno.specs.declared.TheConstants.{EPERM, ENOENT, EBADF, ENOSYS}
 use Rattle.flights.specs.declared.data.Want.{Want}
 use Rattle.flights.specs.declared.data.Want.TheVariants as wants
+use Rattle.hidden.specs.Hidden.{is_reserved}
 use Rattle.wire.specs.declared.reply.ReplyBody.{ReplyBody}
 use Rattle.wire.specs.declared.reply.ReplyBody.TheVariants.{Failed, StatFs}
 use Rattle.wire.specs.declared.request.Request.{Request}
@@ -25,10 +26,6 @@ abbrev pub refused : ℤ → Intent
 refused errno = Reply (Failed errno)
 
 -- ---- reserved names
-
--- a name that the server keeps for itself
-abbrev pub is_reserved : List ℕ → Bool
-is_reserved name = starts_with nat_eq name (codes ".fuse_hidden")
 
 -- the names of an operation, and the error where one of them is reserved
 abbrev pub names_of : Operation → List (List ℕ)
@@ -75,8 +72,14 @@ intended node (ops.RemoveDir name) = Begin (wants.Remove node name.now)
 intended node (ops.Rename name new_parent new_name) = Begin (wants.Move node name.now new_parent new_name.now)
 intended node ops.StatFs = Reply StatFs
 intended node (ops.Init major minor max_readahead flags) = Nothing
+intended node ops.OpenDir = refused ENOSYS
+intended node (ops.ReadDir fh offset size) = refused ENOSYS
+intended node (ops.ReleaseDir fh) = refused ENOSYS
+intended node (ops.SyncDir fh) = refused ENOSYS
 intended node ops.Interrupt = Nothing
 intended node ops.Destroy = Nothing
+intended node (ops.BatchForget pairs) = Nothing
+intended node (ops.ReadDirPlus fh offset size) = refused ENOSYS
 
 -- Names are sound by the time a request was read; reserved ones are refused before all else.
 abbrev pub intent : Request → Intent

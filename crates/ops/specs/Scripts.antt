@@ -99,8 +99,14 @@ plan_of (ops.Rename name new_parent new_name) ticket = at_paths ticket.paths (λ
 plan_of (ops.Forget n) ticket = failed EIO
 plan_of ops.StatFs ticket = failed EIO
 plan_of (ops.Init major minor max_readahead flags) ticket = failed EIO
+plan_of ops.OpenDir ticket = failed EIO
+plan_of (ops.ReadDir fh offset size) ticket = failed EIO
+plan_of (ops.ReleaseDir fh) ticket = failed EIO
+plan_of (ops.SyncDir fh) ticket = failed EIO
 plan_of ops.Interrupt ticket = failed EIO
 plan_of ops.Destroy ticket = failed EIO
+plan_of (ops.BatchForget pairs) ticket = failed EIO
+plan_of (ops.ReadDirPlus fh offset size) ticket = failed EIO
 
 -- ---- what is made of a plan
 

@@ -2,14 +2,16 @@
 
 ghost use Rattle.std.specs.Prelude.{◌≡◌};
 ghost use Rattle.std.specs.List.{list_any};
-ghost use Rattle.ops.specs.Intents.{intent_in, has_handle, intended, intent, is_reserved, names_of, refused, reserved_errno, set_intent, sets_other, sets_size};
+ghost use Rattle.hidden.specs.Hidden.{is_reserved};
+ghost use Rattle.ops.specs.Intents.{intent_in, has_handle, intended, intent, names_of, refused, reserved_errno, set_intent, sets_other, sets_size};
 
 use crate::wanted::Wanted;
-use errno::{EBADF, ENOENT, EPERM};
+use errno::{EBADF, ENOENT, ENOSYS, EPERM};
+use hidden::is_reserved;
 use wire::{Operation, ReplyBody, Request};
 
 /// What a request needs.
-#[derive(Clone, Copy, Debug, PartialEq, Eq)]
+#[derive(Debug, Drop)]
 pub enum Intent<'a> {
     /// It is answered at once.
     Reply(ReplyBody),
@@ -21,9 +23,6 @@ pub enum Intent<'a> {
     Nothing,
 }
 
-/// Names that begin so are the server's own (own, after libfuse's hidden files).
-const RESERVED: &str = ".fuse_hidden";
-
 /// The bit of SETATTR's `valid` that asks for a size (`FATTR_SIZE` of `fuse.h`).
 const SIZE: u32 = 1 << 3;
 
@@ -32,13 +31,6 @@ const HANDLE: u32 = 1 << 6;
 
 /// The bit that says that the owner of a lock counts (`FATTR_LOCKOWNER`). It is let through and not looked at.
 const LOCK_OWNER: u32 = 1 << 9;
-
-/// Whether the server keeps a name for itself.
-fn is_reserved(name: &str) -> bool
-    ensures { result ≡ is_reserved name.now }
-{
-    name.as_bytes().starts_with(RESERVED.as_bytes())
-}
 
 /// Whether the operation names a reserved name.
 fn names_reserved(operation: &Operation<'_>) -> bool
@@ -55,8 +47,14 @@ fn names_reserved(operation: &Operation<'_>) -> bool
         | Operation::SetAttr { .. }
         | Operation::StatFs
         | Operation::Init { .. }
+        | Operation::OpenDir
+        | Operation::ReadDir { .. }
+        | Operation::ReleaseDir { .. }
+        | Operation::SyncDir { .. }
         | Operation::Interrupt
-        | Operation::Destroy => false,
+        | Operation::Destroy
+        | Operation::BatchForget { .. }
+        | Operation::ReadDirPlus { .. } => false,
     }
 }
 
@@ -140,7 +138,15 @@ fn intended<'a>(node: u64, operation: Operation<'a>) -> Intent<'a>
             new_name,
         }),
         Operation::StatFs => Intent::Reply(ReplyBody::StatFs),
-        Operation::Init { .. } | Operation::Interrupt | Operation::Destroy => Intent::Nothing,
+        Operation::OpenDir
+        | Operation::ReadDir { .. }
+        | Operation::ReleaseDir { .. }
+        | Operation::SyncDir { .. }
+        | Operation::ReadDirPlus { .. } => refused(ENOSYS),
+        Operation::Init { .. }
+        | Operation::Interrupt
+        | Operation::Destroy
+        | Operation::BatchForget { .. } => Intent::Nothing,
     }
 }
 

@@ -147,8 +147,14 @@ impl<'a> Script<'a> {
             Operation::Forget { .. }
             | Operation::StatFs
             | Operation::Init { .. }
+            | Operation::OpenDir
+            | Operation::ReadDir { .. }
+            | Operation::ReleaseDir { .. }
+            | Operation::SyncDir { .. }
             | Operation::Interrupt
-            | Operation::Destroy => (None, UNFIT),
+            | Operation::Destroy
+            | Operation::BatchForget { .. }
+            | Operation::ReadDirPlus { .. } => (None, UNFIT),
         };
         Script { change, ending }
     }

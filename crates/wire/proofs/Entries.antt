@@ -3,7 +3,7 @@ use Rattle.std.proofs.Common.{◌≡◌, ℕ, [], ◌∷◌, ◌++◌, refl}
 use Rattle.wire.specs.declared.reply.Entry.{Entry}
 use Rattle.wire.specs.declared.reply.Attributes.{Attributes}
 use Rattle.wire.specs.declared.reply.InitOut.{InitOut}
-use Rattle.wire.specs.Replies.{mode_of, links_of, blocks_of, attributes_layout, attributes_values, entry_layout, entry_values, attr_layout, attr_values, statfs_layout, statfs_values, init_layout, init_values}
+use Rattle.wire.specs.Replies.{mode_of, links_of, blocks_of, attributes_layout, attributes_values, entry_layout, entry_values, attr_layout, attr_values, opened_layout, opened_values, statfs_layout, statfs_values, init_layout, init_values}
 use Rattle.wire.proofs.Lengths.{cat_assoc}
 use Rattle.wire.specs.Written.{le, u16s, u32s, u64s, written}
 
@@ -19,6 +19,10 @@ pub attr_parts : (node : ℕ) (a : Attributes) → written attr_layout (attr_val
 unfolding le u32s u64s
 attr_parts node a = refl
 
+pub opened_parts : (fh : ℕ) → written opened_layout (opened_values fh) ≡ u64s (fh ∷ []) ++ u32s (0 ∷ 0 ∷ [])
+unfolding le u32s u64s
+opened_parts fh = refl
+
 pub statfs_parts : written statfs_layout statfs_values ≡ u64s (0 ∷ 0 ∷ 0 ∷ 0 ∷ 0 ∷ []) ++ u32s (4096 ∷ 255 ∷ 4096 ∷ 0 ∷ 0 ∷ 0 ∷ 0 ∷ 0 ∷ 0 ∷ 0 ∷ [])
 unfolding le u32s u64s
 statfs_parts = refl
@@ -27,4 +31,4 @@ pub init_parts : (i : InitOut) → written init_layout (init_values i) ≡ u32s 
 unfolding le u16s u32s
 init_parts i = refl
 
-pub ruleset entries = (attributes_parts, entry_parts, attr_parts, statfs_parts, init_parts, cat_assoc)
+pub ruleset entries = (attributes_parts, entry_parts, attr_parts, opened_parts, statfs_parts, init_parts, cat_assoc)

@@ -8,8 +8,8 @@ use Rattle.std.proofs.lemmas.List.Sums.{position_or_len_is, prefix_len_passes, p
 use Rattle.byteorder.specs.Endian.{little_number}
 use Rattle.wire.specs.declared.fault.WireFault.{WireFault}
 use Rattle.wire.specs.declared.fault.WireFault.TheVariants.{Body}
-use Rattle.wire.specs.Fields.{Field, number, unread, text, counted, limited, anything, Value, num, name, bytes, Spells}
-use Rattle.wire.specs.Reading.{◌>>=◌, number_at, unread_at, text_at, text_before, counted_at, limited_at, ended, values_at}
+use Rattle.wire.specs.Fields.{Field, number, unread, raw, text, counted, limited, anything, Value, num, name, bytes, Spells}
+use Rattle.wire.specs.Reading.{◌>>=◌, number_at, unread_at, raw_at, text_at, text_before, counted_at, limited_at, ended, values_at}
 
 -- the value of a step that did not fail
 pub bind_ok : {A B : Type 0} (r : Result A WireFault) (f : A → Result B WireFault) (y : B) → (r >>= f) ≡ Ok y → (x : A) × (r ≡ Ok x) × (f x ≡ Ok y)
@@ -132,6 +132,14 @@ values_spelled (unread len ∷ fields) values body e =
     let a = bind_ok (unread_at len body) (λ rest. values_at fields rest) values e in
     let g = guard_ok (ltb (length body) len) Body (drop len body) a.0 a.1 in
     (ltb-false _ _ g.0, subst (Spells fields values) (sym g.1) (values_spelled fields values a.0 a.2))
+values_spelled (raw len ∷ fields) values body e =
+    let a = bind_ok (raw_at len body) (λ x. values_at fields x.1 >>= first_then (bytes x.0)) values e in
+    let b = bind_ok (values_at fields a.0.1) (first_then (bytes a.0.0)) values a.2 in
+    let g = guard_ok (ltb (length body) len) Body (take len body, drop len body) a.0 a.1 in
+    let rest : drop len body ≡ a.0.1 = ap (λ (y : List ℕ × List ℕ). y.1) g.1 in
+    let front : take len body ≡ a.0.0 = ap (λ (y : List ℕ × List ℕ). y.0) g.1 in
+    let one : Spells (raw len ∷ fields) (bytes a.0.0 ∷ b.0) body = (ltb-false _ _ g.0, sym front, subst (Spells fields b.0) (sym rest) (values_spelled fields b.0 a.0.1 b.1)) in
+    subst (λ (vs : List Value). Spells (raw len ∷ fields) vs body) (ok_is (bytes a.0.0 ∷ b.0) values b.2) one
 values_spelled (text ∷ fields) values body e =
     let a = bind_ok (text_at body) (λ x. values_at fields x.1 >>= first_then (name x.0)) values e in
     let b = bind_ok (values_at fields a.0.1) (first_then (name a.0.0)) values a.2 in
@@ -163,6 +171,8 @@ spelled_values (number len ∷ fields) (num n ∷ values) body s =
     rw (le-ltb _ _ s.0, spelled_values fields values (drop len body) s.2) (ap (λ (k : ℕ). done (num k ∷ values)) (sym s.1))
 spelled_values (unread len ∷ fields) values body s =
     rw (le-ltb _ _ s.0, spelled_values fields values (drop len body) s.1) refl
+spelled_values (raw len ∷ fields) (bytes d ∷ values) body s =
+    rw (le-ltb _ _ s.0, spelled_values fields values (drop len body) s.2) (ap (λ (t : List ℕ). done (bytes t ∷ values)) (sym s.1))
 spelled_values (text ∷ fields) (name t ∷ values) body s =
     rw (text_again body t s.1 (record { parts = s.2; no_zero = s.0 }), spelled_values fields values s.1 s.3) refl
 spelled_values (counted unit gap limit ∷ []) (bytes d ∷ []) body s =
@@ -205,6 +215,9 @@ only_body (number len ∷ fields) body =
     (λ x. only_then (values_at fields x.1) (first_then (num x.0)) (only_body fields x.1) (λ _. tt))
 only_body (unread len ∷ fields) body =
     only_then (unread_at len body) (λ rest. values_at fields rest) (only_guard (ltb (length body) len) (drop len body)) (λ rest. only_body fields rest)
+only_body (raw len ∷ fields) body =
+    only_then (raw_at len body) (λ x. values_at fields x.1 >>= first_then (bytes x.0)) (only_guard (ltb (length body) len) (take len body, drop len body))
+    (λ x. only_then (values_at fields x.1) (first_then (bytes x.0)) (only_body fields x.1) (λ _. tt))
 only_body (text ∷ fields) body =
     only_then (text_at body) (λ x. values_at fields x.1 >>= first_then (name x.0)) (only_text (position is_zero body) body)
     (λ x. only_then (values_at fields x.1) (first_then (name x.0)) (only_body fields x.1) (λ _. tt))

@@ -1,5 +1,5 @@
 -- How long what is written is.
-use Rattle.std.proofs.Common.{◌≡◌, ℕ, ◌+◌, List, ◌++◌, length, append_assoc}
+use Rattle.std.proofs.Common.{◌≡◌, ℕ, ◌+◌, List, ◌++◌, length, append_assoc, append-nil, []}
 use Rattle.std.proofs.lemmas.List.{length-replicate, length-append}
 use Rattle.byteorder.specs.Numbers.{length-bytes_low_first}
 use Rattle.wire.specs.Written.{le, zeros}
@@ -18,4 +18,7 @@ length-cat a b = length-append a b
 pub cat_assoc : (a b c : List ℕ) → (a ++ b) ++ c ≡ a ++ (b ++ c)
 cat_assoc a b c = append_assoc a b c
 
-pub ruleset lengths = (length-le, length-zeros, length-cat, cat_assoc)
+pub cat_nil : (a : List ℕ) → a ++ [] ≡ a
+cat_nil a = append-nil a
+
+pub ruleset lengths = (length-le, length-zeros, length-cat, cat_assoc, cat_nil)

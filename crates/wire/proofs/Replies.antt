@@ -5,9 +5,10 @@ use Rattle.std.proofs.lemmas.Int.{ints, to_z-of_z, of_z-to_z}
 use Rattle.std.proofs.lemmas.List.{drop-drop, length-drop}
 use Rattle.byteorder.specs.Endian.{little_number, little_bytes}
 use Rattle.byteorder.specs.Numbers.{little_number-reads_back, little_from-lt}
+use Rattle.wire.specs.declared.request.TheConstants.{MAX_READ_LEN}
 use Rattle.wire.specs.declared.reply.Reply.{Reply}
 use Rattle.wire.specs.declared.reply.ReplyBody.{ReplyBody}
-use Rattle.wire.specs.declared.reply.ReplyBody.TheVariants.{Failed, Done, Entry, Attributes, StatFs, Init}
+use Rattle.wire.specs.declared.reply.ReplyBody.TheVariants.{Failed, Done, Entry, Attributes, Opened, Data, StatFs, Init}
 use Rattle.wire.specs.Fields.{u32, u64, num, Spells, CanTell, IsBytes}
 use Rattle.wire.specs.Replies.{error_of, reply_layout, reply_values, IsErrno, IsAnswer, IsReply}
 use Rattle.wire.specs.Written.{le, negated, error_word, body_bytes, reply_bytes}
@@ -36,7 +37,7 @@ word_reads body h = ap (cast_signed w32) (sym (word_is body h)) ∙ to_z-of_z w3
 
 -- ---- what is written is that reply
 
-pub reply_written : (r : Reply) → IsAnswer r.body → r.unique < 256 ^ 8 → CanTell (reply_layout r.body) (reply_values r.body) → length (body_bytes r.body) ≤ 128 → IsReply (reply_bytes r) r
+pub reply_written : (r : Reply) → IsAnswer r.body → r.unique < 256 ^ 8 → CanTell (reply_layout r.body) (reply_values r.body) → length (body_bytes r.body) ≤ MAX_READ_LEN → IsReply (reply_bytes r) r
 unfolding reply_bytes body_bytes le
 reply_written r answer unique tells short =
     let body = body_bytes r.body in
@@ -60,6 +61,8 @@ all_read (Failed _) = tt
 all_read Done = tt
 all_read (Entry _) = tt
 all_read (Attributes _ _) = tt
+all_read (Opened _) = tt
+all_read (Data _) = tt
 all_read StatFs = tt
 all_read (Init _) = tt
 

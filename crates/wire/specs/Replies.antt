@@ -3,15 +3,16 @@ use Rattle.std.specs.Prelude.{◌≡◌, ℕ, ◌+◌, ◌/◌, ◌%◌, ◌≤�
 use Rattle.std.specs.Int.{cast_signed, w32}
 use Rattle.byteorder.specs.Endian.{little_number}
 use Rattle.wire.specs.declared.reply.TheConstants.{REPLY_HEADER_LEN}
+use Rattle.wire.specs.declared.request.TheConstants.{MAX_READ_LEN}
 use Rattle.wire.specs.declared.reply.Reply.{Reply}
 use Rattle.wire.specs.declared.reply.ReplyBody.{ReplyBody}
-use Rattle.wire.specs.declared.reply.ReplyBody.TheVariants.{Failed, Done, Entry, Attributes, StatFs, Init}
+use Rattle.wire.specs.declared.reply.ReplyBody.TheVariants.{Failed, Done, Entry, Attributes, Opened, Data, StatFs, Init}
 use Rattle.wire.specs.declared.reply.Entry.{Entry as GivenEntry}
 use Rattle.wire.specs.declared.reply.Attributes.{Attributes as GivenAttributes}
 use Rattle.wire.specs.declared.reply.InitOut.{InitOut}
 use Rattle.wire.specs.declared.reply.Kind.{Kind}
 use Rattle.wire.specs.declared.reply.Kind.TheVariants.{File, Folder}
-use Rattle.wire.specs.Fields.{Field, u16, u32, u64, Value, num, Spells}
+use Rattle.wire.specs.Fields.{Field, raw, u16, u32, u64, Value, num, bytes, Spells}
 
 -- ---- attributes and entries
 
@@ -62,6 +63,15 @@ statfs_values =
     num 0 ∷ num 0 ∷ num 0 ∷ num 0 ∷ num 0
     ∷ num 4096 ∷ num 255 ∷ num 4096 ∷ num 0 ∷ num 0 ∷ num 0 ∷ num 0 ∷ num 0 ∷ num 0 ∷ num 0 ∷ []
 
+-- ---- a handle
+
+-- fh; open_flags, padding
+abbrev pub opened_layout : List Field
+opened_layout = u64 ∷ u32 ∷ u32 ∷ []
+
+abbrev pub opened_values : ℕ → List Value
+opened_values fh = num fh ∷ num 0 ∷ num 0 ∷ []
+
 -- ---- what is spoken
 
 -- major, minor, max_readahead, flags; max_background, congestion_threshold; max_write, time_gran; max_pages, and a number of two bytes and
@@ -93,6 +103,8 @@ reply_layout (Failed _) = []
 reply_layout Done = []
 reply_layout (Entry _) = entry_layout
 reply_layout (Attributes _ _) = attr_layout
+reply_layout (Opened _) = opened_layout
+reply_layout (Data d) = raw (length d) ∷ []
 reply_layout StatFs = statfs_layout
 reply_layout (Init _) = init_layout
 
@@ -101,6 +113,8 @@ reply_values (Failed _) = []
 reply_values Done = []
 reply_values (Entry e) = entry_values e
 reply_values (Attributes node a) = attr_values node a
+reply_values (Opened fh) = opened_values fh
+reply_values (Data d) = bytes d ∷ []
 reply_values StatFs = statfs_values
 reply_values (Init i) = init_values i
 
@@ -122,6 +136,8 @@ IsAnswer (Failed errno) = IsErrno errno
 IsAnswer Done = Unit {0}
 IsAnswer (Entry e) = IsSized e.attributes.kind e.attributes.size
 IsAnswer (Attributes node a) = IsSized a.kind a.size
+IsAnswer (Opened fh) = Unit {0}
+IsAnswer (Data d) = length d ≤ MAX_READ_LEN
 IsAnswer StatFs = Unit {0}
 IsAnswer (Init i) = Unit {0}
 

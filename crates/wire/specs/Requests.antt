@@ -1,15 +1,15 @@
 -- What bytes are a request. What is not named here is not read.
-use Rattle.std.specs.Prelude.{◌≡◌, ◌≢◌, ℕ, ◌<◌, ◌≤◌, List, [], ◌∷◌, length, drop, Option, Some, None, ◌==◌, if◌then◌else◌, All, codes}
+use Rattle.std.specs.Prelude.{◌≡◌, ◌≢◌, ℕ, ◌-◌, ◌^◌, ◌<◌, ◌≤◌, List, [], ◌∷◌, length, drop, Option, Some, None, ◌==◌, if◌then◌else◌, All, codes}
 use Rattle.std.specs.Str.{IsUtf8}
 use Rattle.std.specs.List.{AllByRecursion}
 use Rattle.byteorder.specs.Endian.{little_number}
 use Rattle.wire.specs.declared.header.Header.{Header}
-use Rattle.wire.specs.declared.opcode.TheConstants.{LOOKUP, FORGET, GETATTR, SETATTR, MKDIR, UNLINK, RMDIR, RENAME, STATFS, INIT, INTERRUPT, DESTROY}
-use Rattle.wire.specs.declared.request.TheConstants.{HEADER_LEN, MAX_FRAME_LEN}
+use Rattle.wire.specs.declared.opcode.TheConstants.{LOOKUP, FORGET, GETATTR, SETATTR, MKDIR, UNLINK, RMDIR, RENAME, STATFS, INIT, OPENDIR, READDIR, RELEASEDIR, FSYNCDIR, INTERRUPT, DESTROY, BATCH_FORGET, READDIRPLUS}
+use Rattle.wire.specs.declared.request.TheConstants.{HEADER_LEN, MAX_FRAME_LEN, MAX_READ_LEN}
 use Rattle.wire.specs.declared.request.Request.{Request}
 use Rattle.wire.specs.declared.request.Operation.{Operation}
-use Rattle.wire.specs.declared.request.Operation.TheVariants.{Lookup, Forget, GetAttr, SetAttr, MakeDir, Unlink, RemoveDir, Rename, StatFs, Init, Interrupt, Destroy}
-use Rattle.wire.specs.Fields.{Field, unread, text, anything, u32, u64, Value, num, name, bytes, Spells}
+use Rattle.wire.specs.declared.request.Operation.TheVariants.{Lookup, Forget, GetAttr, SetAttr, MakeDir, Unlink, RemoveDir, Rename, StatFs, Init, OpenDir, ReadDir, ReleaseDir, SyncDir, Interrupt, Destroy, BatchForget, ReadDirPlus}
+use Rattle.wire.specs.Fields.{Field, unread, text, counted, limited, anything, u32, u64, Value, num, name, bytes, Spells}
 
 -- ---- the header: the length, the opcode, unique, the node's number, and sixteen bytes that are not read
 
@@ -49,9 +49,15 @@ layout opcode =
     else (if opcode == RENAME then Some (u64 ∷ text ∷ text ∷ [])
     else (if opcode == STATFS then Some []
     else (if opcode == INIT then Some (u32 ∷ u32 ∷ u32 ∷ u32 ∷ anything ∷ [])
+    else (if opcode == OPENDIR then Some (unread 8 ∷ [])
+    else (if opcode == READDIR then Some (u64 ∷ u64 ∷ limited MAX_READ_LEN ∷ unread 20 ∷ [])
+    else (if opcode == RELEASEDIR then Some (u64 ∷ unread 16 ∷ [])
+    else (if opcode == FSYNCDIR then Some (u64 ∷ unread 8 ∷ [])
     else (if opcode == INTERRUPT then Some (anything ∷ [])
     else (if opcode == DESTROY then Some []
-    else None)))))))))))
+    else (if opcode == BATCH_FORGET then Some (counted 16 4 (2 ^ 32 - 1) ∷ [])
+    else (if opcode == READDIRPLUS then Some (u64 ∷ u64 ∷ limited MAX_READ_LEN ∷ unread 20 ∷ [])
+    else None)))))))))))))))))
 
 abbrev pub opcode_of : Operation → ℕ
 opcode_of (Lookup _) = LOOKUP
@@ -64,8 +70,14 @@ opcode_of (RemoveDir _) = RMDIR
 opcode_of (Rename _ _ _) = RENAME
 opcode_of StatFs = STATFS
 opcode_of (Init _ _ _ _) = INIT
+opcode_of OpenDir = OPENDIR
+opcode_of (ReadDir _ _ _) = READDIR
+opcode_of (ReleaseDir _) = RELEASEDIR
+opcode_of (SyncDir _) = FSYNCDIR
 opcode_of Interrupt = INTERRUPT
 opcode_of Destroy = DESTROY
+opcode_of (BatchForget _) = BATCH_FORGET
+opcode_of (ReadDirPlus _ _ _) = READDIRPLUS
 
 -- what an operation has in the fields of its layout
 abbrev pub values_of : Operation → List Value
@@ -79,8 +91,14 @@ values_of (RemoveDir n) = name n.now ∷ []
 values_of (Rename n new_parent new_name) = num new_parent ∷ name n.now ∷ name new_name.now ∷ []
 values_of StatFs = []
 values_of (Init major minor max_readahead flags) = num major ∷ num minor ∷ num max_readahead ∷ num flags ∷ []
+values_of OpenDir = []
+values_of (ReadDir fh offset size) = num fh ∷ num offset ∷ num size ∷ []
+values_of (ReleaseDir fh) = num fh ∷ []
+values_of (SyncDir fh) = num fh ∷ []
 values_of Interrupt = []
 values_of Destroy = []
+values_of (BatchForget pairs) = bytes pairs.now ∷ []
+values_of (ReadDirPlus fh offset size) = num fh ∷ num offset ∷ num size ∷ []
 
 -- the body has that layout, with these values
 abbrev pub IsLaidOut : Option (List Field) → List Value → List ℕ → Type 0

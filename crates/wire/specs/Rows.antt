@@ -2,14 +2,16 @@
 use Rattle.std.specs.Prelude.{ℕ, List, [], ◌∷◌, ◌++◌}
 use Rattle.std.specs.List.{flat_map}
 use Rattle.wire.specs.declared.writing.Part.{Part}
-use Rattle.wire.specs.declared.writing.Part.TheVariants.{U32, U64, Zeros, Text}
+use Rattle.wire.specs.declared.writing.Part.TheVariants.{U32, U64, LowU32, Zeros, Text, Bytes}
 use Rattle.wire.specs.Written.{le, zeros}
 
 abbrev pub part_bytes : Part → List ℕ
 part_bytes (U32 n) = le 4 n
 part_bytes (U64 n) = le 8 n
+part_bytes (LowU32 n) = le 4 n
 part_bytes (Zeros n) = zeros n
 part_bytes (Text t) = t.now ++ 0 ∷ []
+part_bytes (Bytes b) = b.now
 
 abbrev pub parts_bytes : List Part → List ℕ
 parts_bytes parts = flat_map part_bytes parts

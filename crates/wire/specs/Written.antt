@@ -10,7 +10,7 @@ use Rattle.wire.specs.declared.request.Operation.{Operation}
 use Rattle.wire.specs.declared.reply.Reply.{Reply}
 use Rattle.wire.specs.declared.reply.ReplyBody.{ReplyBody}
 use Rattle.wire.specs.declared.reply.ReplyBody.TheVariants.{Failed}
-use Rattle.wire.specs.Fields.{Field, number, unread, text, counted, limited, anything, Value, num, name, bytes}
+use Rattle.wire.specs.Fields.{Field, number, unread, raw, text, counted, limited, anything, Value, num, name, bytes}
 use Rattle.wire.specs.Requests.{layout, opcode_of, values_of}
 use Rattle.wire.specs.Replies.{reply_layout, reply_values}
 
@@ -36,6 +36,7 @@ abbrev pub written : List Field → List Value → List ℕ
 written [] values = []
 written (number len ∷ fields) (num n ∷ values) = le len n ++ written fields values
 written (unread len ∷ fields) values = zeros len ++ written fields values
+written (raw len ∷ fields) (bytes d ∷ values) = d ++ written fields values
 written (text ∷ fields) (name t ∷ values) = t ++ 0 ∷ written fields values
 written (counted unit gap limit ∷ fields) (bytes d ∷ values) = le 4 (length d / unit) ++ zeros gap ++ d
 written (limited limit ∷ fields) (num n ∷ values) = le 4 n ++ written fields values

@@ -1,14 +1,16 @@
 //! What follows the header of a reply.
 
-ghost use Rattle.std.specs.Prelude.{◌≡◌, ◌≤◌, ◌+◌, ◌++◌, length, vec_len, vec_capacity};
+ghost use Rattle.std.specs.Prelude.{◌≡◌, ◌≤◌, ◌+◌, ◌^◌, ◌++◌, length, vec_len, vec_capacity};
 ghost use Rattle.wire.specs.Fields.{CanTell};
-ghost use Rattle.wire.specs.Replies.{blocks_of, mode_of, links_of, attributes_layout, attributes_values, entry_layout, entry_values, attr_layout, attr_values, statfs_layout, statfs_values, init_layout, init_values, reply_layout, reply_values};
+ghost use Rattle.wire.specs.Replies.{blocks_of, mode_of, links_of, attributes_layout, attributes_values, entry_layout, entry_values, attr_layout, attr_values, opened_layout, opened_values, statfs_layout, statfs_values, init_layout, init_values, reply_layout, reply_values, IsAnswer};
 ghost use Rattle.wire.specs.Written.{written, body_bytes};
 
-use crate::put::{put_u16s, put_u32s, put_u64s};
+use crate::put::{put, put_u16s, put_u32s, put_u64s};
 use crate::reply::{
-    ATTRIBUTES_LEN, Attributes, ENTRY_LEN, Entry, INIT_LEN, InitOut, Kind, ReplyBody, STATFS_LEN,
+    ATTRIBUTES_LEN, Attributes, ENTRY_LEN, Entry, INIT_LEN, InitOut, Kind, OPENED_LEN, ReplyBody,
+    STATFS_LEN,
 };
+use crate::request::MAX_READ_LEN;
 
 fn blocks(size: u64) -> u64
     ensures { result ≡ blocks_of size }
@@ -42,6 +44,7 @@ fn links(kind: Kind) -> u32
 fn put_attributes(out: &mut Vec<u8>, node: u64, a: &Attributes)
     requires { vec_len out.old + 88 ≤ vec_capacity out.old }
     ensures items { out.new.items ≡ out.old.items ++ written attributes_layout (attributes_values node a.now) }
+    ensures capacity { vec_capacity out.old ≤ vec_capacity out.new }
     ensures tells { CanTell attributes_layout (attributes_values node a.now) }
 {
     let (size, uid, gid) = (a.size, a.uid, a.gid);
@@ -51,9 +54,10 @@ fn put_attributes(out: &mut Vec<u8>, node: u64, a: &Attributes)
 }
 
 #[tactic(auto, using(crate::proofs::Entries::entries))]
-fn put_entry(out: &mut Vec<u8>, e: &Entry)
+pub fn put_entry(out: &mut Vec<u8>, e: &Entry)
     requires { vec_len out.old + ENTRY_LEN ≤ vec_capacity out.old }
     ensures items { out.new.items ≡ out.old.items ++ written entry_layout (entry_values e.now) }
+    ensures capacity { vec_capacity out.old ≤ vec_capacity out.new }
     ensures tells { CanTell entry_layout (entry_values e.now) }
 {
     let (node, generation) = (e.node, e.generation);
@@ -83,6 +87,16 @@ fn put_statfs(out: &mut Vec<u8>)
     put_u32s(out, &[4096, 255, 4096, 0, 0, 0, 0, 0, 0, 0]);
 }
 
+#[tactic(auto, using(crate::proofs::Entries::entries))]
+fn put_opened(out: &mut Vec<u8>, fh: u64)
+    requires { vec_len out.old + OPENED_LEN ≤ vec_capacity out.old }
+    ensures items { out.new.items ≡ out.old.items ++ written opened_layout (opened_values fh) }
+    ensures tells { CanTell opened_layout (opened_values fh) }
+{
+    put_u64s(out, &[fh]);
+    put_u32s(out, &[0, 0]);
+}
+
 fn pages(i: &InitOut) -> u16
     ensures { result ≡ i.now.max_pages }
 {
@@ -105,21 +119,24 @@ fn put_init(out: &mut Vec<u8>, i: &InitOut)
     put_u32s(out, &[0, 0, 0, 0, 0, 0, 0, 0]);
 }
 
-#[tactic(auto, unfolding(crate::specs::Written::le, crate::specs::Written::body_bytes))]
-pub fn body_len(body: &ReplyBody) -> u32
+#[tactic(auto, using(crate::proofs::Lengths::lengths), unfolding(crate::specs::Written::le, crate::specs::Written::body_bytes))]
+pub fn body_len(body: &ReplyBody) -> usize
     ensures len { result ≡ length (body_bytes body.now) }
-    ensures short { result ≤ ENTRY_LEN }
+    ensures short { result ≤ 2 ^ 63 }
+    ensures answer { IsAnswer body.now → result ≤ MAX_READ_LEN }
 {
     match body {
         ReplyBody::Failed { .. } | ReplyBody::Done => 0,
         ReplyBody::Entry(_) => ENTRY_LEN,
         ReplyBody::Attributes { .. } => ATTRIBUTES_LEN,
+        ReplyBody::Opened { .. } => OPENED_LEN,
+        ReplyBody::Data(data) => data.as_slice().len(),
         ReplyBody::StatFs => STATFS_LEN,
         ReplyBody::Init(_) => INIT_LEN,
     }
 }
 
-#[tactic(auto, unfolding(crate::specs::Written::le, crate::specs::Written::body_bytes))]
+#[tactic(auto, using(crate::proofs::Lengths::lengths), unfolding(crate::specs::Written::le, crate::specs::Written::body_bytes))]
 pub fn put_body(out: &mut Vec<u8>, body: &ReplyBody)
     requires { vec_len out.old + length (body_bytes body.now) ≤ vec_capacity out.old }
     ensures items { out.new.items ≡ out.old.items ++ body_bytes body.now }
@@ -129,6 +146,8 @@ pub fn put_body(out: &mut Vec<u8>, body: &ReplyBody)
         ReplyBody::Failed { .. } | ReplyBody::Done => {}
         ReplyBody::Entry(entry) => put_entry(out, entry),
         ReplyBody::Attributes { node, attributes } => put_attr(out, *node, attributes),
+        ReplyBody::Opened { fh } => put_opened(out, *fh),
+        ReplyBody::Data(data) => put(out, data.as_slice()),
         ReplyBody::StatFs => put_statfs(out),
         ReplyBody::Init(init) => put_init(out, init),
     }

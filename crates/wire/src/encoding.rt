@@ -66,7 +66,7 @@ fn error(body: &ReplyBody) -> u32
 }
 
 #[tactic(auto, using(crate::proofs::Lengths::lengths), unfolding(crate::specs::Written::reply_bytes))]
-fn put_reply(out: &mut Vec<u8>, reply: &Reply, len: u32)
+fn put_reply(out: &mut Vec<u8>, reply: &Reply, len: usize)
     requires room { vec_len out.old + len ≤ vec_capacity out.old }
     requires len { len ≡ REPLY_HEADER_LEN + length (body_bytes reply.now.body) }
     ensures items { out.new.items ≡ out.old.items ++ reply_bytes reply.now }
@@ -74,7 +74,7 @@ fn put_reply(out: &mut Vec<u8>, reply: &Reply, len: u32)
     ensures tells { CanTell (reply_layout reply.now.body) (reply_values reply.now.body) }
 {
     let unique = reply.unique;
-    put_u32(out, len);
+    put_low_u32(out, len);
     put_u32(out, error(&reply.body));
     put_u64(out, unique);
     put_body(out, &reply.body);
@@ -90,7 +90,7 @@ pub fn encode_reply(reply: &Reply, out: &mut Vec<u8>) -> Result<(), AllocError>
     ensures err { OnErr result (out.new.items ≡ out.old.items) }
 {
     let len = REPLY_HEADER_LEN + body_len(&reply.body);
-    out.reserve(len as usize)?;
+    out.reserve(len)?;
     put_reply(out, reply, len);
     Ok(())
 }

@@ -1,8 +1,8 @@
 //! Fields at the front of a body, and names.
 
-ghost use Rattle.std.specs.Prelude.{◌≡◌, ◌==◌, ◌<◌, IfSome, length, true};
+ghost use Rattle.std.specs.Prelude.{◌≡◌, ◌==◌, ◌<◌, ◌≤◌, IfSome, length, true};
 ghost use Rattle.std.specs.List.{position};
-ghost use Rattle.wire.specs.Reading.{Gives, number_at, unread_at, text_at, ended, utf8_at, name_at};
+ghost use Rattle.wire.specs.Reading.{Gives, number_at, unread_at, text_at, counted_at, limited_at, ended, utf8_at, name_at};
 
 use crate::fault::WireFault;
 use byteorder::{ByteOrder, LittleEndian};
@@ -32,6 +32,34 @@ pub fn unread_front(body: &[u8], len: usize) -> Result<&[u8], WireFault>
         return Err(WireFault::Body);
     }
     Ok(&body[len..])
+}
+
+/// A number of four bytes that is at most `limit`.
+pub fn limited_front(body: &[u8], limit: u32) -> Result<(u32, &[u8]), WireFault>
+    ensures { Gives (λ x. (x.0, x.1.now)) result (limited_at limit body.now) }
+{
+    let (number, rest) = u32_front(body)?;
+    if number > limit {
+        return Err(WireFault::Body);
+    }
+    Ok((number, rest))
+}
+
+/// After a number of four bytes and so many that are not read, `unit` times as many bytes as the number says.
+pub fn counted_front(body: &[u8], unit: usize, gap: usize, limit: u32) -> Result<&[u8], WireFault>
+    requires unit { unit ≤ 16 }
+    requires gap { gap ≤ 20 }
+    ensures { Gives (λ x. x.now) result (counted_at unit gap limit body.now) }
+{
+    if body.len() < 4 + gap {
+        return Err(WireFault::Body);
+    }
+    let count = LittleEndian::read_u32(body);
+    let rest = &body[4 + gap..];
+    if count > limit || rest.len() != unit * count as usize {
+        return Err(WireFault::Body);
+    }
+    Ok(rest)
 }
 
 fn zero_in(body: &[u8]) -> Option<usize>

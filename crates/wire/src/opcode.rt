@@ -32,6 +32,18 @@ pub const STATFS: u32 = 17;
 /// `FUSE_INIT` of `fuse.h`: agrees on a version.
 pub const INIT: u32 = 26;
 
+/// `FUSE_OPENDIR` of `fuse.h`: opens a folder.
+pub const OPENDIR: u32 = 27;
+
+/// `FUSE_READDIR` of `fuse.h`: asks for names of an open folder.
+pub const READDIR: u32 = 28;
+
+/// `FUSE_RELEASEDIR` of `fuse.h`: closes a folder.
+pub const RELEASEDIR: u32 = 29;
+
+/// `FUSE_FSYNCDIR` of `fuse.h`: brings an open folder to the disk.
+pub const FSYNCDIR: u32 = 30;
+
 /// `FUSE_INTERRUPT` of `fuse.h`: asks to give up a request that is under way.
 pub const INTERRUPT: u32 = 36;
 
@@ -40,6 +52,9 @@ pub const DESTROY: u32 = 38;
 
 /// `FUSE_BATCH_FORGET` of `fuse.h`: gives back lookups of several nodes.
 pub const BATCH_FORGET: u32 = 42;
+
+/// `FUSE_READDIRPLUS` of `fuse.h`: asks for names of an open folder, each looked up.
+pub const READDIRPLUS: u32 = 44;
 
 /// Whether a frame of this opcode is answered. One that is not gets no reply even if it is faulty.
 pub fn has_reply(opcode: u32) -> bool

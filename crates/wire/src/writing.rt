@@ -6,22 +6,25 @@ ghost use Rattle.wire.specs.Written.{operation_bytes};
 ghost use Rattle.wire.specs.Rows.{part_bytes, parts_bytes};
 
 use crate::opcode::{
-    DESTROY, FORGET, GETATTR, INIT, INTERRUPT, LOOKUP, MKDIR, RENAME, RMDIR, SETATTR, STATFS,
-    UNLINK,
+    BATCH_FORGET, DESTROY, FORGET, FSYNCDIR, GETATTR, INIT, INTERRUPT, LOOKUP, MKDIR, OPENDIR,
+    READDIR, READDIRPLUS, RELEASEDIR, RENAME, RMDIR, SETATTR, STATFS, UNLINK,
 };
-use crate::put::{put_text, put_u32, put_u64, put_zeros};
+use crate::put::{put, put_low_u32, put_text, put_u32, put_u64, put_zeros};
 use crate::request::{HEADER_LEN, Operation};
-use Part::{Text, U32, U64, Zeros};
+use Part::{Bytes, LowU32, Text, U32, U64, Zeros};
 
 /// A part of a body.
 #[derive(Clone, Copy)]
 pub enum Part<'a> {
     U32(u32),
     U64(u64),
+    /// The lowest four bytes of a number.
+    LowU32(usize),
     /// So many zero bytes.
     Zeros(u8),
     /// A text and a zero byte.
     Text(&'a str),
+    Bytes(&'a [u8]),
 }
 
 /// What is written of an operation.
@@ -68,8 +71,23 @@ pub fn row_of<'a>(operation: &Operation<'a>) -> Row<'a>
             INIT,
             [U32(major), U32(minor), U32(max_readahead), U32(flags), end],
         ),
+        Operation::OpenDir => (OPENDIR, [Zeros(8), end, end, end, end]),
+        Operation::ReadDir { fh, offset, size } => (
+            READDIR,
+            [U64(fh), U64(offset), U32(size), Zeros(20), end],
+        ),
+        Operation::ReleaseDir { fh } => (RELEASEDIR, [U64(fh), Zeros(16), end, end, end]),
+        Operation::SyncDir { fh } => (FSYNCDIR, [U64(fh), Zeros(8), end, end, end]),
         Operation::Interrupt => (INTERRUPT, [end; 5]),
         Operation::Destroy => (DESTROY, [end; 5]),
+        Operation::BatchForget { pairs } => (
+            BATCH_FORGET,
+            [LowU32(pairs.len() / 16), Zeros(4), Bytes(pairs), end, end],
+        ),
+        Operation::ReadDirPlus { fh, offset, size } => (
+            READDIRPLUS,
+            [U64(fh), U64(offset), U32(size), Zeros(20), end],
+        ),
     };
     Row { opcode, parts }
 }
@@ -80,10 +98,11 @@ fn part_len(part: &Part<'_>) -> usize
     ensures short { result ≤ 2 ^ 63 }
 {
     match part {
-        U32(_) => 4,
+        U32(_) | LowU32(_) => 4,
         U64(_) => 8,
         Zeros(count) => *count as usize,
         Text(text) => text.len() + 1,
+        Bytes(bytes) => bytes.len(),
     }
 }
 
@@ -108,8 +127,10 @@ fn put_part(out: &mut Vec<u8>, part: &Part<'_>)
     match part {
         U32(number) => put_u32(out, *number),
         U64(number) => put_u64(out, *number),
+        LowU32(number) => put_low_u32(out, *number),
         Zeros(count) => put_zeros(out, *count),
         Text(text) => put_text(out, text),
+        Bytes(bytes) => put(out, bytes),
     }
 }
 

@@ -5,8 +5,9 @@ use std::alloc::Global;
 use std::test::Fail;
 use wire::WireFault::{Body, Frame, NameBad, NameLong, Opcode};
 use wire::{
-    BATCH_FORGET, DESTROY, FORGET, GETATTR, HEADER_LEN, Header, INIT, INTERRUPT, LOOKUP, MKDIR,
-    RENAME, RMDIR, SETATTR, STATFS, UNLINK, WireFault, decode, has_reply, header_of,
+    BATCH_FORGET, DESTROY, FORGET, FSYNCDIR, GETATTR, HEADER_LEN, Header, INIT, INTERRUPT, LOOKUP,
+    MKDIR, OPENDIR, READDIR, READDIRPLUS, RELEASEDIR, RENAME, RMDIR, SETATTR, STATFS, UNLINK,
+    WireFault, decode, has_reply, header_of,
 };
 
 /// A piece of a body.
@@ -52,6 +53,53 @@ const BODIES: &[Row] = &[
     Row(INTERRUPT, &[Each(0, 7)], None),
     Row(DESTROY, &[], None),
     Row(DESTROY, &[Each(0, 1)], Some(Body)),
+    Row(OPENDIR, &[Each(0, 7)], Some(Body)),
+    Row(OPENDIR, &[Each(0, 8)], None),
+    Row(OPENDIR, &[Each(0, 9)], Some(Body)),
+    Row(READDIR, &[Each(0, 39)], Some(Body)),
+    Row(READDIR, &[Each(0, 41)], Some(Body)),
+    Row(RELEASEDIR, &[Each(0, 23)], Some(Body)),
+    Row(RELEASEDIR, &[Each(0, 24)], None),
+    Row(FSYNCDIR, &[Each(0, 17)], Some(Body)),
+    Row(READDIRPLUS, &[Each(0, 39)], Some(Body)),
+    Row(READDIRPLUS, &[Each(0, 40)], None),
+];
+
+/// A size is above 131,072, or a count is not that of the pairs: 2^28 of them wrap in 32 bits.
+const SIZES: &[Row] = &[
+    Row(
+        READDIR,
+        &[Each(0, 16), Bytes(b"\0\0\x02\0"), Each(0, 20)],
+        None,
+    ),
+    Row(
+        READDIR,
+        &[Each(0, 16), Bytes(b"\x01\0\x02\0"), Each(0, 20)],
+        Some(Body),
+    ),
+    Row(READDIR, &[Each(0, 16), Each(0xff, 24)], Some(Body)),
+    Row(
+        READDIRPLUS,
+        &[Each(0, 16), Bytes(b"\x01\0\x02\0"), Each(0, 20)],
+        Some(Body),
+    ),
+    Row(BATCH_FORGET, &[], Some(Body)),
+    Row(BATCH_FORGET, &[Each(0, 7)], Some(Body)),
+    Row(BATCH_FORGET, &[Each(0, 8)], None),
+    Row(BATCH_FORGET, &[Each(0, 24)], Some(Body)),
+    Row(BATCH_FORGET, &[Bytes(b"\x01"), Each(0, 22)], Some(Body)),
+    Row(BATCH_FORGET, &[Bytes(b"\x01"), Each(0, 23)], None),
+    Row(BATCH_FORGET, &[Bytes(b"\x04"), Each(0, 55)], Some(Body)),
+    Row(
+        BATCH_FORGET,
+        &[Bytes(b"\0\0\0\x10"), Each(0, 4)],
+        Some(Body),
+    ),
+    Row(
+        BATCH_FORGET,
+        &[Bytes(b"\x01\0\0\x10"), Each(0, 20)],
+        Some(Body),
+    ),
 ];
 
 const NAMES: &[Row] = &[
@@ -92,7 +140,7 @@ const NAMES: &[Row] = &[
 const OPCODES: &[Row] = &[
     Row(0, &[], Some(Opcode)),
     Row(5, &[Bytes(b"/\0")], Some(Opcode)),
-    Row(BATCH_FORGET, &[Each(0, 8)], Some(Opcode)),
+    Row(31, &[Each(0, 8)], Some(Opcode)),
     Row(45, &[Each(0, 16), Bytes(b"a\0b\0")], Some(Opcode)),
     Row(5, &[Each(0, 69592)], Some(Opcode)),
     Row(5, &[Each(0, 69593)], Some(Frame)),
@@ -138,6 +186,11 @@ fn are_told(alloc: Global, rows: &[Row]) -> Result<(), Fail> {
 #[test]
 fn faulty_bodies(rt: HostRuntime) -> Result<(), Fail> {
     are_told(rt.alloc(), BODIES)
+}
+
+#[test]
+fn faulty_sizes_and_counts(rt: HostRuntime) -> Result<(), Fail> {
+    are_told(rt.alloc(), SIZES)
 }
 
 #[test]

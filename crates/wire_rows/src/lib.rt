@@ -6,6 +6,7 @@
 mod bytes;
 #[cfg(test)]
 mod cutting;
+mod dirents;
 #[cfg(test)]
 mod faults;
 #[cfg(test)]

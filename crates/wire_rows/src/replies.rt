@@ -1,9 +1,9 @@
 //! Replies, written.
 
 use crate::bytes::{SIXTEEN, bytes_of};
+use Says::{Attr, Done, Failed, Given, Init, Opened, Sizes};
 use std::alloc::Global;
 use std::test::Fail;
-use wire::ReplyBody::{Attributes as Attr, Done, Entry as Given, Failed, Init, StatFs};
 use wire::{
     Attributes, Entry, InitOut, Kind, Negotiated, Reply, ReplyBody, encode_reply, error_frame,
     negotiate,
@@ -11,11 +11,31 @@ use wire::{
 
 /// The number of the request that is answered, what the reply says, and its bytes in digits.
 #[derive(Clone, Copy)]
-struct Row<'a>(u64, ReplyBody, &'a [&'a str]);
+struct Row<'a>(u64, Says, &'a [&'a str]);
 
-/// The bytes of this reply were not as a row says.
-#[derive(Debug, Drop)]
-struct Otherwise(Reply);
+/// What a reply says, as a value of a constant.
+#[derive(Clone, Copy)]
+enum Says {
+    Failed(i32),
+    Done,
+    Given(Entry),
+    Attr(u64, Attributes),
+    Opened(u64),
+    Sizes,
+    Init(InitOut),
+}
+
+fn body_of(says: Says) -> ReplyBody {
+    match says {
+        Failed(errno) => ReplyBody::Failed { errno },
+        Done => ReplyBody::Done,
+        Given(entry) => ReplyBody::Entry(entry),
+        Attr(node, attributes) => ReplyBody::Attributes { node, attributes },
+        Opened(fh) => ReplyBody::Opened { fh },
+        Sizes => ReplyBody::StatFs,
+        Init(out) => ReplyBody::Init(out),
+    }
+}
 
 const FILE: Attributes = Attributes {
     kind: Kind::File,
@@ -115,16 +135,8 @@ const EIGHT: &str = "0000000000000000";
 const TIMES: &str = "0000000000000000 0000000000000000 0000000000000000 00000000 00000000 00000000";
 
 const REPLIES: &[Row] = &[
-    Row(
-        7,
-        Failed { errno: 2 },
-        &["10000000 feffffff 0700000000000000"],
-    ),
-    Row(
-        6,
-        Failed { errno: 38 },
-        &["10000000 daffffff 0600000000000000"],
-    ),
+    Row(7, Failed(2), &["10000000 feffffff 0700000000000000"]),
+    Row(6, Failed(38), &["10000000 daffffff 0600000000000000"]),
     Row(7, Done, &["10000000 00000000 0700000000000000"]),
     Row(
         7,
@@ -158,10 +170,7 @@ const REPLIES: &[Row] = &[
     ),
     Row(
         9,
-        Attr {
-            node: 2,
-            attributes: LONG_FILE,
-        },
+        Attr(2, LONG_FILE),
         &[
             "78000000 00000000 0900000000000000 0100000000000000 00000000 00000000",
             "0200000000000000 5802000000000000 0200000000000000",
@@ -171,10 +180,7 @@ const REPLIES: &[Row] = &[
     ),
     Row(
         3,
-        Attr {
-            node: 1,
-            attributes: FOLDER,
-        },
+        Attr(1, FOLDER),
         &[
             "78000000 00000000 0300000000000000 0100000000000000 00000000 00000000",
             "0100000000000000 0000000000000000 0000000000000000",
@@ -183,8 +189,16 @@ const REPLIES: &[Row] = &[
         ],
     ),
     Row(
+        6,
+        Opened(258),
+        &[
+            "20000000 00000000 0600000000000000",
+            "0201000000000000 00000000 00000000",
+        ],
+    ),
+    Row(
         8,
-        StatFs,
+        Sizes,
         &[
             "60000000 00000000 0800000000000000",
             SIXTEEN,
@@ -221,8 +235,8 @@ const REPLIES: &[Row] = &[
 /// Whether `error_frame` has these bytes too, if it can say the reply.
 fn is_framed(reply: &Reply, bytes: &[u8]) -> bool {
     match reply.body {
-        Failed { errno } => error_frame(reply.unique, errno).as_slice() == bytes,
-        Done => error_frame(reply.unique, 0).as_slice() == bytes,
+        ReplyBody::Failed { errno } => error_frame(reply.unique, errno).as_slice() == bytes,
+        ReplyBody::Done => error_frame(reply.unique, 0).as_slice() == bytes,
         _ => true,
     }
 }
@@ -230,13 +244,14 @@ fn is_framed(reply: &Reply, bytes: &[u8]) -> bool {
 #[test]
 fn bytes_of_replies(rt: HostRuntime) -> Result<(), Fail> {
     for row in REPLIES {
-        let Row(unique, body, bytes) = *row;
+        let Row(unique, says, bytes) = *row;
+        let body = body_of(says);
         let reply = Reply { unique, body };
         let bytes = bytes_of(rt.alloc(), bytes)?;
         let mut out = Vec::new(rt.alloc());
         encode_reply(&reply, &mut out)?;
         if out.as_slice() != bytes.as_slice() || !is_framed(&reply, &bytes) {
-            return Err(Otherwise(reply).into());
+            return Err(Fail::from(("the reply to", unique)));
         }
     }
     Ok(())

@@ -4,8 +4,8 @@ use crate::bytes::{SIXTEEN, bytes_of};
 use std::alloc::Global;
 use std::test::Fail;
 use wire::Operation::{
-    Destroy, Forget, GetAttr, Init, Interrupt, Lookup, MakeDir, RemoveDir, Rename, SetAttr, StatFs,
-    Unlink,
+    BatchForget, Destroy, Forget, GetAttr, Init, Interrupt, Lookup, MakeDir, OpenDir, ReadDir,
+    ReadDirPlus, ReleaseDir, RemoveDir, Rename, SetAttr, StatFs, SyncDir, Unlink,
 };
 use wire::{Operation, Request, decode, encode_request};
 
@@ -173,11 +173,94 @@ const WRITTEN: &[Row] = &[
         0,
         Destroy,
     ),
+    Row(
+        &[
+            "30000000 1b000000 0200000000000000 0100000000000000",
+            SIXTEEN,
+            "00000000 00000000",
+        ],
+        2,
+        1,
+        OpenDir,
+    ),
+    Row(
+        &[
+            "50000000 1c000000 0300000000000000 0100000000000000",
+            SIXTEEN,
+            "0500000000000000 0201000000000000 00000200 00000000",
+            SIXTEEN,
+        ],
+        3,
+        1,
+        ReadDir {
+            fh: 5,
+            offset: 258,
+            size: 131072,
+        },
+    ),
+    Row(
+        &[
+            "40000000 1d000000 0400000000000000 0100000000000000",
+            SIXTEEN,
+            "0500000000000000",
+            SIXTEEN,
+        ],
+        4,
+        1,
+        ReleaseDir { fh: 5 },
+    ),
+    Row(
+        &[
+            "38000000 1e000000 0500000000000000 0100000000000000",
+            SIXTEEN,
+            "0500000000000000 00000000 00000000",
+        ],
+        5,
+        1,
+        SyncDir { fh: 5 },
+    ),
+    Row(
+        &[
+            "30000000 2a000000 0600000000000000 0000000000000000",
+            SIXTEEN,
+            "00000000 00000000",
+        ],
+        6,
+        0,
+        BatchForget { pairs: b"" },
+    ),
+    Row(
+        &[
+            "50000000 2a000000 0600000000000000 0000000000000000",
+            SIXTEEN,
+            "02000000 00000000 0200000000000000 0100000000000000 0900000000000000 0500000000000000",
+        ],
+        6,
+        0,
+        BatchForget {
+            pairs: b"\x02\0\0\0\0\0\0\0\x01\0\0\0\0\0\0\0\x09\0\0\0\0\0\0\0\x05\0\0\0\0\0\0\0",
+        },
+    ),
+    Row(
+        &[
+            "50000000 2c000000 0700000000000000 0100000000000000",
+            SIXTEEN,
+            "0500000000000000 0200000000000000 40010000 00000000",
+            SIXTEEN,
+        ],
+        7,
+        1,
+        ReadDirPlus {
+            fh: 5,
+            offset: 2,
+            size: 320,
+        },
+    ),
 ];
 
 /// Frames in which bytes that are not read are something else: uid, gid, pid and padding; of GETATTR the flags and the
 /// handle, of SETATTR its padding and what follows its size, of MKDIR the mode and the umask, of INIT what follows its
-/// flags, of INTERRUPT all.
+/// flags, of INTERRUPT all, and of the requests about open folders flags and owners of locks.
 const READ: &[Row] = &[
     Row(
         &[
@@ -241,6 +324,51 @@ const READ: &[Row] = &[
         6,
         2,
         Interrupt,
+    ),
+    Row(
+        &[
+            "30000000 1b000000 0200000000000000 0100000000000000",
+            ONES,
+            "ffffffff ffffffff",
+        ],
+        2,
+        1,
+        OpenDir,
+    ),
+    Row(
+        &[
+            "50000000 1c000000 0300000000000000 0100000000000000",
+            ONES,
+            "0500000000000000 0200000000000000 00000000 ffffffff",
+            ONES,
+        ],
+        3,
+        1,
+        ReadDir {
+            fh: 5,
+            offset: 2,
+            size: 0,
+        },
+    ),
+    Row(
+        &[
+            "38000000 1e000000 0500000000000000 0100000000000000",
+            ONES,
+            "0500000000000000 ffffffff ffffffff",
+        ],
+        5,
+        1,
+        SyncDir { fh: 5 },
+    ),
+    Row(
+        &[
+            "30000000 2a000000 0600000000000000 0000000000000000",
+            ONES,
+            "00000000 ffffffff",
+        ],
+        6,
+        0,
+        BatchForget { pairs: b"" },
     ),
 ];
 

@@ -9,4 +9,4 @@ pub returns-clause-only : goal.returns-clause-only
 returns-clause-only c frame fits is = reply_only c.args.reply.now frame fits is
 
 pub returns-clause-reply : goal.returns-clause-reply
-returns-clause-reply c answer = reply_written c.args.reply.now answer c.put_reply.ensures.unique c.put_reply.ensures.tells (omega (arith, c.body_len-len.ensures.len, c.body_len-len.ensures.short))
+returns-clause-reply c answer = reply_written c.args.reply.now answer c.put_reply.ensures.unique c.put_reply.ensures.tells (omega (arith, c.body_len-len.ensures.len, c.body_len-len.ensures.answer answer))

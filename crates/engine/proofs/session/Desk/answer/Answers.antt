@@ -7,5 +7,5 @@ use Rattle.engine.proofs.session.Desk.answer.Goals as goal
 pub returns-in-None-clause-said : goal.returns-in-None-clause-said
 returns-in-None-clause-said g c =
     let none = c.in-None.ensures.none in
-    starved g.L.LinkOut.sends c.args.reply.now c.args.link.now c.refuse.new.link c.refuse.result none.0
-    (sent_from g.L.LinkOut.sends c.args.link.now c.offer.new.link c.refuse.new.link (reply_bytes (refusal c.args.reply.now.unique ENOMEM)) c.refuse.result none.1 c.refuse.ensures)
+    starved g.L.LinkOut.sends c.args.reply c.args.link.now c.refuse.new.link c.refuse.result none.0
+    (sent_from g.L.LinkOut.sends c.args.link.now c.offer.new.link c.refuse.new.link (reply_bytes (refusal c.args.reply.unique ENOMEM)) c.refuse.result none.1 c.refuse.ensures)

@@ -1,0 +1,124 @@
+//! A script beside the slow program, after all short lists of answers.
+
+ghost use Rattle.std.specs.Prelude.{◌≡◌};
+
+use crate::slow::{Stands, ask_of, stands_after};
+use backing::{Answer, Bytes, Children, Kind};
+use ledger::{Blanks, Ledgers};
+use ops::{Intent, Script, intent_of};
+use std::alloc::{AllocError, Global};
+use std::test::Fail;
+use table::{Begin, Limits, Outcome, Table, Ticket};
+use wire::{Operation, Request};
+
+/// How many answers are tried for each call.
+const ANSWERS: u32 = 12;
+
+/// How many lists of at most three answers there are.
+const LISTS: u32 = 1 + ANSWERS + ANSWERS * ANSWERS + ANSWERS * ANSWERS * ANSWERS;
+
+/// An answer of each kind, of each shape, and of each sort of error number.
+fn answer_of(alloc: Global, number: u32) -> Answer {
+    match number {
+        0 => Answer::Done,
+        1 => Answer::Stat {
+            kind: Kind::File,
+            size: 5,
+        },
+        2 => Answer::Stat {
+            kind: Kind::Folder,
+            size: 0,
+        },
+        3 => Answer::Stat {
+            kind: Kind::Folder,
+            size: 5,
+        },
+        4 => Answer::Names(Children::from_vec(Vec::new(alloc))),
+        5 => Answer::Bytes(Bytes::from_vec(Vec::new(alloc))),
+        6 => Answer::Wrote(1),
+        7 => Answer::Fault(2),
+        8 => Answer::Fault(0),
+        9 => Answer::Fault(-2),
+        10 => Answer::Fault(4095),
+        _ => Answer::Fault(4096),
+    }
+}
+
+/// The list of answers under that number: none is the first, then those of one answer, and so on.
+fn answers_of(alloc: Global, number: u32) -> Result<Vec<Answer>, AllocError> {
+    let mut answers = Vec::new(alloc);
+    let mut left = number;
+    for _ in 0..3 {
+        if left > 0 {
+            let last = left - 1;
+            answers.push(answer_of(alloc, last % ANSWERS))?;
+            left = last / ANSWERS;
+        }
+    }
+    Ok(answers)
+}
+
+/// Where the script stands after these answers.
+fn script_after(operation: Operation<'_>, ticket: &Ticket, answers: Vec<Answer>) -> Stands {
+    let mut script = Script::start(operation, ticket);
+    for answer in answers {
+        script.feed(answer);
+    }
+    match script.next() {
+        Some(call) => Stands::Asks(ask_of(call, ticket.paths())),
+        None => Stands::Over(script.finding()),
+    }
+}
+
+/// The first list of answers after which the script stands elsewhere than the slow program.
+fn first_other(
+    alloc: Global,
+    operation: Operation<'_>,
+    ticket: &Ticket,
+) -> Result<Option<u32>, AllocError> {
+    for number in 0..LISTS {
+        let slow = stands_after(operation, ticket.same(), &answers_of(alloc, number)?);
+        if script_after(operation, ticket, answers_of(alloc, number)?) != slow {
+            return Ok(Some(number));
+        }
+    }
+    Ok(None)
+}
+
+/// Compares the script of a request with the slow program's, on a table of its own. Fails with the number of the first list of answers after
+/// which they differ.
+pub fn compare<L: Ledgers>(
+    alloc: Global,
+    blanks: Blanks,
+    operation: Operation<'_>,
+) -> Result<(), Fail>
+    requires names { blanks ≡ L.names }
+    requires shares { L.names.parts ≡ 1 }
+{
+    let request = Request {
+        unique: 1,
+        node: 1,
+        operation,
+    };
+    let Intent::Want(wanted) = intent_of(&request) else {
+        return Err(Fail::from(("no want", request.unique)));
+    };
+    let want = wanted.own(alloc)?;
+    let (mut table, mut shares) = Table::<L>::open(alloc, Limits::default(), blanks, 1)?;
+    let mut share = shares.pop().unwrap();
+    shares.destroy_empty();
+    let other = match table.begin(request.unique, want) {
+        Begin::Go(ticket) => {
+            let other = first_other(alloc, operation, &ticket);
+            let answered = table.finish(&mut share, ticket, Outcome::Failed);
+            table.settle(&mut share, answered, true);
+            other
+        }
+        Begin::Busy | Begin::Refused(_) => Ok(Some(LISTS)),
+    };
+    share.leave();
+    match other? {
+        None => Ok(()),
+        Some(number) => Err(Fail::from(("differs after list", number))),
+    }
+}

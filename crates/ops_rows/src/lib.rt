@@ -1,0 +1,9 @@
+//! Tests of `ops`: its scripts beside a plain slow program of them. The crate is of tests alone.
+#![tactic(auto)]
+
+#[cfg(test)]
+mod compare;
+#[cfg(test)]
+mod rows;
+#[cfg(test)]
+mod slow;

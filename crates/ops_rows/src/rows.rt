@@ -1,0 +1,56 @@
+//! Each request that has a script.
+
+use crate::compare::compare;
+use ledger::Blanks;
+use std::marker::Brand;
+use std::test::Fail;
+use wire::Operation::{self, GetAttr, Lookup, MakeDir, RemoveDir, Rename, SetAttr, Unlink};
+
+/// About the root, or a name in it. Some have several scripts.
+const OPERATIONS: &[Operation] = &[
+    Lookup { name: "a" },
+    GetAttr,
+    // The size, the owner of a lock, both, and nothing.
+    SetAttr {
+        valid: 8,
+        fh: 0,
+        size: 7,
+    },
+    SetAttr {
+        valid: 512,
+        fh: 0,
+        size: 7,
+    },
+    SetAttr {
+        valid: 520,
+        fh: 0,
+        size: 7,
+    },
+    SetAttr {
+        valid: 0,
+        fh: 0,
+        size: 7,
+    },
+    MakeDir { name: "a" },
+    Unlink { name: "a" },
+    RemoveDir { name: "a" },
+    Rename {
+        name: "a",
+        new_parent: 1,
+        new_name: "b",
+    },
+    // Onto itself.
+    Rename {
+        name: "a",
+        new_parent: 1,
+        new_name: "a",
+    },
+];
+
+#[test]
+fn scripts_are_those_of_the_slow_program(rt: HostRuntime) -> Result<(), Fail> {
+    for operation in OPERATIONS {
+        compare::<Brand>(rt.alloc(), Blanks::new(1), *operation)?;
+    }
+    Ok(())
+}

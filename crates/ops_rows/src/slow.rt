@@ -1,0 +1,133 @@
+//! The scripts of all requests as a plain slow program: where a script stands is found by going over all of its answers anew.
+
+use backing::{Answer, Call, Kind};
+use errno::EIO;
+use ops::{Finding, Found};
+use paths::Path;
+use wire::Operation;
+
+/// What is asked of a directory at the paths of a request.
+#[derive(Clone, Copy, Debug, PartialEq, Eq)]
+pub enum Ask {
+    Stat,
+    MakeDir,
+    Remove,
+    RemoveDir,
+    /// From the first path to the second.
+    Rename,
+    /// To so many bytes.
+    SetLen(u64),
+    /// No script asks this.
+    Other,
+}
+
+/// Where a script stands after some answers.
+#[derive(Clone, Copy, Debug, PartialEq, Eq)]
+pub enum Stands {
+    Asks(Ask),
+    Over(Finding),
+}
+
+/// What an answer counts as.
+enum Counts {
+    Done,
+    Found(Found),
+    Error(i32),
+}
+
+/// What a call of a script is, where it is about the request's paths.
+pub fn ask_of(call: Call<'_>, paths: &[Path]) -> Ask {
+    let Some(first) = paths.first() else {
+        return Ask::Other;
+    };
+    match call {
+        Call::Stat(path) if path.is(first) => Ask::Stat,
+        Call::MakeDir(path) if path.is(first) => Ask::MakeDir,
+        Call::Remove(path) if path.is(first) => Ask::Remove,
+        Call::RemoveDir(path) if path.is(first) => Ask::RemoveDir,
+        Call::SetLen { path, size } if path.is(first) => Ask::SetLen(size),
+        Call::Rename { from, to } if from.is(first) && paths.get(1).is_some_and(|p| p.is(to)) =>
+            Ask::Rename,
+        _ => Ask::Other,
+    }
+}
+
+/// The calls of a request, one after another, where nothing fails.
+fn asks_of(operation: Operation<'_>, same: bool) -> (Option<Ask>, Option<Ask>) {
+    match operation {
+        Operation::Lookup { .. } | Operation::GetAttr => (Some(Ask::Stat), None),
+        Operation::SetAttr { valid, size, .. } if valid & 8 == 8 => (
+            Some(Ask::SetLen(size)),
+            Some(Ask::Stat),
+        ),
+        Operation::SetAttr { .. } => (Some(Ask::Stat), None),
+        Operation::MakeDir { .. } => (Some(Ask::MakeDir), Some(Ask::Stat)),
+        Operation::Unlink { .. } => (Some(Ask::Remove), None),
+        Operation::RemoveDir { .. } => (Some(Ask::RemoveDir), None),
+        Operation::Rename { .. } if same => (Some(Ask::Stat), None),
+        Operation::Rename { .. } => (Some(Ask::Rename), None),
+        _ => (None, None),
+    }
+}
+
+/// A folder has no size. Error numbers are 1 to 4,095. An answer of another kind than its call's is EIO.
+fn counts_as(ask: Ask, answer: &Answer) -> Counts {
+    match (ask, answer) {
+        (_, Answer::Fault(errno)) if (1..4096).contains(errno) => Counts::Error(*errno),
+        (
+            Ask::Stat,
+            Answer::Stat {
+                kind: Kind::Folder,
+                size: 0,
+            },
+        ) => Counts::Found(Found {
+            kind: Kind::Folder,
+            size: 0,
+        }),
+        (
+            Ask::Stat,
+            Answer::Stat {
+                kind: Kind::File,
+                size,
+            },
+        ) => Counts::Found(Found {
+            kind: Kind::File,
+            size: *size,
+        }),
+        (Ask::Stat, _) => Counts::Error(EIO),
+        (_, Answer::Done) => Counts::Done,
+        (_, _) => Counts::Error(EIO),
+    }
+}
+
+/// What is told at the end, of what was found last.
+fn finding_of(operation: Operation<'_>, found: Option<Found>) -> Finding {
+    match (operation, found) {
+        (Operation::Lookup { .. } | Operation::MakeDir { .. }, Some(found)) => Finding::NewEntry(
+            found,
+        ),
+        (Operation::GetAttr | Operation::SetAttr { .. }, Some(found)) => Finding::Attributes(found),
+        _ => Finding::Nothing,
+    }
+}
+
+/// Where the script of a request stands after these answers. Answers after its end are not looked at.
+pub fn stands_after(operation: Operation<'_>, same: bool, answers: &[Answer]) -> Stands {
+    let mut found = None;
+    let (first, second) = asks_of(operation, same);
+    let mut answers = answers.iter();
+    for ask in [first, second] {
+        let Some(ask) = ask else {
+            return Stands::Over(finding_of(operation, found));
+        };
+        let Some(answer) = answers.next() else {
+            return Stands::Asks(ask);
+        };
+        match counts_as(ask, answer) {
+            Counts::Done => {}
+            Counts::Found(stands) => found = Some(stands),
+            Counts::Error(errno) => return Stands::Over(Finding::Error { errno }),
+        }
+    }
+    Stands::Over(finding_of(operation, found))
+}

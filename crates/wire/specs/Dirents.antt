@@ -1,0 +1,77 @@
+-- Names of a folder, as READDIR and READDIRPLUS tell them.
+use Rattle.std.specs.Prelude.{ℕ, ◌+◌, ◌-◌, ◌%◌, List, [], ◌∷◌, ◌++◌, length, map, Option, Some, None}
+use Rattle.wire.specs.declared.dirents.TheConstants.{DIRENT_LEN, NO_INO}
+use Rattle.wire.specs.declared.reply.Entry.{Entry}
+use Rattle.wire.specs.declared.reply.Kind.{Kind}
+use Rattle.wire.specs.declared.reply.Kind.TheVariants.{File, Folder}
+use Rattle.wire.specs.Fields.{Field, raw, u32, u64, Value, num, bytes, Spells}
+use Rattle.wire.specs.Replies.{entry_layout, entry_values}
+use Rattle.wire.specs.Written.{zeros, written}
+
+-- ---- an entry of READDIR
+
+-- its inode number, where the next one stands, what it is, and its name
+pub record Dirent : Type 0 where
+  pub ino : ℕ
+  pub next : ℕ
+  pub kind : Kind
+  pub name : List ℕ
+
+-- a directory, or a regular file
+abbrev pub type_of : Kind → ℕ
+type_of Folder = 4
+type_of File = 8
+
+-- how many zeros fill so many bytes up to a multiple of 8
+abbrev pub padding : ℕ → ℕ
+padding len = (8 - len % 8) % 8
+
+abbrev pub padding_of : List ℕ → ℕ
+padding_of name = padding (DIRENT_LEN + length name)
+
+-- ino, off, namelen, type; the name, and zeros
+abbrev pub dirent_layout : Dirent → List Field
+dirent_layout d = u64 ∷ u64 ∷ u32 ∷ u32 ∷ raw (length d.name) ∷ raw (padding_of d.name) ∷ []
+
+abbrev pub dirent_values : Dirent → List Value
+dirent_values d = num d.ino ∷ num d.next ∷ num (length d.name) ∷ num (type_of d.kind) ∷ bytes d.name ∷ bytes (zeros (padding_of d.name)) ∷ []
+
+-- The bytes are this entry.
+abbrev pub IsDirent : Dirent → List ℕ → Type 0
+IsDirent d body = Spells (dirent_layout d) (dirent_values d) body
+
+unfoldable pub dirent_bytes : Dirent → List ℕ
+dirent_bytes d = written (dirent_layout d) (dirent_values d)
+
+-- ---- an entry of READDIRPLUS: the node that is given with it, if any, and then as above. Its padding is the same, since an entry of a
+-- node has a multiple of 8 bytes.
+
+pub record PlusDirent : Type 0 where
+  pub entry : Option Entry
+  pub next : ℕ
+  pub kind : Kind
+  pub name : List ℕ
+
+abbrev pub ino_of : Option Entry → ℕ
+ino_of (Some e) = e.node
+ino_of None = NO_INO
+
+abbrev pub dirent_in : PlusDirent → Dirent
+dirent_in p = record { ino = ino_of p.entry; next = p.next; kind = p.kind; name = p.name }
+
+-- where no node is given, all is zero
+abbrev pub given_values : Option Entry → List Value
+given_values (Some e) = entry_values e
+given_values None = map (λ _. num 0) entry_layout
+
+abbrev pub plus_layout : PlusDirent → List Field
+plus_layout p = entry_layout ++ dirent_layout (dirent_in p)
+
+abbrev pub plus_values : PlusDirent → List Value
+plus_values p = given_values p.entry ++ dirent_values (dirent_in p)
+
+abbrev pub IsPlusDirent : PlusDirent → List ℕ → Type 0
+IsPlusDirent p body = Spells (plus_layout p) (plus_values p) body
+
+unfoldable pub plus_bytes : PlusDirent → List ℕ
+plus_bytes p = written (plus_layout p) (plus_values p)

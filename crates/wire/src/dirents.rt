@@ -1,0 +1,128 @@
+//! Names of a folder, as READDIR and READDIRPLUS tell them, put at the end of a vector one by one.
+
+ghost use Rattle.std.specs.Prelude.{◌≡◌, ◌<◌, ◌≤◌, ◌+◌, ◌^◌, ◌++◌, length, vec_len, vec_capacity, OnOk, OnErr, Option};
+ghost use Rattle.wire.specs.Dirents.{Dirent, PlusDirent, IsDirent, IsPlusDirent, dirent_bytes, given_values, ino_of, padding, padding_of, plus_bytes, type_of};
+ghost use Rattle.wire.specs.Fields.{CanTell};
+ghost use Rattle.wire.specs.Replies.{entry_layout};
+ghost use Rattle.wire.specs.Written.{written};
+
+use crate::bodies::put_entry;
+use crate::put::{put, put_low_u32, put_u32, put_u32s, put_u64, put_u64s, put_zeros};
+use crate::reply::{ENTRY_LEN, Entry, Kind};
+use std::alloc::AllocError;
+
+/// How many bytes stand before the name of an entry (`fuse_dirent`).
+pub const DIRENT_LEN: usize = 24;
+
+/// The inode number of an entry whose node is not told (`FUSE_UNKNOWN_INO` of libfuse).
+pub const NO_INO: u64 = 4294967295;
+
+fn type_of(kind: Kind) -> u32
+    ensures { result ≡ type_of kind }
+{
+    match kind {
+        Kind::Folder => 4,
+        Kind::File => 8,
+    }
+}
+
+/// How many zeros follow so many bytes.
+fn padding(len: usize) -> u8
+    ensures is { result ≡ padding len }
+    ensures few { result < 8 }
+{
+    ((8 - len % 8) % 8) as u8
+}
+
+/// How many bytes an entry of this name has.
+fn dirent_len(name: &str) -> usize
+    ensures is { result ≡ DIRENT_LEN + length name.now + padding_of name.now }
+    ensures short { result ≤ 2 ^ 63 + 32 }
+{
+    let len = DIRENT_LEN + name.len();
+    len + padding(len) as usize
+}
+
+#[tactic(auto, using(crate::proofs::Listed::dirents))]
+fn put_dirent(out: &mut Vec<u8>, ino: u64, next: u64, kind: Kind, name: &str)
+    requires { vec_len out.old + (DIRENT_LEN + length name.now + padding_of name.now) ≤ vec_capacity out.old }
+    ensures { out.new.items ≡ out.old.items ++ dirent_bytes (record { ino = ino; next = next; kind = kind; name = name.now }) }
+{
+    let len = name.len();
+    put_u64(out, ino);
+    put_u64(out, next);
+    put_low_u32(out, len);
+    put_u32(out, type_of(kind));
+    put(out, name.as_bytes());
+    put_zeros(out, padding(DIRENT_LEN + len));
+}
+
+/// Puts an entry of READDIR at the end of a vector: its inode number, where the next one stands, what it is, and its name. Where
+/// memory is refused, the items stay as they were.
+pub fn encode_dirent(
+    out: &mut Vec<u8>,
+    ino: u64,
+    next: u64,
+    kind: Kind,
+    name: &str,
+) -> Result<(), AllocError>
+    ensures ok { OnOk result (out.new.items ≡ out.old.items ++ dirent_bytes (record { ino = ino; next = next; kind = kind; name = name.now })) }
+    // What is put is that entry, if its name is no longer than a number of four bytes can say.
+    ensures dirent { let d : Dirent = record { ino = ino; next = next; kind = kind; name = name.now } in length name.now < 2 ^ 32 → IsDirent d (dirent_bytes d) }
+    ensures err { OnErr result (out.new.items ≡ out.old.items) }
+{
+    out.reserve(dirent_len(name))?;
+    put_dirent(out, ino, next, kind, name);
+    Ok(())
+}
+
+/// The inode number of an entry with which this node is given, if any.
+fn ino_of(entry: Option<Entry>) -> u64
+    ensures { result ≡ ino_of entry }
+{
+    match entry {
+        Some(entry) => entry.node,
+        None => NO_INO,
+    }
+}
+
+/// The node that is given with an entry, or zeros.
+#[tactic(auto, using(crate::proofs::Listed::dirents))]
+fn put_given(out: &mut Vec<u8>, entry: Option<Entry>)
+    requires { vec_len out.old + ENTRY_LEN ≤ vec_capacity out.old }
+    ensures items { out.new.items ≡ out.old.items ++ written entry_layout (given_values entry) }
+    ensures len { vec_len out.new ≡ vec_len out.old + ENTRY_LEN }
+    ensures capacity { vec_capacity out.old ≤ vec_capacity out.new }
+    ensures tells { CanTell entry_layout (given_values entry) }
+{
+    match entry {
+        Some(entry) => put_entry(out, &entry),
+        None => {
+            put_u64s(out, &[0; 4]);
+            put_u32s(out, &[0; 2]);
+            put_u64s(out, &[0; 6]);
+            put_u32s(out, &[0; 10]);
+        }
+    }
+}
+
+/// The same for READDIRPLUS: the node that is given with the entry stands before it. Without one its bytes are zero, and the inode
+/// number is not told.
+#[tactic(auto, using(crate::proofs::Listed::dirents))]
+pub fn encode_plus_dirent(
+    out: &mut Vec<u8>,
+    entry: Option<Entry>,
+    next: u64,
+    kind: Kind,
+    name: &str,
+) -> Result<(), AllocError>
+    ensures ok { OnOk result (out.new.items ≡ out.old.items ++ plus_bytes (record { entry = entry; next = next; kind = kind; name = name.now })) }
+    // What is put is that entry, if its name is no longer than a number of four bytes can say.
+    ensures dirent { OnOk result (let p : PlusDirent = record { entry = entry; next = next; kind = kind; name = name.now } in length name.now < 2 ^ 32 → IsPlusDirent p (plus_bytes p)) }
+    ensures err { OnErr result (out.new.items ≡ out.old.items) }
+{
+    out.reserve(ENTRY_LEN + dirent_len(name))?;
+    put_given(out, entry);
+    put_dirent(out, ino_of(entry), next, kind, name);
+    Ok(())
+}

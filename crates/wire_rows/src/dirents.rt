@@ -1,0 +1,158 @@
+//! Names of a folder as READDIR and READDIRPLUS tell them, and the lookups that a BATCH_FORGET gives back.
+
+use crate::bytes::{SIXTEEN, bytes_of};
+use std::alloc::Global;
+use std::test::Fail;
+use wire::{
+    Attributes, Data, Entry, Forgotten, Kind, NO_INO, Reply, ReplyBody, encode_dirent,
+    encode_plus_dirent, encode_reply, split_pair,
+};
+
+/// Where the next entry stands, what it is, its name, and its bytes in digits.
+#[derive(Clone, Copy)]
+struct Row<'a>(u64, Kind, &'a str, &'a [&'a str]);
+
+/// Names of 1, 7, 8 and 9 bytes: the last fills its 8 bytes.
+const NAMES: &[Row] = &[
+    Row(
+        1,
+        Kind::Folder,
+        ".",
+        &["ffffffff00000000 0100000000000000 01000000 04000000 2e00000000000000"],
+    ),
+    Row(
+        3,
+        Kind::File,
+        "a",
+        &["ffffffff00000000 0300000000000000 01000000 08000000 6100000000000000"],
+    ),
+    Row(
+        258,
+        Kind::File,
+        "seven--",
+        &["ffffffff00000000 0201000000000000 07000000 08000000 736576656e2d2d00"],
+    ),
+    Row(
+        4,
+        Kind::Folder,
+        "eight---",
+        &["ffffffff00000000 0400000000000000 08000000 04000000 65696768742d2d2d"],
+    ),
+    Row(
+        5,
+        Kind::File,
+        "nine-----",
+        &["ffffffff00000000 0500000000000000 09000000 08000000 6e696e652d2d2d2d 2d00000000000000"],
+    ),
+];
+
+/// The node that is given with the entry `a`, if any, and the bytes.
+struct PlusRow<'a>(Option<Entry>, &'a [&'a str]);
+
+const PLUS: &[PlusRow] = &[
+    PlusRow(
+        None,
+        &[
+            SIXTEEN,
+            SIXTEEN,
+            SIXTEEN,
+            SIXTEEN,
+            SIXTEEN,
+            SIXTEEN,
+            SIXTEEN,
+            SIXTEEN,
+            "ffffffff00000000 0300000000000000 01000000 08000000 6100000000000000",
+        ],
+    ),
+    PlusRow(
+        Some(Entry {
+            node: 2,
+            generation: 1,
+            attributes: Attributes {
+                kind: Kind::File,
+                size: 3,
+                uid: 0,
+                gid: 0,
+            },
+        }),
+        &[
+            "0200000000000000 0100000000000000 0100000000000000 0100000000000000 00000000 00000000",
+            "0200000000000000 0300000000000000 0100000000000000",
+            SIXTEEN,
+            SIXTEEN,
+            "00000000",
+            "a4810000 01000000 00000000 00000000 00000000 00100000 00000000",
+            "0200000000000000 0300000000000000 01000000 08000000 6100000000000000",
+        ],
+    ),
+];
+
+/// Each name comes after those before it.
+#[test]
+fn names_of_a_folder(rt: HostRuntime) -> Result<(), Fail> {
+    let mut wanted = Vec::new(rt.alloc());
+    let mut out = Vec::new(rt.alloc());
+    for row in NAMES {
+        let Row(next, kind, name, bytes) = *row;
+        wanted.extend_from_slice(&bytes_of(rt.alloc(), bytes)?)?;
+        encode_dirent(&mut out, NO_INO, next, kind, name)?;
+        if out.as_slice() != wanted.as_slice() {
+            return Err(Fail::from(("the entry", name)));
+        }
+    }
+    Ok(())
+}
+
+#[test]
+fn names_with_their_nodes(rt: HostRuntime) -> Result<(), Fail> {
+    for row in PLUS {
+        let PlusRow(entry, bytes) = row;
+        let bytes = bytes_of(rt.alloc(), bytes)?;
+        let mut out = Vec::new(rt.alloc());
+        encode_plus_dirent(&mut out, *entry, 3, Kind::File, "a")?;
+        if out.as_slice() != bytes.as_slice() {
+            return Err(Fail::from(("the entry with a node", entry.is_some())));
+        }
+    }
+    Ok(())
+}
+
+/// The reply to READDIR of a folder with `a` and `b` alone, from its beginning on, in at most 32 bytes.
+#[test]
+fn first_dirent(rt: HostRuntime) -> Result<(), Fail> {
+    let mut page = Vec::new(rt.alloc());
+    encode_dirent(&mut page, NO_INO, 1, Kind::Folder, ".")?;
+    let reply = Reply {
+        unique: 7,
+        body: ReplyBody::Data(Data::new(page)),
+    };
+    let mut out = Vec::new(rt.alloc());
+    encode_reply(&reply, &mut out)?;
+    let bytes = bytes_of(
+        rt.alloc(),
+        &[
+            "30000000 00000000 0700000000000000",
+            "ffffffff00000000 0100000000000000 01000000 04000000 2e00000000000000",
+        ],
+    )?;
+    assert_eq!(rt; out.as_slice(), bytes.as_slice());
+    Ok(())
+}
+
+#[test]
+fn pairs_of_a_batch(rt: HostRuntime) -> Result<(), Fail> {
+    let bytes = bytes_of(
+        rt.alloc(),
+        &["0200000000000000 0100000000000000 0900000000000000 0001000000000000 ff"],
+    )?;
+    let mut rest = bytes.as_slice();
+    for (node, nlookup) in [(2, 1), (9, 256)] {
+        let Some((pair, more)) = split_pair(rest) else {
+            return Err(Fail::from(("the pair of", node)));
+        };
+        assert_eq!(rt; pair, Forgotten { node, nlookup });
+        rest = more;
+    }
+    assert_eq!(rt; split_pair(rest).is_none(), true);
+    Ok(())
+}
