@@ -5,5 +5,5 @@ mod data;
 mod flying;
 mod listed;
 
-pub use data::{Flight, Given, Givens, Pins, Promise, Stage, Want, Work};
+pub use data::{Flight, Given, Givens, Handle, Pins, Promise, Stage, Want, Work};
 pub use flying::Flights;

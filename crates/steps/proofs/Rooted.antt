@@ -33,7 +33,7 @@ use Rattle.steps.proofs.Viewed.{are_kept}
 
 -- a name for which an entry may be given is shared
 pub entries_shared : (want : Want) (c : Case) (key : Key) → Contains (row_of want c).entries key → Contains (row_of want c).shared (name_at key)
-entries_shared (wants.Node number) c key h = absurd (none_in key h)
+entries_shared (wants.Node number handle) c key h = absurd (none_in key h)
 entries_shared (wants.Name parent name) c key h = subst (λ (k : Key). Contains (AtName parent name ∷ []) (name_at k)) (only_in (record { parent = parent; name = name }) key h) (first_in (AtName parent name) [])
 entries_shared (wants.Remove parent name) c key h = absurd (none_in key h)
 entries_shared (wants.Move parent name new_parent new_name) c key h = absurd (none_in key h)
@@ -43,7 +43,7 @@ name_else parent name e = cc
 
 -- the root's path is not held alone
 rows_placed : (want : Want) (c : Case) → IsPlaced (row_of want c).alone
-rows_placed (wants.Node number) c h = none_in (AtNode 1) h
+rows_placed (wants.Node number handle) c h = none_in (AtNode 1) h
 rows_placed (wants.Name parent name) c h = none_in (AtNode 1) h
 rows_placed (wants.Remove parent name) c h = name_else parent name (only_in (AtName parent name) (AtNode 1) h)
 rows_placed (wants.Move parent name new_parent new_name) c h = elim (cases_in (AtName parent name) (AtName new_parent new_name ∷ []) (AtNode 1) h) [

@@ -35,7 +35,7 @@ pub(crate) fn acts_of(want: Want, copy: Option<Name>) -> Acts
     ensures change { (c : Case) → change_in result.change ≡ (row_of want c).done }
 {
     match want {
-        Want::Node { number: _ } => Acts {
+        Want::Node { .. } => Acts {
             entry: None,
             change: Change::Stays,
         },

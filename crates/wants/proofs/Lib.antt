@@ -4,4 +4,4 @@ pub mod Deciding
 mod Finding
 mod Drafting
 mod Agreeing
-mod Wanting
+pub mod Wanting

@@ -86,6 +86,7 @@ demand_in ls hold enters change c = record {
   births = if enters then births_in c else 0;
   done = change_in change ls;
   opens = None;
+  used = None;
 }
 
 abbrev pub demand_of : Row → Case → Demand

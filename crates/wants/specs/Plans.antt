@@ -16,7 +16,7 @@ row_in work = row_of work.want (case_in work.promise)
 
 -- the name that the want may give to a node, which is put into the tree under a key and a copy of it
 abbrev pub copied : Want → Option Name
-copied (wants.Node number) = None
+copied (wants.Node number handle) = None
 copied (wants.Name parent name) = Some name
 copied (wants.Remove parent name) = None
 copied (wants.Move parent name new_parent new_name) = Some new_name
