@@ -8,7 +8,6 @@ use Rattle.wire.specs.Requests.{IsRequest, opcode_in, opcode_of, unique_in}
 use Rattle.wire.specs.Written.{le, body_bytes, reply_bytes}
 use Rattle.wire.specs.declared.greeting.Negotiated.{Negotiated}
 use Rattle.wire.specs.declared.opcode.TheConstants.{INIT}
-use Rattle.wire.specs.declared.reply.ReplyBody.{ReplyBody}
 use Rattle.wire.specs.declared.reply.ReplyBody.TheVariants.{Failed, Done}
 use Rattle.wire.specs.declared.request.Operation.{Operation}
 use Rattle.wire.specs.declared.request.Operation.TheVariants as ops
@@ -22,7 +21,7 @@ use Rattle.engine.specs.Classes.{class}
 use Rattle.engine.specs.Reference.{AtReply, Meets, Turn, agrees, ending, greeting_of, negotiated_by, sent_in}
 use Rattle.engine.specs.Replies.{confirmation, refusal, TakesMemory}
 use Rattle.engine.specs.Tables.{Table}
-use Rattle.engine.specs.Walks.{IsAnswered, IsFaulty, GreetsFrame, Met, PartsFrame, Stand, Welcomes, WelcomesBy, WorkedOff, stand}
+use Rattle.engine.specs.Walks.{GreetsFrame, Met, PartsFrame, Stand, Welcomes, WelcomesBy, WorkedOff}
 use Rattle.engine.proofs.Turns.{answering, silent}
 
 -- a reply of a header alone is written as its error
@@ -42,6 +41,13 @@ asks_version (ops.RemoveDir _) e none = absurd (omega (arith, e))
 asks_version (ops.Rename _ _ _) e none = absurd (omega (arith, e))
 asks_version ops.StatFs e none = absurd (omega (arith, e))
 asks_version (ops.Init _ _ _ _) e none = absurd cc
+asks_version (ops.Open _) e none = absurd (omega (arith, e))
+asks_version (ops.Read _ _ _) e none = absurd (omega (arith, e))
+asks_version (ops.Write _ _ _) e none = absurd (omega (arith, e))
+asks_version (ops.Release _) e none = absurd (omega (arith, e))
+asks_version (ops.Sync _) e none = absurd (omega (arith, e))
+asks_version (ops.Flush _) e none = absurd (omega (arith, e))
+asks_version (ops.Create _ _) e none = absurd (omega (arith, e))
 asks_version ops.OpenDir e none = absurd (omega (arith, e))
 asks_version (ops.ReadDir _ _ _) e none = absurd (omega (arith, e))
 asks_version (ops.ReleaseDir _) e none = absurd (omega (arith, e))
@@ -81,7 +87,7 @@ module _ {W L C : Type 0} (table : Table W) (settings : Settings) (sends : L →
     turn = silent frame;
     frame_is = refl;
     end_is = refl;
-    meets = met_as Ignored frame (silent frame) s s refl is (record { no_offer = refl; no_call = refl; no_place = refl }, refl, record { lives = refl; agreed = refl });
+    meets = met_as Ignored frame (silent frame) s s refl is (record { no_offer = refl; no_call = refl; no_folder = refl; no_place = refl }, refl, record { lives = refl; agreed = refl });
     makes = refl;
     passes = refl;
   }
@@ -94,7 +100,7 @@ module _ {W L C : Type 0} (table : Table W) (settings : Settings) (sends : L →
         turn = turn;
         frame_is = refl;
         end_is = ends;
-        meets = met_as Misplaced frame turn s s refl is ((Failed EIO, refl, record { offers = refl; no_call = refl; same = refl }), record { lives = refl; agreed = refl });
+        meets = met_as Misplaced frame turn s s refl is ((Failed EIO, refl, record { offers = refl; no_call = refl; no_folder = refl; same = refl }), record { lives = refl; agreed = refl });
         makes = refl;
         passes = offer;
       }
@@ -109,7 +115,7 @@ module _ {W L C : Type 0} (table : Table W) (settings : Settings) (sends : L →
         turn = turn;
         frame_is = refl;
         end_is = ends;
-        meets = met_as Greeting frame turn old new refl is (refl, inl (q, request, rw (← by) ((w.told.said, w.told.said_is, record { offers = refl; no_call = refl; same = same }), w.agreed)));
+        meets = met_as Greeting frame turn old new refl is (refl, inl (q, request, rw (← by) ((w.told.said, w.told.said_is, record { offers = refl; no_call = refl; no_folder = refl; same = same }), w.agreed)));
         makes = refl;
         passes = w.told.offer;
       }
@@ -123,7 +129,7 @@ module _ {W L C : Type 0} (table : Table W) (settings : Settings) (sends : L →
         turn = turn;
         frame_is = refl;
         end_is = ends;
-        meets = met_as Greeting frame turn old new refl is (refl, inr (f.fault, f.first, (Failed (errno_of f.fault), refl, record { offers = refl; no_call = refl; same = same }), keeps));
+        meets = met_as Greeting frame turn old new refl is (refl, inr (f.fault, f.first, (Failed (errno_of f.fault), refl, record { offers = refl; no_call = refl; no_folder = refl; same = same }), keeps));
         makes = refl;
         passes = f.offer;
       }
@@ -136,7 +142,7 @@ module _ {W L C : Type 0} (table : Table W) (settings : Settings) (sends : L →
         turn = turn;
         frame_is = refl;
         end_is = ends ∙ ap (λ d. ending (Some sent) d) w.3;
-        meets = met_as Farewell frame turn s s refl is (refl, inl (w.0, w.1, (Done, refl, record { offers = refl; no_call = refl; same = refl }), refl));
+        meets = met_as Farewell frame turn s s refl is (refl, inl (w.0, w.1, (Done, refl, record { offers = refl; no_call = refl; no_folder = refl; same = refl }), refl));
         makes = refl;
         passes = w.2;
       }
@@ -146,7 +152,7 @@ module _ {W L C : Type 0} (table : Table W) (settings : Settings) (sends : L →
         turn = turn;
         frame_is = refl;
         end_is = ends ∙ ap (λ d. ending (Some sent) d) on;
-        meets = met_as Farewell frame turn s s refl is (refl, inr (f.fault, f.first, (Failed (errno_of f.fault), refl, record { offers = refl; no_call = refl; same = refl }), refl));
+        meets = met_as Farewell frame turn s s refl is (refl, inr (f.fault, f.first, (Failed (errno_of f.fault), refl, record { offers = refl; no_call = refl; no_folder = refl; same = refl }), refl));
         makes = refl;
         passes = f.offer;
       }

@@ -1,5 +1,5 @@
 -- What came of one frame.
-use Rattle.std.proofs.Common.{ℕ, ℤ, ◌≡◌, true, false, List, [], Option, Some, None, IfSome, IfNone, inl, inr, refl, subst}
+use Rattle.std.proofs.Common.{ℕ, ℤ, ◌≡◌, true, false, List, [], ◌++◌, Option, Some, None, IfSome, IfNone, inl, inr, refl, subst}
 use Rattle.errno.specs.declared.TheConstants.{ENOMEM}
 use Rattle.backing.specs.Calls.{Asked}
 use Rattle.backing.specs.declared.call.Answer.{Answer as Told}
@@ -18,26 +18,34 @@ use Rattle.engine.specs.declared.links.Sent.{Sent}
 use Rattle.ops.specs.declared.replies.Settings.{Settings}
 use Rattle.ops.specs.Intents.{Intent, intent}
 use Rattle.ops.specs.Intents as intents
-use Rattle.engine.specs.Reference.{Place, AtBegin, AtReply, Turn, IsSaid, Says, Serves, Carries, WorksOff}
+use Rattle.engine.specs.Folders.{FolderCall}
+use Rattle.engine.specs.Reference.{Place, AtBegin, AtListing, AtReply, Turn, ForgetsAll, IsSaid, IsTold, Says, Serves, Carries, WorksOff}
+use Rattle.wire.specs.declared.pairs.Forgotten.{Forgotten}
+use Rattle.ops.specs.declared.intents.FolderUse.{FolderUse}
 use Rattle.engine.specs.Classes.{is_unanswered}
 use Rattle.engine.specs.Replies.{refusal, TakesMemory}
 use Rattle.ops.specs.Scripts.{Made}
 use Rattle.engine.specs.Tables.{Table}
-use Rattle.engine.specs.Walks.{IsAnswered, WorkedOff, Performs, CarriesOut}
+use Rattle.engine.specs.Walks.{IsAnswered, IsUsedBy, WorkedOff, Performs, CarriesOut}
 
 -- a frame with its reply
-abbrev pub answering : List ℕ → Option Place → List Made → ℕ → ReplyBody → Sent → Turn
-answering frame refused made unique said sent = record {
+abbrev pub acting : List ℕ → Option Place → List Made → List FolderCall → ℕ → ReplyBody → Sent → Turn
+acting frame refused made folders unique said sent = record {
   frame = frame;
   refused = refused;
   made = made;
+  folders = folders;
   offer = Some (record { reply = record { unique = unique; body = said }; sent = sent });
   destroyed = false;
 }
 
+-- the same that makes no call of the open folders
+abbrev pub answering : List ℕ → Option Place → List Made → ℕ → ReplyBody → Sent → Turn
+answering frame refused made unique said sent = acting frame refused made [] unique said sent
+
 -- a frame without one
 abbrev pub silent : List ℕ → Turn
-silent frame = record { frame = frame; refused = None; made = []; offer = None; destroyed = false }
+silent frame = record { frame = frame; refused = None; made = []; folders = []; offer = None; destroyed = false }
 
 -- the same from the same link
 pub sent_from : {L : Type 0} (sends : L → List ℕ → Sent → L → Type 0) (old mid new : L) (bytes : List ℕ) (sent : Sent) → mid ≡ old → sends mid bytes sent new → sends old bytes sent new
@@ -62,7 +70,7 @@ module _ {W L C : Type 0} (table : Table W) (settings : Settings) (sends : L →
         frame_is = refl;
         sent_is = refl;
         lives = refl;
-        asks = inr (fault, is, rw some.0 (Failed (errno_of fault), refl, record { offers = refl; no_call = refl; same = refl }));
+        asks = inr (fault, is, rw some.0 (Failed (errno_of fault), refl, record { offers = refl; no_call = refl; no_folder = refl; same = refl }));
         makes = refl;
         passes = some.1;
       }
@@ -71,7 +79,7 @@ module _ {W L C : Type 0} (table : Table W) (settings : Settings) (sends : L →
     frame_is = refl;
     sent_is = refl;
     lives = refl;
-    asks = inr (fault, is, rw none.0 (record { no_offer = refl; no_call = refl; no_place = refl }, refl));
+    asks = inr (fault, is, rw none.0 (record { no_offer = refl; no_call = refl; no_folder = refl; no_place = refl }, refl));
     makes = refl;
     passes = none.1;
   }
@@ -87,23 +95,51 @@ module _ {W L C : Type 0} (table : Table W) (settings : Settings) (sends : L →
         frame_is = refl;
         sent_is = refl;
         lives = refl;
-        asks = inl (q, is, subst (λ (x : Intent). Serves table settings q x world turn world) i (a.said, a.said_is, record { offers = refl; no_call = refl; same = refl }));
+        asks = inl (q, is, subst (λ (x : Intent). Serves table settings q x world turn world) i (a.said, a.said_is, record { offers = refl; no_call = refl; no_folder = refl; same = refl }));
         makes = refl;
         passes = a.offer;
       }
 
   -- lookups are given back
-  pub forgot : (frame : List ℕ) (q : Request) (number n : ℕ) (link : L) (calls : C) (world world' : W) → IsRequest frame q → intents.Forget number n ≡ intent q → table.forgets world number n world'
+  pub forgot : (frame : List ℕ) (q : Request) (lookups : List Forgotten) (link : L) (calls : C) (world world' : W) → IsRequest frame q → intents.Forget lookups ≡ intent q → ForgetsAll table world lookups world'
       → WorkedOff table settings sends gives frame link calls world None link calls world'
-  forgot frame q number n link calls world world' is i f = record {
+  forgot frame q lookups link calls world world' is i f = record {
     turn = silent frame;
     frame_is = refl;
     sent_is = refl;
     lives = refl;
-    asks = inl (q, is, subst (λ (x : Intent). Serves table settings q x world (silent frame) world') i (record { no_offer = refl; no_call = refl; no_place = refl }, f));
+    asks = inl (q, is, subst (λ (x : Intent). Serves table settings q x world (silent frame) world') i (record { no_offer = refl; no_call = refl; no_folder = refl; no_place = refl }, f));
     makes = refl;
     passes = refl;
   }
+
+  -- a request that uses an open folder
+  pub used : (frame : List ℕ) (q : Request) (fh : ℕ) (usage : FolderUse) (link link' : L) (calls : C) (world : W) (sent : Sent) → IsRequest frame q → intents.Folder fh usage ≡ intent q
+      → IsUsedBy sends q fh usage link sent link'
+      → WorkedOff table settings sends gives frame link calls world (Some sent) link' calls world
+  used frame q fh usage link link' calls world sent is i u =
+      let turn = acting frame u.told.refused [] u.folders q.unique u.told.said sent in
+      record {
+        turn = turn;
+        frame_is = refl;
+        sent_is = refl;
+        lives = refl;
+        asks = inl (
+          q,
+          is,
+          subst (λ (x : Intent). Serves table settings q x world turn world) i (record {
+            meant = u.meant;
+            used = u.used;
+            said = u.told.said;
+            said_is = u.told.said_is;
+            offers = refl;
+            no_call = refl;
+            same = refl;
+          }),
+        );
+        makes = refl;
+        passes = u.told.offer;
+      }
 
   -- a request that is passed over
   pub passed_over : (frame : List ℕ) (q : Request) (link : L) (calls : C) (world : W) → IsRequest frame q → intents.Nothing ≡ intent q → WorkedOff table settings sends gives frame link calls world None link calls world
@@ -112,7 +148,7 @@ module _ {W L C : Type 0} (table : Table W) (settings : Settings) (sends : L →
     frame_is = refl;
     sent_is = refl;
     lives = refl;
-    asks = inl (q, is, subst (λ (x : Intent). Serves table settings q x world (silent frame) world) i (record { no_offer = refl; no_call = refl; no_place = refl }, refl));
+    asks = inl (q, is, subst (λ (x : Intent). Serves table settings q x world (silent frame) world) i (record { no_offer = refl; no_call = refl; no_folder = refl; no_place = refl }, refl));
     makes = refl;
     passes = refl;
   }
@@ -122,7 +158,7 @@ module _ {W L C : Type 0} (table : Table W) (settings : Settings) (sends : L →
       → CarriesOut table settings sends gives q want link calls world sent link' calls' world'
       → WorkedOff table settings sends gives frame link calls world (Some sent) link' calls' world'
   carried frame q want link link' calls calls' world world' sent is i a =
-      let turn = answering frame a.refused a.made q.unique a.said sent in
+      let turn = acting frame a.refused a.made a.folders q.unique a.said sent in
       record {
         turn = turn;
         frame_is = refl;
@@ -144,47 +180,59 @@ module _ {W L C : Type 0} (table : Table W) (settings : Settings) (sends : L →
         frame_is = refl;
         sent_is = refl;
         lives = refl;
-        asks = inl (q, is, subst (λ (x : Intent). Serves table settings q x world turn world) i (record { offers = refl; no_call = refl; same = refl }));
+        asks = inl (q, is, subst (λ (x : Intent). Serves table settings q x world turn world) i (record { offers = refl; no_call = refl; no_folder = refl; same = refl }));
         makes = refl;
         passes = s;
       }
 
   -- ---- a request from begin to settle
 
-  works_by : (refused : Option Place) (q : Request) (want : Want) (old : W) (turn : Turn) (new : W) (meant said : ReplyBody) → IsSaid refused meant said → Carries table settings q want old turn new → WorksOff table settings refused q want old turn new
+  works_by : (refused : Option Place) (q : Request) (want : Want) (old : W) (turn : Turn) (new : W) (meant said : ReplyBody) → IsTold refused meant said → Carries table settings q want old turn new → WorksOff table settings refused q want old turn new
   works_by None q want old turn new meant said is c = inr c
   works_by (Some AtBegin) q want old turn new meant said is c = absurd is
+  works_by (Some AtListing) q want old turn new meant said is c = c
   works_by (Some AtReply) q want old turn new meant said is c = c
 
   pub goes_on : (q : Request) (want : Want) (ticket : Claim) (link link' : L) (calls calls' : C) (world begun world' : W) (sent : Sent) → table.begins world q.unique want (Go ticket) begun
-      → (p : Performs table settings sends gives q ticket link calls begun sent link' calls' world') → p.answer.lost ≡ false
+      → (p : Performs table settings sends gives q ticket link calls begun sent link' calls' world') → p.concludes.answer.lost ≡ false
       → CarriesOut table settings sends gives q want link calls world sent link' calls' world'
-  goes_on q want ticket link link' calls calls' world begun world' sent b p kept = record {
-    refused = p.refused;
-    made = p.made;
-    said = p.said;
-    makes = p.makes;
-    offer = p.offer;
-    works = λ frame. works_by p.refused q want world (answering frame p.refused p.made q.unique p.said sent) world' _ p.said p.said_is (record {
-      ticket = ticket;
-      begun = begun;
-      begins = b;
-      end = p.end;
-      script = p.script;
-      answer = p.answer;
-      finished = p.finished;
-      finishes = p.finishes;
-      not_lost = kept;
-      said = p.said;
-      said_is = p.said_is;
-      offers = refl;
-      settles = p.settles;
-    });
-  }
+  goes_on q want ticket link link' calls calls' world begun world' sent b p kept =
+      let e = p.concludes in
+      let folders = e.first ++ e.last in
+      record {
+        refused = e.refused;
+        made = p.made;
+        folders = folders;
+        said = e.said;
+        makes = p.makes;
+        offer = e.offer;
+        works = λ frame. works_by e.refused q want world (acting frame e.refused p.made folders q.unique e.said sent) world' _ e.said e.said_is (record {
+          ticket = ticket;
+          begun = begun;
+          begins = b;
+          end = p.end;
+          script = p.script;
+          answer = e.answer;
+          finished = e.finished;
+          finishes = e.finishes;
+          not_lost = kept;
+          put = e.put;
+          first = e.first;
+          stores = e.stores;
+          said = e.said;
+          said_is = e.said_is;
+          offers = refl;
+          settles = e.settles;
+          last = e.last;
+          gives_up = e.gives_up;
+          folders_are = refl;
+        });
+      }
 
   by_refusal : (refused : Option Place) (q : Request) (want : Want) (errno : ℤ) (said : ReplyBody) (world world' : W) (turn : Turn) → IsSaid refused (Failed errno) said → table.begins world q.unique want (Refused errno) world' → Says q.unique said world turn world' → WorksOff table settings refused q want world turn world'
   by_refusal None q want errno said world world' turn is b says = inl (record { errno = errno; begins = b; says = subst (λ (body : ReplyBody). Says q.unique body world turn world') is says })
   by_refusal (Some AtBegin) q want errno said world world' turn is b says = absurd is
+  by_refusal (Some AtListing) q want errno said world world' turn is b says = absurd is
   by_refusal (Some AtReply) q want errno said world world' turn is b says = absurd is.0
 
   -- the table refuses it
@@ -194,8 +242,9 @@ module _ {W L C : Type 0} (table : Table W) (settings : Settings) (sends : L →
   table_refused q want errno link link' calls world world' sent b same a = record {
     refused = a.refused;
     made = [];
+    folders = [];
     said = a.said;
     makes = refl;
     offer = a.offer;
-    works = λ frame. by_refusal a.refused q want errno a.said world world' (answering frame a.refused [] q.unique a.said sent) a.said_is b (record { offers = refl; no_call = refl; same = same });
+    works = λ frame. by_refusal a.refused q want errno a.said world world' (answering frame a.refused [] q.unique a.said sent) a.said_is b (record { offers = refl; no_call = refl; no_folder = refl; same = same });
   }

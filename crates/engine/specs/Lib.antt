@@ -1,5 +1,6 @@
 pub mod Chain
 pub mod Classes
+pub mod Folders
 pub mod Links
 pub mod Playing
 pub mod Reference

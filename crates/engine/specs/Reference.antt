@@ -17,6 +17,7 @@ use Rattle.wire.specs.declared.reply.ReplyBody.{ReplyBody}
 use Rattle.wire.specs.declared.reply.ReplyBody.TheVariants.{Failed, Done, Init}
 use Rattle.wire.specs.declared.request.Operation.{Operation}
 use Rattle.wire.specs.declared.request.Operation.TheVariants as ops
+use Rattle.wire.specs.declared.pairs.Forgotten.{Forgotten}
 use Rattle.wire.specs.declared.request.Request.{Request}
 use Rattle.engine.specs.declared.classes.Class.{Class}
 use Rattle.engine.specs.declared.classes.Class.TheVariants.{Ignored, Misplaced, Greeting, Farewell, Asking}
@@ -27,6 +28,9 @@ use Rattle.engine.specs.declared.ends.SessionEnd.{SessionEnd}
 use Rattle.engine.specs.declared.ends.SessionEnd.TheVariants as ends
 use Rattle.engine.specs.Chain.{Chain}
 use Rattle.engine.specs.Classes.{class, is_unanswered}
+use Rattle.engine.specs.Folders.{FolderCall, IsUsed, GivesUp, LacksListing, PutsListing}
+use Rattle.ops.specs.declared.findings.Finding.{Finding}
+use Rattle.ops.specs.declared.intents.FolderUse.{FolderUse}
 use Rattle.ops.specs.Intents.{Intent, intent}
 use Rattle.ops.specs.Intents as intents
 use Rattle.engine.specs.Replies.{TakesMemory}
@@ -39,6 +43,7 @@ use Rattle.engine.specs.Tables.{Table}
 -- where memory was refused first
 pub data Place : Type 0 where
   AtBegin : Place  -- at begin at the latest
+  AtListing : Place
   AtReply : Place
 
 -- a reply, and what became of it
@@ -46,12 +51,13 @@ pub record Offer : Type 0 where
   pub reply : Reply
   pub sent : Sent
 
--- a frame, where memory was refused for it, the calls that it made with their answers, what was replied, and whether the client
--- ended the session with it
+-- a frame, where memory was refused for it, the calls that it made of the directory and of the open folders with their answers, what
+-- was replied, and whether the client ended the session with it
 pub record Turn : Type 0 where
   pub frame : List ℕ
   pub refused : Option Place
   pub made : List Made
+  pub folders : List FolderCall
   pub offer : Option Offer
   pub destroyed : Bool
 
@@ -85,12 +91,19 @@ Offers (Some offer) unique said = offer.reply ≡ record { unique = unique; body
 abbrev pub IsSaid : Option Place → (meant said : ReplyBody) → Type 0
 IsSaid None meant said = said ≡ meant
 IsSaid (Some AtBegin) meant said = ⊥
+IsSaid (Some AtListing) meant said = ⊥
 IsSaid (Some AtReply) meant said = TakesMemory meant × (said ≡ Failed ENOMEM)
+
+-- the same of a request that has begun; where its listing found no memory, it is ENOMEM
+abbrev pub IsTold : Option Place → (meant said : ReplyBody) → Type 0
+IsTold (Some AtListing) meant said = said ≡ Failed ENOMEM
+IsTold refused meant said = IsSaid refused meant said
 
 -- a frame that makes no call and changes nothing
 pub record Says {W : Type 0} (unique : ℕ) (said : ReplyBody) (old : W) (turn : Turn) (new : W) : Type 0 where
   pub offers : Offers turn.offer unique said
   pub no_call : turn.made ≡ []
+  pub no_folder : turn.folders ≡ []
   pub same : new ≡ old
 
 -- it is answered at once
@@ -101,9 +114,25 @@ Answers unique meant old turn new = (said : ReplyBody) × IsSaid turn.refused me
 pub record IsSilent (turn : Turn) : Type 0 where
   pub no_offer : turn.offer ≡ None
   pub no_call : turn.made ≡ []
+  pub no_folder : turn.folders ≡ []
   pub no_place : turn.refused ≡ None
 
--- without memory for its reply a request counts as untaken
+-- a request that uses an open folder, and changes nothing in the table
+pub record UsesFolder {W : Type 0} (q : Request) (fh : ℕ) (usage : FolderUse) (old : W) (turn : Turn) (new : W) : Type 0 where
+  pub meant : ReplyBody
+  pub used : IsUsed q.node fh usage turn.folders meant
+  pub said : ReplyBody
+  pub said_is : IsSaid turn.refused meant said
+  pub offers : Offers turn.offer q.unique said
+  pub no_call : turn.made ≡ []
+  pub same : new ≡ old
+
+-- the listing of an OPENDIR is put, unless there was no memory for it
+abbrev pub Stores : Option Place → ℕ → Finding → List FolderCall → (put : Option ℕ) → Type 0
+Stores (Some AtListing) node finding folders put = LacksListing node finding folders put
+Stores refused node finding folders put = PutsListing node finding folders put
+
+-- without memory for its listing or its reply a request counts as untaken
 abbrev pub taken_of : Option Place → Option Offer → Bool
 taken_of None offer = was_taken (sent_in offer)
 taken_of (Some place) offer = false
@@ -151,6 +180,10 @@ Greets unique (Some answer) before old turn new now = Answers unique (greeting_o
 
 -- ---- the rules, by the table's steps
 
+-- lookups of one node after another
+abbrev pub ForgetsAll : {W : Type 0} → Table W → W → List Forgotten → W → Type 0
+ForgetsAll {W = W} table = Chain (λ (old : W) (lookups : Forgotten) (new : W). table.forgets old lookups.node lookups.nlookup new)
+
 module _ {W : Type 0} (table : Table W) (settings : Settings) where
   -- a request from begin to settle
   pub record Carries (q : Request) (want : Want) (old : W) (turn : Turn) (new : W) : Type 0 where
@@ -163,10 +196,16 @@ module _ {W : Type 0} (table : Table W) (settings : Settings) where
     pub finished : W
     pub finishes : table.finishes begun ticket.id end.outcome answer finished
     pub not_lost : answer.lost ≡ false
+    pub put : Option ℕ
+    pub first : List FolderCall
+    pub stores : Stores turn.refused q.node end.findings first put
     pub said : ReplyBody
-    pub said_is : IsSaid turn.refused (reply_to settings q.node end.findings answer) said
+    pub said_is : IsTold turn.refused (reply_to settings q.node end.findings put answer) said
     pub offers : Offers turn.offer q.unique said
     pub settles : table.settles finished answer (taken_of turn.refused turn.offer) new
+    pub last : List FolderCall
+    pub gives_up : GivesUp (taken_of turn.refused turn.offer) put last
+    pub folders_are : turn.folders ≡ first ++ last
 
   -- the table refuses it
   pub record IsRefused (q : Request) (want : Want) (old : W) (turn : Turn) (new : W) : Type 0 where
@@ -178,12 +217,14 @@ module _ {W : Type 0} (table : Table W) (settings : Settings) where
   abbrev pub WorksOff : Option Place → Request → Want → W → Turn → W → Type 0
   WorksOff None q want old turn new = IsRefused q want old turn new ⊎ Carries q want old turn new
   WorksOff (Some AtBegin) q want old turn new = Says q.unique (Failed ENOMEM) old turn new
+  WorksOff (Some AtListing) q want old turn new = Carries q want old turn new
   WorksOff (Some AtReply) q want old turn new = Carries q want old turn new
 
   abbrev pub Serves : Request → Intent → W → Turn → W → Type 0
   Serves q (intents.Reply meant) old turn new = Answers q.unique meant old turn new
   Serves q (intents.Begin want) old turn new = WorksOff turn.refused q want old turn new
-  Serves q (intents.Forget number n) old turn new = IsSilent turn × table.forgets old number n new
+  Serves q (intents.Folder fh usage) old turn new = UsesFolder q fh usage old turn new
+  Serves q (intents.Forget lookups) old turn new = IsSilent turn × ForgetsAll table old lookups new
   Serves q intents.Nothing old turn new = IsSilent turn × (new ≡ old)
 
   -- a frame that is answered with this error

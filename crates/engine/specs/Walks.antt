@@ -2,6 +2,10 @@
 use Rattle.std.specs.Prelude.{ℕ, ◌≡◌, ◌⊎◌, Bool, true, false, List, ◌++◌, Option, Some, None}
 use Rattle.backing.specs.Calls.{Asked}
 use Rattle.backing.specs.declared.call.Answer.{Answer}
+use Rattle.backing.specs.declared.call.Child.{Child}
+use Rattle.steps.specs.declared.data.Outcome.TheVariants.{Done}
+use Rattle.ops.specs.declared.findings.Finding.{Finding}
+use Rattle.ops.specs.declared.findings.Finding.TheVariants as findings
 use Rattle.flights.specs.declared.data.Want.{Want}
 use Rattle.steps.specs.Answers.{Claim, Answer as Given}
 use Rattle.wire.specs.Faults.{IsFirstFault, errno_of}
@@ -19,8 +23,10 @@ use Rattle.engine.specs.declared.links.Sent.{Sent}
 use Rattle.ops.specs.declared.replies.Settings.{Settings}
 use Rattle.engine.specs.Chain.{Chain}
 use Rattle.engine.specs.Classes.{class}
+use Rattle.engine.specs.Folders.{FolderCall, GivesUp, IsUsed}
+use Rattle.ops.specs.declared.intents.FolderUse.{FolderUse}
 use Rattle.engine.specs.Links.{Heard, Piece, Ended, Broke}
-use Rattle.engine.specs.Reference.{At, Place, Turn, Offer, IsSaid, IsTurn, Asks, Meets, WorksOff, agrees, ending, greeting_of, negotiated_by, sent_in, taken_of}
+use Rattle.engine.specs.Reference.{At, Place, Turn, Offer, IsSaid, IsTold, IsTurn, Asks, Meets, Stores, WorksOff, agrees, ending, greeting_of, negotiated_by, sent_in, taken_of}
 use Rattle.engine.specs.Replies.{confirmation, refusal}
 use Rattle.ops.specs.Replies.{reply_to}
 use Rattle.ops.specs.Scripts.{plan_of, End, Made, Follows}
@@ -95,12 +101,28 @@ pub record Drains {W L C : Type 0} (table : Table W) (settings : Settings) (rece
   pub walks : Walks table settings receives sends gives old (record { link = link; calls = calls; at = standing s reached; kept = kept })
   pub stops : Stops reached end kept
 
+-- an OPENDIR that found these names
+abbrev pub listing_found : List Child → End
+listing_found children = record { outcome = Done; findings = findings.Listed children }
+
+-- no listing is to be made of what a script has found
+abbrev pub IsPlain : Finding → Type 0
+IsPlain (findings.Listed children) = ⊥
+IsPlain finding = Unit {0}
+
 -- a reply that is given at once
 pub record IsAnswered {L : Type 0} (sends : L → List ℕ → Sent → L → Type 0) (meant : Reply) (old : L) (sent : Sent) (new : L) : Type 0 where
   pub refused : Option Place
   pub said : ReplyBody
   pub said_is : IsSaid refused meant.body said
   pub offer : sends old (reply_bytes (record { unique = meant.unique; body = said })) sent new
+
+-- a request that uses an open folder
+pub record IsUsedBy {L : Type 0} (sends : L → List ℕ → Sent → L → Type 0) (q : Request) (fh : ℕ) (usage : FolderUse) (old : L) (sent : Sent) (new : L) : Type 0 where
+  pub folders : List FolderCall
+  pub meant : ReplyBody
+  pub used : IsUsed q.node fh usage folders meant
+  pub told : IsAnswered sends (record { unique = q.unique; body = meant }) old sent new
 
 -- an INIT that is answered, and whether a version is agreed on then
 pub record Welcomes {L : Type 0} (sends : L → List ℕ → Sent → L → Type 0) (unique : ℕ) (answer : Negotiated) (before : Bool) (old : L) (sent : Sent) (new : L) (now : Bool) : Type 0 where
@@ -129,6 +151,31 @@ PartsFrame sends frame old sent destroyed new =
     ((q : Request) × IsRequest frame q × sends old (reply_bytes (confirmation q.unique)) sent new × (destroyed ≡ true))
     ⊎ (IsFaulty sends frame old sent new × (destroyed ≡ false))
 
+-- a request that was finished is answered and settled
+pub record Settled {W L : Type 0} (table : Table W) (sends : L → List ℕ → Sent → L → Type 0) (unique : ℕ) (meant : ReplyBody) (answer : Given) (link : L) (finished : W) (sent : Sent) (taken : Bool) (link' : L) (world' : W) : Type 0 where
+  pub refused : Option Place
+  pub said : ReplyBody
+  pub said_is : IsSaid refused meant said
+  pub offer : sends link (reply_bytes (record { unique = unique; body = said })) sent link'
+  pub taken_is : taken ≡ taken_of refused (Some (record { reply = record { unique = unique; body = said }; sent = sent }))
+  pub settles : table.settles finished answer taken world'
+
+-- a request whose script has come to an end is finished, answered and settled
+pub record Concludes {W L : Type 0} (table : Table W) (settings : Settings) (sends : L → List ℕ → Sent → L → Type 0) (q : Request) (id : ℕ) (end : End) (link : L) (begun : W) (sent : Sent) (link' : L) (world' : W) : Type 0 where
+  pub refused : Option Place
+  pub answer : Given
+  pub finished : W
+  pub finishes : table.finishes begun id end.outcome answer finished
+  pub put : Option ℕ
+  pub first : List FolderCall
+  pub stores : Stores refused q.node end.findings first put
+  pub said : ReplyBody
+  pub said_is : IsTold refused (reply_to settings q.node end.findings put answer) said
+  pub offer : sends link (reply_bytes (record { unique = q.unique; body = said })) sent link'
+  pub settles : table.settles finished answer (taken_of refused (Some (record { reply = record { unique = q.unique; body = said }; sent = sent }))) world'
+  pub last : List FolderCall
+  pub gives_up : GivesUp (taken_of refused (Some (record { reply = record { unique = q.unique; body = said }; sent = sent }))) put last
+
 module _ {W L C : Type 0} (table : Table W) (settings : Settings) (sends : L → List ℕ → Sent → L → Type 0) (gives : C → Asked → Answer → C → Type 0) where
   -- what came of one frame
   pub record Met (frame : List ℕ) (link : L) (calls : C) (old : Stand W) (end : Option SessionEnd) (link' : L) (calls' : C) (new : Stand W) : Type 0 where
@@ -149,26 +196,20 @@ module _ {W L C : Type 0} (table : Table W) (settings : Settings) (sends : L →
     pub makes : Makes gives calls turn.made calls'
     pub passes : Passes sends link turn.offer link'
 
-  -- a request that has begun is played, finished, answered and settled
+  -- a request that has begun is played, and concluded
   pub record Performs (q : Request) (ticket : Claim) (link : L) (calls : C) (begun : W) (sent : Sent) (link' : L) (calls' : C) (world' : W) : Type 0 where
-    pub refused : Option Place
     pub made : List Made
     pub end : End
     pub script : Follows (plan_of q.operation ticket) made end
     pub makes : Makes gives calls made calls'
-    pub answer : Given
-    pub finished : W
-    pub finishes : table.finishes begun ticket.id end.outcome answer finished
-    pub said : ReplyBody
-    pub said_is : IsSaid refused (reply_to settings q.node end.findings answer) said
-    pub offer : sends link (reply_bytes (record { unique = q.unique; body = said })) sent link'
-    pub settles : table.settles finished answer (taken_of refused (Some (record { reply = record { unique = q.unique; body = said }; sent = sent }))) world'
+    pub concludes : Concludes table settings sends q ticket.id end link begun sent link' world'
 
   -- a request that is begun, whatever frame it stands in
   pub record CarriesOut (q : Request) (want : Want) (link : L) (calls : C) (world : W) (sent : Sent) (link' : L) (calls' : C) (world' : W) : Type 0 where
     pub refused : Option Place
     pub made : List Made
+    pub folders : List FolderCall
     pub said : ReplyBody
     pub makes : Makes gives calls made calls'
     pub offer : sends link (reply_bytes (record { unique = q.unique; body = said })) sent link'
-    pub works : (frame : List ℕ) → WorksOff table settings refused q want world (record { frame = frame; refused = refused; made = made; offer = Some (record { reply = record { unique = q.unique; body = said }; sent = sent }); destroyed = false }) world'
+    pub works : (frame : List ℕ) → WorksOff table settings refused q want world (record { frame = frame; refused = refused; made = made; folders = folders; offer = Some (record { reply = record { unique = q.unique; body = said }; sent = sent }); destroyed = false }) world'

@@ -2,7 +2,9 @@
 #![tactic(auto)]
 
 mod classes;
+mod concluding;
 mod ends;
+mod folders;
 mod links;
 mod meeting;
 mod playing;

@@ -15,7 +15,9 @@ use crate::links::{LinkOut, Sent};
 use crate::session::{Desk, confirm, refuse};
 use backing::Calls;
 use errno::{EIO, ENOMEM, EPROTO};
+use handles::Dirs;
 use ledger::{Ledgers, Share};
+use std::sync::Wait;
 use table::Table;
 use wire::{Negotiated, Operation, Reply, ReplyBody, decode, header_of, negotiate};
 
@@ -112,8 +114,10 @@ impl Desk {
     }
 
     /// Meets one frame. Some end says that the session is over with it.
-    pub fn meet<T: Ledgers, L: LinkOut, C: Calls>(
+    pub fn meet<H: Wait, T: Ledgers, L: LinkOut, C: Calls>(
         &mut self,
+        rt: &H,
+        dirs: &Dirs,
         link: &mut L,
         calls: &mut C,
         table: &mut Table<T>,
@@ -140,7 +144,10 @@ impl Desk {
                 let (sent, destroyed) = part(link, frame, header.unique);
                 ending(Some(sent), destroyed)
             }
-            Class::Asking => ending(self.work_off(link, calls, table, share, frame), false),
+            Class::Asking => ending(
+                self.work_off(rt, dirs, link, calls, table, share, frame),
+                false,
+            ),
         }
     }
 }

@@ -7,12 +7,13 @@ use backing::Calls;
 use ops::{Finding, Script};
 
 /// Makes the calls of a script, each once and in order.
-pub fn play<C: Calls>(calls: &mut C, script: &mut Script<'_>) -> Finding
-    ensures { Played C.gives calls.old (plan_ahead script.old) calls.new (end_of result) }
+pub fn play<C: Calls>(calls: &mut C, script: Script<'_>) -> Finding
+    ensures { Played C.gives calls.old (plan_ahead script.entry) calls.new (end_of result) }
 {
+    let mut script = script;
     while let Some(call) = script.next() {
         let answer = calls.call(call);
         script.feed(answer);
     }
-    script.finding()
+    script.into_finding()
 }

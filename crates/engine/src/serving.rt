@@ -15,6 +15,7 @@ use crate::ends::SessionEnd;
 use crate::links::{Link, Received};
 use crate::session::Desk;
 use backing::Calls;
+use handles::Dirs;
 use ledger::{Ledgers, Share};
 use ops::Settings;
 use std::alloc::Global;
@@ -26,7 +27,9 @@ use wire::{CutFault, Cutter};
 const ROOM: usize = 4096;
 
 /// Works off the frames that are there whole. Some end says that the session is over.
-fn drain<T: Ledgers, L: Link, C: Calls>(
+fn drain<H: Wait, T: Ledgers, L: Link, C: Calls>(
+    rt: &H,
+    dirs: &Dirs,
     desk: &mut Desk,
     link: &mut L,
     calls: &mut C,
@@ -48,7 +51,7 @@ fn drain<T: Ledgers, L: Link, C: Calls>(
         match cutter.next() {
             Ok(None) => return None,
             Ok(Some(frame)) => {
-                match desk.meet(link, calls, table, share, &frame) {
+                match desk.meet(rt, dirs, link, calls, table, share, &frame) {
                     None => {}
                     Some(end) => return Some(end),
                 }
@@ -68,6 +71,7 @@ pub fn serve<H: Wait, T: Ledgers, L: Link, C: Calls>(
     calls: &mut C,
     table: &mut Table<T>,
     share: &mut Share<T>,
+    dirs: &Dirs,
     settings: Settings,
 ) -> SessionEnd
     requires fresh { IsIdle (world_of table.old) }
@@ -101,7 +105,7 @@ pub fn serve<H: Wait, T: Ledgers, L: Link, C: Calls>(
             // It has met no bad length yet.
             Err(_) => return SessionEnd::Memory,
         }
-        match drain(&mut desk, link, calls, table, share, &mut cutter) {
+        match drain(rt, dirs, &mut desk, link, calls, table, share, &mut cutter) {
             None => {}
             Some(end) => return end,
         }

@@ -7,27 +7,31 @@ ghost use Rattle.wire.specs.Faults.{errno_of};
 ghost use Rattle.wire.specs.Requests.{opcode_in, unique_in, IsFramed};
 ghost use Rattle.wire.specs.Written.{reply_bytes};
 ghost use Rattle.engine.specs.Classes.{is_unanswered};
-ghost use Rattle.engine.specs.Reference.{is_taken};
+ghost use Rattle.engine.specs.Reference.{is_taken, ForgetsAll};
+ghost use Rattle.wire.specs.Pairs.{pairs_in};
 ghost use Rattle.engine.specs.Replies.{confirmation, refusal, TakesMemory};
 ghost use Rattle.engine.specs.Tables.{worlds, IsIdle};
-ghost use Rattle.engine.specs.Walks.{CarriesOut, IsAnswered, Performs, WorkedOff};
+ghost use Rattle.engine.specs.Walks.{CarriesOut, IsAnswered, IsUsedBy, Performs, WorkedOff};
 
+use crate::folders::use_folder;
 use crate::links::{LinkOut, Sent};
 use crate::playing::play;
 use backing::Calls;
-use errno::ENOMEM;
+use errno::{EIO, ENOMEM};
 use flights::Want;
+use handles::{Dirs, Listing, ListingFault};
 use ledger::{Ledgers, Share};
-use ops::{Intent, Script, Settings, intent_of, reply_to};
+use ops::{Finding, FolderUse, Intent, Script, Settings, intent_of};
 use std::alloc::Global;
+use std::sync::Wait;
 use table::{Begin, Table, Ticket};
 use wire::{
     HEADER_LEN, Reply, ReplyBody, Request, WireFault, decode, encode_reply, error_frame, has_reply,
-    header_of,
+    header_of, split_pair,
 };
 
 /// Whether the client has the reply.
-fn is_taken(sent: Sent) -> bool
+pub fn is_taken(sent: Sent) -> bool
     ensures { result ≡ is_taken sent }
 {
     match sent {
@@ -76,6 +80,21 @@ pub(crate) struct Desk {
     pub buffer: Vec<u8>,
 }
 
+/// Gives lookups back, pair after pair.
+fn forget_all<T: Ledgers>(table: &mut Table<T>, share: &mut Share<T>, pairs: &[u8])
+    requires idle { IsIdle (world_of table.old) }
+    ensures forgets { ForgetsAll worlds (world_of table.old) (pairs_in pairs.now) (world_of table.new) }
+    ensures gains { Gains (world_of table.old) share.old (world_of table.new) share.new }
+    ensures idle { IsIdle (world_of table.new) }
+{
+    table.attest();
+    let mut rest = pairs;
+    while let Some((lookups, more)) = split_pair(rest) {
+        table.forget(share, lookups.node, lookups.nlookup);
+        rest = more;
+    }
+}
+
 impl Desk {
     /// Offers a reply. None says that there was no memory for it.
     pub fn offer<L: LinkOut>(&mut self, link: &mut L, reply: Reply) -> Option<Sent>
@@ -109,9 +128,32 @@ impl Desk {
         }
     }
 
-    /// Plays the script of a request that has begun, finishes it, answers it and settles it.
-    fn perform<T: Ledgers, L: LinkOut, C: Calls>(
+    /// Answers a request that uses an open folder.
+    fn use_folder<H: Wait, L: LinkOut>(
         &mut self,
+        rt: &H,
+        dirs: &Dirs,
+        link: &mut L,
+        request: &Request<'_>,
+        fh: u64,
+        usage: FolderUse,
+    ) -> Sent
+        ensures used { IsUsedBy L.sends request.now fh usage link.old result link.new }
+        ensures settings { self.new.settings ≡ self.old.settings }
+        ensures agreed { self.new.agreed ≡ self.old.agreed }
+    {
+        let unique = request.unique;
+        match use_folder(rt, self.alloc, dirs, request.node, fh, usage) {
+            Ok(body) => self.answer(link, Reply { unique, body }),
+            Err(_) => refuse(link, unique, ENOMEM),
+        }
+    }
+
+    /// Plays the script of a request that has begun, and concludes it.
+    fn perform<H: Wait, T: Ledgers, L: LinkOut, C: Calls>(
+        &mut self,
+        rt: &H,
+        dirs: &Dirs,
         link: &mut L,
         calls: &mut C,
         table: &mut Table<T>,
@@ -125,28 +167,26 @@ impl Desk {
         ensures settings { self.new.settings ≡ self.old.settings }
         ensures agreed { self.new.agreed ≡ self.old.agreed }
     {
-        let mut script = Script::start(request.operation, &ticket);
-        let found = play(calls, &mut script);
-        let answered = table.finish(share, ticket, found.outcome());
-        let reply = Reply {
-            unique: request.unique,
-            body: reply_to(self.settings, request.node, found, &answered),
+        let script = Script::start(request.operation, &ticket);
+        let children = match play(calls, script) {
+            Finding::Listed(children) => children,
+            found => return self.tell(link, table, share, request, ticket, found),
         };
-        match self.offer(link, reply) {
-            Some(sent) => {
-                table.settle(share, answered, is_taken(sent));
-                sent
+        match Listing::new(self.alloc, request.node, children) {
+            Ok(listing) => self.open(rt, dirs, link, table, share, request, ticket, listing),
+            Err(ListingFault::Lawless) => {
+                let found = Finding::Error { errno: EIO };
+                self.tell(link, table, share, request, ticket, found)
             }
-            None => {
-                table.settle(share, answered, false);
-                refuse(link, request.unique, ENOMEM)
-            }
+            Err(ListingFault::Memory) => self.starve(link, table, share, request, ticket),
         }
     }
 
     /// Carries a request from begin to settle. No other is in flight.
-    fn carry<T: Ledgers, L: LinkOut, C: Calls>(
+    fn carry<H: Wait, T: Ledgers, L: LinkOut, C: Calls>(
         &mut self,
+        rt: &H,
+        dirs: &Dirs,
         link: &mut L,
         calls: &mut C,
         table: &mut Table<T>,
@@ -163,7 +203,7 @@ impl Desk {
         ensures agreed { self.new.agreed ≡ self.old.agreed }
     {
         match table.begin(request.unique, want) {
-            Begin::Go(ticket) => self.perform(link, calls, table, share, request, ticket),
+            Begin::Go(ticket) => self.perform(rt, dirs, link, calls, table, share, request, ticket),
             Begin::Refused(errno) => {
                 let unique = request.unique;
                 let body = ReplyBody::Failed { errno };
@@ -174,8 +214,10 @@ impl Desk {
     }
 
     /// Works off a request of a session that has agreed on a version. Some tells what became of its reply.
-    pub fn work_off<T: Ledgers, L: LinkOut, C: Calls>(
+    pub fn work_off<H: Wait, T: Ledgers, L: LinkOut, C: Calls>(
         &mut self,
+        rt: &H,
+        dirs: &Dirs,
         link: &mut L,
         calls: &mut C,
         table: &mut Table<T>,
@@ -202,11 +244,18 @@ impl Desk {
                 Some(self.answer(link, Reply { unique, body }))
             }
             Intent::Want(wanted) => match wanted.own(self.alloc) {
-                Ok(want) => Some(self.carry(link, calls, table, share, request, want)),
+                Ok(want) => Some(self.carry(rt, dirs, link, calls, table, share, request, want)),
                 Err(_) => Some(refuse(link, request.unique, ENOMEM)),
             },
-            Intent::Forget { number, lookups } => {
-                table.forget(share, number, lookups);
+            Intent::Folder { fh, usage } => {
+                Some(self.use_folder(rt, dirs, link, &request, fh, usage))
+            }
+            Intent::Forget(lookups) => {
+                table.forget(share, lookups.node, lookups.nlookup);
+                None
+            }
+            Intent::ForgetAll { pairs } => {
+                forget_all(table, share, pairs);
                 None
             }
             Intent::Nothing => None,

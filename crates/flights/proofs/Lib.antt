@@ -4,3 +4,4 @@ pub mod Summing
 mod InTheWay
 mod Kept
 mod Stepping
+mod Under

@@ -1,5 +1,5 @@
 -- The requests in flight, as contracts see them: by their ids.
-use Rattle.std.specs.Prelude.{ℕ, ◌+◌, ◌-◌, ◌≡◌, ◌==◌, ◌||◌, ◌↔◌, Bool, true, false, if◌then◌else◌, List, [], ◌∷◌, ◌++◌, Option, Some, None}
+use Rattle.std.specs.Prelude.{ℕ, ◌+◌, ◌-◌, ◌≡◌, ◌==◌, ◌||◌, ◌↔◌, Bool, true, false, if◌then◌else◌, List, [], ◌∷◌, ◌++◌, Option, Some, None, Contains}
 use Rattle.std.specs.List.{list_any}
 use Rattle.paths.specs.Prefixes.{Names}
 use Rattle.holds.specs.Conflicts.{Conflict, is_among}
@@ -63,6 +63,18 @@ pub record HoldsUp (at : Flights) (wanted : Held) : Type 0 where
   pub flight : Flight
   pub here : at id ≡ Some flight
   pub conflict : IsInTheWay flight.stage wanted
+
+-- the request is worked on, and holds the path for itself
+abbrev pub Owns : Stage → Names → Type 0
+Owns (Working work) path = Contains work.held.exclusive path
+Owns Answered path = ⊥
+
+-- some request that is worked on holds the path for itself
+pub record IsOwned (at : Flights) (path : Names) : Type 0 where
+  pub id : ℕ
+  pub flight : Flight
+  pub here : at id ≡ Some flight
+  pub alone : Owns flight.stage path
 
 -- all requests in flight
 pub record Flying : Type 0 where

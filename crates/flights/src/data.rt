@@ -3,6 +3,7 @@
 ghost use Rattle.std.specs.Prelude.{◌≡◌, ◌==◌, ◌+◌, ◌-◌, ◌<◌, [], ◌∷◌, ◌++◌, IfOk, Some, length, count_by, is_some};
 ghost use Rattle.std.specs.List.{list_any};
 
+use crate::names::Names;
 use files::Need;
 use holds::Held;
 use paths::{Name, Path};
@@ -40,6 +41,11 @@ pub enum Want {
         name: Name,
         new_parent: u64,
         new_name: Name,
+    },
+    /// Names in a folder (READDIRPLUS).
+    Page {
+        folder: u64,
+        names: Names,
     },
 }
 
@@ -180,6 +186,8 @@ pub struct Work {
     pub want: Want,
     /// The name that the want may give to a node, once more: a node is put into the tree under two keys.
     pub copy: Option<Name>,
+    /// The names of its page once more, for the same reason.
+    pub copies: Names,
     /// The names that others have to wait for.
     pub held: Held,
     pub promise: Promise,

@@ -1,16 +1,17 @@
 //! The requests in flight, with the totals of what is promised to them.
 
-ghost use Rattle.std.specs.Prelude.{true, false, ◌≡◌, ◌≢◌, ◌<◌, ◌≤◌, ◌+◌, ◌^◌, ℕ, None, Some, IfNone, IfSome, IsOk, OnOk, IsTrue, AllPairs, ◌↔◌, option_copied, count_by, length};
+ghost use Rattle.std.specs.Prelude.{true, false, ◌≡◌, ◌≢◌, ◌<◌, ◌≤◌, ◌+◌, ◌^◌, ◌++◌, ◌∷◌, [], ℕ, None, Some, IfNone, IfSome, IsOk, OnOk, IsTrue, AllPairs, ◌↔◌, option_copied, count_by, length};
 ghost use Rattle.flights.specs.declared.data.Flight.{Flight};
-ghost use Rattle.flights.specs.Flying.{files_promised, none_flying, nodes_promised, postings_promised, IsFlying, IsTallied, HasNoneWorking, HasNoneAnswered, Adds, Answers, PinsMore, Goes, HoldsUp, has_exclusive, has_shared};
+ghost use Rattle.flights.specs.Flying.{files_promised, none_flying, nodes_promised, postings_promised, IsFlying, IsTallied, HasNoneWorking, HasNoneAnswered, Adds, Answers, PinsMore, Goes, HoldsUp, IsOwned, has_exclusive, has_shared};
 ghost use Rattle.flights.specs.Listed.{flying_of, flight_in, pinned_in};
 
 use crate::data::{Flight, Pins, Promise, Work};
 use crate::listed::{
     end_work, exclusive_on, holds_up, least_free, pin_for, shared_on, take_answered,
 };
+use crate::owners::is_owned;
 use holds::Held;
-use paths::Path;
+use paths::{Name, Path};
 use std::alloc::{AllocError, Global};
 use std::marker::Model;
 
@@ -106,6 +107,14 @@ impl Flights {
         ensures law { IsFlying (flying_of self.now) }
     {
         holds_up(&self.flights, wanted)
+    }
+
+    /// Whether one that is worked on holds the name under the parent's path for itself.
+    pub fn owns(&self, parent: &Path, name: &Name) -> bool
+        ensures owned { IsTrue result ↔ IsOwned (flying_of self.now).at (parent.now ++ name.now ∷ []) }
+        ensures law { IsFlying (flying_of self.now) }
+    {
+        is_owned(&self.flights, parent, name)
     }
 
     /// How many of those that are worked on share the path.

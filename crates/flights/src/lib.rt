@@ -4,6 +4,9 @@
 mod data;
 mod flying;
 mod listed;
+mod names;
+mod owners;
 
 pub use data::{Flight, Given, Givens, Handle, Pins, Promise, Stage, Want, Work};
 pub use flying::Flights;
+pub use names::Names;

@@ -1,15 +1,17 @@
 //! The program `mirrord`.
 #![tactic(auto)]
 
-use programs::{Fault, run, tell};
+use programs::{Failure, Fault, run, tell};
+use server::RECEIVED;
 use std::io::BufReader;
 use std::process::ExitCode;
 use std::{env, io};
 
 /// Ends with one line on standard error.
 fn fail(rt: &HostRuntime, fault: Fault) -> ExitCode {
-    let _ = tell(&mut rt.stderr(), fault);
-    ExitCode::from(fault.status())
+    let failure = Failure::Stopped(fault);
+    let _ = tell(&mut rt.stderr(), failure);
+    ExitCode::from(failure.status())
 }
 
 fn words_of(rt: &HostRuntime) -> io::Result<Vec<String>> {
@@ -22,11 +24,11 @@ fn main(rt: HostRuntime) -> ExitCode {
         Ok(words) => words,
         Err(error) => return fail(&rt, Fault::from(error)),
     };
-    let input = match BufReader::new(rt.alloc(), rt.reader()) {
+    let input = match BufReader::with_capacity(rt.alloc(), RECEIVED, rt.stdin()) {
         Ok(input) => input,
         Err(error) => return fail(&rt, Fault::from(error)),
     };
     let (output, mut faults) = (io::writer(&rt), rt.stderr());
-    let ended = run(&rt, rt.alloc(), &words, input, output, &mut faults);
+    let ended = run(&rt, &words, input, output, &mut faults);
     ExitCode::from(ended.status)
 }

@@ -1,26 +1,29 @@
 -- What a script in its code still asks.
-use Rattle.std.specs.Prelude.{ℕ, ◌+◌, Option, Some, None}
+use Rattle.std.specs.Prelude.{ℕ, ℤ, ◌+◌, Option, Some, None}
 use Rattle.backing.specs.Calls.{asked}
 use Rattle.backing.specs.declared.call.Call.{Call}
 use Rattle.steps.specs.declared.data.Outcome.{Outcome}
 use Rattle.steps.specs.declared.data.Outcome.TheVariants.{Failed, Done, Entry}
 use Rattle.ops.specs.declared.findings.Found.{Found}
 use Rattle.ops.specs.declared.findings.Finding.{Finding}
-use Rattle.ops.specs.declared.findings.Finding.TheVariants.{Error, Nothing, NewEntry, Attributes}
+use Rattle.ops.specs.declared.findings.Finding.TheVariants.{Error, Nothing, NewEntry, Attributes, Listed}
 use Rattle.ops.specs.declared.script.Ending.{Ending}
 use Rattle.ops.specs.declared.script.Ending.TheVariants as ending
 use Rattle.ops.specs.declared.script.Script.{Script}
 use Rattle.ops.specs.declared.script.Telling.{Telling}
 use Rattle.ops.specs.declared.script.Telling.TheVariants as telling
-use Rattle.ops.specs.Scripts.{Plan, Over, End, make, look}
+use Rattle.ops.specs.Scripts.{Plan, Over, End, failed, list, listed_end, make, look}
 
 abbrev pub outcome_of : Finding → Outcome
 outcome_of (Error errno) = Failed
 outcome_of Nothing = Done
 outcome_of (NewEntry found) = Entry
 outcome_of (Attributes found) = Done
+outcome_of (Listed children) = Done
 
+-- names that are lawless are an error
 abbrev pub end_of : Finding → End
+end_of (Listed children) = listed_end children
 end_of finding = record { outcome = outcome_of finding; findings = finding }
 
 -- what is told of what was found
@@ -31,11 +34,17 @@ told_of telling.Attributes found = Attributes found
 
 abbrev pub plan_ending : Ending → Plan
 plan_ending (ending.Look p tells) = look p.now (λ found. Over (end_of (told_of tells found)))
+plan_ending (ending.List p) = list p.now
 plan_ending (ending.Over finding) = Over (end_of finding)
 
 abbrev pub plan_from : Option Call → Plan → Plan
 plan_from None rest = rest
 plan_from (Some call) rest = make (asked call) rest
+
+-- a script that was refused with an error, or goes on
+abbrev pub unless : Option ℤ → Plan → Plan
+unless None rest = rest
+unless (Some errno) rest = failed errno
 
 abbrev pub plan_ahead : Script → Plan
 plan_ahead script = plan_from script.change (plan_ending script.ending)
@@ -44,6 +53,7 @@ plan_ahead script = plan_from script.change (plan_ending script.ending)
 
 abbrev pub calls_ending : Ending → ℕ
 calls_ending (ending.Look p tells) = 1
+calls_ending (ending.List p) = 1
 calls_ending (ending.Over finding) = 0
 
 abbrev pub calls_from : Option Call → ℕ

@@ -8,9 +8,13 @@ use Rattle.flights.specs.declared.data.Want.TheVariants as wants
 use Rattle.hidden.specs.Hidden.{is_reserved}
 use Rattle.wire.specs.declared.reply.ReplyBody.{ReplyBody}
 use Rattle.wire.specs.declared.reply.ReplyBody.TheVariants.{Failed, StatFs}
+use Rattle.wire.specs.Pairs.{pairs_in}
+use Rattle.wire.specs.declared.pairs.Forgotten.{Forgotten}
 use Rattle.wire.specs.declared.request.Request.{Request}
 use Rattle.wire.specs.declared.request.Operation.{Operation}
 use Rattle.wire.specs.declared.request.Operation.TheVariants as ops
+use Rattle.ops.specs.declared.intents.FolderUse.{FolderUse}
+use Rattle.ops.specs.declared.intents.FolderUse.TheVariants as uses
 use Rattle.ops.specs.declared.intents.Intent.{Intent as Coded}
 use Rattle.ops.specs.declared.intents.Intent.TheVariants as coded
 use Rattle.ops.specs.declared.wanted.Wanted.{Wanted}
@@ -19,7 +23,8 @@ use Rattle.ops.specs.declared.wanted.Wanted.TheVariants as wanted
 pub data Intent : Type 0 where
   Reply : (body : ReplyBody) → Intent  -- it is answered at once
   Begin : (want : Want) → Intent  -- it is begun with a want
-  Forget : (number n : ℕ) → Intent  -- it gives lookups of a node back, and is not answered
+  Folder : (fh : ℕ) → (usage : FolderUse) → Intent  -- it uses the folder that is open under a handle
+  Forget : (lookups : List Forgotten) → Intent  -- it gives lookups back, one after another, and is not answered
   Nothing : Intent  -- the session works it off itself, or it is passed over
 
 abbrev pub refused : ℤ → Intent
@@ -34,6 +39,7 @@ names_of (ops.MakeDir name) = name.now ∷ []
 names_of (ops.Unlink name) = name.now ∷ []
 names_of (ops.RemoveDir name) = name.now ∷ []
 names_of (ops.Rename name new_parent new_name) = name.now ∷ new_name.now ∷ []
+names_of (ops.Create name flags) = name.now ∷ []
 names_of operation = []
 
 abbrev pub reserved_errno : Operation → ℤ
@@ -63,7 +69,7 @@ set_intent node valid =
 
 abbrev pub intended : ℕ → Operation → Intent
 intended node (ops.Lookup name) = Begin (wants.Name node name.now)
-intended node (ops.Forget n) = Forget node n
+intended node (ops.Forget n) = Forget (record { node = node; nlookup = n } ∷ [])
 intended node ops.GetAttr = Begin (wants.Node node None)
 intended node (ops.SetAttr valid fh size) = set_intent node valid
 intended node (ops.MakeDir name) = Begin (wants.Name node name.now)
@@ -72,13 +78,20 @@ intended node (ops.RemoveDir name) = Begin (wants.Remove node name.now)
 intended node (ops.Rename name new_parent new_name) = Begin (wants.Move node name.now new_parent new_name.now)
 intended node ops.StatFs = Reply StatFs
 intended node (ops.Init major minor max_readahead flags) = Nothing
-intended node ops.OpenDir = refused ENOSYS
-intended node (ops.ReadDir fh offset size) = refused ENOSYS
-intended node (ops.ReleaseDir fh) = refused ENOSYS
-intended node (ops.SyncDir fh) = refused ENOSYS
+intended node (ops.Open flags) = refused ENOSYS
+intended node (ops.Read fh offset size) = refused ENOSYS
+intended node (ops.Write fh offset written) = refused ENOSYS
+intended node (ops.Release fh) = refused ENOSYS
+intended node (ops.Sync fh) = refused ENOSYS
+intended node (ops.Flush fh) = refused ENOSYS
+intended node (ops.Create name flags) = refused ENOSYS
+intended node ops.OpenDir = Begin (wants.Node node)
+intended node (ops.ReadDir fh offset size) = Folder fh (uses.ReadNames offset size)
+intended node (ops.ReleaseDir fh) = Folder fh uses.GiveUp
+intended node (ops.SyncDir fh) = Folder fh uses.Sync
 intended node ops.Interrupt = Nothing
 intended node ops.Destroy = Nothing
-intended node (ops.BatchForget pairs) = Nothing
+intended node (ops.BatchForget pairs) = Forget (pairs_in pairs.now)
 intended node (ops.ReadDirPlus fh offset size) = refused ENOSYS
 
 -- Names are sound by the time a request was read; reserved ones are refused before all else.
@@ -96,7 +109,9 @@ want_of (wanted.Move parent name new_parent new_name) = wants.Move parent name.n
 abbrev pub intent_in : Coded → Intent
 intent_in (coded.Reply body) = Reply body
 intent_in (coded.Want wanted) = Begin (want_of wanted)
-intent_in (coded.Forget number n) = Forget number n
+intent_in (coded.Folder fh usage) = Folder fh usage
+intent_in (coded.Forget lookups) = Forget (lookups ∷ [])
+intent_in (coded.ForgetAll pairs) = Forget (pairs_in pairs.now)
 intent_in coded.Nothing = Nothing
 
 -- it has a name, which takes memory to keep

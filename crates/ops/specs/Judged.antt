@@ -4,8 +4,8 @@ use Rattle.errno.specs.declared.TheConstants.{EIO}
 use Rattle.backing.specs.declared.call.Kind.{Kind}
 use Rattle.backing.specs.declared.call.Kind.TheVariants.{Folder, File}
 use Rattle.backing.specs.declared.call.Answer.{Answer}
-use Rattle.backing.specs.declared.call.Answer.TheVariants.{Done, Stat, Fault}
-use Rattle.backing.specs.Calls.{Asked, AskStat, AskMakeDir, AskRemove, AskRemoveDir, AskRename, AskSetLen}
+use Rattle.backing.specs.declared.call.Answer.TheVariants.{Done, Stat, Names, Fault}
+use Rattle.backing.specs.Calls.{Asked, AskStat, AskList, AskMakeDir, AskRemove, AskRemoveDir, AskRename, AskSetLen}
 
 -- an error number is 1 to 4,095
 abbrev pub is_errno : ℤ → Bool
@@ -24,6 +24,7 @@ is_sized File size = true
 -- the answer is of its call's kind and shape; a call that joins is one more line
 abbrev pub fits : Asked → Answer → Bool
 fits (AskStat p) (Stat kind size) = is_sized kind size
+fits (AskList p) (Names children) = true
 fits (AskMakeDir p) Done = true
 fits (AskRemove p) Done = true
 fits (AskRemoveDir p) Done = true

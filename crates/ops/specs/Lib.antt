@@ -1,4 +1,5 @@
 pub mod Ahead
+pub mod Folders
 pub mod Intents
 pub mod Judged
 pub mod Replies

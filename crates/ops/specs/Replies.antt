@@ -1,6 +1,6 @@
 -- What a request is answered, by what its script found and what its table gave.
 use Rattle.std.specs.Prelude.{ℕ, List, slice_get, Option, Some, None, option_and_then}
-use Rattle.errno.specs.declared.TheConstants.{EIO}
+use Rattle.errno.specs.declared.TheConstants.{EIO, ENFILE}
 use Rattle.backing.specs.declared.call.Kind.{Kind as Told}
 use Rattle.backing.specs.declared.call.Kind.TheVariants as kinds
 use Rattle.flights.specs.declared.data.Given.{Given}
@@ -34,10 +34,15 @@ abbrev pub entry_reply : Settings → Found → Option Given → ReplyBody
 entry_reply s found (Some given) = body.Entry (entry_of s found given)
 entry_reply s found None = body.Failed EIO
 
--- ---- replies to a request about that node
+abbrev pub opened_reply : Option ℕ → ReplyBody
+opened_reply (Some fh) = body.Opened fh
+opened_reply None = body.Failed ENFILE
 
-abbrev pub reply_to : Settings → ℕ → Finding → Answer → ReplyBody
-reply_to s node (findings.Error errno) answer = body.Failed errno
-reply_to s node findings.Nothing answer = body.Done
-reply_to s node (findings.NewEntry found) answer = entry_reply s found (first answer.given)
-reply_to s node (findings.Attributes found) answer = body.Attributes node (attributes_of s found)
+-- ---- replies to a request about that node; a listing was put under a handle, or not
+
+abbrev pub reply_to : Settings → ℕ → Finding → (put : Option ℕ) → Answer → ReplyBody
+reply_to s node (findings.Error errno) put answer = body.Failed errno
+reply_to s node findings.Nothing put answer = body.Done
+reply_to s node (findings.NewEntry found) put answer = entry_reply s found (first answer.given)
+reply_to s node (findings.Attributes found) put answer = body.Attributes node (attributes_of s found)
+reply_to s node (findings.Listed children) put answer = opened_reply put

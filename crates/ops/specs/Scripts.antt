@@ -1,11 +1,13 @@
 -- What each request asks of the directory, and what it comes to.
-use Rattle.std.specs.Prelude.{ℕ, ℤ, ◌≡◌, Bool, true, false, List, [], ◌∷◌, Option, Some, None}
+use Rattle.std.specs.Prelude.{ℕ, ℤ, ◌≡◌, Bool, true, false, if◌then◌else◌, List, [], ◌∷◌, Option, Some, None}
 use Rattle.errno.specs.declared.TheConstants.{EIO}
 use Rattle.paths.specs.Prefixes.{Names}
 use Rattle.backing.specs.declared.call.Answer.{Answer}
 use Rattle.backing.specs.declared.call.Answer.TheVariants as told
 use Rattle.backing.specs.declared.call.Call.{Call}
-use Rattle.backing.specs.Calls.{Asked, asked, AskStat, AskMakeDir, AskRemove, AskRemoveDir, AskRename, AskSetLen}
+use Rattle.backing.specs.declared.call.Child.{Child}
+use Rattle.handles.specs.Listings.{are_lawful}
+use Rattle.backing.specs.Calls.{Asked, asked, AskStat, AskList, AskMakeDir, AskRemove, AskRemoveDir, AskRename, AskSetLen}
 use Rattle.steps.specs.Answers.{Claim}
 use Rattle.steps.specs.declared.data.Outcome.{Outcome}
 use Rattle.steps.specs.declared.data.Outcome.TheVariants.{Failed, Done, Entry}
@@ -13,7 +15,7 @@ use Rattle.wire.specs.declared.request.Operation.{Operation}
 use Rattle.wire.specs.declared.request.Operation.TheVariants as ops
 use Rattle.ops.specs.declared.findings.Found.{Found}
 use Rattle.ops.specs.declared.findings.Finding.{Finding}
-use Rattle.ops.specs.declared.findings.Finding.TheVariants.{Error, Nothing, NewEntry, Attributes}
+use Rattle.ops.specs.declared.findings.Finding.TheVariants.{Error, Nothing, NewEntry, Attributes, Listed}
 use Rattle.ops.specs.Intents.{sets_size}
 use Rattle.ops.specs.Judged.{errno_in, judged}
 
@@ -50,6 +52,17 @@ if_found rest answer = failed (errno_in answer)
 
 abbrev pub look : Names → (Found → Plan) → Plan
 look p rest = Ask (AskStat p) (λ answer. if_found rest answer)
+
+-- names that are lawless, or stand twice, are an error
+abbrev pub listed_end : List Child → End
+listed_end children = if are_lawful children then record { outcome = Done; findings = Listed children } else record { outcome = Failed; findings = Error EIO }
+
+abbrev pub if_listed : Answer → Plan
+if_listed (told.Names children) = Over (listed_end children)
+if_listed answer = failed (errno_in answer)
+
+abbrev pub list : Names → Plan
+list p = Ask (AskList p) if_listed
 
 -- ---- the paths of a ticket. One that has not the paths of its request, which no table makes, is an EIO.
 
@@ -95,11 +108,18 @@ plan_of (ops.MakeDir name) ticket = at_path ticket.paths (λ p. make (AskMakeDir
 plan_of (ops.Unlink name) ticket = at_path ticket.paths (λ p. make (AskRemove p) done)
 plan_of (ops.RemoveDir name) ticket = at_path ticket.paths (λ p. make (AskRemoveDir p) done)
 plan_of (ops.Rename name new_parent new_name) ticket = at_paths ticket.paths (λ s t. rename ticket.same s t)
+plan_of ops.OpenDir ticket = at_path ticket.paths (λ p. list p)
 -- The others make no call.
 plan_of (ops.Forget n) ticket = failed EIO
 plan_of ops.StatFs ticket = failed EIO
 plan_of (ops.Init major minor max_readahead flags) ticket = failed EIO
-plan_of ops.OpenDir ticket = failed EIO
+plan_of (ops.Open flags) ticket = failed EIO
+plan_of (ops.Read fh offset size) ticket = failed EIO
+plan_of (ops.Write fh offset written) ticket = failed EIO
+plan_of (ops.Release fh) ticket = failed EIO
+plan_of (ops.Sync fh) ticket = failed EIO
+plan_of (ops.Flush fh) ticket = failed EIO
+plan_of (ops.Create name flags) ticket = failed EIO
 plan_of (ops.ReadDir fh offset size) ticket = failed EIO
 plan_of (ops.ReleaseDir fh) ticket = failed EIO
 plan_of (ops.SyncDir fh) ticket = failed EIO

@@ -3,7 +3,7 @@
 ghost use Rattle.std.specs.Prelude.{◌≡◌};
 ghost use Rattle.ops.specs.Ahead.{outcome_of};
 
-use backing::Kind;
+use backing::{Children, Kind};
 use table::Outcome;
 
 /// What stands at a path.
@@ -15,7 +15,7 @@ pub struct Found {
 }
 
 /// What a script has found, for the reply.
-#[derive(Clone, Copy, Debug, PartialEq, Eq)]
+#[derive(Drop)]
 pub enum Finding {
     /// An error number, from 1 to 4,095.
     Error { errno: i32 },
@@ -25,16 +25,18 @@ pub enum Finding {
     NewEntry(Found),
     /// Attributes are told.
     Attributes(Found),
+    /// A folder has these names. A listing is made of them yet; where they are lawless, that is an error, EIO (own).
+    Listed(Children),
 }
 
 impl Finding {
-    /// The outcome that the table is told.
-    pub fn outcome(self) -> Outcome
-        ensures { result ≡ outcome_of self }
+    /// The outcome that the table is told, where a listing is lawful.
+    pub fn outcome(&self) -> Outcome
+        ensures { result ≡ outcome_of self.now }
     {
         match self {
             Finding::Error { .. } => Outcome::Failed,
-            Finding::Nothing | Finding::Attributes(_) => Outcome::Done,
+            Finding::Nothing | Finding::Attributes(_) | Finding::Listed(_) => Outcome::Done,
             Finding::NewEntry(_) => Outcome::Entry,
         }
     }

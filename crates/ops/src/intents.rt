@@ -8,7 +8,7 @@ ghost use Rattle.ops.specs.Intents.{intent_in, has_handle, intended, intent, nam
 use crate::wanted::Wanted;
 use errno::{EBADF, ENOENT, ENOSYS, EPERM};
 use hidden::is_reserved;
-use wire::{Operation, ReplyBody, Request};
+use wire::{Forgotten, Operation, ReplyBody, Request};
 
 /// What a request needs.
 #[derive(Debug, Drop)]
@@ -17,10 +17,25 @@ pub enum Intent<'a> {
     Reply(ReplyBody),
     /// It is begun with a want.
     Want(Wanted<'a>),
+    /// It uses the folder that is open under a handle, and needs no table.
+    Folder { fh: u64, usage: FolderUse },
     /// It gives lookups of a node back, and is not answered.
-    Forget { number: u64, lookups: u64 },
+    Forget(Forgotten),
+    /// It gives lookups of several nodes back, pair after pair as `wire::split_pair` takes them, and is not answered.
+    ForgetAll { pairs: &'a [u8] },
     /// INIT and DESTROY, which a session works off itself, and INTERRUPT, which is passed over.
     Nothing,
+}
+
+/// What is done with an open folder.
+#[derive(Clone, Copy, Debug, PartialEq, Eq)]
+pub enum FolderUse {
+    /// Its names are told, from the entry at `offset` (an index) on, in at most `size` bytes.
+    ReadNames { offset: u64, size: u32 },
+    /// Its handle is given up.
+    GiveUp,
+    /// It is brought to the disk.
+    Sync,
 }
 
 /// The bit of SETATTR's `valid` that asks for a size (`FATTR_SIZE` of `fuse.h`).
@@ -40,13 +55,20 @@ fn names_reserved(operation: &Operation<'_>) -> bool
         Operation::Lookup { name }
         | Operation::MakeDir { name }
         | Operation::Unlink { name }
-        | Operation::RemoveDir { name } => is_reserved(name),
+        | Operation::RemoveDir { name }
+        | Operation::Create { name, .. } => is_reserved(name),
         Operation::Rename { name, new_name, .. } => is_reserved(name) || is_reserved(new_name),
         Operation::Forget { .. }
         | Operation::GetAttr
         | Operation::SetAttr { .. }
         | Operation::StatFs
         | Operation::Init { .. }
+        | Operation::Open { .. }
+        | Operation::Read { .. }
+        | Operation::Write { .. }
+        | Operation::Release { .. }
+        | Operation::Sync { .. }
+        | Operation::Flush { .. }
         | Operation::OpenDir
         | Operation::ReadDir { .. }
         | Operation::ReleaseDir { .. }
@@ -118,11 +140,9 @@ fn intended<'a>(node: u64, operation: Operation<'a>) -> Intent<'a>
         Operation::Lookup { name } | Operation::MakeDir { name } => {
             Intent::Want(Wanted::Name { parent, name })
         }
-        Operation::Forget { nlookup } => Intent::Forget {
-            number: node,
-            lookups: nlookup,
-        },
-        Operation::GetAttr => Intent::Want(Wanted::Node { number: node }),
+        Operation::Forget { nlookup } => Intent::Forget(Forgotten { node, nlookup }),
+        Operation::BatchForget { pairs } => Intent::ForgetAll { pairs },
+        Operation::GetAttr | Operation::OpenDir => Intent::Want(Wanted::Node { number: node }),
         Operation::SetAttr { valid, .. } => set_intent(node, valid),
         Operation::Unlink { name } | Operation::RemoveDir { name } => {
             Intent::Want(Wanted::Remove { parent, name })
@@ -138,15 +158,27 @@ fn intended<'a>(node: u64, operation: Operation<'a>) -> Intent<'a>
             new_name,
         }),
         Operation::StatFs => Intent::Reply(ReplyBody::StatFs),
-        Operation::OpenDir
-        | Operation::ReadDir { .. }
-        | Operation::ReleaseDir { .. }
-        | Operation::SyncDir { .. }
+        Operation::ReadDir { fh, offset, size } => Intent::Folder {
+            fh,
+            usage: FolderUse::ReadNames { offset, size },
+        },
+        Operation::ReleaseDir { fh } => Intent::Folder {
+            fh,
+            usage: FolderUse::GiveUp,
+        },
+        Operation::SyncDir { fh } => Intent::Folder {
+            fh,
+            usage: FolderUse::Sync,
+        },
+        Operation::Open { .. }
+        | Operation::Read { .. }
+        | Operation::Write { .. }
+        | Operation::Release { .. }
+        | Operation::Sync { .. }
+        | Operation::Flush { .. }
+        | Operation::Create { .. }
         | Operation::ReadDirPlus { .. } => refused(ENOSYS),
-        Operation::Init { .. }
-        | Operation::Interrupt
-        | Operation::Destroy
-        | Operation::BatchForget { .. } => Intent::Nothing,
+        Operation::Init { .. } | Operation::Interrupt | Operation::Destroy => Intent::Nothing,
     }
 }
 

@@ -20,7 +20,8 @@ fn fits(call: Call<'_>, answer: &Answer) -> bool
             | Call::Rename { .. }
             | Call::SetLen { .. },
             Answer::Done,
-        ) => true,
+        )
+        | (Call::List(_), Answer::Names(_)) => true,
         _ => false,
     }
 }

@@ -5,6 +5,7 @@
 #![tactic(auto)]
 
 mod findings;
+mod folders;
 mod intents;
 mod judging;
 mod replies;
@@ -12,7 +13,8 @@ mod script;
 mod wanted;
 
 pub use findings::{Finding, Found};
-pub use intents::{Intent, intent_of};
-pub use replies::{Settings, reply_to};
+pub use folders::names_reply;
+pub use intents::{FolderUse, Intent, intent_of};
+pub use replies::{Settings, opened_reply, reply_to};
 pub use script::Script;
 pub use wanted::Wanted;

@@ -1,10 +1,10 @@
 //! Replies to requests.
 
 ghost use Rattle.std.specs.Prelude.{◌≡◌};
-ghost use Rattle.ops.specs.Replies.{attributes_of, entry_reply, first, kind_of, reply_to};
+ghost use Rattle.ops.specs.Replies.{attributes_of, entry_reply, first, kind_of, opened_reply, reply_to};
 
 use crate::findings::{Finding, Found};
-use errno::EIO;
+use errno::{EIO, ENFILE};
 use flights::Given;
 use table::Answered;
 use wire::{Attributes, Entry, Kind, ReplyBody};
@@ -17,7 +17,7 @@ pub struct Settings {
 }
 
 /// The kind as a reply tells it.
-fn kind_of(kind: backing::Kind) -> Kind
+pub(crate) fn kind_of(kind: backing::Kind) -> Kind
     ensures { result ≡ kind_of kind }
 {
     match kind {
@@ -62,19 +62,38 @@ fn entry_reply(settings: Settings, found: Found, given: Option<Given>) -> ReplyB
     }
 }
 
-/// What a request about a node is answered, by what its script found and what its table gave.
+/// The handle under which a listing was stored, or ENFILE (own) where it was not.
+pub fn opened_reply(put: Option<u64>) -> ReplyBody
+    ensures { result ≡ opened_reply put }
+{
+    match put {
+        Some(fh) => ReplyBody::Opened { fh },
+        None => ReplyBody::Failed { errno: ENFILE },
+    }
+}
+
+/// What a request about a node is answered, by what its script found, the handle under which its listing was stored, if it was, and
+/// what its table gave.
 ///
-/// An error that its script found is told as it is. An entry that the table did not give is EIO (own).
-pub fn reply_to(settings: Settings, node: u64, finding: Finding, answered: &Answered) -> ReplyBody
-    ensures { result ≡ reply_to settings node finding answered.now }
+/// An error that its script found is told as it is. An entry that the table did not give is EIO (own), and a listing that was not
+/// stored ENFILE (own).
+pub fn reply_to(
+    settings: Settings,
+    node: u64,
+    finding: &Finding,
+    put: Option<u64>,
+    answered: &Answered,
+) -> ReplyBody
+    ensures { result ≡ reply_to settings node finding.now put answered.now }
 {
     match finding {
-        Finding::Error { errno } => ReplyBody::Failed { errno },
+        Finding::Error { errno } => ReplyBody::Failed { errno: *errno },
         Finding::Nothing => ReplyBody::Done,
-        Finding::NewEntry(found) => entry_reply(settings, found, first_given(answered)),
+        Finding::NewEntry(found) => entry_reply(settings, *found, first_given(answered)),
         Finding::Attributes(found) => ReplyBody::Attributes {
             node,
-            attributes: attributes_of(settings, found),
+            attributes: attributes_of(settings, *found),
         },
+        Finding::Listed(_) => opened_reply(put),
     }
 }

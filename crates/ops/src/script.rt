@@ -1,9 +1,9 @@
 //! The calls of one request: at most one that changes something, and then at most one look at what stands there.
 
-ghost use Rattle.std.specs.Prelude.{◌≡◌, ◌<◌, ◌≤◌};
-ghost use Rattle.ops.specs.Ahead.{calls_ending, calls_left, end_of, plan_ahead, plan_ending, plan_from, told_of};
+ghost use Rattle.std.specs.Prelude.{◌≡◌, ◌<◌};
+ghost use Rattle.ops.specs.Ahead.{calls_left, end_of, plan_ahead, plan_from, told_of, unless};
 ghost use Rattle.ops.specs.Intents.{sets_size};
-ghost use Rattle.ops.specs.Scripts.{after, at_paths, if_done, if_found, next_of, plan_of, rename, set_size, AsksNext, End, Over, Plan};
+ghost use Rattle.ops.specs.Scripts.{after, at_paths, if_done, if_found, if_listed, next_of, plan_of, rename, set_size, AsksNext, End, Over, Plan};
 
 use crate::findings::{Finding, Found};
 use crate::intents::sets_size;
@@ -23,16 +23,18 @@ pub enum Telling {
 }
 
 /// How a script ends.
-#[derive(Clone, Copy)]
+#[derive(Drop)]
 pub enum Ending<'a> {
     /// It asks what stands at the path, and tells that of it.
     Look { path: &'a Path, tells: Telling },
+    /// It asks for the names in the folder at the path.
+    List { path: &'a Path },
     /// It has nothing more to ask.
     Over(Finding),
 }
 
 /// The script of a request that began: what is still to do.
-#[derive(Clone, Copy)]
+#[derive(Drop)]
 pub struct Script<'a> {
     /// What is changed first.
     change: Option<Call<'a>>,
@@ -73,16 +75,25 @@ fn looked(tells: Telling, answer: &Answer) -> Finding
     }
 }
 
-/// How a script ends after the answer to its change.
-fn changed<'a>(ending: Ending<'a>, answer: &Answer) -> Ending<'a>
-    ensures plan { plan_ending result ≡ if_done (plan_ending ending.entry) answer.now }
-    ensures fewer { calls_ending result ≤ calls_ending ending.entry }
+/// What is told of an answer to a list.
+fn listed(answer: Answer) -> Finding
+    ensures { Over (end_of result) ≡ if_listed answer }
 {
     match answer {
-        Answer::Done => ending,
-        other => Ending::Over(Finding::Error {
-            errno: errno_in(other),
-        }),
+        Answer::Names(children) => Finding::Listed(children),
+        other => Finding::Error {
+            errno: errno_in(&other),
+        },
+    }
+}
+
+/// The error with which a script ends after the answer to its change, if it does.
+fn refused(answer: &Answer) -> Option<i32>
+    ensures { (rest : Plan) → if_done rest answer.now ≡ unless result rest }
+{
+    match answer {
+        Answer::Done => None,
+        other => Some(errno_in(other)),
     }
 }
 
@@ -141,13 +152,20 @@ impl<'a> Script<'a> {
             Operation::GetAttr => (None, attributes),
             Operation::SetAttr { valid, size, .. } => (size_change(valid, path, size), attributes),
             Operation::MakeDir { .. } => (Some(Call::MakeDir(path)), entry),
+            Operation::OpenDir => (None, Ending::List { path }),
             Operation::Unlink { .. } => (Some(Call::Remove(path)), DONE),
             Operation::RemoveDir { .. } => (Some(Call::RemoveDir(path)), DONE),
             Operation::Rename { .. } => return start_rename(ticket),
             Operation::Forget { .. }
             | Operation::StatFs
             | Operation::Init { .. }
-            | Operation::OpenDir
+            | Operation::Open { .. }
+            | Operation::Read { .. }
+            | Operation::Write { .. }
+            | Operation::Release { .. }
+            | Operation::Sync { .. }
+            | Operation::Flush { .. }
+            | Operation::Create { .. }
             | Operation::ReadDir { .. }
             | Operation::ReleaseDir { .. }
             | Operation::SyncDir { .. }
@@ -163,9 +181,10 @@ impl<'a> Script<'a> {
     pub fn next(&self) -> Option<Call<'_>>
         ensures { AsksNext result (next_of (plan_ahead self.now)) }
     {
-        match (self.change, self.ending) {
-            (Some(call), _) => Some(call),
+        match (&self.change, &self.ending) {
+            (Some(call), _) => Some(*call),
             (None, Ending::Look { path, .. }) => Some(Call::Stat(path)),
+            (None, Ending::List { path }) => Some(Call::List(path)),
             (None, Ending::Over(_)) => None,
         }
     }
@@ -177,23 +196,29 @@ impl<'a> Script<'a> {
         ensures plan { plan_ahead self.new ≡ after (plan_ahead self.old) answer }
         ensures fewer { 0 < calls_left self.old → calls_left self.new < calls_left self.old }
     {
-        self.ending = match (self.change, self.ending) {
-            (Some(call), ending) => changed(ending, &judge(call, answer)),
-            (None, Ending::Look { path, tells }) => {
-                Ending::Over(looked(tells, &judge(Call::Stat(path), answer)))
+        if let Some(call) = self.change {
+            self.change = None;
+            if let Some(errno) = refused(&judge(call, answer)) {
+                self.ending = Ending::Over(Finding::Error { errno });
             }
-            (None, Ending::Over(finding)) => Ending::Over(finding),
+            return;
+        }
+        let finding = match self.ending {
+            Ending::Look { path, tells } => looked(tells, &judge(Call::Stat(path), answer)),
+            Ending::List { path } => listed(judge(Call::List(path), answer)),
+            Ending::Over(_) => return,
         };
-        self.change = None;
+        self.ending = Ending::Over(finding);
     }
 
     /// What it has found, once it is over.
-    pub fn finding(&self) -> Finding
-        ensures { (end : End) → plan_ahead self.now ≡ Over end → end_of result ≡ end }
+    pub fn into_finding(self) -> Finding
+        ensures { (end : End) → plan_ahead self.entry ≡ Over end → end_of result ≡ end }
     {
-        match self.ending {
+        let Self { ending, .. } = self;
+        match ending {
             Ending::Over(finding) => finding,
-            Ending::Look { .. } => Finding::Error { errno: EIO },
+            Ending::Look { .. } | Ending::List { .. } => Finding::Error { errno: EIO },
         }
     }
 }

@@ -2,7 +2,7 @@
 
 ghost use Rattle.std.specs.Prelude.{◌≡◌};
 
-use crate::slow::{Stands, ask_of, stands_after};
+use crate::slow::{Stands, ask_of, ends_of, stands_after};
 use backing::{Answer, Bytes, Children, Kind};
 use ledger::{Blanks, Ledgers};
 use ops::{Intent, Script, intent_of};
@@ -64,9 +64,10 @@ fn script_after(operation: Operation<'_>, ticket: &Ticket, answers: Vec<Answer>)
     for answer in answers {
         script.feed(answer);
     }
-    match script.next() {
-        Some(call) => Stands::Asks(ask_of(call, ticket.paths())),
-        None => Stands::Over(script.finding()),
+    let next = script.next().map(|call| ask_of(call, ticket.paths()));
+    match next {
+        Some(ask) => Stands::Asks(ask),
+        None => Stands::Over(ends_of(&script.into_finding())),
     }
 }
 

@@ -4,7 +4,9 @@ use crate::compare::compare;
 use ledger::Blanks;
 use std::marker::Brand;
 use std::test::Fail;
-use wire::Operation::{self, GetAttr, Lookup, MakeDir, RemoveDir, Rename, SetAttr, Unlink};
+use wire::Operation::{
+    self, GetAttr, Lookup, MakeDir, OpenDir, RemoveDir, Rename, SetAttr, Unlink,
+};
 
 /// About the root, or a name in it. Some have several scripts.
 const OPERATIONS: &[Operation] = &[
@@ -31,6 +33,7 @@ const OPERATIONS: &[Operation] = &[
         fh: 0,
         size: 7,
     },
+    OpenDir,
     MakeDir { name: "a" },
     Unlink { name: "a" },
     RemoveDir { name: "a" },

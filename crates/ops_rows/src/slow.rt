@@ -10,6 +10,7 @@ use wire::Operation;
 #[derive(Clone, Copy, Debug, PartialEq, Eq)]
 pub enum Ask {
     Stat,
+    List,
     MakeDir,
     Remove,
     RemoveDir,
@@ -25,14 +26,37 @@ pub enum Ask {
 #[derive(Clone, Copy, Debug, PartialEq, Eq)]
 pub enum Stands {
     Asks(Ask),
-    Over(Finding),
+    Over(Ends),
+}
+
+/// What a script has come to.
+#[derive(Clone, Copy, Debug, PartialEq, Eq)]
+pub enum Ends {
+    Error(i32),
+    Nothing,
+    NewEntry(Found),
+    Attributes(Found),
+    /// So many names are listed.
+    Listed(usize),
 }
 
 /// What an answer counts as.
 enum Counts {
     Done,
     Found(Found),
+    Names(usize),
     Error(i32),
+}
+
+/// What a finding is.
+pub fn ends_of(finding: &Finding) -> Ends {
+    match finding {
+        Finding::Error { errno } => Ends::Error(*errno),
+        Finding::Nothing => Ends::Nothing,
+        Finding::NewEntry(found) => Ends::NewEntry(*found),
+        Finding::Attributes(found) => Ends::Attributes(*found),
+        Finding::Listed(names) => Ends::Listed(names.as_slice().len()),
+    }
 }
 
 /// What a call of a script is, where it is about the request's paths.
@@ -42,6 +66,7 @@ pub fn ask_of(call: Call<'_>, paths: &[Path]) -> Ask {
     };
     match call {
         Call::Stat(path) if path.is(first) => Ask::Stat,
+        Call::List(path) if path.is(first) => Ask::List,
         Call::MakeDir(path) if path.is(first) => Ask::MakeDir,
         Call::Remove(path) if path.is(first) => Ask::Remove,
         Call::RemoveDir(path) if path.is(first) => Ask::RemoveDir,
@@ -56,6 +81,7 @@ pub fn ask_of(call: Call<'_>, paths: &[Path]) -> Ask {
 fn asks_of(operation: Operation<'_>, same: bool) -> (Option<Ask>, Option<Ask>) {
     match operation {
         Operation::Lookup { .. } | Operation::GetAttr => (Some(Ask::Stat), None),
+        Operation::OpenDir => (Some(Ask::List), None),
         Operation::SetAttr { valid, size, .. } if valid & 8 == 8 => (
             Some(Ask::SetLen(size)),
             Some(Ask::Stat),
@@ -95,30 +121,33 @@ fn counts_as(ask: Ask, answer: &Answer) -> Counts {
             size: *size,
         }),
         (Ask::Stat, _) => Counts::Error(EIO),
+        (Ask::List, Answer::Names(names)) => Counts::Names(names.as_slice().len()),
+        (Ask::List, _) => Counts::Error(EIO),
         (_, Answer::Done) => Counts::Done,
         (_, _) => Counts::Error(EIO),
     }
 }
 
-/// What is told at the end, of what was found last.
-fn finding_of(operation: Operation<'_>, found: Option<Found>) -> Finding {
-    match (operation, found) {
-        (Operation::Lookup { .. } | Operation::MakeDir { .. }, Some(found)) => Finding::NewEntry(
-            found,
-        ),
-        (Operation::GetAttr | Operation::SetAttr { .. }, Some(found)) => Finding::Attributes(found),
-        _ => Finding::Nothing,
+/// What is told at the end, of what was found and listed last.
+fn ends_with(operation: Operation<'_>, found: Option<Found>, listed: Option<usize>) -> Ends {
+    match (operation, found, listed) {
+        (Operation::Lookup { .. } | Operation::MakeDir { .. }, Some(found), _) => {
+            Ends::NewEntry(found)
+        }
+        (Operation::GetAttr | Operation::SetAttr { .. }, Some(found), _) => Ends::Attributes(found),
+        (Operation::OpenDir, _, Some(names)) => Ends::Listed(names),
+        _ => Ends::Nothing,
     }
 }
 
 /// Where the script of a request stands after these answers. Answers after its end are not looked at.
 pub fn stands_after(operation: Operation<'_>, same: bool, answers: &[Answer]) -> Stands {
-    let mut found = None;
+    let (mut found, mut listed) = (None, None);
     let (first, second) = asks_of(operation, same);
     let mut answers = answers.iter();
     for ask in [first, second] {
         let Some(ask) = ask else {
-            return Stands::Over(finding_of(operation, found));
+            return Stands::Over(ends_with(operation, found, listed));
         };
         let Some(answer) = answers.next() else {
             return Stands::Asks(ask);
@@ -126,8 +155,9 @@ pub fn stands_after(operation: Operation<'_>, same: bool, answers: &[Answer]) ->
         match counts_as(ask, answer) {
             Counts::Done => {}
             Counts::Found(stands) => found = Some(stands),
-            Counts::Error(errno) => return Stands::Over(Finding::Error { errno }),
+            Counts::Names(names) => listed = Some(names),
+            Counts::Error(errno) => return Stands::Over(Ends::Error(errno)),
         }
     }
-    Stands::Over(finding_of(operation, found))
+    Stands::Over(ends_with(operation, found, listed))
 }

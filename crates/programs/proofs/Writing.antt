@@ -9,7 +9,8 @@ use Rattle.engine.specs.Serving.{events_of}
 use Rattle.engine.specs.declared.ends.SessionEnd.{SessionEnd}
 use Rattle.engine.specs.declared.links.Sent.TheVariants as sent
 use Rattle.programs.specs.Lines.{Hexing, HasPiece, Receives, Sends, has_broken, line, lines_in}
-use Rattle.programs.specs.Runs.{ServesHex, ServesLink}
+use Rattle.server.specs.Sessions.{ServesLink}
+use Rattle.programs.specs.Runs.{ServesHex, nobody}
 use Rattle.programs.specs.Samples.{IsStart}
 
 appends_none : (known : Option (List ℕ)) → Appends known known []
@@ -41,7 +42,7 @@ written old new (Out frame sent.Untaken ∷ events) chain whole = absurd chain.1
 written old new (Out frame sent.Broken ∷ events) chain whole = absurd (true≢false whole)
 
 -- a link that was served from a new tree
-pub hex_served : (sampled : Bool) (tree : MemTree) (old : Hexing) (over : SessionEnd) (new : Hexing) → IsStart sampled tree → ServesLink Receives Sends Gives tree old over new → ServesHex sampled old over new
+pub hex_served : (sampled : Bool) (tree : MemTree) (old : Hexing) (over : SessionEnd) (new : Hexing) → IsStart sampled tree → ServesLink nobody Receives Sends Gives tree old over new → ServesHex sampled old over new
 hex_served sampled tree old over new start (inl served) = inl (record {
   tree = tree;
   start = start;

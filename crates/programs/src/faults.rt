@@ -1,4 +1,4 @@
-//! Why a program stops before its input ends.
+//! Why a program ends with another status than 0, and its one line about it.
 
 ghost use Rattle.std.specs.Prelude.{◌≡◌, ◌⊎◌, true};
 ghost use Rattle.std.specs.Io.KnownBytes.{Appends};
@@ -11,7 +11,7 @@ use std::fmt::Display;
 use std::io::Write;
 use std::{fmt, io};
 
-/// What went wrong.
+/// Why a session stopped before its input ended.
 #[derive(Clone, Copy, Debug, PartialEq, Eq)]
 pub enum Fault {
     /// A frame begins with a length that no frame has.
@@ -24,24 +24,37 @@ pub enum Fault {
     Memory,
 }
 
-impl Fault {
+/// Why a program failed.
+#[derive(Clone, Copy, Debug, PartialEq, Eq)]
+pub enum Failure<'a> {
+    /// Its session stopped, or memory was refused before it began.
+    Stopped(Fault),
+    /// What it was to serve is not a folder that can be opened.
+    NoFolder { root: &'a str },
+    /// No client can be waited for there.
+    NoSocket { path: &'a str },
+}
+
+impl<'a> Failure<'a> {
     /// The program's exit status (own).
     pub fn status(self) -> u8
-        ensures { result ≡ status_of self }
+        ensures { result ≡ status_of self.entry }
     {
         match self {
-            Fault::FrameLength { .. } => 3,
-            Fault::Line { .. } | Fault::Link | Fault::Memory => 4,
+            Failure::Stopped(Fault::FrameLength { .. }) => 3,
+            Failure::Stopped(Fault::Line { .. } | Fault::Link | Fault::Memory)
+            | Failure::NoFolder { .. }
+            | Failure::NoSocket { .. } => 4,
         }
     }
 }
 
-// Written out, since a contract names what it writes.
+// Both are written out, since a contract names what they write.
 impl Display for Fault {
     ghost use Rattle.std.specs.Prelude.{Some};
-    ghost use Rattle.programs.specs.Faults.{message};
+    ghost use Rattle.programs.specs.Faults.{fault_message};
 
-    ghost output = { λ fault. Some (message fault) };
+    ghost output = { λ fault. Some (fault_message fault) };
 
     fn fmt<W: fmt::Write>(&self, f: &mut fmt::Formatter<W>) -> fmt::Result {
         match self {
@@ -51,6 +64,21 @@ impl Display for Fault {
             Fault::Line { line } => write!(f, "line {line} is not hexadecimal"),
             Fault::Link => f.write_str("the link failed"),
             Fault::Memory => f.write_str("out of memory"),
+        }
+    }
+}
+
+impl<'a> Display for Failure<'a> {
+    ghost use Rattle.std.specs.Prelude.{Some};
+    ghost use Rattle.programs.specs.Faults.{message};
+
+    ghost output = { λ failure. Some (message failure) };
+
+    fn fmt<W: fmt::Write>(&self, f: &mut fmt::Formatter<W>) -> fmt::Result {
+        match self {
+            Failure::Stopped(fault) => write!(f, "{fault}"),
+            Failure::NoFolder { root } => write!(f, "{root} is not a folder"),
+            Failure::NoSocket { path } => write!(f, "cannot listen on {path}"),
         }
     }
 }
@@ -76,9 +104,9 @@ impl From<io::Error> for Fault {
     }
 }
 
-/// Writes a fault as one line. False says that the writer failed.
-pub fn tell<F: Write>(faults: &mut F, fault: Fault) -> bool
-    ensures { result ≡ true → Appends (F.contents faults.old) (F.contents faults.new) (line_of fault) }
+/// Writes a failure as one line. False says that the writer failed.
+pub fn tell<F: Write>(faults: &mut F, failure: Failure<'_>) -> bool
+    ensures { result ≡ true → Appends (F.contents faults.old) (F.contents faults.new) (line_of failure.entry) }
 {
-    writeln!(faults, "mirrord: {fault}").is_ok()
+    writeln!(faults, "mirrord: {failure}").is_ok()
 }

@@ -1,14 +1,19 @@
-//! The programs of the server: their command lines, and the one that reads and writes hexadecimal lines.
+//! The programs of the server: their command lines, and what each of them does, but for the system around it.
 #![tactic(auto)]
 
 mod command;
+mod ended;
 mod faults;
+mod folders;
 mod hexadecimal;
+mod options;
 mod runs;
 mod samples;
 
-pub use command::{Options, read_options};
-pub use faults::{Fault, tell};
+pub use ended::Ended;
+pub use faults::{Failure, Fault, tell};
+pub use folders::{pipe_run, serve_run};
 pub use hexadecimal::HexLink;
-pub use runs::{Ended, hex_run, run};
+pub use options::{Options, read_options};
+pub use runs::{hex_run, run};
 pub use samples::new_tree;

@@ -4,6 +4,7 @@ ghost use Rattle.std.specs.Prelude.{◌≡◌};
 
 use backing::MemTree;
 use engine::{Link, LinkIn, LinkOut, Received, Sent, SessionEnd, serve};
+use handles::Dirs;
 use ledger::{Blanks, Ledgers, Totals};
 use ops::Settings;
 use std::alloc::{AllocError, Global};
@@ -118,7 +119,10 @@ pub fn serve_client<H: Wait, L: Ledgers>(
     let mut share = shares.pop().unwrap();
     shares.destroy_empty();
     let settings = Settings { uid: 0, gid: 0 };
-    let end = serve(rt, alloc, client, tree, &mut table, &mut share, settings);
+    let dirs = Dirs::new(alloc);
+    let end = serve(
+        rt, alloc, client, tree, &mut table, &mut share, &dirs, settings,
+    );
     let totals = share.totals();
     share.leave();
     Ok(Over { end, totals })

@@ -2,6 +2,9 @@
 
 use programs::{hex_run, run};
 use std::alloc::{AllocError, Global};
+use std::fs::File;
+use std::net::Net;
+use std::rt::Files;
 use std::sync::Wait;
 
 /// INIT 7.31 with 131,072 bytes read ahead and no flags, unique 1.
@@ -112,22 +115,15 @@ pub fn run_into(rt: &impl Wait, alloc: Global, input: &[u8], room: &mut [u8]) ->
 }
 
 /// Runs the program with these words on these lines.
-pub fn run_words(
-    rt: &impl Wait,
-    alloc: Global,
+pub fn run_words<R: Wait + Net + Files<File = File> + AllocGlobal + Clone + Drop>(
+    rt: &R,
     words: &[&str],
     lines: &[&str],
 ) -> Result<Run, AllocError> {
+    let alloc = rt.alloc();
     let input = lines_of(alloc, lines)?;
     let mut faults = Vec::new(alloc);
-    let ended = run(
-        rt,
-        alloc,
-        words,
-        input.as_slice(),
-        Vec::new(alloc),
-        &mut faults,
-    );
+    let ended = run(rt, words, input.as_slice(), Vec::new(alloc), &mut faults);
     Ok(Run {
         status: ended.status,
         output: ended.output,

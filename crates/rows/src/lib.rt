@@ -14,6 +14,8 @@ mod greetings;
 #[cfg(test)]
 mod lines;
 #[cfg(test)]
+mod listings;
+#[cfg(test)]
 mod lookups;
 #[cfg(test)]
 mod names;

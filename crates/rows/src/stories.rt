@@ -12,7 +12,8 @@ use std::sync::Wait;
 use std::test::Fail;
 use table::Limits;
 use wire::{
-    Attributes, Entry, InitOut, Operation, Reply, ReplyBody, Request, encode_reply, encode_request,
+    Attributes, Data, Entry, InitOut, NO_INO, Operation, Reply, ReplyBody, Request, encode_dirent,
+    encode_reply, encode_request,
 };
 
 /// A session over the sample names.
@@ -28,7 +29,7 @@ pub struct Story<'a> {
     /// Calls of the tree that fail, counted from 1.
     pub faults: &'a [(u64, Fault)],
     /// What each request is answered.
-    pub replies: &'a [Says],
+    pub replies: &'a [Says<'a>],
     /// Paths, and what stands there in the end.
     pub after: &'a [(&'a [&'a str], Stands)],
 }
@@ -63,7 +64,7 @@ struct Otherwise<'a> {
 
 /// What a request is answered.
 #[derive(Clone, Copy)]
-pub enum Says {
+pub enum Says<'a> {
     Failed(i32),
     Done,
     /// The entry of a node that was born once, and what stands there.
@@ -72,6 +73,12 @@ pub enum Says {
     Attributes(u64, Stands),
     /// The sizes of the file system.
     Sizes,
+    /// The handle of an open folder.
+    Opened(u64),
+    /// Names of a folder from that index on, and what they are.
+    Names(u64, &'a [(&'a str, Stands)]),
+    /// It gets no reply.
+    NoReply,
 }
 
 fn attributes_of(stands: Stands) -> Attributes {
@@ -87,8 +94,26 @@ fn attributes_of(stands: Stands) -> Attributes {
     }
 }
 
-fn body_of(says: Says) -> ReplyBody {
-    match says {
+fn kind_of(stands: Stands) -> wire::Kind {
+    match stands {
+        Stands::File(_) => wire::Kind::File,
+        Stands::Folder | Stands::Nothing => wire::Kind::Folder,
+    }
+}
+
+fn names_of(alloc: Global, from: u64, names: &[(&str, Stands)]) -> Result<ReplyBody, AllocError> {
+    let mut bytes = Vec::new(alloc);
+    let mut next = from;
+    for (name, stands) in names {
+        next = next.saturating_add(1);
+        encode_dirent(&mut bytes, NO_INO, next, kind_of(*stands), name)?;
+    }
+    Ok(ReplyBody::Data(Data::new(bytes)))
+}
+
+/// Nothing, where it gets no reply.
+fn body_of(alloc: Global, says: Says) -> Result<Option<ReplyBody>, AllocError> {
+    Ok(Some(match says {
         Says::Failed(errno) => ReplyBody::Failed { errno },
         Says::Done => ReplyBody::Done,
         Says::Entry(node, stands) => ReplyBody::Entry(Entry {
@@ -101,7 +126,10 @@ fn body_of(says: Says) -> ReplyBody {
             attributes: attributes_of(stands),
         },
         Says::Sizes => ReplyBody::StatFs,
-    }
+        Says::Opened(fh) => ReplyBody::Opened { fh },
+        Says::Names(from, names) => names_of(alloc, from, names)?,
+        Says::NoReply => return Ok(None),
+    }))
 }
 
 /// INIT 7.31, unique 0.
@@ -162,7 +190,9 @@ fn replies_of(alloc: Global, replies: &[Says]) -> Result<Vec<u8>, AllocError> {
     encode_reply(&greeting, &mut bytes)?;
     for says in replies {
         unique = unique.saturating_add(1);
-        let body = body_of(*says);
+        let Some(body) = body_of(alloc, *says)? else {
+            continue;
+        };
         encode_reply(&Reply { unique, body }, &mut bytes)?;
     }
     Ok(bytes)

@@ -77,6 +77,25 @@ fn untaken_lookup(rt: HostRuntime) -> Result<(), Fail> {
     Ok(())
 }
 
+// The listing of an OPENDIR whose reply is not taken is given up, so its handle is none.
+#[test]
+fn untaken_opendir(rt: HostRuntime) -> Result<(), Fail> {
+    let alloc = rt.alloc();
+    let open =
+        "30000000 1b000000 0300000000000000 0100000000000000 00000000 00000000 00000000 00000000 00000000 00000000";
+    let sync =
+        "38000000 1e000000 0400000000000000 0100000000000000 00000000 00000000 00000000 00000000 0100000000000000 00000000 00000000";
+    let replies = [
+        "10000000 f7ffffff 0400000000000000",
+        "20000000 00000000 0300000000000000 0200000000000000 00000000 00000000",
+    ];
+    let mut client = client_of(alloc, &[open, sync, open], 2)?;
+    let over = serve_samples::<HostRuntime, Brand>(&rt, alloc, Blanks::new(1), None, &mut client)?;
+    assert_eq!(rt; over.end, SessionEnd::Closed { rest: 0 });
+    assert!(rt; are_taken(alloc, &client.taken, &replies)?);
+    Ok(())
+}
+
 // The directory names no error number, so the reply is EIO.
 #[test]
 fn strange_errors(rt: HostRuntime) -> Result<(), Fail> {

@@ -103,5 +103,9 @@ pub(crate) fn copy_of(want: &Want) -> Result<Want, AllocError>
             new_parent: *new_parent,
             new_name: new_name.copy()?,
         }),
+        Want::Page { folder, names } => Ok(Want::Page {
+            folder: *folder,
+            names: names.copy()?,
+        }),
     }
 }

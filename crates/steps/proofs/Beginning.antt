@@ -1,11 +1,12 @@
 -- A request that goes on has what it will rely on, whatever its want.
 use Rattle.std.proofs.Common.{ℕ, ◌≡◌, ◌⊎◌, [], All, Contains, length, refl, sym, subst, inl, inr, arith}
+use Rattle.std.proofs.lemmas.List.{length-map}
 use Rattle.std.proofs.lemmas.List.Elements.{All-cons}
 use Rattle.paths.specs.Prefixes.{Name}
 use Rattle.tree.specs.declared.nodes.Key.{Key}
 use Rattle.tree.specs.Places.{Lookup}
 use Rattle.flights.specs.declared.data.Want.{Want}
-use Rattle.flights.specs.declared.data.Want.TheVariants.{Node, Name as AName, Remove, Move}
+use Rattle.flights.specs.declared.data.Want.TheVariants.{Node, Name as AName, Remove, Move, Page}
 use Rattle.steps.specs.Answers.{Claim}
 use Rattle.wants.specs.Asked.{IsCase, IsDemand, IsEntryCase, IsPin, IsThere}
 use Rattle.wants.specs.Rows.{AtName, Case, Demand, absent, name_row, plain, row_of}
@@ -28,6 +29,7 @@ module _ (at : Lookup) (f : Flight) where
   names_known (AName parent name) c fits pins = entry_known parent name c fits pins
   names_known (Remove parent name) c fits pins = inl refl
   names_known (Move parent name new_parent new_name) c fits pins = inl refl
+  names_known (Page folder names) c fits pins = inl (sym (length-map names (λ (name : Name). let key : Key = record { parent = folder; name = name } in key)))
 
 pub begun_ready : (old new : World) (unique : ℕ) (want : Want) (d : Demand) (ticket : Claim) → IsDemand old.at want d → MayBegin old d → (goes : GoesOn old unique want d ticket new)
     → IsReady old.at (record { unique = unique; stage = Working (record { want = want; row = d; held = goes.held }); pins = goes.pins }) (record { want = want; row = d; held = goes.held })

@@ -45,15 +45,15 @@ working_else flights id f given k g work at = elim (cases_eq id k) [
 abbrev pub nothing_for : List Key → List (Option Given)
 nothing_for keys = map (λ (key : Key). let none : Option Given = None in none) keys
 
-none_entered : (flights : Flights) (at : Lookup) (ps : List Posting) (keys : List Key) → EntersAll flights at ps keys (map (λ key. false) keys) (nothing_for keys) at ps
+pub none_entered : (flights : Flights) (at : Lookup) (ps : List Posting) (keys : List Key) → EntersAll flights at ps keys (map (λ key. false) keys) (nothing_for keys) at ps
 none_entered flights at ps [] = (refl, refl)
 none_entered flights at ps (key ∷ keys) = none_entered flights at ps keys
 
-none_numbered : (keys : List Key) → numbers_of (nothing_for keys) ≡ []
+pub none_numbered : (keys : List Key) → numbers_of (nothing_for keys) ≡ []
 none_numbered [] = refl
 none_numbered (key ∷ keys) = none_numbered keys
 
-answered_same : (f : Flight) (given : List (Option Given)) → f.stage ≡ Answered → numbers_of given ≡ [] → answered f given ≡ f
+pub answered_same : (f : Flight) (given : List (Option Given)) → f.stage ≡ Answered → numbers_of given ≡ [] → answered f given ≡ f
 answered_same f given idle none =
     let one : (let g : Flight = record f { stage = Answered; pins = f.pins ++ numbers_of given } in g) ≡ record f { pins = f.pins ++ numbers_of given } = ap (λ s. let g : Flight = record f { stage = s; pins = f.pins ++ numbers_of given } in g) (sym idle) in
     one ∙ ap (λ (ps : List ℕ). let g : Flight = record f { pins = ps } in g) (ap (λ (ns : List ℕ). f.pins ++ ns) none ∙ append-nil f.pins)

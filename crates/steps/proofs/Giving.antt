@@ -1,31 +1,31 @@
 -- What is kept of a table when a request gives an entry, and pins its node.
-use Rattle.std.proofs.Common.{ℕ, ◌+◌, ◌<◌, ◌≤◌, ◌≡◌, ◌==◌, ◌||◌, Bool, false, [], ◌∷◌, ◌++◌, Some, Contains, refl, sym, ap, ◌∙◌, inl, inr, arith}
-use Rattle.std.proofs.lemmas.Bool.{or_cases, or_left, eqb-true}
+use Rattle.std.proofs.Common.{ℕ, ◌+◌, ◌<◌, ◌≤◌, ◌≡◌, ◌==◌, ◌||◌, Bool, List, [], ◌∷◌, ◌++◌, Some, Contains, refl, sym, ap, ◌∙◌, subst, inl, inr, arith}
+use Rattle.std.proofs.lemmas.Bool.{cond-true, eq-eqb, or_cases, or_left, eqb-true}
+use Rattle.std.proofs.lemmas.Option.{same_Some}
 use Rattle.ledger.specs.Postings.{Postings}
 use Rattle.tree.specs.declared.nodes.Key.{Key}
 use Rattle.tree.specs.Places.{Nodes, at_in, IsAlive, IsFree}
 use Rattle.files.specs.Filed.{files_of}
+use Rattle.flights.specs.declared.data.Flight.{Flight as Recorded}
 use Rattle.flights.specs.declared.data.Given.{Given}
-use Rattle.flights.specs.Flying.{IsFlying, PinsMore, pinning}
+use Rattle.flights.specs.Flying.{Flights as Recordeds, IsFlying, PinsMore, pinning}
 use Rattle.flights.specs.Listed.{InFlight, flying_of}
 use Rattle.image.specs.Law.{IsLawful}
 use Rattle.steps.specs.Keeping.{kept_by}
 use Rattle.steps.specs.declared.state.State.{State}
-use Rattle.steps.specs.Ending.{MayEnter, entering}
+use Rattle.steps.specs.Ending.{EntersName, MayEnter, MayFill}
 use Rattle.steps.specs.Entries.{Enters, newborn}
 use Rattle.steps.specs.Kept.{IsKept, flight_of, flights_in, stage_of, world_of}
-use Rattle.steps.specs.Steps.{Ends, IsOwned, answered}
+use Rattle.steps.specs.Steps.{answered}
 use Rattle.steps.specs.Sweeping.{IsEntered}
 use Rattle.steps.specs.World.{AreReady, Flight, Flights, World, with_entry}
-use Rattle.wants.proofs.Members.{first_in}
-use Rattle.steps.proofs.Ends.{working_else}
+use Rattle.wants.proofs.Members.{first_in, later_in}
 use Rattle.steps.proofs.Filing.{cases_kept, keeps_open, keeps_pinned, kept_more, nodes_entered}
 use Rattle.steps.proofs.Entering.{alive_written}
-use Rattle.steps.proofs.Guarding.{entered_path}
+use Rattle.steps.proofs.Guarding.{entered_path, entered_way}
 use Rattle.steps.proofs.Kept.{held_ready, ready_where}
 use Rattle.steps.proofs.Lawful.{lawful_pins}
-use Rattle.steps.proofs.Reasons.{IsSwept-refl}
-use Rattle.steps.proofs.Viewed.{IsFewer, are_kept, fewer_held, fewer_idle, fewer_provided, fewer_ready, flights_with}
+use Rattle.steps.proofs.Viewed.{IsFewer, fewer_held, fewer_idle, fewer_provided, fewer_ready, flights_with}
 
 module _ (s : State) (id : ℕ) (key : Key) (may : MayEnter s id (key ∷ [])) where
   mine : Contains (key ∷ []) key
@@ -112,25 +112,39 @@ module _ (s : State) (id : ℕ) (key : Key) (may : MayEnter s id (key ∷ [])) w
         flights_with (flying_of s.flights) (flying_of flights) id (pinning may.flight g.number) pins.at
         ∙ ap (λ (f : Flight). with_entry (flights_in (flying_of s.flights)) id (Some f)) pinned_one
 
-    still_unowned : IsOwned (at_in s.tree) (with_entry (flights_in (flying_of s.flights)) id (Some (answered (flight_of may.flight) []))) key → ⊥
-    still_unowned o = may.unowned key mine (record {
-      path = o.path;
-      leads = o.leads;
-      id = o.id;
-      flight = o.flight;
-      work = o.work;
-      here = working_else (flights_in (flying_of s.flights)) id (flight_of may.flight) [] o.id o.flight o.work o.here;
-      alone = o.alone;
-    })
-
-    pub give_ends : Ends (world_of s) id (flight_of may.flight) (entering (key ∷ [])) (key ∷ []) (record { id = id; given = Some g ∷ []; lost = false }) (world_of (record s { tree = tree; ledger = ledger; flights = flights; counts = s.counts + 1 }))
-    give_ends = record {
-      answer_id = refl;
-      not_lost = refl;
-      entered = at_in tree;
-      enters = (still_unowned, (at_in tree, ledger.made, enters, (refl, refl)));
-      altered = at_in tree;
-      alters = refl;
-      sweeps = record { kept = kept_by flights s.files; keeps = are_kept flights s.files flying kept.filed; swept = IsSwept-refl (kept_by flights s.files) (at_in tree) };
+    enters_one : EntersName (world_of s) id (flight_of may.flight) key g (world_of (record s { tree = tree; ledger = ledger; flights = flights; counts = s.counts + 1 }))
+    enters_one = record {
+      enters = enters;
       new_is = ap (λ (fs : Flights). let w : World = record (world_of s) { at = at_in tree; postings = ledger.made; flights = fs } in w) flights_are;
     }
+
+    -- the request gives an entry of the name, and pins its node
+    pub give_enters : (f : Recorded) → (flying_of s.flights).at id ≡ Some f → EntersName (world_of s) id (flight_of f) key g (world_of (record s { tree = tree; ledger = ledger; flights = flights; counts = s.counts + 1 }))
+    give_enters f here =
+        subst (λ (r : Recorded). EntersName (world_of s) id (flight_of r) key g (world_of (record s { tree = tree; ledger = ledger; flights = flights; counts = s.counts + 1 })))
+        (same_Some may.flight f (sym may.here ∙ here)) enters_one
+
+    -- the names that are left may be filled still
+    pub give_more : (rest : List Key) → MayFill s id (key ∷ rest) → MayFill (record s { tree = tree; ledger = ledger; flights = flights; counts = s.counts + 1 }) id rest
+    give_more rest fill =
+        let more = entered.more_is in
+        let same : fill.flight ≡ may.flight = same_Some fill.flight may.flight (sym fill.here ∙ may.here) in
+        let room : fill.flight.pins.room ≡ may.flight.pins.room = ap (λ (r : Recorded). r.pins.room) same in
+        record {
+          flight = pinning may.flight g.number;
+          here = ap (λ (at : Recordeds). at id) pins.at ∙ cond-true (id == id) (Some (pinning may.flight g.number)) ((flying_of s.flights).at id) (eq-eqb id id refl);
+          answered = may.answered;
+          pin_room = omega (arith, fill.pin_room, room);
+          leads = λ k h.
+              let up = fill.leads k (later_in key rest k h) in
+              record { names = up.names; climb = entered_way (at_in s.tree) s.ledger.made key.parent key.name g (at_in tree) ledger.made enters k.parent up.names up.climb };
+          room = record {
+            nodes = omega (arith, pins.nodes, fill.room.nodes, more.room, entered.one);
+            postings = omega (arith, pins.postings, fill.room.postings, more.counts, more.posting_room, entered.one);
+            nodes_within = omega (arith, pins.nodes, fill.room.nodes_within, more.living, entered.one);
+            postings_within = omega (arith, pins.postings, fill.room.postings_within, more.counts, more.postings, entered.one);
+            files = omega (arith, pins.files, fill.room.files);
+            files_within = omega (arith, pins.files, fill.room.files_within);
+            handles = omega (arith, pins.files, fill.room.handles);
+          };
+        }

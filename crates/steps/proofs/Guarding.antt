@@ -17,7 +17,7 @@ use Rattle.steps.proofs.Standing.{HoldsPrefixes, named_born, named_written, stay
 use Rattle.std.proofs.lemmas.Option.{none-some, same_Some}
 use Rattle.flights.specs.declared.data.Want.{Want}
 use Rattle.steps.specs.declared.data.Outcome.{Outcome}
-use Rattle.steps.specs.declared.data.Outcome.TheVariants.{Done, Entry, Failed}
+use Rattle.steps.specs.declared.data.Outcome.TheVariants.{Done, Entries, Entry, Failed}
 use Rattle.wants.specs.Asked.{HasPath, Holds}
 use Rattle.wants.specs.Laws.{AreOwn, IsRow}
 use Rattle.steps.specs.Laws.{AreEntriesHarmless, AreOthersLeft, AreSweepsHarmless, IsPlaced, LeavesWork}
@@ -34,6 +34,7 @@ pub act_own : (d : Demand) → IsRow d → (outcome : Outcome) → AreOwn d.alon
 act_own d row Failed = tt
 act_own d row Done = row.own
 act_own d row Entry = tt
+act_own d row (Entries found) = tt
 
 pub acts_own : (want : Want) (case : Case) (outcome : Outcome) → AreOwn (row_of want case).alone (act_of (row_of want case) outcome).change
 acts_own want case outcome = act_own (row_of want case) (are_rows want case) outcome
@@ -95,11 +96,14 @@ reaches_named : (old new : Lookup) → ((n p : ℕ) (name : Name) → IsNamed ol
 reaches_named old new named n [] h = h
 reaches_named old new named n (name ∷ way) h = (h.0, named n h.0 name h.1, reaches_named old new named h.0 way h.2)
 
+pub entered_way : (at : Lookup) (ps : List Posting) (parent : ℕ) (name : Name) (g : Given) (at' : Lookup) (qs : List Posting) → Enters at ps parent name g at' qs → (n : ℕ) (way : Names) → Reaches at 1 n way → Reaches at' 1 n way
+entered_way at ps parent name g at' qs (inl again) n way h =
+    subst (λ (l : Lookup). Reaches l 1 n way) (sym again.nodes) (reaches_named at _ (named_written at g.number again.node (record again.node { count = again.node.count + 1 }) again.here refl) n way h)
+entered_way at ps parent name g at' qs (inr born) n way h =
+    subst (λ (l : Lookup). Reaches l 1 n way) (sym born.nodes) (reaches_named at _ (named_born at g.number (newborn g parent name) born.fresh) n way h)
+
 pub entered_path : (at : Lookup) (ps : List Posting) (parent : ℕ) (name : Name) (g : Given) (at' : Lookup) (qs : List Posting) → Enters at ps parent name g at' qs → (n : ℕ) (q : Names) → IsPathOf at n q → IsPathOf at' n q
-entered_path at ps parent name g at' qs (inl again) n q h =
-    subst (λ l. IsPathOf l n q) (sym again.nodes) (reaches_named at _ (named_written at g.number again.node (record again.node { count = again.node.count + 1 }) again.here refl) n (reverse q) h)
-entered_path at ps parent name g at' qs (inr born) n q h =
-    subst (λ l. IsPathOf l n q) (sym born.nodes) (reaches_named at _ (named_born at g.number (newborn g parent name) born.fresh) n (reverse q) h)
+entered_path at ps parent name g at' qs enters n q h = entered_way at ps parent name g at' qs enters n (reverse q) h
 
 pub all_entered : (owners : Flights) (at at' : Lookup) (ps qs : List Posting) (keys : List Key) (found : List Bool) (given : List (Option Given)) → EntersAll owners at ps keys found given at' qs → (n : ℕ) (q : Names) → IsPathOf at n q → IsPathOf at' n q
 all_entered owners at at' ps qs (key ∷ keys) (true ∷ found) (Some g ∷ given) (free, (mid, rs, enters, more)) n q h =

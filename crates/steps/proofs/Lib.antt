@@ -29,3 +29,4 @@ pub mod Rooted
 pub mod Giving
 pub mod Changing
 pub mod Answering
+mod Filling

@@ -1,6 +1,8 @@
 -- What a request whose work has ended may do: each node that it names has a path, and no other holds its names alone.
-use Rattle.std.proofs.Common.{ℕ, ◌≡◌, [], ◌∷◌, Contains, length, reverse, sym, ap, ◌∙◌, subst, ◌⊎◌, inl, inr}
-use Rattle.std.specs.Prelude.{option_map}
+use Rattle.std.proofs.Common.{ℕ, ◌*◌, ◌≡◌, true, false, List, [], ◌∷◌, All, Contains, length, reverse, refl, sym, ap, ◌∙◌, subst, ◌⊎◌, inl, inr, arith}
+use Rattle.std.specs.Prelude.{map, option_map}
+use Rattle.std.proofs.lemmas.Bool.{false≢true, true≢false}
+use Rattle.std.proofs.lemmas.List.{length-map}
 use Rattle.std.proofs.lemmas.List.Elements.{All-contains}
 use Rattle.paths.specs.Prefixes.{Name, Names}
 use Rattle.paths.proofs.PrefixLemmas.{is_prefix-same}
@@ -21,7 +23,7 @@ use Rattle.wants.specs.Rows.{AtName, AtNode, Case, Change, Demand, case_in, cuts
 use Rattle.wants.proofs.Members.{any_in, cases_in, first_in, in_map, none_in, only_in}
 use Rattle.wants.proofs.RowLemmas.{are_rows}
 use Rattle.steps.specs.declared.state.State.{State}
-use Rattle.steps.specs.Ending.{AreUnder, IsEnding, MayAlter, MayEnter, name_at}
+use Rattle.steps.specs.Ending.{AreUnder, AreUnowned, IsEnding, LeadsTo, MayAlter, MayEnter, MayFill, folders_of, name_at}
 use Rattle.steps.specs.Kept.{IsKept, flight_of, flights_in}
 use Rattle.steps.specs.Laws.{IsPlaced}
 use Rattle.steps.specs.Steps.{HoldsUp, IsOwned}
@@ -31,12 +33,31 @@ use Rattle.steps.proofs.Viewed.{are_kept}
 
 -- ---- rows
 
--- a name for which an entry may be given is shared
-pub entries_shared : (want : Want) (c : Case) (key : Key) → Contains (row_of want c).entries key → Contains (row_of want c).shared (name_at key)
-entries_shared (wants.Node number handle) c key h = absurd (none_in key h)
-entries_shared (wants.Name parent name) c key h = subst (λ (k : Key). Contains (AtName parent name ∷ []) (name_at k)) (only_in (record { parent = parent; name = name }) key h) (first_in (AtName parent name) [])
-entries_shared (wants.Remove parent name) c key h = absurd (none_in key h)
-entries_shared (wants.Move parent name new_parent new_name) c key h = absurd (none_in key h)
+-- a name for which an entry may be given is under a node that is given
+pub entries_under : (want : Want) (c : Case) (key : Key) → Contains (row_of want c).entries key → Contains (row_of want c).given key.parent
+entries_under (wants.Node number handle) c key h = absurd (none_in key h)
+entries_under (wants.Name parent name) c key h = subst (λ (k : Key). Contains (parent ∷ []) k.parent) (only_in (record { parent = parent; name = name }) key h) (first_in parent [])
+entries_under (wants.Remove parent name) c key h = absurd (none_in key h)
+entries_under (wants.Move parent name new_parent new_name) c key h = absurd (none_in key h)
+entries_under (wants.Page folder names) c key h =
+    let it = in_map (λ (name : Name). let k : Key = record { parent = folder; name = name } in k) names key h in
+    subst (λ (k : Key). Contains (folder ∷ []) k.parent) it.2 (first_in folder [])
+
+-- and is shared, but for those of a page
+entries_shared : (want : Want) (c : Case) → (row_of want c).page ≡ false → (key : Key) → Contains (row_of want c).entries key → Contains (row_of want c).shared (name_at key)
+entries_shared (wants.Node number handle) c one key h = absurd (none_in key h)
+entries_shared (wants.Name parent name) c one key h = subst (λ (k : Key). Contains (AtName parent name ∷ []) (name_at k)) (only_in (record { parent = parent; name = name }) key h) (first_in (AtName parent name) [])
+entries_shared (wants.Remove parent name) c one key h = absurd (none_in key h)
+entries_shared (wants.Move parent name new_parent new_name) c one key h = absurd (none_in key h)
+entries_shared (wants.Page folder names) c one key h = absurd (true≢false one)
+
+-- a node is promised for each name of a page
+page_births : (want : Want) (c : Case) → (row_of want c).page ≡ true → (row_of want c).births ≡ length (row_of want c).entries
+page_births (wants.Node number handle) c page = refl
+page_births (wants.Name parent name) c page = absurd (false≢true page)
+page_births (wants.Remove parent name) c page = refl
+page_births (wants.Move parent name new_parent new_name) c page = refl
+page_births (wants.Page folder names) c page = sym (length-map names (λ (name : Name). let k : Key = record { parent = folder; name = name } in k))
 
 name_else : (parent : ℕ) (name : Name) → AtName parent name ≡ AtNode 1 → ⊥
 name_else parent name e = cc
@@ -46,6 +67,7 @@ rows_placed : (want : Want) (c : Case) → IsPlaced (row_of want c).alone
 rows_placed (wants.Node number handle) c h = none_in (AtNode 1) h
 rows_placed (wants.Name parent name) c h = none_in (AtNode 1) h
 rows_placed (wants.Remove parent name) c h = name_else parent name (only_in (AtName parent name) (AtNode 1) h)
+rows_placed (wants.Page folder names) c h = none_in (AtNode 1) h
 rows_placed (wants.Move parent name new_parent new_name) c h = elim (cases_in (AtName parent name) (AtName new_parent new_name ∷ []) (AtNode 1) h) [
   | inl e ↦ name_else parent name e
   | inr more ↦ name_else new_parent new_name (only_in (AtName new_parent new_name) (AtNode 1) more)
@@ -79,6 +101,22 @@ unowned at flights d held key holds clear shared o =
     let conflict : Conflict o.work.held held = inl (inr (o.alone.0, o.path, o.alone.1, o.alone.2, mine)) in
     clear (record { id = o.id; flight = o.flight; work = o.work; here = o.here; conflict = conflict })
 
+-- ---- the folder of a page
+
+lead_only : (at : Lookup) (given : List GivenPath) (number : ℕ) → map (λ (lead : GivenPath). lead.number) given ≡ number ∷ [] → All (λ (lead : GivenPath). IsPathOf at lead.number lead.path) given → LeadsTo at given number
+lead_only at [] number e leads = absurd (omega (arith, ap {B = ℕ} length e))
+lead_only at (lead ∷ []) number e leads =
+    let one : number ≡ lead.number = only_in number lead.number (subst (λ ns. Contains ns lead.number) e (first_in lead.number [])) in
+    record { lead = lead; only = refl; leads = subst (λ n. IsPathOf at n lead.path) (sym one) (leads 0 lead (omega arith)) }
+lead_only at (lead ∷ more ∷ given) number e leads = absurd (omega (arith, ap {B = ℕ} length e))
+
+lead_of : (at : Lookup) (want : Want) (c : Case) (held : Held) → Holds at (row_of want c) held → (n : ℕ) → Contains (folders_of (row_of want c)) n → LeadsTo at held.given n
+lead_of at (wants.Node number handle) c held holds n h = absurd (none_in n h)
+lead_of at (wants.Name parent name) c held holds n h = absurd (none_in n h)
+lead_of at (wants.Remove parent name) c held holds n h = absurd (none_in n h)
+lead_of at (wants.Move parent name new_parent new_name) c held holds n h = absurd (none_in n h)
+lead_of at (wants.Page folder names) c held holds n h = subst (λ k. LeadsTo at held.given k) (only_in folder n h) (lead_only at held.given folder holds.numbers holds.leads)
+
 -- ---- what a request that ends may do
 
 module _ (s : State) (id : ℕ) (work : RecordedWork) (kept : IsKept s) (e : IsEnding s id work) where
@@ -86,7 +124,7 @@ module _ (s : State) (id : ℕ) (work : RecordedWork) (kept : IsKept s) (e : IsE
   row = row_in work
 
   pub is_row : IsRow row
-  is_row = are_rows work.want (case_in work.promise)
+  is_row = are_rows work.want (case_in work.want work.promise)
 
   pub promised : work.promise ≡ promise_of row
   promised = e.provided.promise
@@ -103,19 +141,45 @@ module _ (s : State) (id : ℕ) (work : RecordedWork) (kept : IsKept s) (e : IsE
     here = e.here;
     answered = e.answered;
     pin_room = e.provided.pin_room;
-    leads = λ key h. given_leads (at_in s.tree) row work.held e.ready.holds key.parent (is_row.shared (name_at key) (entries_shared work.want (case_in work.promise) key h));
-    unowned = λ key h. unowned (at_in s.tree) (flights_in (flying_of s.flights)) row work.held key e.ready.holds e.clear (entries_shared work.want (case_in work.promise) key h);
+    leads = λ key h. given_leads (at_in s.tree) row work.held e.ready.holds key.parent (entries_under work.want (case_in work.want work.promise) key h);
     promise = work.promise;
     births = elim entries_standing [ inl one ↦ inl (ap (λ (p : Promise). p.nodes) promised ∙ one) | inr all ↦ inr all ];
     postings = ap (λ (p : Promise). p.postings) promised;
     room = e.room;
   }
 
+  pub are_unowned : row.page ≡ false → AreUnowned s row.entries
+  are_unowned one key h = unowned (at_in s.tree) (flights_in (flying_of s.flights)) row work.held key e.ready.holds e.clear (entries_shared work.want (case_in work.want work.promise) one key h)
+
+  pub may_fill : row.page ≡ true → MayFill s id row.entries
+  may_fill page =
+      let nodes : work.promise.nodes ≡ length row.entries = ap (λ (p : Promise). p.nodes) promised ∙ page_births work.want (case_in work.want work.promise) page in
+      let postings : work.promise.postings ≡ 3 * length row.entries = ap (λ (p : Promise). p.postings) promised in
+      record {
+        flight = e.flight;
+        here = e.here;
+        answered = e.answered;
+        pin_room = e.provided.pin_room;
+        leads = λ key h. given_leads (at_in s.tree) row work.held e.ready.holds key.parent (entries_under work.want (case_in work.want work.promise) key h);
+        room = record {
+          nodes = omega (arith, nodes, e.room.nodes);
+          postings = omega (arith, postings, e.room.postings);
+          nodes_within = omega (arith, nodes, e.room.nodes_within);
+          postings_within = omega (arith, postings, e.room.postings_within);
+          files = omega (arith, e.room.files);
+          files_within = omega (arith, e.room.files_within);
+          handles = omega (arith, e.room.handles);
+        };
+      }
+
+  pub folder_leads : (n : ℕ) → Contains (folders_of row) n → LeadsTo (at_in s.tree) work.held.given n
+  folder_leads n h = lead_of (at_in s.tree) work.want (case_in work.want work.promise) work.held e.ready.holds n h
+
   pub may_alter : MayAlter s row.done
   may_alter = record {
     demand = row;
     row = is_row;
-    placed = rows_placed work.want (case_in work.promise);
+    placed = rows_placed work.want (case_in work.want work.promise);
     own = is_row.own;
     held = work.held;
     holds = e.ready.holds;

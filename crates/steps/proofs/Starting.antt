@@ -80,6 +80,7 @@ same_case (wants.Node number handle) c = refl
 same_case (wants.Name parent name) c = refl
 same_case (wants.Remove parent name) c = refl
 same_case (wants.Move parent name new_parent new_name) c = refl
+same_case (wants.Page folder names) c = refl
 
 same_record : (v w : RecordedWork) → recorded.Working v ≡ recorded.Working w → v ≡ w
 same_record v w e = cc
@@ -99,7 +100,7 @@ module _ (s mid : State) (unique id : ℕ) (plan : Plan) (is : IsPlan (at_in s.t
       → GoesOn (world_of s) unique plan.work.want (row_in plan.work) (record { id = id; paths = plan.paths; same = same_path }) (world_of (record mid { flights = flights }))
   goes_on same_path fresh same_is = record {
     fresh = ap (λ (fs : Flights). fs id) (sym flights_same) ∙ ap (λ (o : Option Recorded). option_map flight_of o) fresh;
-    ticket_is = record { paths = is.paths; same = same_is ∙ same_case plan.work.want (case_in plan.work.promise) };
+    ticket_is = record { paths = is.paths; same = same_is ∙ same_case plan.work.want (case_in plan.work.want plan.work.promise) };
     held = plan.work.held;
     holds = is.holds;
     pins = plan.pins.numbers;
@@ -120,14 +121,14 @@ module _ (s mid : State) (unique id : ℕ) (plan : Plan) (is : IsPlan (at_in s.t
     given_pinned n given = (is.pins n).1 (inl given)
 
     its_row : IsRow (row_in plan.work)
-    its_row = are_rows plan.work.want (case_in plan.work.promise)
+    its_row = are_rows plan.work.want (case_in plan.work.want plan.work.promise)
 
     -- ---- the new request
 
     new_ready : IsReady (at_in mid.tree) (flight_of begun) (work_of plan.work)
     new_ready = subst (λ (at : Lookup). IsReady at (flight_of begun) (work_of plan.work)) (sym at_same)
         (begun_ready (world_of s) (world_of (record mid { flights = flights })) unique plan.work.want (row_in plan.work) (record { id = id; paths = plan.paths; same = same_path })
-        (record { case = case_in plan.work.promise; fits = is.fits; row = refl }) may (goes_on same_path fresh same_is))
+        (record { case = case_in plan.work.want plan.work.promise; fits = is.fits; row = refl }) may (goes_on same_path fresh same_is))
 
     new_known : All (IsGivenPath (at_in mid.tree) plan.work.held) plan.work.held.given
     new_known = subst (λ (at : Lookup). All (IsGivenPath at plan.work.held) plan.work.held.given) (sym at_same)

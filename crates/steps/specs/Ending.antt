@@ -1,32 +1,51 @@
 -- What the end of a request's work rests on, and what it does.
-use Rattle.std.specs.Prelude.{ℕ, ℤ, ◌*◌, ◌≡◌, ◌≤◌, ◌⊎◌, true, List, [], ◌∷◌, Option, Some, None, Contains, length, map}
+use Rattle.std.specs.Prelude.{ℕ, ℤ, ◌*◌, ◌≡◌, ◌≤◌, ◌⊎◌, Bool, true, false, if◌then◌else◌, List, [], ◌∷◌, Option, Some, Contains, length}
 use Rattle.flights.specs.declared.data.Flight.{Flight as Recorded}
+use Rattle.flights.specs.declared.data.Given.{Given}
 use Rattle.flights.specs.declared.data.Promise.{Promise}
 use Rattle.flights.specs.declared.data.Stage.TheVariants as recorded
 use Rattle.flights.specs.declared.data.Work.{Work as RecordedWork}
 use Rattle.flights.specs.Listed.{flying_of}
+use Rattle.holds.specs.declared.held.GivenPath.{GivenPath}
 use Rattle.holds.specs.declared.held.Held.{Held}
 use Rattle.tree.specs.declared.nodes.Key.{Key}
-use Rattle.tree.specs.Places.{Lookup, HasChild, IsCut, IsNamed, Leads, at_in}
+use Rattle.tree.specs.Places.{Lookup, HasChild, IsCut, IsNamed, IsPathOf, Leads, at_in}
 use Rattle.wants.specs.Asked.{Holds, IsMisplaced}
 use Rattle.wants.specs.Laws.{AreOwn, IsRow, base_of}
 use Rattle.wants.specs.Plans.{IsProvided}
-use Rattle.wants.specs.Rows.{Change, Demand, AtName, Location, cuts, moves, stays}
+use Rattle.wants.specs.Rows.{Change, Demand, AtName, Location, cuts, moves, page_keys, stays}
 use Rattle.steps.specs.declared.acts.Change.{Change as Changing}
 use Rattle.steps.specs.declared.acts.Change.TheVariants.{Stays, Cuts, Moves}
-use Rattle.steps.specs.declared.keys.Keys.{Keys}
+use Rattle.steps.specs.declared.acts.Entries.{Entries}
+use Rattle.steps.specs.declared.acts.Entries.TheVariants.{Nothing, One, Page}
 use Rattle.steps.specs.declared.state.State.{State}
+use Rattle.steps.specs.Entries.{Enters}
 use Rattle.steps.specs.Keeping.{kept_by}
 use Rattle.steps.specs.Kept.{IsRoomFor, flight_of, flights_in, work_of}
 use Rattle.steps.specs.Laws.{IsPlaced}
-use Rattle.steps.specs.Steps.{Act, Alters, HoldsUp, IsOwned, Sweeps}
-use Rattle.steps.specs.World.{IsReady, World}
+use Rattle.steps.specs.Steps.{Alters, EntersAll, HoldsUp, IsOwned, Sweeps, answered}
+use Rattle.steps.specs.World.{Flight, IsReady, World, with_entry}
 
 -- ---- the acts of a row
 
-abbrev pub keys_in : Option Keys → List Key
-keys_in None = []
-keys_in (Some keys) = keys.key ∷ []
+abbrev pub keys_in : Entries → List Key
+keys_in Nothing = []
+keys_in (One keys) = keys.key ∷ []
+keys_in (Page keys) = page_keys keys.folder keys.names
+
+abbrev pub is_page : Entries → Bool
+is_page Nothing = false
+is_page (One keys) = false
+is_page (Page keys) = true
+
+-- the folder of a page
+abbrev pub folders_in : Entries → List ℕ
+folders_in Nothing = []
+folders_in (One keys) = []
+folders_in (Page keys) = keys.folder ∷ []
+
+abbrev pub folders_of : Demand → List ℕ
+folders_of d = if d.page then d.given else []
 
 abbrev pub name_at : Key → Location
 name_at key = AtName key.parent key.name
@@ -35,10 +54,6 @@ abbrev pub change_in : Changing → Change
 change_in Stays = stays
 change_in (Cuts key) = cuts (name_at key)
 change_in (Moves key target) = moves (name_at key) (name_at target.key)
-
--- an entry is given for each name
-abbrev pub entering : List Key → Act
-entering keys = record { found = map (λ key. true) keys; change = stays }
 
 -- ---- what its end rests on
 
@@ -60,12 +75,30 @@ pub record MayEnter (s : State) (id : ℕ) (keys : List Key) : Type 0 where
   pub answered : flight.stage ≡ recorded.Answered
   pub pin_room : length keys ≤ flight.pins.room
   pub leads : (key : Key) → Contains keys key → Leads (at_in s.tree) key.parent
-  pub unowned : (key : Key) → Contains keys key → IsOwned (at_in s.tree) (flights_in (flying_of s.flights)) key → ⊥
   pub promise : Promise
   -- a birth was promised for each of the names, or a node stands there
   pub births : (promise.nodes ≡ length keys) ⊎ ((key : Key) → Contains keys key → (n : ℕ) × IsNamed (at_in s.tree) n key.parent key.name)
   pub postings : promise.postings ≡ 3 * length keys
   pub room : IsRoomFor s promise
+
+-- no request that is worked on holds one of the names alone
+abbrev pub AreUnowned : State → List Key → Type 0
+AreUnowned s keys = (key : Key) → Contains keys key → IsOwned (at_in s.tree) (flights_in (flying_of s.flights)) key → ⊥
+
+-- a node and an entry may be given for each name: both were promised for each of them
+pub record MayFill (s : State) (id : ℕ) (keys : List Key) : Type 0 where
+  pub flight : Recorded
+  pub here : (flying_of s.flights).at id ≡ Some flight
+  pub answered : flight.stage ≡ recorded.Answered
+  pub pin_room : length keys ≤ flight.pins.room
+  pub leads : (key : Key) → Contains keys key → Leads (at_in s.tree) key.parent
+  pub room : IsRoomFor s (record { nodes = length keys; postings = 3 * length keys; files = 0 })
+
+-- the request named that node alone, by its path
+pub record LeadsTo (at : Lookup) (given : List GivenPath) (number : ℕ) : Type 0 where
+  pub lead : GivenPath
+  pub only : given ≡ lead ∷ []
+  pub leads : IsPathOf at number lead.path
 
 -- names may change that a row holds alone, where no request that is worked on is in the way
 pub record MayAlter (s : State) (change : Change) : Type 0 where
@@ -91,6 +124,24 @@ abbrev pub IsUnder : Change → ℕ → Type 0
 IsUnder stays n = ⊥
 IsUnder (cuts l) n = n ≡ base_of l
 IsUnder (moves source target) n = (n ≡ base_of source) ⊎ (n ≡ base_of target)
+
+-- an entry of the name is given, and the request pins its node
+pub record EntersName (old : World) (id : ℕ) (f : Flight) (key : Key) (g : Given) (new : World) : Type 0 where
+  pub enters : Enters old.at old.postings key.parent key.name g new.at new.postings
+  pub new_is : new ≡ record old {
+    at = new.at;
+    postings = new.postings;
+    flights = with_entry old.flights id (Some (answered f (Some g ∷ [])));
+  }
+
+-- entries of these names are given as they were found, and the request pins what it gave
+pub record GivesAll (old : World) (id : ℕ) (f : Flight) (keys : List Key) (found : List Bool) (given : List (Option Given)) (new : World) : Type 0 where
+  pub enters : EntersAll old.flights old.at old.postings keys found given new.at new.postings
+  pub new_is : new ≡ record old {
+    at = new.at;
+    postings = new.postings;
+    flights = with_entry old.flights id (Some (answered f given));
+  }
 
 -- names change, and what nothing keeps any more goes
 pub record ChangesNames (old : World) (change : Change) (new : World) : Type 0 where

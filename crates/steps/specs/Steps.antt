@@ -1,5 +1,5 @@
 -- The steps of a table. Each says the whole new world.
-use Rattle.std.specs.Prelude.{ℕ, ℤ, ◌+◌, ◌-◌, ◌<◌, ◌≡◌, ◌↔◌, Bool, true, false, List, [], ◌∷◌, ◌++◌, Option, Some, None, Contains, length, drop, map, min}
+use Rattle.std.specs.Prelude.{ℕ, ℤ, ◌+◌, ◌-◌, ◌<◌, ◌≡◌, ◌==◌, ◌&&◌, ◌↔◌, not, if◌then◌else◌, Bool, true, false, List, [], ◌∷◌, ◌++◌, Option, Some, None, Contains, length, drop, map, min}
 use Rattle.errno.specs.declared.TheConstants.{EAGAIN, EBADF, ENFILE}
 use Rattle.files.specs.declared.data.OpenFile.{OpenFile}
 use Rattle.files.specs.Handles.{Files, allows}
@@ -19,7 +19,7 @@ use Rattle.wants.specs.Rows.{Change, Demand, Location, Used, cuts, is_same, move
 use Rattle.steps.specs.declared.data.Begin.{Begin}
 use Rattle.steps.specs.declared.data.Begin.TheVariants.{Go, Busy, Refused}
 use Rattle.steps.specs.declared.data.Outcome.{Outcome}
-use Rattle.steps.specs.declared.data.Outcome.TheVariants.{Done, Entry, Failed}
+use Rattle.steps.specs.declared.data.Outcome.TheVariants.{Done, Entries, Entry, Failed}
 use Rattle.steps.specs.Answers.{Answer, Claim, Settlement, entries_in}
 use Rattle.steps.specs.Entries.{Enters, TakesAllBack, untaken_of}
 use Rattle.steps.specs.Swept.{IsSwept}
@@ -146,14 +146,26 @@ pub record Act : Type 0 where
   pub change : Change
 
 -- nothing is done
+abbrev pub none_found : List Key → List Bool
+none_found keys = map (λ key. false) keys
+
 abbrev pub failure : Demand → Act
-failure d = record { found = map (λ key. false) d.entries; change = stays }
+failure d = record { found = none_found d.entries; change = stays }
+
+-- the name of a request that has one, and is no page
+abbrev pub one_found : Bool → List Key → List Bool
+one_found page keys = map (λ key. not page) keys
+
+-- the names of a page, where it is told of each whether it was found
+abbrev pub page_found : Bool → List Key → List Bool → List Bool
+page_found page keys found = if page && (length found == length keys) then found else none_found keys
 
 -- an outcome that does not fit the row acts as a failure
 abbrev pub act_of : Demand → Outcome → Act
 act_of d Failed = failure d
 act_of d Done = record (failure d) { change = d.done }
-act_of d Entry = record (failure d) { found = map (λ key. true) d.entries }
+act_of d Entry = record (failure d) { found = one_found d.page d.entries }
+act_of d (Entries found) = record (failure d) { found = page_found d.page d.entries found }
 
 -- ---- finish: entries
 

@@ -1,14 +1,22 @@
 //! What the end of a request's work may do: the names of its row, taken out of its want.
 
 ghost use Rattle.std.specs.Prelude.{◌≡◌};
-ghost use Rattle.steps.specs.Ending.{change_in, keys_in};
-ghost use Rattle.wants.specs.Plans.{copied};
+ghost use Rattle.steps.specs.Ending.{change_in, folders_in, folders_of, is_page, keys_in};
+ghost use Rattle.wants.specs.Plans.{copied, copied_page};
 ghost use Rattle.wants.specs.Rows.{Case, row_of};
 
-use crate::keys::Keys;
-use flights::Want;
+use crate::keys::{Keys, PageKeys};
+use flights::{Names, Want};
 use paths::Name;
 use tree::Key;
+
+/// The names for which entries may be given.
+#[derive(Drop)]
+pub(crate) enum Entries {
+    Nothing,
+    One(Keys),
+    Page(PageKeys),
+}
 
 /// What becomes of names once the work is done.
 #[derive(Drop)]
@@ -23,28 +31,30 @@ pub(crate) enum Change {
 /// What the outcomes of a request may do.
 #[derive(Drop)]
 pub(crate) struct Acts {
-    /// The name for which an entry may be given.
-    pub(crate) entry: Option<Keys>,
+    pub(crate) entries: Entries,
     pub(crate) change: Change,
 }
 
 /// What the row of the want says.
-pub(crate) fn acts_of(want: Want, copy: Option<Name>) -> Acts
-    requires { copy ≡ copied want }
-    ensures entry { (c : Case) → keys_in result.entry ≡ (row_of want c).entries }
+pub(crate) fn acts_of(want: Want, copy: Option<Name>, copies: Names) -> Acts
+    requires copy { copy ≡ copied want }
+    requires copies { copies ≡ copied_page want }
+    ensures entries { (c : Case) → keys_in result.entries ≡ (row_of want c).entries }
+    ensures page { (c : Case) → is_page result.entries ≡ (row_of want c).page }
+    ensures folders { (c : Case) → folders_in result.entries ≡ folders_of (row_of want c) }
     ensures change { (c : Case) → change_in result.change ≡ (row_of want c).done }
 {
     match want {
         Want::Node { .. } => Acts {
-            entry: None,
+            entries: Entries::Nothing,
             change: Change::Stays,
         },
         Want::Name { parent, name } => Acts {
-            entry: Some(Keys::new(parent, name, copy)),
+            entries: Entries::One(Keys::new(parent, name, copy)),
             change: Change::Stays,
         },
         Want::Remove { parent, name } => Acts {
-            entry: None,
+            entries: Entries::Nothing,
             change: Change::Cuts(Key { parent, name }),
         },
         Want::Move {
@@ -53,8 +63,16 @@ pub(crate) fn acts_of(want: Want, copy: Option<Name>) -> Acts
             new_parent,
             new_name,
         } => Acts {
-            entry: None,
+            entries: Entries::Nothing,
             change: Change::Moves(Key { parent, name }, Keys::new(new_parent, new_name, copy)),
+        },
+        Want::Page { folder, names } => Acts {
+            entries: Entries::Page(PageKeys {
+                folder,
+                names,
+                copies,
+            }),
+            change: Change::Stays,
         },
     }
 }

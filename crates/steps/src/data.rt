@@ -2,6 +2,7 @@
 
 ghost use Rattle.std.specs.Prelude.{◌≡◌};
 
+use crate::found::FoundNames;
 use flights::{Given, Givens};
 use holds::Paths;
 use paths::Path;
@@ -57,7 +58,8 @@ impl Ticket {
         self.id
     }
 
-    /// The paths that the request is about, as they were when it began: of a move the old one and then the new one.
+    /// The paths that the request is about, as they were when it began: of a move the old one and then the new one, of a page
+    /// that of its folder and then that of each name.
     pub fn paths(&self) -> &[Path]
         ensures { result.now ≡ self.now.paths }
     {
@@ -83,7 +85,7 @@ pub enum Begin {
 }
 
 /// What a request came to.
-#[derive(Clone, Copy, Debug, PartialEq, Eq)]
+#[derive(Drop)]
 pub enum Outcome {
     /// It failed. An outcome that does not fit the want counts as this one.
     Failed,
@@ -91,6 +93,8 @@ pub enum Outcome {
     Done,
     /// Its name is there, and the client is given an entry of it.
     Entry,
+    /// Of a page: which of its names are there. The client is given an entry of each of them that no other request holds alone.
+    Entries(FoundNames),
 }
 
 /// What a finished request gives to the client. It must be spent by `Table::settle`, or by `leave`.

@@ -2,6 +2,7 @@
 
 ghost use Rattle.std.specs.Prelude.{◌≡◌, Some};
 
+use flights::Names;
 use paths::Name;
 use tree::Key;
 
@@ -26,4 +27,13 @@ impl Keys {
             copy: Key { parent, name: copy },
         }
     }
+}
+
+/// The names of a page, and the same names once more.
+#[derive(Drop)]
+pub(crate) struct PageKeys {
+    pub(crate) folder: u64,
+    pub(crate) names: Names,
+    pub(crate) copies: Names,
+    ghost same: { copies ≡ names },
 }

@@ -9,6 +9,8 @@ mod data;
 mod entries;
 mod finish;
 mod forget;
+mod found;
+mod give;
 mod keys;
 mod laws;
 mod places;
@@ -17,6 +19,7 @@ mod state;
 mod sweep;
 
 pub use data::{Answered, Begin, Limits, Outcome, Settled, Ticket};
+pub use found::FoundNames;
 pub use laws::{
     acts_are_own, begun_are_ready, ends_are_harmless, entries_are_harmless, ledgers_are_grown,
     others_are_left, sweeps_are_harmless, tallies_are_fixed,

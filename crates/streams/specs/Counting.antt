@@ -1,5 +1,5 @@
 -- A link over a stream counts its failures.
-use Rattle.std.proofs.Common.{ℕ, ◌≡◌, List, refl, ap, ◌∙◌, arith}
+use Rattle.std.proofs.Common.{ℕ, ◌≡◌, List, ap, ◌∙◌, arith}
 use Rattle.engine.specs.Links.{Heard, Piece, Ended, Broke, counted, lost, missed}
 use Rattle.engine.specs.declared.links.Sent.{Sent}
 use Rattle.engine.specs.declared.links.Sent.TheVariants as sent

@@ -66,6 +66,20 @@ impl<R: Read, W: Write> StreamLink<R, W> {
     }
 }
 
+impl<R: Read + Drop, W: Write> StreamLink<R, W> {
+    /// Hands the writer back.
+    pub fn into_writer(self) -> W
+        ensures { W.contents result ≡ self.output }
+    {
+        let StreamLink {
+            reader: _,
+            writer,
+            failures: _,
+        } = self;
+        writer
+    }
+}
+
 impl<R: Read, W: Write> LinkIn for StreamLink<R, W> {
     ghost use Rattle.streams.specs.Streams.{Receives};
     ghost use Rattle.streams.specs.Counting.{receives_counted};

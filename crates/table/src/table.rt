@@ -97,7 +97,8 @@ impl<L: Ledgers> Table<L> {
         begin
     }
 
-    /// Ends the work on a request. It takes no memory.
+    /// Ends the work on a request. Of a page an entry is given for each name that was found, in order, but for those that another
+    /// request holds alone. It takes no memory.
     pub fn finish(&mut self, share: &mut Share<L>, ticket: Ticket, outcome: Outcome) -> Answered
         ensures finishes { Finishes (world_of self.old) ticket.id outcome result (world_of self.new) }
         ensures lawful { IsLawfulWorld (world_of self.new) }

@@ -2,14 +2,14 @@
 
 ghost use Rattle.std.specs.Prelude.{◌<◌, vec_len};
 
-use crate::story::{Asks, Reply, Sum, Told};
-use flights::Want;
+use crate::story::{Asks, Outcome, Reply, Sum, Told};
+use flights::{Names, Want};
 use image::Image;
 use ledger::{Gather, Ledgers, Share};
 use paths::Name;
 use std::alloc::{AllocError, AllocFailed, Global};
 use std::mem::swap;
-use table::{Answered, Begin, Outcome, Table, Ticket};
+use table::{Answered, Begin, FoundNames, Given, Outcome as TableOutcome, Table, Ticket};
 
 /// The ticket of the request that bears a unique number.
 pub struct Begun {
@@ -55,7 +55,38 @@ pub fn want_of(alloc: Global, asks: Asks) -> Result<Want, AllocError> {
             new_parent,
             new_name: Name::copy_of(alloc, new_name)?,
         },
+        Asks::Page(folder, names) => Want::Page {
+            folder,
+            names: names_of(alloc, names)?,
+        },
     })
+}
+
+fn names_of(alloc: Global, names: &[&str]) -> Result<Names, AllocError> {
+    let mut copies = Vec::new(alloc);
+    for name in names {
+        copies.push(Name::copy_of(alloc, name)?)?;
+    }
+    Ok(Names::from_vec(copies))
+}
+
+/// The outcome, with findings of its own.
+pub fn outcome_of(alloc: Global, outcome: Outcome) -> Result<TableOutcome, AllocError> {
+    Ok(match outcome {
+        Outcome::Failed => TableOutcome::Failed,
+        Outcome::Done => TableOutcome::Done,
+        Outcome::Entry => TableOutcome::Entry,
+        Outcome::Entries(found) => {
+            let mut all = Vec::new(alloc);
+            all.extend_from_slice(found)?;
+            TableOutcome::Entries(FoundNames::from_vec(all))
+        }
+    })
+}
+
+/// How many of the names are given an entry.
+fn entries_in(given: &[Option<Given>]) -> u64 {
+    given.iter().filter(|given| given.is_some()).count() as u64
 }
 
 /// What a finish told of a ticket with that id.
@@ -68,6 +99,7 @@ pub fn told_by(answered: &Answered, id: u64) -> Told {
         ([], false) => Told::Ended,
         ([None], false) => Told::NotGiven,
         ([Some(given)], false) => Told::Given(given.number, given.generation),
+        (given, false) => Told::Gave(entries_in(given)),
         _ => Told::Otherwise,
     }
 }
@@ -108,6 +140,7 @@ impl<L: Ledgers> Desk<L> {
         let Some(place) = place else {
             return Ok(Told::Otherwise);
         };
+        let outcome = outcome_of(self.alloc, outcome)?;
         self.answers.reserve(1)?;
         let Begun { unique, ticket } = self.tickets.remove(place);
         let id = ticket.id();
@@ -185,7 +218,9 @@ impl<L: Ledgers> Desk<L> {
             mut answers,
         } = self;
         while let Some(Begun { unique: _, ticket }) = tickets.pop() {
-            table.finish(&mut share, ticket, Outcome::Failed).leave();
+            table
+                .finish(&mut share, ticket, TableOutcome::Failed)
+                .leave();
         }
         tickets.destroy_empty();
         while let Some(

@@ -35,6 +35,31 @@ impl Draws {
         }
     }
 
+    /// Some names of a page.
+    pub fn page(&mut self) -> &'static [&'static str] {
+        match self.among(5) {
+            0 => &["a"],
+            1 => &["b", "a"],
+            2 => &["a", "c"],
+            3 => &["c", "b", "c"],
+            _ => &["b"],
+        }
+    }
+
+    /// Which of so many names are there, by a choice: in one of six for another page.
+    pub fn found(&self, names: usize, choice: u64) -> &'static [bool] {
+        match (names, choice) {
+            (_, 2) => &[true, true, true, true],
+            (1, 3) => &[false],
+            (1, _) => &[true],
+            (2, 3) => &[false, true],
+            (2, 4) => &[false, false],
+            (2, _) => &[true, true],
+            (_, 3) => &[true, false, true],
+            _ => &[true, true, true],
+        }
+    }
+
     pub fn name(&mut self) -> &'static str {
         match self.among(3) {
             0 => "a",

@@ -1,9 +1,8 @@
 //! What each call of a long run may come to.
 
 use crate::change::Change;
-use crate::story::{Asks, Reply, Told};
+use crate::story::{Asks, Outcome, Reply, Told};
 use errno::{EAGAIN, EINVAL, ENFILE, ENOTEMPTY, ESTALE};
-use table::Outcome;
 
 /// What a call came to.
 #[derive(Clone, Copy, PartialEq, Eq)]
@@ -14,10 +13,12 @@ pub enum Event {
     BusyName,
     BusyRemoval,
     BusyMove,
+    BusyPage,
     /// One path of a move is a prefix of the other.
     Astray,
     /// No node may be added.
     Full,
+    FullPage,
     /// No request may be in flight beside the others.
     Crowded,
     StaleNode,
@@ -31,6 +32,14 @@ pub enum Event {
     FailedName,
     /// The outcome is none of a LOOKUP.
     MisfitName,
+    /// Entries of a page.
+    Page,
+    /// The same, with a birth.
+    PageBirth,
+    /// The same, but a name that was found is given nothing, since another holds it alone.
+    Withheld,
+    EmptyPage,
+    MisfitPage,
     Node,
     Cut,
     RemovedNothing,
@@ -71,9 +80,11 @@ pub fn begun(asks: Asks, told: Told, change: Change) -> Option<Event> {
         (Told::Busy, Asks::Name(..)) => Some(Event::BusyName),
         (Told::Busy, Asks::Remove(..)) => Some(Event::BusyRemoval),
         (Told::Busy, Asks::Move(..)) => Some(Event::BusyMove),
+        (Told::Busy, Asks::Page(..)) => Some(Event::BusyPage),
         (Told::Refused(EINVAL), Asks::Move(..)) => Some(Event::Astray),
         (Told::Refused(ENOTEMPTY), Asks::Move(..)) => Some(Event::Astray),
         (Told::Refused(ENFILE), Asks::Name(..)) => Some(Event::Full),
+        (Told::Refused(ENFILE), Asks::Page(..)) => Some(Event::FullPage),
         (Told::Refused(EAGAIN), _) => Some(Event::Crowded),
         (Told::Refused(ESTALE), Asks::Node(_)) => Some(Event::StaleNode),
         (Told::Refused(ESTALE), _) => Some(Event::StaleName),
@@ -104,6 +115,56 @@ fn given(generation: u64, change: Change) -> Option<Event> {
             moved: 0,
             cut: 0,
         } => Some(Event::Rebirth),
+        _ => None,
+    }
+}
+
+/// How many entries a finish told of.
+pub fn entries_of(told: Told) -> u64 {
+    match told {
+        Told::Given(..) => 1,
+        Told::Gave(entries) => entries,
+        _ => 0,
+    }
+}
+
+fn found_in(found: &[bool]) -> u64 {
+    found.iter().filter(|found| **found).count() as u64
+}
+
+/// What the end of a page of so many names came to, which told of so many entries.
+fn filled(names: usize, found: &[bool], entries: u64, change: Change) -> Option<Event> {
+    let (posted, born) = (change.posted as u64, change.born as u64);
+    if born > entries || posted != entries.saturating_add(born) {
+        return None;
+    }
+    if (change.gone, change.moved, change.cut) != (0, 0, 0) {
+        return None;
+    }
+    if found.len() != names {
+        return if entries == 0 {
+            Some(Event::MisfitPage)
+        } else {
+            None
+        };
+    }
+    let found = found_in(found);
+    if entries > found {
+        return None;
+    }
+    Some(match (entries, born) {
+        _ if entries < found => Event::Withheld,
+        (0, _) => Event::EmptyPage,
+        (_, 0) => Event::Page,
+        _ => Event::PageBirth,
+    })
+}
+
+/// What the end of a page came to.
+fn paged(names: usize, outcome: Outcome, told: Told, change: Change) -> Option<Event> {
+    match outcome {
+        Outcome::Entries(found) => filled(names, found, entries_of(told), change),
+        _ if change == NONE && entries_of(told) == 0 => Some(Event::MisfitPage),
         _ => None,
     }
 }
@@ -139,6 +200,7 @@ pub fn finished(asks: Asks, outcome: Outcome, told: Told, change: Change) -> Opt
         (Asks::Name(..), Outcome::Done, Told::NotGiven) if change == NONE => {
             Some(Event::MisfitName)
         }
+        (Asks::Page(_, names), _, _) => paged(names.len(), outcome, told, change),
         (Asks::Node(_), _, Told::Ended) if change == NONE => Some(Event::Node),
         (Asks::Remove(..), Outcome::Done, Told::Ended) => done(false, change),
         (Asks::Remove(..), _, Told::Ended) if change == NONE => Some(Event::FailedRemoval),
@@ -163,12 +225,14 @@ pub fn settled(reply: Reply, entries: u64, told: Told, change: Change) -> Option
     }
     match change {
         Change {
-            posted: 1,
+            posted,
             born: 0,
             moved: 0,
             cut: 0,
             ..
-        } if is_back(reply, entries) => { Some(Event::GivenBack) }
+        } if is_back(reply, entries) && posted > 0 && posted as u64 <= entries => {
+            Some(Event::GivenBack)
+        }
         Change {
             posted: 0,
             born: 0,

@@ -4,12 +4,12 @@ use crate::story::Asks::{Move, Name, Node, Remove};
 use crate::story::Posted::{Born, Entry};
 use crate::story::Spot::{At, Cut};
 use crate::story::Told::{Busy, Ended, Given, Go, NotGiven, Refused, Settled};
-use crate::story::{DEFAULT, Flying, Holding, Living, ROOT, Reply, Step, Story, Sum, TOP};
+use crate::story::{DEFAULT, Flying, Holding, Living, Outcome, ROOT, Reply, Step, Story, Sum, TOP};
 use crate::teller::run;
 use errno::{ENFILE, ESTALE};
 use image::Stage::{Answered, Working};
 use std::test::Fail;
-use table::{Limits, Outcome};
+use table::Limits;
 
 /// The LOOKUP of a name waits for its removal, though no node stands there. Then the directory has no such name.
 const AT_NO_NODE: Story = Story {

@@ -4,11 +4,10 @@ use crate::story::Asks::Name;
 use crate::story::Posted::{Born, Entry, Forget};
 use crate::story::Spot::At;
 use crate::story::Told::{Amount, Given, Go};
-use crate::story::{DEFAULT, Flying, Holding, Living, ROOT, Step, Story, Sum, TOP};
+use crate::story::{DEFAULT, Flying, Holding, Living, Outcome, ROOT, Step, Story, Sum, TOP};
 use crate::teller::run;
 use image::Stage::{Answered, Working};
 use std::test::Fail;
-use table::Outcome;
 
 const OPENED: Story = Story {
     limits: DEFAULT,

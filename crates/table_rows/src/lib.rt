@@ -28,6 +28,8 @@ mod moving_rows;
 #[cfg(test)]
 mod order_rows;
 #[cfg(test)]
+mod page_rows;
+#[cfg(test)]
 mod removal_rows;
 #[cfg(test)]
 mod run_rows;

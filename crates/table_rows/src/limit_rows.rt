@@ -2,12 +2,12 @@
 
 use crate::story::Asks::{Move, Name, Node, Remove};
 use crate::story::Told::{Amount, Ended, Given, Go, NotGiven, Refused, Settled};
-use crate::story::{DEFAULT, ROOT, Reply, Step, Story, Sum};
+use crate::story::{DEFAULT, Outcome, ROOT, Reply, Step, Story, Sum};
 use crate::teller::run;
 use errno::{EAGAIN, ENFILE};
 use std::alloc::{AllocError, Global};
 use std::test::Fail;
-use table::{Limits, Outcome};
+use table::Limits;
 
 #[test]
 fn default_limits(rt: HostRuntime) {

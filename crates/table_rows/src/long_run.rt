@@ -4,14 +4,14 @@
 use crate::change::{Change, count_of};
 use crate::desk::Desk;
 use crate::draws::Draws;
-use crate::event::{Event, begun, finished, forgotten, settled};
-use crate::story::{Asks, DEFAULT, ROOT, Reply, Step, Sum, TOP, Told};
+use crate::event::{Event, begun, entries_of, finished, forgotten, settled};
+use crate::story::{Asks, DEFAULT, Outcome, ROOT, Reply, Step, Sum, TOP, Told};
 use crate::teller::{Play, misgathered, mistold, play_new};
 use image::Image;
 use ledger::{Ledgers, Posting};
 use std::alloc::{AllocError, Global};
 use std::test::Fail;
-use table::{Limits, Outcome};
+use table::Limits;
 
 const STEPS: usize = 10_000;
 
@@ -29,8 +29,10 @@ const LEAST: &[(Event, u64)] = &[
     (Event::BusyName, 21),
     (Event::BusyRemoval, 21),
     (Event::BusyMove, 21),
+    (Event::BusyPage, 1),
     (Event::Astray, 21),
     (Event::Full, 21),
+    (Event::FullPage, 21),
     (Event::Crowded, 21),
     (Event::StaleNode, 21),
     (Event::StaleName, 21),
@@ -39,6 +41,11 @@ const LEAST: &[(Event, u64)] = &[
     (Event::Rebirth, 21),
     (Event::FailedName, 21),
     (Event::MisfitName, 21),
+    (Event::Page, 21),
+    (Event::PageBirth, 21),
+    (Event::Withheld, 5),
+    (Event::EmptyPage, 21),
+    (Event::MisfitPage, 21),
     (Event::Node, 21),
     (Event::Cut, 21),
     (Event::RemovedNothing, 21),
@@ -118,7 +125,8 @@ impl LongRun {
 
     fn draw_want(&mut self) -> Asks<'static> {
         let parent = self.draws.parent(7);
-        match self.draws.among(8) {
+        match self.draws.among(10) {
+            8..=9 => Asks::Page(parent, self.draws.page()),
             0..=1 => Asks::Node(self.draws.among(6)),
             2 => Asks::Remove(parent, self.draws.name()),
             3..=4 => {
@@ -134,6 +142,8 @@ impl LongRun {
         let (unique, asks) = *self.working.get(place)?;
         let outcome = match (asks, self.draws.among(8)) {
             (_, 0) => Outcome::Failed,
+            (Asks::Page(..), 1) => Outcome::Entry,
+            (Asks::Page(_, names), draw) => Outcome::Entries(self.draws.found(names.len(), draw)),
             (Asks::Name(..), 1) => Outcome::Done,
             (Asks::Name(..), _) => Outcome::Entry,
             (_, 1) => Outcome::Entry,
@@ -185,8 +195,7 @@ impl LongRun {
                 let Some(asks) = take_out(&mut self.working, unique) else {
                     return Ok(None);
                 };
-                let entries = matches!(&told, Told::Given(..)) as u64;
-                self.ended.push((unique, entries))?;
+                self.ended.push((unique, entries_of(told)))?;
                 Ok(finished(asks, outcome, told, change))
             }
             Step::Settle(unique, reply, _) => match take_out(&mut self.ended, unique) {

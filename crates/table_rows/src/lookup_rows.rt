@@ -4,10 +4,9 @@ use crate::story::Asks::Name;
 use crate::story::Posted::{Back, Born, Entry, Forget};
 use crate::story::Spot::At;
 use crate::story::Told::{Amount, Given, Go, Settled};
-use crate::story::{DEFAULT, Living, ROOT, Reply, Step, Story, Sum, TOP};
+use crate::story::{DEFAULT, Living, Outcome, ROOT, Reply, Step, Story, Sum, TOP};
 use crate::teller::run;
 use std::test::Fail;
-use table::Outcome;
 
 /// A name is looked up, and its reply is taken.
 const FRESH: Story = Story {

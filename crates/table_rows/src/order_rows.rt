@@ -4,11 +4,11 @@
 use crate::long_rows::long_name;
 use crate::story::Asks::{Move, Name, Node, Remove};
 use crate::story::Told::{Busy, Ended, Given, Go, Refused};
-use crate::story::{DEFAULT, ROOT, Step, Story, Sum};
+use crate::story::{DEFAULT, Outcome, ROOT, Step, Story, Sum};
 use crate::teller::run;
 use errno::{EAGAIN, EINVAL, ENAMETOOLONG, ENFILE, ENOTEMPTY, ESTALE};
 use std::test::Fail;
-use table::{Limits, Outcome};
+use table::Limits;
 
 #[test]
 fn error_numbers(rt: HostRuntime) {

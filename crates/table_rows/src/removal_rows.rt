@@ -4,12 +4,11 @@ use crate::story::Asks::{Name, Node, Remove};
 use crate::story::Posted::{Born, Entry, Forget};
 use crate::story::Spot::{At, Cut};
 use crate::story::Told::{Amount, Ended, Given, Go, Refused, Settled};
-use crate::story::{DEFAULT, Flying, Holding, Living, ROOT, Reply, Step, Story, Sum, TOP};
+use crate::story::{DEFAULT, Flying, Holding, Living, Outcome, ROOT, Reply, Step, Story, Sum, TOP};
 use crate::teller::run;
 use errno::ESTALE;
 use image::Stage::{Answered, Working};
 use std::test::Fail;
-use table::Outcome;
 
 /// The folder `d` is node 2, and `x` in it is node 3.
 const KNOWN: &[Living] = &[

@@ -1,11 +1,11 @@
 //! Runs: calls on what is pending, where a ticket and an answer are named by their place.
 
-use crate::desk::{Desk, told_by, want_of};
-use crate::story::Asks::{Name, Remove};
+use crate::desk::{Desk, outcome_of, told_by, want_of};
+use crate::story::Asks::{Name, Page, Remove};
 use crate::story::Posted::{Back, Born, Entry, Forget};
 use crate::story::Spot::At;
-use crate::story::Told::{Amount, Busy, Ended, Given, Go, Nothing, Refused, Settled};
-use crate::story::{Asks, DEFAULT, Flying, Living, ROOT, Reply, Step, Sum, TOP, Told};
+use crate::story::Told::{Amount, Busy, Ended, Gave, Given, Go, Nothing, Refused, Settled};
+use crate::story::{Asks, DEFAULT, Flying, Living, Outcome, ROOT, Reply, Step, Sum, TOP, Told};
 use crate::teller::{Play, misgathered, mistold, play_new};
 use errno::ESTALE;
 use image::Stage::Answered;
@@ -13,18 +13,18 @@ use ledger::Ledgers;
 use runs::{Call, Pending, Started, Told as CallTold};
 use std::alloc::{AllocError, Global};
 use std::test::Fail;
-use table::Outcome;
+use table::Outcome as TableOutcome;
 
 /// A call on what is pending.
 #[derive(Clone, Copy)]
 enum Made<'a> {
     Begin(u64, Asks<'a>),
-    Finish(usize, Outcome),
+    Finish(usize, Outcome<'a>),
     Settle(usize, Reply),
     Forget(u64, u64),
 }
 
-/// `b` is given first, then `c` is removed, then `a` is given. Where nothing is pending, nothing is done.
+/// `b` is given first, then `c` is removed, then `a` is given, and last a page of `a` and `d`. Where nothing is pending, nothing is done.
 const CALLS: &[(Made, Told)] = &[
     (Made::Begin(1, Name(ROOT, "a")), Go),
     (Made::Begin(2, Name(ROOT, "b")), Go),
@@ -40,11 +40,18 @@ const CALLS: &[(Made, Told)] = &[
     (Made::Settle(1, Reply::Taken), Settled(0)),
     (Made::Settle(0, Reply::Untaken), Settled(1)),
     (Made::Forget(3, 2), Amount(1)),
+    (Made::Begin(5, Page(ROOT, &["a", "d"])), Go),
+    (Made::Finish(0, Outcome::Entries(&[true, true])), Gave(2)),
+    (Made::Settle(1, Reply::Taken), Settled(2)),
 ];
 
 /// What the table shows after them. One answer is pending, that of the first request.
 const AFTER: &[Step] = &[
-    Step::Nodes(&[TOP, Living(3, 0, At(ROOT, "a"), 0)]),
+    Step::Nodes(&[
+        TOP,
+        Living(3, 0, At(ROOT, "a"), 1),
+        Living(2, 1, At(ROOT, "d"), 1),
+    ]),
     Step::Ledger(&[
         Born(2, 0),
         Entry(2, 0),
@@ -52,6 +59,9 @@ const AFTER: &[Step] = &[
         Entry(3, 0),
         Back(2, 0),
         Forget(3, 0, 1),
+        Entry(3, 0),
+        Born(2, 1),
+        Entry(2, 1),
     ]),
     Step::Requests(&[Flying(1, Answered, &[1, 3])]),
 ];
@@ -62,7 +72,10 @@ fn call_of(alloc: Global, made: Made) -> Result<Call, AllocError> {
             unique,
             want: want_of(alloc, asks)?,
         },
-        Made::Finish(place, outcome) => Call::Finish { place, outcome },
+        Made::Finish(place, outcome) => Call::Finish {
+            place,
+            outcome: outcome_of(alloc, outcome)?,
+        },
         Made::Settle(place, reply) => Call::Settle {
             place,
             taken: reply == Reply::Taken,
@@ -93,7 +106,7 @@ fn agrees(told: &CallTold, said: Told) -> bool {
         (CallTold::Nothing, Told::Nothing)
         | (CallTold::Begun, Told::Go)
         | (CallTold::Busy, Told::Busy)
-        | (CallTold::Finished, Told::Given(..) | Told::Ended) => true,
+        | (CallTold::Finished, Told::Given(..) | Told::Gave(_) | Told::Ended) => true,
         (CallTold::Refused(errno), Told::Refused(other)) => *errno == other,
         (CallTold::Settled(settled), Told::Settled(entries)) => settled.entries() == entries,
         (CallTold::Forgot(amount), Told::Amount(other)) => *amount == other,
@@ -149,7 +162,7 @@ impl<L: Ledgers> Desk<L> {
         let (mut tickets, mut answers) = pending.into_parts();
         while let Some(Started { ticket, want: _ }) = tickets.pop() {
             self.table
-                .finish(&mut self.share, ticket, Outcome::Failed)
+                .finish(&mut self.share, ticket, TableOutcome::Failed)
                 .leave();
         }
         tickets.destroy_empty();
@@ -185,7 +198,7 @@ impl Play for Calls {
 
 fn make(alloc: Global, at_once: bool) -> Result<(), Fail> {
     let sum = play_new(alloc, DEFAULT, &mut Calls { at_once })?;
-    if sum != Sum::All(2, 2, 1, 1) {
+    if sum != Sum::All(3, 4, 1, 1) {
         return Err(misgathered(sum));
     }
     Ok(())

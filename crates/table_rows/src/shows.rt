@@ -5,7 +5,7 @@ use image::{Image, Record};
 use ledger::Posting;
 use paths::{Name, Path};
 use std::alloc::{AllocError, Global};
-use table::Ticket;
+use table::{Answered, Ticket};
 use tree::{Node, Place};
 
 /// The path of these names, with a `/` between them. The root's is empty.
@@ -128,4 +128,19 @@ pub fn shows_paths(alloc: Global, ticket: &Ticket, said: &[&str]) -> Result<bool
         [old, new] => ticket.same() == (*old == *new),
         _ => !ticket.same(),
     })
+}
+
+/// Whether an answer lists these nodes, name by name.
+pub fn lists(answered: &Answered, said: &[Option<(u64, u64)>]) -> bool {
+    let given = answered.given();
+    for (given, node) in given.iter().zip(said) {
+        let listed = match given {
+            Some(given) => Some((given.number, given.generation)),
+            None => None,
+        };
+        if listed != *node {
+            return false;
+        }
+    }
+    given.len() == said.len()
 }

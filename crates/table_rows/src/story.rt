@@ -2,7 +2,7 @@
 
 use image::Stage;
 use ledger::Totals;
-use table::{Limits, Outcome};
+use table::Limits;
 
 /// The number of the root.
 pub const ROOT: u64 = 1;
@@ -49,6 +49,19 @@ pub enum Asks<'a> {
     Remove(u64, &'a str),
     /// The move of a name under a parent to another name under another.
     Move(u64, &'a str, u64, &'a str),
+    /// Names in a folder.
+    Page(u64, &'a [&'a str]),
+}
+
+/// What a request came to.
+#[derive(Clone, Copy)]
+pub enum Outcome<'a> {
+    Failed,
+    Done,
+    /// Its name is there.
+    Entry,
+    /// Which of the names of a page are there.
+    Entries(&'a [bool]),
 }
 
 /// What a call told.
@@ -64,6 +77,8 @@ pub enum Told {
     Given(u64, u64),
     /// Its name is given nothing.
     NotGiven,
+    /// It has more names than one, and so many of them are given an entry.
+    Gave(u64),
     /// It asked for no entry, and has ended.
     Ended,
     /// Its ticket is of no request that the table works on.
@@ -124,7 +139,7 @@ pub struct Holding<'a>(pub &'a str, pub u64, pub u64);
 #[derive(Clone, Copy)]
 pub enum Step<'a> {
     Begin(u64, Asks<'a>, Told),
-    Finish(u64, Outcome, Told),
+    Finish(u64, Outcome<'a>, Told),
     Settle(u64, Reply, Told),
     /// Gives so many lookups of a node back.
     Forget(u64, u64, Told),
@@ -138,6 +153,8 @@ pub enum Step<'a> {
     Stranger(u64),
     /// The ticket of that request has these paths, of a move the old one and then the new one.
     Paths(u64, &'a [&'a str]),
+    /// The answer of that request lists these nodes, by number and generation, or none, name by name.
+    Lists(u64, &'a [Option<(u64, u64)>]),
     /// The living nodes, all of them.
     Nodes(&'a [Living<'a>]),
     /// The postings, all of them, the oldest first.

@@ -4,11 +4,10 @@ use crate::story::Asks::Name;
 use crate::story::Posted::{Born, Entry};
 use crate::story::Spot::At;
 use crate::story::Told::{Given, Go, Lost, NotGiven, Settled};
-use crate::story::{DEFAULT, Flying, Living, ROOT, Reply, Step, Story, Sum, TOP};
+use crate::story::{DEFAULT, Flying, Living, Outcome, ROOT, Reply, Step, Story, Sum, TOP};
 use crate::teller::run;
 use image::Stage::Answered;
 use std::test::Fail;
-use table::Outcome;
 
 /// An outcome that is none of a LOOKUP acts as a failure.
 const MISFIT: Story = Story {

@@ -3,14 +3,14 @@
 ghost use Rattle.std.specs.Prelude.{◌≡◌, ◌≤◌};
 
 use crate::desk::{Begun, Desk};
-use crate::shows::{shows_holds, shows_ledger, shows_nodes, shows_paths, shows_requests};
-use crate::story::{Asks, DEFAULT, ROOT, Reply, Step, Story, Sum, Told};
+use crate::shows::{lists, shows_holds, shows_ledger, shows_nodes, shows_paths, shows_requests};
+use crate::story::{Asks, DEFAULT, Outcome, ROOT, Reply, Step, Story, Sum, Told};
 use image::Image;
 use ledger::{Blanks, Ledgers};
 use std::alloc::{AllocError, Global};
 use std::marker::Brand;
 use std::test::Fail;
-use table::{Limits, Outcome, Table, Ticket};
+use table::{Limits, Table, Ticket};
 
 /// The unique number of each LOOKUP that is one step.
 const LOOKUP: u64 = 0;
@@ -93,6 +93,13 @@ impl<L: Ledgers> Desk<L> {
         }
     }
 
+    fn has_listed(&self, unique: u64, said: &[Option<(u64, u64)>]) -> bool {
+        match self.answers.iter().find(|ended| ended.unique == unique) {
+            Some(ended) => lists(&ended.answered, said),
+            None => false,
+        }
+    }
+
     fn has_share(&self, index: usize, sum: Sum) -> bool {
         let mut shares = [&self.share].into_iter().chain(self.others.iter());
         shares.any(|share| share.index() == index && Sum::from(share.totals()) == sum)
@@ -102,6 +109,7 @@ impl<L: Ledgers> Desk<L> {
     fn is_as(&self, step: &Step) -> Result<bool, AllocError> {
         match *step {
             Step::Paths(unique, paths) => self.has_paths(unique, paths),
+            Step::Lists(unique, said) => Ok(self.has_listed(unique, said)),
             Step::Share(index, sum) => Ok(self.has_share(index, sum)),
             _ => shows(self.alloc, &self.image()?, step),
         }

@@ -71,7 +71,7 @@ prefixes_are [] = record { all = no_prefix; only = λ f h. absurd (none_in f h) 
 prefixes_are (x ∷ path) = let rest = prefixes_are path in record { all = prefix_in x path rest.all; only = prefix_of x path rest.only }
 
 -- who is in one list or the other
-joined : {X A B : Type 0} → (xs ys : List X) (x : X) → Contains xs x ↔ A → Contains ys x ↔ B → Contains (xs ++ ys) x ↔ (A ⊎ B)
+pub joined : {X A B : Type 0} → (xs ys : List X) (x : X) → Contains xs x ↔ A → Contains ys x ↔ B → Contains (xs ++ ys) x ↔ (A ⊎ B)
 joined xs ys x a b = (
   λ h. elim (Contains-append_cases xs ys x h) [ inl left ↦ inl (a.0 left) | inr right ↦ inr (b.0 right) ],
   λ h. elim h [ inl left ↦ Contains-append_left xs ys x (a.1 left) | inr right ↦ Contains-append_right xs ys x (b.1 right) ],

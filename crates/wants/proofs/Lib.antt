@@ -5,3 +5,4 @@ mod Finding
 mod Drafting
 mod Agreeing
 pub mod Wanting
+mod Paging

@@ -1,13 +1,14 @@
 -- Each row has its locations at or under the nodes that it names.
-use Rattle.std.proofs.Common.{ℕ, ◌≡◌, [], ◌∷◌, Contains, Option, refl, sym, ap, ◌∙◌, subst, inl, inr}
+use Rattle.std.proofs.Common.{ℕ, ◌≡◌, List, [], ◌∷◌, Contains, Option, refl, sym, ap, ◌∙◌, subst, inl, inr}
 use Rattle.std.specs.Prelude.{Any}
+use Rattle.std.proofs.lemmas.List.{length-map}
 use Rattle.paths.specs.Prefixes.{Name}
 use Rattle.tree.specs.declared.nodes.Key.{Key}
 use Rattle.flights.specs.declared.data.Want.{Want}
 use Rattle.flights.specs.declared.data.Want.TheVariants as wants
 use Rattle.wants.specs.Laws.{IsRow, base_of}
-use Rattle.wants.specs.Rows.{Case, Location, AtNode, AtName, Used, used_on, move_row, name_row, node_row, removal_row, row_of}
-use Rattle.wants.proofs.Members.{any_first, any_later, cases_in, first_in, later_in, none_in, only_in}
+use Rattle.wants.specs.Rows.{Case, Location, AtNode, AtName, Used, used_on, move_row, name_row, node_row, page_names, page_row, removal_row, row_of}
+use Rattle.wants.proofs.Members.{any_first, any_later, cases_in, first_in, in_map, later_in, none_in, only_in}
 
 -- the one location at or under the one node
 under_only : (n : ℕ) (l m : Location) → base_of l ≡ n → Contains (l ∷ []) m → Contains (n ∷ []) (base_of m)
@@ -71,8 +72,28 @@ module _ (parent : ℕ) (name : Name) (new_parent : ℕ) (new_name : Name) where
     own = (first_in (AtName parent name) (AtName new_parent new_name ∷ []), later_in (AtName parent name) (AtName new_parent new_name ∷ []) (AtName new_parent new_name) (first_in (AtName new_parent new_name) []));
   }
 
+-- each name of a page is under its folder
+page_under : (folder : ℕ) (names : List Name) (l : Location) → Contains (AtNode folder ∷ page_names folder names) l → Contains (folder ∷ []) (base_of l)
+page_under folder names l h = elim (cases_in (AtNode folder) (page_names folder names) l h) [
+  | inl e ↦ subst (λ k. Contains (folder ∷ []) k) (ap base_of e) (first_in folder [])
+  | inr more ↦
+      let it = in_map (λ (name : Name). AtName folder name) names l more in
+      subst (λ k. Contains (folder ∷ []) k) (ap base_of it.2) (first_in folder [])
+]
+
+page_is_row : (folder : ℕ) (names : List Name) → IsRow (page_row folder names)
+page_is_row folder names = record {
+  shared = λ l h. under_only folder (AtNode folder) l refl h;
+  alone = λ l h. absurd (none_in l h);
+  paths = page_under folder names;
+  covered = λ n h. inl (any_first (λ l. base_of l ≡ n) (AtNode folder) [] (only_in folder n h));
+  entered = inl (sym (length-map names (λ (name : Name). let key : Key = record { parent = folder; name = name } in key)));
+  own = tt;
+}
+
 pub are_rows : (want : Want) (case : Case) → IsRow (row_of want case)
 are_rows (wants.Node number handle) c = node_is_row number (used_on number handle)
 are_rows (wants.Name parent name) c = name_is_row parent name c
 are_rows (wants.Remove parent name) c = removal_is_row parent name
 are_rows (wants.Move parent name new_parent new_name) c = move_is_row parent name new_parent new_name
+are_rows (wants.Page folder names) c = page_is_row folder names

@@ -20,8 +20,8 @@ use Rattle.wants.specs.Asked.{IsCase, IsEntryCase, IsLong, IsSound, IsStale, IsU
 use Rattle.wants.specs.declared.data.Plan.{Plan}
 use Rattle.wants.specs.declared.drafts.Terms.{Terms}
 use Rattle.wants.specs.Drafts.{IsEntryAt, IsTaken, IsRecord, IsTerms, IsVacant, IsWanted}
-use Rattle.wants.specs.Plans.{IsPlan, IsRefusedPlan, copied}
-use Rattle.wants.specs.Rows.{Case, Demand, AtName, Used, absent, case_in, name_row, node_row, plain, row_of, used_on}
+use Rattle.wants.specs.Plans.{IsPlan, IsRefusedPlan, copied, copied_page}
+use Rattle.wants.specs.Rows.{Case, Demand, AtName, Used, absent, entered_case, name_row, node_row, page_row, plain, row_of, used_on}
 use Rattle.wants.proofs.Members.{all_in, any_only, cases_in, first_in, later_in, none_in}
 
 -- ---- whether a node stands at a name
@@ -82,6 +82,7 @@ case_there at living counts tree census (wants.Node number handle) = (plain, ref
 case_there at living counts tree census (wants.Name parent name) = elim (named_or_free at living counts tree census parent name) [ inl named ↦ (plain, named) | inr free ↦ (absent, free) ]
 case_there at living counts tree census (wants.Remove parent name) = (plain, refl)
 case_there at living counts tree census (wants.Move parent name new_parent new_name) = (plain, refl)
+case_there at living counts tree census (wants.Page folder names) = (plain, refl)
 
 refused : (at : Lookup) (living counts : ℕ) → IsTree at → IsCensus at living counts → (want : Want) (e : ℤ) → ((c : Case) → IsUnsound at (row_of want c) e) → IsRefusedPlan at want e
 refused at living counts tree census want e unsound =
@@ -123,22 +124,30 @@ terms_using at d u t terms = record {
   unanswered = terms.unanswered;
 }
 
-pub node_wanted : (at : Lookup) (want : Want) (number : ℕ) (handle : Option Handle) (t : Terms) → want ≡ wants.Node number handle → case_in t.promise ≡ plain → IsTerms at (node_row number) t → IsWanted at want t
-node_wanted at want number handle t is fits terms =
-    subst (λ (v : Want). IsWanted at v t) (sym is) (record { fits = fits; terms = terms_using at (node_row number) (used_on number handle) t terms })
+pub node_wanted : (at : Lookup) (want : Want) (number : ℕ) (handle : Option Handle) (t : Terms) → want ≡ wants.Node number handle → IsTerms at (node_row number) t → IsWanted at want t
+node_wanted at want number handle t is terms =
+    subst (λ (v : Want). IsWanted at v t) (sym is) (record { fits = refl; terms = terms_using at (node_row number) (used_on number handle) t terms })
 
 pub node_refused : (at : Lookup) (living counts : ℕ) → IsTree at → IsCensus at living counts → (want : Want) (number : ℕ) (handle : Option Handle) (e : ℤ) → want ≡ wants.Node number handle → IsUnsound at (node_row number) e → IsRefusedPlan at want e
 node_refused at living counts tree census want number handle e is unsound =
     refused_as at living counts tree census want (wants.Node number handle) e is (λ c. unsound_using at (node_row number) (used_on number handle) e unsound)
 
 -- a name for which an entry may be given
-pub named_wanted : (at : Lookup) (want : Want) (parent : ℕ) (name : Name) (t : Terms) → want ≡ wants.Name parent name → IsEntryAt at (AtName parent name ∷ []) (case_in t.promise) → IsTerms at (name_row parent name (case_in t.promise)) t → IsWanted at want t
-named_wanted at want parent name t is fits terms = subst (λ (v : Want). IsWanted at v t) (sym is) (record { fits = entry_case at parent name (case_in t.promise) fits; terms = terms })
+pub named_wanted : (at : Lookup) (want : Want) (parent : ℕ) (name : Name) (t : Terms) → want ≡ wants.Name parent name → IsEntryAt at (AtName parent name ∷ []) (entered_case t.promise) → IsTerms at (name_row parent name (entered_case t.promise)) t → IsWanted at want t
+named_wanted at want parent name t is fits terms = subst (λ (v : Want). IsWanted at v t) (sym is) (record { fits = entry_case at parent name (entered_case t.promise) fits; terms = terms })
+
+-- names of a page
+pub page_wanted : (at : Lookup) (want : Want) (folder : ℕ) (names : List Name) (t : Terms) → want ≡ wants.Page folder names → IsTerms at (page_row folder names) t → IsWanted at want t
+page_wanted at want folder names t is terms = subst (λ (v : Want). IsWanted at v t) (sym is) (record { fits = refl; terms = terms })
+
+pub page_refused_as : (at : Lookup) (want : Want) (folder : ℕ) (names : List Name) (e : ℤ) → want ≡ wants.Page folder names → IsUnsound at (page_row folder names) e → IsRefusedPlan at want e
+page_refused_as at want folder names e is unsound =
+    subst (λ (v : Want). IsRefusedPlan at v e) (sym is) (record { demand = page_row folder names; demanded = record { case = plain; fits = refl; row = refl }; unsound = unsound })
 
 -- the record of a request as its want's row asks for it
 pub planned : (at : Lookup) (want : Want) (t : Terms) (p : Plan) → IsWanted at want t → IsRecord want t p → IsPlan at want p
 planned at want t p wanted made =
-    let row : (w : Work) → w ≡ record { want = want; copy = copied want; held = t.held; promise = t.promise; answer = t.answer } → IsPlan at want (record { work = w; pins = t.pins; paths = t.paths })
+    let row : (w : Work) → w ≡ record { want = want; copy = copied want; copies = copied_page want; held = t.held; promise = t.promise; answer = t.answer } → IsPlan at want (record { work = w; pins = t.pins; paths = t.paths })
     = λ w is. subst (λ (v : Work). IsPlan at want (record { work = v; pins = t.pins; paths = t.paths })) (sym is) (record {
       want_is = refl;
       fits = wanted.fits;
@@ -149,6 +158,7 @@ planned at want t p wanted made =
       provided = record {
         promise = wanted.terms.promise;
         copy = refl;
+        copies = refl;
         pin_room = wanted.terms.pin_room;
         answer_room = wanted.terms.answer_room;
         unanswered = wanted.terms.unanswered;

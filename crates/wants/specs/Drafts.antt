@@ -24,8 +24,8 @@ use Rattle.wants.specs.declared.rows.Location.TheVariants as locations
 use Rattle.wants.specs.declared.rows.Row.{Row}
 use Rattle.wants.specs.Asked.{ArePaths, HasPath, Holds, IsCase, IsPin, IsPrefixAt, IsRefusedMove, IsSound, IsThere, promise_of}
 use Rattle.wants.specs.Laws.{base_of}
-use Rattle.wants.specs.Plans.{copied}
-use Rattle.wants.specs.Rows.{Case, Change, Demand, Location, AtName, AtNode, absent, births_in, case_in, cuts, moves, plain, row_of, stays}
+use Rattle.wants.specs.Plans.{copied, copied_page}
+use Rattle.wants.specs.Rows.{Case, Change, Demand, Location, AtName, AtNode, absent, births_in, case_in, cuts, entered_case, moves, plain, row_of, stays}
 
 -- ---- refusals
 
@@ -84,6 +84,7 @@ demand_in ls hold enters change c = record {
   alone = alone_in hold ls;
   entries = if enters then key_in ls else [];
   births = if enters then births_in c else 0;
+  page = false;
   done = change_in change ls;
   opens = None;
   used = None;
@@ -244,9 +245,9 @@ pub record IsNoDraft (room : ℕ) (x : Draft) : Type 0 where
 
 -- ---- terms
 
-pub record IsDrawn (x : Draft) (entries : ℕ) (t : Terms) : Type 0 where
+pub record IsDrawn (x : Draft) (births entries : ℕ) (t : Terms) : Type 0 where
   pub held : t.held ≡ record { given = x.given.items; shared = x.shared.items; exclusive = x.exclusive.items }
-  pub promise : t.promise ≡ record { nodes = if x.absent then entries else 0; postings = 3 * entries; files = 0 }
+  pub promise : t.promise ≡ record { nodes = births; postings = 3 * entries; files = 0 }
   pub answer : t.answer ≡ record { items = []; room = entries }
   pub pins : t.pins ≡ x.pins
   pub paths : t.paths ≡ x.paths.items
@@ -272,15 +273,15 @@ IsCaseOf at true ls c = IsEntryAt at ls c
 IsCaseOf at false ls c = c ≡ plain
 
 pub record IsAgreed (at : Lookup) (row : Row) (t : Terms) : Type 0 where
-  pub fits : IsCaseOf at row.enters (locations_of row) (case_in t.promise)
-  pub terms : IsTerms at (demand_of row (case_in t.promise)) t
+  pub fits : IsCaseOf at row.enters (locations_of row) (entered_case t.promise)
+  pub terms : IsTerms at (demand_of row (entered_case t.promise)) t
 
 pub record IsWanted (at : Lookup) (want : Want) (t : Terms) : Type 0 where
-  pub fits : IsCase at want (case_in t.promise)
-  pub terms : IsTerms at (row_of want (case_in t.promise)) t
+  pub fits : IsCase at want (case_in want t.promise)
+  pub terms : IsTerms at (row_of want (case_in want t.promise)) t
 
 -- the record of a request with that want and those terms
 pub record IsRecord (want : Want) (t : Terms) (p : Plan) : Type 0 where
-  pub work : p.work ≡ record { want = want; copy = copied want; held = t.held; promise = t.promise; answer = t.answer }
+  pub work : p.work ≡ record { want = want; copy = copied want; copies = copied_page want; held = t.held; promise = t.promise; answer = t.answer }
   pub pins : p.pins ≡ t.pins
   pub paths : p.paths ≡ t.paths

@@ -3,3 +3,4 @@ pub mod Asked
 pub mod Laws
 pub mod Plans
 pub mod Drafts
+pub mod Pages

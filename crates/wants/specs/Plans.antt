@@ -1,5 +1,5 @@
 -- What a request is recorded with.
-use Rattle.std.specs.Prelude.{ℕ, ℤ, ◌≡◌, ◌≤◌, ◌↔◌, [], Option, Some, None, Contains, length}
+use Rattle.std.specs.Prelude.{ℕ, ℤ, ◌≡◌, ◌≤◌, ◌↔◌, List, [], Option, Some, None, Contains, length}
 use Rattle.paths.specs.Prefixes.{Name}
 use Rattle.flights.specs.declared.data.Want.{Want}
 use Rattle.flights.specs.declared.data.Want.TheVariants as wants
@@ -12,7 +12,7 @@ use Rattle.wants.specs.Rows.{Demand, case_in, row_of}
 
 -- the row of a request that is worked on
 abbrev pub row_in : Work → Demand
-row_in work = row_of work.want (case_in work.promise)
+row_in work = row_of work.want (case_in work.want work.promise)
 
 -- the name that the want may give to a node, which is put into the tree under a key and a copy of it
 abbrev pub copied : Want → Option Name
@@ -20,11 +20,21 @@ copied (wants.Node number handle) = None
 copied (wants.Name parent name) = Some name
 copied (wants.Remove parent name) = None
 copied (wants.Move parent name new_parent new_name) = Some new_name
+copied (wants.Page folder names) = None
+
+-- the same of the names of a page
+abbrev pub copied_page : Want → List Name
+copied_page (wants.Node number handle) = []
+copied_page (wants.Name parent name) = []
+copied_page (wants.Remove parent name) = []
+copied_page (wants.Move parent name new_parent new_name) = []
+copied_page (wants.Page folder names) = names
 
 -- its end takes no memory: there is room for what it may pin and answer
 pub record IsProvided (work : Work) (pins : Pinned) : Type 0 where
   pub promise : work.promise ≡ promise_of (row_in work)
   pub copy : work.copy ≡ copied work.want
+  pub copies : work.copies ≡ copied_page work.want
   pub pin_room : length (row_in work).entries ≤ pins.room
   pub answer_room : length (row_in work).entries ≤ work.answer.room
   pub unanswered : work.answer.items ≡ []
@@ -32,7 +42,7 @@ pub record IsProvided (work : Work) (pins : Pinned) : Type 0 where
 -- the tests of the nodes allow the want: what it holds, pins and is promised, and the paths of its ticket
 pub record IsPlan (at : Lookup) (want : Want) (p : Plan) : Type 0 where
   pub want_is : p.work.want ≡ want
-  pub fits : IsCase at want (case_in p.work.promise)
+  pub fits : IsCase at want (case_in want p.work.promise)
   pub sound : IsSound at (row_in p.work)
   pub holds : Holds at (row_in p.work) p.work.held
   pub pins : (n : ℕ) → Contains p.pins.numbers n ↔ IsPin at (row_in p.work) n

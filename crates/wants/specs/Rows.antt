@@ -1,6 +1,6 @@
 -- What a want asks of a table: one row for each want. What a beginning tests, holds, pins and promises, and what an
 -- outcome does, follow from the row alone.
-use Rattle.std.specs.Prelude.{ℕ, ◌==◌, ◌&&◌, Bool, false, if◌then◌else◌, List, [], ◌∷◌, Option, Some, None}
+use Rattle.std.specs.Prelude.{ℕ, ◌==◌, ◌&&◌, Bool, true, false, if◌then◌else◌, List, [], ◌∷◌, Option, Some, None, length, map}
 use Rattle.files.specs.declared.data.Access.{Access}
 use Rattle.paths.specs.Prefixes.{Name, is_name}
 use Rattle.tree.specs.declared.nodes.Key.{Key}
@@ -48,6 +48,8 @@ pub record Demand : Type 0 where
   -- the names for which an entry may be given, and how many nodes may be born for them
   pub entries : List Key
   pub births : ℕ
+  -- whether they are the names of a page, of which some may be found
+  pub page : Bool
   -- what becomes of the names once the work is done
   pub done : Change
   -- the file that may be opened
@@ -56,7 +58,7 @@ pub record Demand : Type 0 where
   pub used : Option Used
 
 abbrev pub no_demand : Demand
-no_demand = record { given = []; paths = []; shared = []; alone = []; entries = []; births = 0; done = stays; opens = None; used = None }
+no_demand = record { given = []; paths = []; shared = []; alone = []; entries = []; births = 0; page = false; done = stays; opens = None; used = None }
 
 -- ---- cases
 
@@ -106,15 +108,39 @@ abbrev pub used_on : ℕ → Option Handle → Option Used
 used_on number None = None
 used_on number (Some handle) = Some (record { number = number; handle = handle })
 
+-- the names of a page: their paths are told, and nothing is held of them
+abbrev pub page_names : ℕ → List Name → List Location
+page_names folder names = map (λ name. AtName folder name) names
+
+abbrev pub page_keys : ℕ → List Name → List Key
+page_keys folder names = map (λ name. let key : Key = record { parent = folder; name = name } in key) names
+
+abbrev pub page_row : ℕ → List Name → Demand
+page_row folder names = record (node_row folder) {
+  paths = AtNode folder ∷ page_names folder names;
+  entries = page_keys folder names;
+  births = length names;
+  page = true;
+}
+
 abbrev pub row_of : Want → Case → Demand
 row_of (wants.Node number handle) c = record (node_row number) { used = used_on number handle }
 row_of (wants.Name parent name) c = name_row parent name c
 row_of (wants.Remove parent name) c = removal_row parent name
 row_of (wants.Move parent name new_parent new_name) c = move_row parent name new_parent new_name
+row_of (wants.Page folder names) c = page_row folder names
 
--- the case of a request that was promised so much: a node is promised where none stood at its name
-abbrev pub case_in : Promise → Case
-case_in p = if p.nodes == 0 then plain else absent
+-- for a name a node is promised where none stood there
+abbrev pub entered_case : Promise → Case
+entered_case p = if p.nodes == 0 then plain else absent
+
+-- the case of a request that was promised so much
+abbrev pub case_in : Want → Promise → Case
+case_in (wants.Node number handle) p = plain
+case_in (wants.Name parent name) p = entered_case p
+case_in (wants.Remove parent name) p = plain
+case_in (wants.Move parent name new_parent new_name) p = plain
+case_in (wants.Page folder names) p = plain
 
 -- ---- what a ticket tells of its row
 

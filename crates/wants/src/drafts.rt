@@ -1,6 +1,6 @@
 //! What a row asks for, gathered location by location.
 
-ghost use Rattle.std.specs.Prelude.{ℕ, ◌+◌, ◌≤◌, ◌≡◌, ◌↔◌, ◌⊎◌, ◌++◌, Contains, Some, IfOk, IfErr, OnOk, length};
+ghost use Rattle.std.specs.Prelude.{ℕ, ◌+◌, ◌*◌, ◌^◌, ◌<◌, ◌≤◌, ◌≡◌, ◌↔◌, ◌⊎◌, ◌++◌, Contains, Some, IfOk, IfErr, OnOk, length};
 ghost use Rattle.paths.specs.Prefixes.{prefixes};
 ghost use Rattle.tree.specs.Places.{IsCensus, IsTree, at_in};
 ghost use Rattle.wants.specs.Asked.{IsUnsound};
@@ -35,8 +35,8 @@ pub(crate) struct Draft {
     given: Vec<GivenPath>,
     shared: Vec<Path>,
     exclusive: Vec<Path>,
-    pins: Pins,
-    paths: Vec<Path>,
+    pub(crate) pins: Pins,
+    pub(crate) paths: Vec<Path>,
     /// Whether no node stands at one of the locations.
     absent: bool,
 }
@@ -68,7 +68,7 @@ fn pin(pins: &mut Pins, number: u64, found: Option<u64>)
 
 impl Draft {
     /// Nothing yet, with room for so many pins.
-    fn new(alloc: Global, pins: usize) -> Result<Draft, AllocError>
+    pub(crate) fn new(alloc: Global, pins: usize) -> Result<Draft, AllocError>
         ensures { IfOk result (IsNoDraft pins) }
     {
         let pins = Pins::with_capacity(alloc, pins)?;
@@ -101,7 +101,7 @@ impl Draft {
     }
 
     /// Adds what was found at a location of that node.
-    fn add(
+    pub(crate) fn add(
         &mut self,
         alloc: Global,
         number: u64,
@@ -128,13 +128,18 @@ impl Draft {
     }
 
     /// What is to be recorded, once all was added.
-    fn into_terms(self, alloc: Global, entries: usize) -> Result<Terms, AllocError>
-        requires { entries ≤ 1 }
-        ensures { IfOk result (IsDrawn self entries) }
+    pub(crate) fn into_terms(
+        self,
+        alloc: Global,
+        births: u64,
+        entries: usize,
+    ) -> Result<Terms, AllocError>
+        requires { 3 * entries < 2 ^ 64 }
+        ensures { IfOk result (IsDrawn self births entries) }
     {
         let answer = Givens::with_capacity(alloc, entries)?;
         let promise = Promise {
-            nodes: if self.absent { entries as u64 } else { 0 },
+            nodes: births,
             postings: ENTRY_POSTINGS * entries as u64,
             files: 0,
         };
@@ -190,6 +195,8 @@ pub(crate) fn terms_of(alloc: Global, tree: &Tree, row: &Row) -> Result<Terms, R
     expect_rooted(tree, row.locations)?;
     let draft = draft_of(alloc, tree, row)?;
     expect_change(row.change, draft.paths.as_slice())?;
-    let terms = draft.into_terms(alloc, usize::from(row.enters))?;
+    let entries = usize::from(row.enters);
+    let births = if draft.absent { entries as u64 } else { 0 };
+    let terms = draft.into_terms(alloc, births, entries)?;
     Ok(terms)
 }

@@ -4,19 +4,20 @@
 mod data;
 mod drafts;
 mod found;
+mod pages;
 mod refusal;
 mod rows;
 
 ghost use Rattle.std.specs.Prelude.{◌≡◌, IfOk, IfErr};
 ghost use Rattle.tree.specs.Places.{at_in};
 ghost use Rattle.wants.specs.Laws.{AreDemandsFixed, AreRows};
-ghost use Rattle.wants.specs.Plans.{IsPlan, IsRefusedPlan, copied as name_copied};
+ghost use Rattle.wants.specs.Plans.{IsPlan, IsRefusedPlan, copied as name_copied, copied_page};
 ghost use Rattle.wants.specs.Drafts.{IsRecord};
 
 pub use data::Plan;
 use drafts::Terms;
 use errno::ENOMEM;
-use flights::{Want, Work};
+use flights::{Names, Want, Work};
 use paths::Name;
 use rows::terms_for;
 use std::alloc::{AllocError, Global};
@@ -46,7 +47,7 @@ pub fn plan(alloc: Global, tree: &Tree, want: Want) -> Result<Plan, i32>
         Ok(terms) => terms,
         Err(refusal) => return Err(refusal.errno()),
     };
-    match recorded(want, terms) {
+    match recorded(alloc, want, terms) {
         Ok(plan) => Ok(plan),
         Err(_) => Err(ENOMEM),
     }
@@ -57,16 +58,29 @@ fn copied(want: &Want) -> Result<Option<Name>, AllocError>
     ensures { IfOk result (λ copy. copy ≡ name_copied want.now) }
 {
     match want {
-        Want::Node { .. } | Want::Remove { .. } => Ok(None),
+        Want::Node { .. } | Want::Remove { .. } | Want::Page { .. } => Ok(None),
         Want::Name { name, .. } | Want::Move { new_name: name, .. } => Ok(Some(name.copy()?)),
     }
 }
 
+/// A copy of the names of a page.
+fn copies(alloc: Global, want: &Want) -> Result<Names, AllocError>
+    ensures { IfOk result (λ copies. copies ≡ copied_page want.now) }
+{
+    match want {
+        Want::Page { names, .. } => names.copy(),
+        Want::Node { .. } | Want::Name { .. } | Want::Remove { .. } | Want::Move { .. } => {
+            Ok(Names::new(alloc))
+        }
+    }
+}
+
 /// The record of a request with that want and those terms.
-fn recorded(want: Want, terms: Terms) -> Result<Plan, AllocError>
+fn recorded(alloc: Global, want: Want, terms: Terms) -> Result<Plan, AllocError>
     ensures { IfOk result (IsRecord want terms) }
 {
     let copy = copied(&want)?;
+    let copies = copies(alloc, &want)?;
     let Terms {
         held,
         promise,
@@ -77,6 +91,7 @@ fn recorded(want: Want, terms: Terms) -> Result<Plan, AllocError>
     let work = Work {
         want,
         copy,
+        copies,
         held,
         promise,
         answer,

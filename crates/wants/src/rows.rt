@@ -7,6 +7,7 @@ ghost use Rattle.wants.specs.Laws.{base_of};
 ghost use Rattle.wants.specs.Plans.{IsRefusedPlan};
 
 use crate::drafts::{Terms, terms_of};
+use crate::pages::page_terms;
 use crate::refusal::Refusal;
 use flights::Want;
 use paths::Name;
@@ -113,5 +114,6 @@ pub(crate) fn terms_for(alloc: Global, tree: &Tree, want: &Want) -> Result<Terms
             };
             terms_of(alloc, tree, &row)
         }
+        Want::Page { folder, names } => page_terms(alloc, tree, *folder, names.as_slice()),
     }
 }

@@ -1,5 +1,5 @@
 -- How long what is written is.
-use Rattle.std.proofs.Common.{◌≡◌, ℕ, ◌+◌, List, ◌++◌, length, append_assoc, append-nil, []}
+use Rattle.std.proofs.Common.{◌≡◌, ℕ, ◌+◌, ◌/◌, List, ◌++◌, length, append_assoc, append-nil, [], arith}
 use Rattle.std.proofs.lemmas.List.{length-replicate, length-append}
 use Rattle.byteorder.specs.Numbers.{length-bytes_low_first}
 use Rattle.wire.specs.Written.{le, zeros}
@@ -21,4 +21,8 @@ cat_assoc a b c = append_assoc a b c
 pub cat_nil : (a : List ℕ) → a ++ [] ≡ a
 cat_nil a = append-nil a
 
-pub ruleset lengths = (length-le, length-zeros, length-cat, cat_assoc, cat_nil)
+-- a unit of one byte
+pub whole : (n : ℕ) → n / 1 ≡ n
+whole n = omega arith
+
+pub ruleset lengths = (length-le, length-zeros, length-cat, cat_assoc, cat_nil, whole)

@@ -1,14 +1,15 @@
 -- Entries of a folder as runs of numbers, a name and zeros.
-use Rattle.std.proofs.Common.{◌≡◌, ℕ, ◌^◌, ◌<◌, List, [], ◌∷◌, ◌++◌, length, map, refl, ap, lit<, arith, Option, Some, None}
+use Rattle.std.proofs.Common.{◌≡◌, ℕ, ◌+◌, ◌^◌, ◌<◌, List, [], ◌∷◌, ◌++◌, length, map, refl, ap, lit<, arith, Option, Some, None}
 use Rattle.wire.specs.declared.reply.Entry.{Entry}
 use Rattle.wire.specs.declared.reply.Kind.TheVariants.{File, Folder}
 use Rattle.wire.specs.declared.reply.Kind.{Kind}
 use Rattle.wire.specs.Dirents.{Dirent, PlusDirent, IsDirent, IsPlusDirent, dirent_bytes, dirent_in, dirent_layout, dirent_values, given_values, ino_of, padding_of, plus_bytes, plus_layout, plus_values, type_of}
-use Rattle.wire.specs.Fields.{Field, number, Value, num, CanTell}
+use Rattle.wire.specs.Fields.{Value, num, CanTell}
 use Rattle.wire.specs.Replies.{entry_layout}
 use Rattle.wire.specs.Written.{le, zeros, u32s, u64s, written}
 use Rattle.wire.proofs.Again.{written_spelled}
-use Rattle.wire.proofs.Lengths.{cat_assoc, cat_nil, length-zeros}
+use Rattle.wire.proofs.Entries.{entry_lens, tells_on}
+use Rattle.wire.proofs.Lengths.{cat_assoc, cat_nil, length-cat, length-le, length-zeros}
 
 pub dirent_parts : (d : Dirent) → dirent_bytes d ≡ le 8 d.ino ++ (le 8 d.next ++ (le 4 (length d.name) ++ (le 4 (type_of d.kind) ++ (d.name ++ zeros (padding_of d.name)))))
 unfolding dirent_bytes
@@ -41,15 +42,6 @@ pub plus_parts : (p : PlusDirent) → plus_bytes p ≡ written entry_layout (giv
 unfolding plus_bytes dirent_bytes le
 plus_parts p = elim p.entry as (λ e. written (entry_layout ++ dirent_layout (dirent_in (record p { entry = e }))) (given_values e ++ dirent_values (dirent_in (record p { entry = e }))) ≡ written entry_layout (given_values e) ++ dirent_bytes (dirent_in (record p { entry = e }))) [ None ↦ refl | Some e ↦ refl ]
 
--- numbers of so many bytes, and then other fields
-tells_on : (lens : List ℕ) (vs : List Value) (gs : List Field) (ws : List Value) → CanTell (map number lens) vs → CanTell gs ws → CanTell (map number lens ++ gs) (vs ++ ws)
-tells_on [] [] gs ws h k = k
-tells_on (len ∷ lens) (num n ∷ vs) gs ws h k = (h.0, tells_on lens vs gs ws h.1 k)
-tells_on _ _ gs ws h k = absurd h
-
-abbrev entry_lens : List ℕ
-entry_lens = 8 ∷ 8 ∷ 8 ∷ 8 ∷ 4 ∷ 4 ∷ 8 ∷ 8 ∷ 8 ∷ 8 ∷ 8 ∷ 8 ∷ 4 ∷ 4 ∷ 4 ∷ 4 ∷ 4 ∷ 4 ∷ 4 ∷ 4 ∷ 4 ∷ 4 ∷ []
-
 ino_fits : (e : Option Entry) → CanTell entry_layout (given_values e) → ino_of e < 256 ^ 8
 ino_fits None h = lit< tt
 ino_fits (Some e) h = h.0
@@ -61,3 +53,6 @@ is_plus_dirent p given next name =
     written_spelled (plus_layout p) (plus_values p) (tells_on entry_lens (given_values p.entry) (dirent_layout (dirent_in p)) (dirent_values (dirent_in p)) given dirent)
 
 pub ruleset dirents = (dirent_parts, none_parts, given_len, plus_parts, cat_assoc)
+
+pub length-dirent : (d : Dirent) → length (dirent_bytes d) ≡ 24 + length d.name + padding_of d.name
+length-dirent d = rw (dirent_parts d, length-cat, length-cat, length-cat, length-cat, length-cat, length-le, length-le, length-le, length-le, length-zeros) (omega arith)

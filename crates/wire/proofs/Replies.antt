@@ -8,7 +8,7 @@ use Rattle.byteorder.specs.Numbers.{little_number-reads_back, little_from-lt}
 use Rattle.wire.specs.declared.request.TheConstants.{MAX_READ_LEN}
 use Rattle.wire.specs.declared.reply.Reply.{Reply}
 use Rattle.wire.specs.declared.reply.ReplyBody.{ReplyBody}
-use Rattle.wire.specs.declared.reply.ReplyBody.TheVariants.{Failed, Done, Entry, Attributes, Opened, Data, StatFs, Init}
+use Rattle.wire.specs.declared.reply.ReplyBody.TheVariants.{Failed, Done, Entry, Attributes, Opened, Created, Wrote, Data, StatFs, Init}
 use Rattle.wire.specs.Fields.{u32, u64, num, Spells, CanTell, IsBytes}
 use Rattle.wire.specs.Replies.{error_of, reply_layout, reply_values, IsErrno, IsAnswer, IsReply}
 use Rattle.wire.specs.Written.{le, negated, error_word, body_bytes, reply_bytes}
@@ -62,6 +62,8 @@ all_read Done = tt
 all_read (Entry _) = tt
 all_read (Attributes _ _) = tt
 all_read (Opened _) = tt
+all_read (Created _ _) = tt
+all_read (Wrote _) = tt
 all_read (Data _) = tt
 all_read StatFs = tt
 all_read (Init _) = tt

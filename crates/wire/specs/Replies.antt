@@ -1,12 +1,12 @@
 -- What bytes are a reply.
-use Rattle.std.specs.Prelude.{◌≡◌, ℕ, ◌+◌, ◌/◌, ◌%◌, ◌≤◌, List, [], ◌∷◌, length, drop, ℤ, pos, neg_ℤ, ◌≤ℤ◌, ◌==◌, if◌then◌else◌}
+use Rattle.std.specs.Prelude.{◌≡◌, ℕ, ◌+◌, ◌/◌, ◌%◌, ◌≤◌, List, [], ◌∷◌, ◌++◌, length, drop, ℤ, pos, neg_ℤ, ◌≤ℤ◌, ◌==◌, if◌then◌else◌}
 use Rattle.std.specs.Int.{cast_signed, w32}
 use Rattle.byteorder.specs.Endian.{little_number}
 use Rattle.wire.specs.declared.reply.TheConstants.{REPLY_HEADER_LEN}
 use Rattle.wire.specs.declared.request.TheConstants.{MAX_READ_LEN}
 use Rattle.wire.specs.declared.reply.Reply.{Reply}
 use Rattle.wire.specs.declared.reply.ReplyBody.{ReplyBody}
-use Rattle.wire.specs.declared.reply.ReplyBody.TheVariants.{Failed, Done, Entry, Attributes, Opened, Data, StatFs, Init}
+use Rattle.wire.specs.declared.reply.ReplyBody.TheVariants.{Failed, Done, Entry, Attributes, Opened, Created, Wrote, Data, StatFs, Init}
 use Rattle.wire.specs.declared.reply.Entry.{Entry as GivenEntry}
 use Rattle.wire.specs.declared.reply.Attributes.{Attributes as GivenAttributes}
 use Rattle.wire.specs.declared.reply.InitOut.{InitOut}
@@ -72,6 +72,21 @@ opened_layout = u64 ∷ u32 ∷ u32 ∷ []
 abbrev pub opened_values : ℕ → List Value
 opened_values fh = num fh ∷ num 0 ∷ num 0 ∷ []
 
+-- an entry, and a handle
+abbrev pub created_layout : List Field
+created_layout = entry_layout ++ opened_layout
+
+abbrev pub created_values : GivenEntry → ℕ → List Value
+created_values e fh = entry_values e ++ opened_values fh
+
+-- ---- what was written: size, padding
+
+abbrev pub wrote_layout : List Field
+wrote_layout = u32 ∷ u32 ∷ []
+
+abbrev pub wrote_values : ℕ → List Value
+wrote_values size = num size ∷ num 0 ∷ []
+
 -- ---- what is spoken
 
 -- major, minor, max_readahead, flags; max_background, congestion_threshold; max_write, time_gran; max_pages, and a number of two bytes and
@@ -104,6 +119,8 @@ reply_layout Done = []
 reply_layout (Entry _) = entry_layout
 reply_layout (Attributes _ _) = attr_layout
 reply_layout (Opened _) = opened_layout
+reply_layout (Created _ _) = created_layout
+reply_layout (Wrote _) = wrote_layout
 reply_layout (Data d) = raw (length d) ∷ []
 reply_layout StatFs = statfs_layout
 reply_layout (Init _) = init_layout
@@ -114,6 +131,8 @@ reply_values Done = []
 reply_values (Entry e) = entry_values e
 reply_values (Attributes node a) = attr_values node a
 reply_values (Opened fh) = opened_values fh
+reply_values (Created e fh) = created_values e fh
+reply_values (Wrote size) = wrote_values size
 reply_values (Data d) = bytes d ∷ []
 reply_values StatFs = statfs_values
 reply_values (Init i) = init_values i
@@ -137,6 +156,8 @@ IsAnswer Done = Unit {0}
 IsAnswer (Entry e) = IsSized e.attributes.kind e.attributes.size
 IsAnswer (Attributes node a) = IsSized a.kind a.size
 IsAnswer (Opened fh) = Unit {0}
+IsAnswer (Created e fh) = IsSized e.attributes.kind e.attributes.size
+IsAnswer (Wrote size) = Unit {0}
 IsAnswer (Data d) = length d ≤ MAX_READ_LEN
 IsAnswer StatFs = Unit {0}
 IsAnswer (Init i) = Unit {0}

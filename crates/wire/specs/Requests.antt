@@ -4,11 +4,11 @@ use Rattle.std.specs.Str.{IsUtf8}
 use Rattle.std.specs.List.{AllByRecursion}
 use Rattle.byteorder.specs.Endian.{little_number}
 use Rattle.wire.specs.declared.header.Header.{Header}
-use Rattle.wire.specs.declared.opcode.TheConstants.{LOOKUP, FORGET, GETATTR, SETATTR, MKDIR, UNLINK, RMDIR, RENAME, STATFS, INIT, OPENDIR, READDIR, RELEASEDIR, FSYNCDIR, INTERRUPT, DESTROY, BATCH_FORGET, READDIRPLUS}
-use Rattle.wire.specs.declared.request.TheConstants.{HEADER_LEN, MAX_FRAME_LEN, MAX_READ_LEN}
+use Rattle.wire.specs.declared.opcode.TheConstants.{LOOKUP, FORGET, GETATTR, SETATTR, MKDIR, UNLINK, RMDIR, RENAME, OPEN, READ, WRITE, STATFS, RELEASE, FSYNC, FLUSH, INIT, OPENDIR, READDIR, RELEASEDIR, FSYNCDIR, CREATE, INTERRUPT, DESTROY, BATCH_FORGET, READDIRPLUS}
+use Rattle.wire.specs.declared.request.TheConstants.{HEADER_LEN, MAX_FRAME_LEN, MAX_READ_LEN, MAX_WRITE_LEN}
 use Rattle.wire.specs.declared.request.Request.{Request}
 use Rattle.wire.specs.declared.request.Operation.{Operation}
-use Rattle.wire.specs.declared.request.Operation.TheVariants.{Lookup, Forget, GetAttr, SetAttr, MakeDir, Unlink, RemoveDir, Rename, StatFs, Init, OpenDir, ReadDir, ReleaseDir, SyncDir, Interrupt, Destroy, BatchForget, ReadDirPlus}
+use Rattle.wire.specs.declared.request.Operation.TheVariants.{Lookup, Forget, GetAttr, SetAttr, MakeDir, Unlink, RemoveDir, Rename, Open, Read, Write, StatFs, Release, Sync, Flush, Init, OpenDir, ReadDir, ReleaseDir, SyncDir, Create, Interrupt, Destroy, BatchForget, ReadDirPlus}
 use Rattle.wire.specs.Fields.{Field, unread, text, counted, limited, anything, u32, u64, Value, num, name, bytes, Spells}
 
 -- ---- the header: the length, the opcode, unique, the node's number, and sixteen bytes that are not read
@@ -47,17 +47,24 @@ layout opcode =
     else (if opcode == UNLINK then Some (text ∷ [])
     else (if opcode == RMDIR then Some (text ∷ [])
     else (if opcode == RENAME then Some (u64 ∷ text ∷ text ∷ [])
+    else (if opcode == OPEN then Some (u32 ∷ unread 4 ∷ [])
+    else (if opcode == READ then Some (u64 ∷ u64 ∷ limited MAX_READ_LEN ∷ unread 20 ∷ [])
+    else (if opcode == WRITE then Some (u64 ∷ u64 ∷ counted 1 20 MAX_WRITE_LEN ∷ [])
     else (if opcode == STATFS then Some []
+    else (if opcode == RELEASE then Some (u64 ∷ unread 16 ∷ [])
+    else (if opcode == FSYNC then Some (u64 ∷ unread 8 ∷ [])
+    else (if opcode == FLUSH then Some (u64 ∷ unread 16 ∷ [])
     else (if opcode == INIT then Some (u32 ∷ u32 ∷ u32 ∷ u32 ∷ anything ∷ [])
     else (if opcode == OPENDIR then Some (unread 8 ∷ [])
     else (if opcode == READDIR then Some (u64 ∷ u64 ∷ limited MAX_READ_LEN ∷ unread 20 ∷ [])
     else (if opcode == RELEASEDIR then Some (u64 ∷ unread 16 ∷ [])
     else (if opcode == FSYNCDIR then Some (u64 ∷ unread 8 ∷ [])
+    else (if opcode == CREATE then Some (u32 ∷ unread 12 ∷ text ∷ [])
     else (if opcode == INTERRUPT then Some (anything ∷ [])
     else (if opcode == DESTROY then Some []
     else (if opcode == BATCH_FORGET then Some (counted 16 4 (2 ^ 32 - 1) ∷ [])
     else (if opcode == READDIRPLUS then Some (u64 ∷ u64 ∷ limited MAX_READ_LEN ∷ unread 20 ∷ [])
-    else None)))))))))))))))))
+    else None))))))))))))))))))))))))
 
 abbrev pub opcode_of : Operation → ℕ
 opcode_of (Lookup _) = LOOKUP
@@ -68,12 +75,19 @@ opcode_of (MakeDir _) = MKDIR
 opcode_of (Unlink _) = UNLINK
 opcode_of (RemoveDir _) = RMDIR
 opcode_of (Rename _ _ _) = RENAME
+opcode_of (Open _) = OPEN
+opcode_of (Read _ _ _) = READ
+opcode_of (Write _ _ _) = WRITE
 opcode_of StatFs = STATFS
+opcode_of (Release _) = RELEASE
+opcode_of (Sync _) = FSYNC
+opcode_of (Flush _) = FLUSH
 opcode_of (Init _ _ _ _) = INIT
 opcode_of OpenDir = OPENDIR
 opcode_of (ReadDir _ _ _) = READDIR
 opcode_of (ReleaseDir _) = RELEASEDIR
 opcode_of (SyncDir _) = FSYNCDIR
+opcode_of (Create _ _) = CREATE
 opcode_of Interrupt = INTERRUPT
 opcode_of Destroy = DESTROY
 opcode_of (BatchForget _) = BATCH_FORGET
@@ -89,12 +103,19 @@ values_of (MakeDir n) = name n.now ∷ []
 values_of (Unlink n) = name n.now ∷ []
 values_of (RemoveDir n) = name n.now ∷ []
 values_of (Rename n new_parent new_name) = num new_parent ∷ name n.now ∷ name new_name.now ∷ []
+values_of (Open flags) = num flags ∷ []
+values_of (Read fh offset size) = num fh ∷ num offset ∷ num size ∷ []
+values_of (Write fh offset written) = num fh ∷ num offset ∷ bytes written.now ∷ []
 values_of StatFs = []
+values_of (Release fh) = num fh ∷ []
+values_of (Sync fh) = num fh ∷ []
+values_of (Flush fh) = num fh ∷ []
 values_of (Init major minor max_readahead flags) = num major ∷ num minor ∷ num max_readahead ∷ num flags ∷ []
 values_of OpenDir = []
 values_of (ReadDir fh offset size) = num fh ∷ num offset ∷ num size ∷ []
 values_of (ReleaseDir fh) = num fh ∷ []
 values_of (SyncDir fh) = num fh ∷ []
+values_of (Create n flags) = num flags ∷ name n.now ∷ []
 values_of Interrupt = []
 values_of Destroy = []
 values_of (BatchForget pairs) = bytes pairs.now ∷ []

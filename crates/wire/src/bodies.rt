@@ -2,13 +2,13 @@
 
 ghost use Rattle.std.specs.Prelude.{◌≡◌, ◌≤◌, ◌+◌, ◌^◌, ◌++◌, length, vec_len, vec_capacity};
 ghost use Rattle.wire.specs.Fields.{CanTell};
-ghost use Rattle.wire.specs.Replies.{blocks_of, mode_of, links_of, attributes_layout, attributes_values, entry_layout, entry_values, attr_layout, attr_values, opened_layout, opened_values, statfs_layout, statfs_values, init_layout, init_values, reply_layout, reply_values, IsAnswer};
+ghost use Rattle.wire.specs.Replies.{blocks_of, mode_of, links_of, attributes_layout, attributes_values, entry_layout, entry_values, attr_layout, attr_values, opened_layout, opened_values, created_layout, created_values, wrote_layout, wrote_values, statfs_layout, statfs_values, init_layout, init_values, reply_layout, reply_values, IsAnswer};
 ghost use Rattle.wire.specs.Written.{written, body_bytes};
 
 use crate::put::{put, put_u16s, put_u32s, put_u64s};
 use crate::reply::{
-    ATTRIBUTES_LEN, Attributes, ENTRY_LEN, Entry, INIT_LEN, InitOut, Kind, OPENED_LEN, ReplyBody,
-    STATFS_LEN,
+    ATTRIBUTES_LEN, Attributes, CREATED_LEN, ENTRY_LEN, Entry, INIT_LEN, InitOut, Kind, OPENED_LEN,
+    ReplyBody, STATFS_LEN, WROTE_LEN,
 };
 use crate::request::MAX_READ_LEN;
 
@@ -97,6 +97,25 @@ fn put_opened(out: &mut Vec<u8>, fh: u64)
     put_u32s(out, &[0, 0]);
 }
 
+#[tactic(auto, using(crate::proofs::Entries::entries))]
+fn put_created(out: &mut Vec<u8>, e: &Entry, fh: u64)
+    requires { vec_len out.old + CREATED_LEN ≤ vec_capacity out.old }
+    ensures items { out.new.items ≡ out.old.items ++ written created_layout (created_values e.now fh) }
+    ensures tells { CanTell created_layout (created_values e.now fh) }
+{
+    put_entry(out, e);
+    put_opened(out, fh);
+}
+
+#[tactic(auto, using(crate::proofs::Entries::entries))]
+fn put_wrote(out: &mut Vec<u8>, size: u32)
+    requires { vec_len out.old + WROTE_LEN ≤ vec_capacity out.old }
+    ensures items { out.new.items ≡ out.old.items ++ written wrote_layout (wrote_values size) }
+    ensures tells { CanTell wrote_layout (wrote_values size) }
+{
+    put_u32s(out, &[size, 0]);
+}
+
 fn pages(i: &InitOut) -> u16
     ensures { result ≡ i.now.max_pages }
 {
@@ -130,6 +149,8 @@ pub fn body_len(body: &ReplyBody) -> usize
         ReplyBody::Entry(_) => ENTRY_LEN,
         ReplyBody::Attributes { .. } => ATTRIBUTES_LEN,
         ReplyBody::Opened { .. } => OPENED_LEN,
+        ReplyBody::Created { .. } => CREATED_LEN,
+        ReplyBody::Wrote { .. } => WROTE_LEN,
         ReplyBody::Data(data) => data.as_slice().len(),
         ReplyBody::StatFs => STATFS_LEN,
         ReplyBody::Init(_) => INIT_LEN,
@@ -147,6 +168,8 @@ pub fn put_body(out: &mut Vec<u8>, body: &ReplyBody)
         ReplyBody::Entry(entry) => put_entry(out, entry),
         ReplyBody::Attributes { node, attributes } => put_attr(out, *node, attributes),
         ReplyBody::Opened { fh } => put_opened(out, *fh),
+        ReplyBody::Created { entry, fh } => put_created(out, entry, *fh),
+        ReplyBody::Wrote { size } => put_wrote(out, *size),
         ReplyBody::Data(data) => put(out, data.as_slice()),
         ReplyBody::StatFs => put_statfs(out),
         ReplyBody::Init(init) => put_init(out, init),

@@ -26,8 +26,26 @@ pub const RMDIR: u32 = 11;
 /// `FUSE_RENAME` of `fuse.h`: gives a node another name.
 pub const RENAME: u32 = 12;
 
+/// `FUSE_OPEN` of `fuse.h`: opens a file.
+pub const OPEN: u32 = 14;
+
+/// `FUSE_READ` of `fuse.h`: reads bytes of an open file.
+pub const READ: u32 = 15;
+
+/// `FUSE_WRITE` of `fuse.h`: writes bytes of an open file.
+pub const WRITE: u32 = 16;
+
 /// `FUSE_STATFS` of `fuse.h`: asks for the sizes of the file system.
 pub const STATFS: u32 = 17;
+
+/// `FUSE_RELEASE` of `fuse.h`: closes a file.
+pub const RELEASE: u32 = 18;
+
+/// `FUSE_FSYNC` of `fuse.h`: brings an open file to the disk.
+pub const FSYNC: u32 = 20;
+
+/// `FUSE_FLUSH` of `fuse.h`: says that a descriptor of an open file was closed.
+pub const FLUSH: u32 = 25;
 
 /// `FUSE_INIT` of `fuse.h`: agrees on a version.
 pub const INIT: u32 = 26;
@@ -43,6 +61,9 @@ pub const RELEASEDIR: u32 = 29;
 
 /// `FUSE_FSYNCDIR` of `fuse.h`: brings an open folder to the disk.
 pub const FSYNCDIR: u32 = 30;
+
+/// `FUSE_CREATE` of `fuse.h`: makes a file and opens it.
+pub const CREATE: u32 = 35;
 
 /// `FUSE_INTERRUPT` of `fuse.h`: asks to give up a request that is under way.
 pub const INTERRUPT: u32 = 36;

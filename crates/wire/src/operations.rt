@@ -1,21 +1,25 @@
 //! What follows the header of a request, read by its opcode.
 
 ghost use Rattle.std.specs.Prelude.{◌∷◌, []};
-ghost use Rattle.wire.specs.Fields.{limited, text, u64, unread, num, name};
+ghost use Rattle.wire.specs.Fields.{text, name};
 ghost use Rattle.wire.specs.Reading.{Gives, fields_at, operation_at, told};
 
 use crate::fault::WireFault;
 use crate::fronts::{
-    counted_front, limited_front, name_of, nothing_left, text_front, u32_front, u64_front,
-    unread_front,
+    counted_front, name_of, nothing_left, text_front, u32_front, u64_front, unread_front,
 };
 use crate::opcode::{
-    BATCH_FORGET, DESTROY, FORGET, FSYNCDIR, GETATTR, INIT, INTERRUPT, LOOKUP, MKDIR, OPENDIR,
-    READDIR, READDIRPLUS, RELEASEDIR, RENAME, RMDIR, SETATTR, STATFS, UNLINK,
+    BATCH_FORGET, CREATE, DESTROY, FLUSH, FORGET, FSYNC, FSYNCDIR, GETATTR, INIT, INTERRUPT,
+    LOOKUP, MKDIR, OPEN, OPENDIR, READ, READDIR, READDIRPLUS, RELEASE, RELEASEDIR, RENAME, RMDIR,
+    SETATTR, STATFS, UNLINK, WRITE,
 };
-use crate::request::{MAX_READ_LEN, Operation};
+use crate::opened::{
+    create, flush, open, open_dir, read, read_dir, read_dir_plus, release, release_dir, sync,
+    sync_dir, write,
+};
+use crate::request::Operation;
 
-fn name_alone(body: &[u8]) -> Result<&str, WireFault>
+pub fn name_alone(body: &[u8]) -> Result<&str, WireFault>
     ensures { Gives (λ x. name x.now ∷ []) result (fields_at (text ∷ []) body.now) }
 {
     let (name, rest) = text_front(body)?;
@@ -103,68 +107,11 @@ fn init(body: &[u8]) -> Result<Operation<'_>, WireFault>
 }
 
 #[tactic(auto, unfolding(crate::specs::Reading::operation_at))]
-fn open_dir(body: &[u8]) -> Result<Operation<'_>, WireFault>
-    ensures { Gives told result (operation_at OPENDIR body.now) }
-{
-    let rest = unread_front(body, 8)?;
-    nothing_left(rest)?;
-    Ok(Operation::OpenDir)
-}
-
-/// A handle, an offset and a size.
-fn page_alone(body: &[u8]) -> Result<(u64, u64, u32), WireFault>
-    ensures { Gives (λ x. num x.0 ∷ num x.1 ∷ num x.2 ∷ []) result (fields_at (u64 ∷ u64 ∷ limited MAX_READ_LEN ∷ unread 20 ∷ []) body.now) }
-{
-    let (fh, rest) = u64_front(body)?;
-    let (offset, rest) = u64_front(rest)?;
-    let (size, rest) = limited_front(rest, MAX_READ_LEN)?;
-    let rest = unread_front(rest, 20)?;
-    nothing_left(rest)?;
-    Ok((fh, offset, size))
-}
-
-#[tactic(auto, unfolding(crate::specs::Reading::operation_at))]
-fn read_dir(body: &[u8]) -> Result<Operation<'_>, WireFault>
-    ensures { Gives told result (operation_at READDIR body.now) }
-{
-    let (fh, offset, size) = page_alone(body)?;
-    Ok(Operation::ReadDir { fh, offset, size })
-}
-
-#[tactic(auto, unfolding(crate::specs::Reading::operation_at))]
-fn release_dir(body: &[u8]) -> Result<Operation<'_>, WireFault>
-    ensures { Gives told result (operation_at RELEASEDIR body.now) }
-{
-    let (fh, rest) = u64_front(body)?;
-    let rest = unread_front(rest, 16)?;
-    nothing_left(rest)?;
-    Ok(Operation::ReleaseDir { fh })
-}
-
-#[tactic(auto, unfolding(crate::specs::Reading::operation_at))]
-fn sync_dir(body: &[u8]) -> Result<Operation<'_>, WireFault>
-    ensures { Gives told result (operation_at FSYNCDIR body.now) }
-{
-    let (fh, rest) = u64_front(body)?;
-    let rest = unread_front(rest, 8)?;
-    nothing_left(rest)?;
-    Ok(Operation::SyncDir { fh })
-}
-
-#[tactic(auto, unfolding(crate::specs::Reading::operation_at))]
 fn batch_forget(body: &[u8]) -> Result<Operation<'_>, WireFault>
     ensures { Gives told result (operation_at BATCH_FORGET body.now) }
 {
     let pairs = counted_front(body, 16, 4, u32::MAX)?;
     Ok(Operation::BatchForget { pairs })
-}
-
-#[tactic(auto, unfolding(crate::specs::Reading::operation_at))]
-fn read_dir_plus(body: &[u8]) -> Result<Operation<'_>, WireFault>
-    ensures { Gives told result (operation_at READDIRPLUS body.now) }
-{
-    let (fh, offset, size) = page_alone(body)?;
-    Ok(Operation::ReadDirPlus { fh, offset, size })
 }
 
 #[tactic(auto, unfolding(crate::specs::Reading::operation_at))]
@@ -194,12 +141,19 @@ pub fn operation_of(opcode: u32, body: &[u8]) -> Result<Operation<'_>, WireFault
             name: name_alone(body)?,
         }),
         RENAME => rename(body),
+        OPEN => open(body),
+        READ => read(body),
+        WRITE => write(body),
         STATFS => stat_fs(body),
+        RELEASE => release(body),
+        FSYNC => sync(body),
+        FLUSH => flush(body),
         INIT => init(body),
         OPENDIR => open_dir(body),
         READDIR => read_dir(body),
         RELEASEDIR => release_dir(body),
         FSYNCDIR => sync_dir(body),
+        CREATE => create(body),
         INTERRUPT => Ok(Operation::Interrupt),
         DESTROY => destroy(body),
         BATCH_FORGET => batch_forget(body),

@@ -6,8 +6,9 @@ ghost use Rattle.wire.specs.Written.{operation_bytes};
 ghost use Rattle.wire.specs.Rows.{part_bytes, parts_bytes};
 
 use crate::opcode::{
-    BATCH_FORGET, DESTROY, FORGET, FSYNCDIR, GETATTR, INIT, INTERRUPT, LOOKUP, MKDIR, OPENDIR,
-    READDIR, READDIRPLUS, RELEASEDIR, RENAME, RMDIR, SETATTR, STATFS, UNLINK,
+    BATCH_FORGET, CREATE, DESTROY, FLUSH, FORGET, FSYNC, FSYNCDIR, GETATTR, INIT, INTERRUPT,
+    LOOKUP, MKDIR, OPEN, OPENDIR, READ, READDIR, READDIRPLUS, RELEASE, RELEASEDIR, RENAME, RMDIR,
+    SETATTR, STATFS, UNLINK, WRITE,
 };
 use crate::put::{put, put_low_u32, put_text, put_u32, put_u64, put_zeros};
 use crate::request::{HEADER_LEN, Operation};
@@ -61,7 +62,25 @@ pub fn row_of<'a>(operation: &Operation<'a>) -> Row<'a>
             RENAME,
             [U64(new_parent), Text(name), Text(new_name), end, end],
         ),
+        Operation::Open { flags } => (OPEN, [U32(flags), Zeros(4), end, end, end]),
+        Operation::Read { fh, offset, size } => (
+            READ,
+            [U64(fh), U64(offset), U32(size), Zeros(20), end],
+        ),
+        Operation::Write { fh, offset, data } => (
+            WRITE,
+            [
+                U64(fh),
+                U64(offset),
+                LowU32(data.len()),
+                Zeros(20),
+                Bytes(data),
+            ],
+        ),
         Operation::StatFs => (STATFS, [end; 5]),
+        Operation::Release { fh } => (RELEASE, [U64(fh), Zeros(16), end, end, end]),
+        Operation::Sync { fh } => (FSYNC, [U64(fh), Zeros(8), end, end, end]),
+        Operation::Flush { fh } => (FLUSH, [U64(fh), Zeros(16), end, end, end]),
         Operation::Init {
             major,
             minor,
@@ -78,6 +97,9 @@ pub fn row_of<'a>(operation: &Operation<'a>) -> Row<'a>
         ),
         Operation::ReleaseDir { fh } => (RELEASEDIR, [U64(fh), Zeros(16), end, end, end]),
         Operation::SyncDir { fh } => (FSYNCDIR, [U64(fh), Zeros(8), end, end, end]),
+        Operation::Create { name, flags } => {
+            (CREATE, [U32(flags), Zeros(12), Text(name), end, end])
+        }
         Operation::Interrupt => (INTERRUPT, [end; 5]),
         Operation::Destroy => (DESTROY, [end; 5]),
         Operation::BatchForget { pairs } => (

@@ -5,9 +5,9 @@ use std::alloc::Global;
 use std::test::Fail;
 use wire::WireFault::{Body, Frame, NameBad, NameLong, Opcode};
 use wire::{
-    BATCH_FORGET, DESTROY, FORGET, FSYNCDIR, GETATTR, HEADER_LEN, Header, INIT, INTERRUPT, LOOKUP,
-    MKDIR, OPENDIR, READDIR, READDIRPLUS, RELEASEDIR, RENAME, RMDIR, SETATTR, STATFS, UNLINK,
-    WireFault, decode, has_reply, header_of,
+    BATCH_FORGET, CREATE, DESTROY, FLUSH, FORGET, FSYNC, FSYNCDIR, GETATTR, HEADER_LEN, Header,
+    INIT, INTERRUPT, LOOKUP, MKDIR, OPEN, OPENDIR, READ, READDIR, READDIRPLUS, RELEASE, RELEASEDIR,
+    RENAME, RMDIR, SETATTR, STATFS, UNLINK, WRITE, WireFault, decode, has_reply, header_of,
 };
 
 /// A piece of a body.
@@ -63,10 +63,52 @@ const BODIES: &[Row] = &[
     Row(FSYNCDIR, &[Each(0, 17)], Some(Body)),
     Row(READDIRPLUS, &[Each(0, 39)], Some(Body)),
     Row(READDIRPLUS, &[Each(0, 40)], None),
+    Row(OPEN, &[Each(0, 7)], Some(Body)),
+    Row(OPEN, &[Each(0, 9)], Some(Body)),
+    Row(READ, &[Each(0, 39)], Some(Body)),
+    Row(READ, &[Each(0, 41)], Some(Body)),
+    Row(WRITE, &[Each(0, 39)], Some(Body)),
+    Row(WRITE, &[Each(0, 40)], None),
+    Row(RELEASE, &[Each(0, 23)], Some(Body)),
+    Row(RELEASE, &[Each(0, 25)], Some(Body)),
+    Row(FSYNC, &[Each(0, 15)], Some(Body)),
+    Row(FSYNC, &[Each(0, 17)], Some(Body)),
+    Row(FLUSH, &[Each(0, 23)], Some(Body)),
+    Row(FLUSH, &[Each(0, 25)], Some(Body)),
+    Row(CREATE, &[Each(0, 15)], Some(Body)),
+    Row(CREATE, &[Each(0, 16)], Some(Body)),
+    Row(CREATE, &[Each(0, 16), Bytes(b"n")], Some(Body)),
+    Row(CREATE, &[Each(0, 16), Bytes(b"n\0\0")], Some(Body)),
 ];
 
-/// A size is above 131,072, or a count is not that of the pairs: 2^28 of them wrap in 32 bits.
+/// A size is above 131,072, or a count is not that of the pairs: 2^28 of them wrap in 32 bits; the data of a WRITE are not as many bytes as
+/// it says, or above 65,536.
 const SIZES: &[Row] = &[
+    Row(
+        READ,
+        &[Each(0, 16), Bytes(b"\x01\0\x02\0"), Each(0, 20)],
+        Some(Body),
+    ),
+    Row(
+        WRITE,
+        &[Each(0, 16), Bytes(b"\x02\0\0\0"), Each(0, 21)],
+        Some(Body),
+    ),
+    Row(
+        WRITE,
+        &[Each(0, 16), Bytes(b"\x02\0\0\0"), Each(0, 23)],
+        Some(Body),
+    ),
+    Row(
+        WRITE,
+        &[Each(0, 16), Bytes(b"\0\0\x01\0"), Each(0, 65556)],
+        None,
+    ),
+    Row(
+        WRITE,
+        &[Each(0, 16), Bytes(b"\x01\0\x01\0"), Each(0, 65557)],
+        Some(Body),
+    ),
     Row(
         READDIR,
         &[Each(0, 16), Bytes(b"\0\0\x02\0"), Each(0, 20)],

@@ -6,9 +6,12 @@
 mod bytes;
 #[cfg(test)]
 mod cutting;
+#[cfg(test)]
 mod dirents;
 #[cfg(test)]
 mod faults;
+#[cfg(test)]
+mod files;
 #[cfg(test)]
 mod replies;
 #[cfg(test)]

@@ -1,7 +1,7 @@
 //! Replies, written.
 
 use crate::bytes::{SIXTEEN, bytes_of};
-use Says::{Attr, Done, Failed, Given, Init, Opened, Sizes};
+use Says::{Attr, Created, Done, Failed, Given, Init, Opened, Sizes, Wrote};
 use std::alloc::Global;
 use std::test::Fail;
 use wire::{
@@ -21,6 +21,8 @@ enum Says {
     Given(Entry),
     Attr(u64, Attributes),
     Opened(u64),
+    Created(Entry, u64),
+    Wrote(u32),
     Sizes,
     Init(InitOut),
 }
@@ -32,6 +34,8 @@ fn body_of(says: Says) -> ReplyBody {
         Given(entry) => ReplyBody::Entry(entry),
         Attr(node, attributes) => ReplyBody::Attributes { node, attributes },
         Opened(fh) => ReplyBody::Opened { fh },
+        Created(entry, fh) => ReplyBody::Created { entry, fh },
+        Wrote(size) => ReplyBody::Wrote { size },
         Sizes => ReplyBody::StatFs,
         Init(out) => ReplyBody::Init(out),
     }
@@ -43,6 +47,8 @@ const FILE: Attributes = Attributes {
     uid: 0,
     gid: 0,
 };
+
+const EMPTY_FILE: Attributes = Attributes { size: 0, ..FILE };
 
 /// 600 bytes stand in two blocks.
 const LONG_FILE: Attributes = Attributes {
@@ -195,6 +201,30 @@ const REPLIES: &[Row] = &[
             "20000000 00000000 0600000000000000",
             "0201000000000000 00000000 00000000",
         ],
+    ),
+    Row(
+        3,
+        Created(
+            Entry {
+                node: 2,
+                generation: 0,
+                attributes: EMPTY_FILE,
+            },
+            1,
+        ),
+        &[
+            "a0000000 00000000 0300000000000000",
+            "0200000000000000 0000000000000000 0100000000000000 0100000000000000 00000000 00000000",
+            "0200000000000000 0000000000000000 0000000000000000",
+            TIMES,
+            "a4810000 01000000 00000000 00000000 00000000 00100000 00000000",
+            "0100000000000000 00000000 00000000",
+        ],
+    ),
+    Row(
+        4,
+        Wrote(65536),
+        &["18000000 00000000 0400000000000000 00000100 00000000"],
     ),
     Row(
         8,

@@ -11,7 +11,7 @@ use wire::{Operation, Request, decode, encode_request};
 
 /// A frame in digits, and the request that it is: its number, its node and its operation.
 #[derive(Clone, Copy)]
-struct Row<'a>(&'a [&'a str], u64, u64, Operation<'a>);
+pub struct Row<'a>(pub &'a [&'a str], pub u64, pub u64, pub Operation<'a>);
 
 /// What was not as a row says.
 #[derive(Debug, Drop)]
@@ -21,7 +21,7 @@ enum Otherwise<'a> {
 }
 
 /// What is not read.
-const ONES: &str = "ffffffff ffffffff ffffffff ffffffff";
+pub const ONES: &str = "ffffffff ffffffff ffffffff ffffffff";
 
 /// Frames whose bytes that are not read are zero.
 const WRITTEN: &[Row] = &[
@@ -372,7 +372,7 @@ const READ: &[Row] = &[
     ),
 ];
 
-fn are_read<'a>(alloc: Global, rows: &[Row<'a>]) -> Result<(), Fail> {
+pub fn are_read<'a>(alloc: Global, rows: &[Row<'a>]) -> Result<(), Fail> {
     for row in rows {
         let Row(frame, unique, node, operation) = *row;
         let request = Request {
@@ -388,7 +388,7 @@ fn are_read<'a>(alloc: Global, rows: &[Row<'a>]) -> Result<(), Fail> {
     Ok(())
 }
 
-fn are_written<'a>(alloc: Global, rows: &[Row<'a>]) -> Result<(), Fail> {
+pub fn are_written<'a>(alloc: Global, rows: &[Row<'a>]) -> Result<(), Fail> {
     for row in rows {
         let Row(frame, unique, node, operation) = *row;
         let request = Request {

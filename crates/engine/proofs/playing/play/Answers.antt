@@ -1,10 +1,25 @@
-use Rattle.std.proofs.Common.{refl, sym, subst, []}
+use Rattle.std.proofs.Common.{◌≡◌, ◌<◌, ◌+◌, Option, Some, None, refl, sym, subst, [], lit<, arith}
+use Rattle.std.proofs.lemmas.Option.{none-some}
+use Rattle.backing.specs.Calls.{Asked}
+use Rattle.backing.specs.declared.call.Call.{Call}
+use Rattle.ops.specs.declared.script.Ending.{Ending}
+use Rattle.ops.specs.declared.script.Ending.TheVariants as endings
 use Rattle.backing.specs.Calls.{asked}
 use Rattle.engine.specs.Playing.{Playing}
-use Rattle.ops.specs.Ahead.{end_of, plan_ahead}
-use Rattle.ops.specs.Scripts.{Plan}
+use Rattle.ops.specs.Ahead.{calls_ending, calls_from, end_of, plan_ahead, plan_ending, plan_from}
+use Rattle.ops.specs.Scripts.{Plan, next_of}
 use Rattle.engine.proofs.Runs.{played_on, played}
 use Rattle.engine.proofs.playing.play.Goals as goal
+
+-- a script that asks has a call left
+asks_left : (change : Option Call) (ending : Ending) (call : Asked) → next_of (plan_from change (plan_ending ending)) ≡ Some call → 0 < calls_from change + calls_ending ending
+asks_left (Some first) ending call e = omega arith
+asks_left None (endings.Look p tells) call e = lit< tt
+asks_left None (endings.List p) call e = lit< tt
+asks_left None (endings.Over finding) call e = absurd (none-some call e)
+
+pub loop-call-smaller : goal.loop-call-smaller
+loop-call-smaller g c = c.feed.ensures.fewer (asks_left c.loop-call.script.change c.loop-call.script.ending (asked c.in-Some.call) c.in-Some.ensures)
 
 pub loop-call-init : goal.loop-call-init
 loop-call-init g c = record { made = []; makes = refl; onwards = λ rest end f. f }
@@ -12,13 +27,13 @@ loop-call-init g c = record { made = []; makes = refl; onwards = λ rest end f. 
 pub loop-call-preserved : goal.loop-call-preserved
 loop-call-preserved g c =
     let gives = g.C.Calls.gives in
-    let first = plan_ahead c.args.script.now in
+    let first = plan_ahead c.args.script in
     let now = plan_ahead c.loop-call.script in
     subst (λ (p : Plan). Playing gives c.args.calls.now first c.call-answer.new.self p) (sym c.feed.ensures.plan)
     (played_on gives first now c.args.calls.now c.loop-call.calls c.call-answer.new.self (asked c.in-Some.call) c.call-answer.result c.loop-call.invariant c.in-Some.ensures c.call-answer.ensures)
 
 pub returns : goal.returns
 returns g c =
-    let first = plan_ahead c.args.script.now in
+    let first = plan_ahead c.args.script in
     let now = plan_ahead c.loop-call.script in
-    played g.C.Calls.gives first now c.args.calls.now c.loop-call.calls (end_of c.finding.result) c.loop-call.invariant c.in_default.ensures c.finding.ensures
+    played g.C.Calls.gives first now c.args.calls.now c.loop-call.calls (end_of c.into_finding.result) c.loop-call.invariant c.in_default.ensures c.into_finding.ensures

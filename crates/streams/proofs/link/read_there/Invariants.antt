@@ -1,4 +1,3 @@
-use Rattle.std.proofs.Common.{Option}
 use Rattle.std.specs.Io.KnownBytes.{Keeps}
 use Rattle.streams.proofs.link.read_there.Given as goal
 

@@ -17,7 +17,7 @@ returns-in-Node-clause-err c =
 pub returns-in-Node-clause-ok : goal.returns-in-Node-clause-ok
 returns-in-Node-clause-ok c =
     let at = at_in c.args.tree.now in
-    IfOk-weaker c.terms_of.result _ (λ t. IsWanted at c.args.want.now t) (λ t agreed. node_wanted at c.args.want.now _ c.in-Node.handle t c.in-Node.is agreed.fits agreed.terms) c.terms_of.ensures.ok
+    IfOk-weaker c.terms_of.result _ (λ t. IsWanted at c.args.want.now t) (λ t agreed. node_wanted at c.args.want.now _ c.in-Node.handle t c.in-Node.is agreed.terms) c.terms_of.ensures.ok
 
 pub returns-in-Name-clause-ok : goal.returns-in-Name-clause-ok
 returns-in-Name-clause-ok c =

@@ -11,15 +11,15 @@ pub returns-in-Go-clause-carries : goal.returns-in-Go-clause-carries
 returns-in-Go-clause-carries g c =
     let p = c.perform.ensures.performs in
     let begins = c.in-Go.ensures.begins in
-    let alone = finishes_one (world_of c.args.table.now) (world_of c.begin.new.self) p.finished c.args.request.unique c.args.want c.in-Go.ticket p.end.outcome p.answer c.requires.idle begins p.finishes in
+    let alone = finishes_one (world_of c.args.table.now) (world_of c.begin.new.self) p.concludes.finished c.args.request.unique c.args.want c.in-Go.ticket p.end.outcome p.concludes.answer c.requires.idle begins p.concludes.finishes in
     goes_on worlds c.args.self.now.settings g.L.LinkOut.sends g.C.Calls.gives c.args.request c.args.want c.in-Go.ticket c.args.link.now c.perform.new.link c.args.calls.now c.perform.new.calls
     (world_of c.args.table.now) (world_of c.begin.new.self) (world_of c.perform.new.table) c.perform.result begins p alone.not_lost
 
 pub returns-in-Go-clause-idle : goal.returns-in-Go-clause-idle
 returns-in-Go-clause-idle g c =
     let p = c.perform.ensures.performs in
-    let alone = finishes_one (world_of c.args.table.now) (world_of c.begin.new.self) p.finished c.args.request.unique c.args.want c.in-Go.ticket p.end.outcome p.answer c.requires.idle c.in-Go.ensures.begins p.finishes in
-    settles_one p.finished (world_of c.perform.new.table) c.in-Go.ticket.id p.answer _ p.settles.0 alone p.settles.1
+    let alone = finishes_one (world_of c.args.table.now) (world_of c.begin.new.self) p.concludes.finished c.args.request.unique c.args.want c.in-Go.ticket p.end.outcome p.concludes.answer c.requires.idle c.in-Go.ensures.begins p.concludes.finishes in
+    settles_one p.concludes.finished (world_of c.perform.new.table) c.in-Go.ticket.id p.concludes.answer _ p.concludes.settles.0 alone p.concludes.settles.1
 
 pub returns-in-Refused-clause-carries : goal.returns-in-Refused-clause-carries
 returns-in-Refused-clause-carries g c =

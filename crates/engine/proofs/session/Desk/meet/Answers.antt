@@ -1,4 +1,4 @@
-use Rattle.std.proofs.Common.{ℕ, ap, refl, subst, ◌∙◌}
+use Rattle.std.proofs.Common.{ap, refl, subst, ◌∙◌}
 use Rattle.errno.specs.declared.TheConstants.{EIO}
 use Rattle.steps.specs.Kept.{world_of}
 use Rattle.wire.specs.Written.{reply_bytes}

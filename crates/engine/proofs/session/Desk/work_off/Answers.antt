@@ -1,10 +1,11 @@
-use Rattle.std.proofs.Common.{refl, ap, ◌∙◌}
+use Rattle.std.proofs.Common.{[], ◌∷◌, refl, ap, ◌∙◌}
+use Rattle.wire.specs.Pairs.{pairs_in}
 use Rattle.steps.specs.Kept.{world_of}
 use Rattle.table.proofs.Gaining.{gains_same}
 use Rattle.engine.proofs.Alone.{forgets_idle}
 use Rattle.engine.specs.Tables.{worlds}
 use Rattle.ops.specs.Intents.{Begin, want_of}
-use Rattle.engine.proofs.Turns.{carried, fault_answered, forgot, passed_over, said_at_once, unbegun}
+use Rattle.engine.proofs.Turns.{carried, fault_answered, forgot, passed_over, said_at_once, unbegun, used}
 use Rattle.engine.proofs.session.Desk.work_off.Goals as goal
 
 pub returns-in-Err-clause-worked : goal.returns-in-Err-clause-worked
@@ -27,10 +28,23 @@ returns-in-Err-own-clause-worked g c =
     unbegun worlds c.args.self.now.settings g.L.LinkOut.sends g.C.Calls.gives c.args.frame.now c.in-Ok.request (want_of c.in-Want.wanted) c.args.link.now c.refuse.new.link c.args.calls.now (world_of c.args.table.now) c.refuse.result
     c.in-Ok.ensures.found c.in-Want.ensures c.refuse.ensures
 
+pub returns-in-Folder-clause-worked : goal.returns-in-Folder-clause-worked
+returns-in-Folder-clause-worked g c =
+    used worlds c.args.self.now.settings g.L.LinkOut.sends g.C.Calls.gives c.args.frame.now c.in-Ok.request c.in-Folder.fh c.in-Folder.usage c.args.link.now c.use_folder.new.link c.args.calls.now (world_of c.args.table.now) c.use_folder.result
+    c.in-Ok.ensures.found c.in-Folder.ensures c.use_folder.ensures.used
+
+pub returns-in-Folder-clause-gains : goal.returns-in-Folder-clause-gains
+returns-in-Folder-clause-gains g c = gains_same (world_of c.args.table.now) (world_of c.args.table.now) c.args.share.now c.args.share.now c.attest.ensures refl refl
+
 pub returns-in-Forget-clause-worked : goal.returns-in-Forget-clause-worked
 returns-in-Forget-clause-worked g c =
-    forgot worlds c.args.self.now.settings g.L.LinkOut.sends g.C.Calls.gives c.args.frame.now c.in-Ok.request c.in-Forget.number c.in-Forget.lookups c.args.link.now c.args.calls.now (world_of c.args.table.now) (world_of c.forget.new.self)
-    c.in-Ok.ensures.found c.in-Forget.ensures (c.forget.result, c.forget.ensures.forgets)
+    forgot worlds c.args.self.now.settings g.L.LinkOut.sends g.C.Calls.gives c.args.frame.now c.in-Ok.request (c.in-Forget.lookups ∷ []) c.args.link.now c.args.calls.now (world_of c.args.table.now) (world_of c.forget.new.self)
+    c.in-Ok.ensures.found c.in-Forget.ensures (world_of c.forget.new.self, (c.forget.result, c.forget.ensures.forgets), refl)
+
+pub returns-in-ForgetAll-clause-worked : goal.returns-in-ForgetAll-clause-worked
+returns-in-ForgetAll-clause-worked g c =
+    forgot worlds c.args.self.now.settings g.L.LinkOut.sends g.C.Calls.gives c.args.frame.now c.in-Ok.request (pairs_in c.in-ForgetAll.pairs.now) c.args.link.now c.args.calls.now (world_of c.args.table.now) (world_of c.forget_all.new.table)
+    c.in-Ok.ensures.found c.in-ForgetAll.ensures c.forget_all.ensures.forgets
 
 pub returns-in-Nothing-clause-worked : goal.returns-in-Nothing-clause-worked
 returns-in-Nothing-clause-worked g c =
@@ -41,7 +55,7 @@ returns-in-Nothing-clause-gains g c = gains_same (world_of c.args.table.now) (wo
 
 pub returns-in-Forget-clause-idle : goal.returns-in-Forget-clause-idle
 returns-in-Forget-clause-idle g c =
-    forgets_idle (world_of c.args.table.now) (world_of c.forget.new.self) c.in-Forget.number c.in-Forget.lookups c.forget.result c.requires.idle c.forget.ensures.forgets
+    forgets_idle (world_of c.args.table.now) (world_of c.forget.new.self) c.in-Forget.lookups.node c.in-Forget.lookups.nlookup c.forget.result c.requires.idle c.forget.ensures.forgets
 
 pub returns-in-Err-clause-gains : goal.returns-in-Err-clause-gains
 returns-in-Err-clause-gains g c = gains_same (world_of c.args.table.now) (world_of c.args.table.now) c.args.share.now c.args.share.now c.attest.ensures refl refl

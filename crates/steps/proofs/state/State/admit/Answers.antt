@@ -14,7 +14,7 @@ use Rattle.steps.proofs.Starting.{begun_kept, goes_on}
 use Rattle.steps.proofs.state.State.admit.Goals as goal
 
 demanded : (at : Lookup) (plan : Plan) → IsPlan at plan.work.want plan → IsDemand at plan.work.want (row_in plan.work)
-demanded at plan is = record { case = case_in plan.work.promise; fits = is.fits; row = refl }
+demanded at plan is = record { case = case_in plan.work.want plan.work.promise; fits = is.fits; row = refl }
 
 pub returns-then-holds_up-clause-begins : goal.returns-then-holds_up-clause-begins
 returns-then-holds_up-clause-begins c =
@@ -23,7 +23,7 @@ returns-then-holds_up-clause-begins c =
     record {
       demand = row_in plan.work;
       demanded = demanded (at_in s.tree) plan c.requires.plan;
-      begins = (record { usable = c.requires.handle (case_in plan.work.promise); sound = c.requires.plan.sound }, held_up s plan.work.want plan c.requires.plan (c.holds_up.ensures.held.0 c.if-holds_up.true), refl);
+      begins = (record { usable = c.requires.handle (case_in plan.work.want plan.work.promise); sound = c.requires.plan.sound }, held_up s plan.work.want plan c.requires.plan (c.holds_up.ensures.held.0 c.if-holds_up.true), refl);
     }
 
 pub returns-in-Err-clause-begins : goal.returns-in-Err-clause-begins
@@ -35,7 +35,7 @@ returns-in-Err-clause-begins c =
       demanded = demanded (at_in s.tree) plan c.requires.plan;
       begins = (
         refusal_bits (world_of s) (row_in plan.work) c.in-Err.errno
-            (limit_refusal s plan.work.want plan c.requires.plan (c.requires.handle (case_in plan.work.promise)) c.expect_within.ensures.tally c.in-Err.errno (λ up. false≢true (sym c.if-holds_up.false ∙ c.holds_up.ensures.held.1 up)) c.in-Err.ensures.err),
+            (limit_refusal s plan.work.want plan c.requires.plan (c.requires.handle (case_in plan.work.want plan.work.promise)) c.expect_within.ensures.tally c.in-Err.errno (λ up. false≢true (sym c.if-holds_up.false ∙ c.holds_up.ensures.held.1 up)) c.in-Err.ensures.err),
         refl,
       );
     }
@@ -48,7 +48,7 @@ returns-clause-begins c =
       demand = row_in plan.work;
       demanded = demanded (at_in s.tree) plan c.requires.plan;
       begins = (
-        may_begin s plan.work.want plan c.requires.plan (c.requires.handle (case_in plan.work.promise)) c.expect_within.ensures.tally (λ up. false≢true (sym c.if-holds_up.false ∙ c.holds_up.ensures.held.1 up)) c.in-Ok.ensures.ok,
+        may_begin s plan.work.want plan c.requires.plan (c.requires.handle (case_in plan.work.want plan.work.promise)) c.expect_within.ensures.tally (λ up. false≢true (sym c.if-holds_up.false ∙ c.holds_up.ensures.held.1 up)) c.in-Ok.ensures.ok,
         goes_on s c.reserve.new.self c.args.unique c.free_id-id.result plan c.requires.plan c.reserve.ensures.same c.add.new.self c.add.ensures.adds c.is_same-same.result c.free_id-id.ensures.free c.is_same-same.ensures,
       );
     }
@@ -59,7 +59,7 @@ returns-clause-kept c =
     let plan = c.args.plan in
     begun_kept s c.reserve.new.self c.args.unique c.free_id-id.result plan c.requires.plan c.reserve.ensures.same c.add.new.self c.add.ensures.adds c.is_same-same.result c.free_id-id.ensures.free c.is_same-same.ensures
     c.reserve.ensures.kept c.add.ensures.law (λ up. false≢true (sym c.if-holds_up.false ∙ c.holds_up.ensures.held.1 up))
-    (may_begin s plan.work.want plan c.requires.plan (c.requires.handle (case_in plan.work.promise)) c.expect_within.ensures.tally (λ up. false≢true (sym c.if-holds_up.false ∙ c.holds_up.ensures.held.1 up)) c.in-Ok.ensures.ok)
+    (may_begin s plan.work.want plan c.requires.plan (c.requires.handle (case_in plan.work.want plan.work.promise)) c.expect_within.ensures.tally (λ up. false≢true (sym c.if-holds_up.false ∙ c.holds_up.ensures.held.1 up)) c.in-Ok.ensures.ok)
     c.in-Ok.ensures.ok c.in-Ok-reserve.ensures.ok
 
 pub returns-in-Err-reserve-clause-begins : goal.returns-in-Err-reserve-clause-begins
@@ -69,5 +69,5 @@ returns-in-Err-reserve-clause-begins c =
     record {
       demand = row_in plan.work;
       demanded = demanded (at_in s.tree) plan c.requires.plan;
-      begins = (unsound (c.requires.handle (case_in plan.work.promise)) (no_memory refl c.requires.plan.sound.not_stale), c.reserve.ensures.same.world);
+      begins = (unsound (c.requires.handle (case_in plan.work.want plan.work.promise)) (no_memory refl c.requires.plan.sound.not_stale), c.reserve.ensures.same.world);
     }

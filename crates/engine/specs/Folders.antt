@@ -1,0 +1,72 @@
+-- The open folders of a session: their calls with their answers, and what requests make of them.
+use Rattle.std.specs.Prelude.{ℕ, ◌≡◌, ◌==◌, Bool, true, false, if◌then◌else◌, List, [], ◌∷◌, Option, Some, None, Ok, Err}
+use Rattle.errno.specs.declared.TheConstants.{EBADF}
+use Rattle.backing.specs.declared.call.Child.{Child}
+use Rattle.handles.specs.Listings.{IsLent, IsMade, OpenFolder}
+use Rattle.handles.specs.declared.listing.ListingFault.TheVariants.{Memory}
+use Rattle.ops.specs.Folders.{IsPaged, names_reply}
+use Rattle.ops.specs.declared.findings.Finding.{Finding}
+use Rattle.ops.specs.declared.findings.Finding.TheVariants as findings
+use Rattle.ops.specs.declared.intents.FolderUse.{FolderUse}
+use Rattle.ops.specs.declared.intents.FolderUse.TheVariants.{ReadNames, GiveUp, Sync}
+use Rattle.wire.specs.declared.reply.ReplyBody.{ReplyBody}
+use Rattle.wire.specs.declared.reply.ReplyBody.TheVariants.{Failed, Done}
+
+-- A call of the open folders, with its answer, which is an input of the session.
+pub data FolderCall : Type 0 where
+  -- a listing is put, under a handle unless there is no room for it
+  Put : (folder : OpenFolder) → (fh : Option ℕ) → FolderCall
+  -- the folder of a handle is lent, if it is there
+  Lend : (fh : ℕ) → (lent : Option OpenFolder) → FolderCall
+  -- a handle is given up, if it was there
+  Retire : (fh : ℕ) → (gone : Bool) → FolderCall
+
+-- ---- requests that use an open folder, and need no table
+
+-- what is lent bears the handle, and is a listing
+abbrev pub IsLentFor : ℕ → Option OpenFolder → Type 0
+IsLentFor fh None = Unit {0}
+IsLentFor fh (Some folder) = IsLent fh folder
+
+-- the folder, if it is one of the node
+abbrev pub on_node : ℕ → Option OpenFolder → Option OpenFolder
+on_node node None = None
+on_node node (Some folder) = if folder.number == node then Some folder else None
+
+abbrev pub given_up : Bool → ReplyBody
+given_up true = Done
+given_up false = Failed EBADF
+
+-- what is answered, with the calls that are still made
+abbrev pub Uses : Option OpenFolder → FolderUse → List FolderCall → (meant : ReplyBody) → Type 0
+Uses None usage more meant = (more ≡ []) × (meant ≡ Failed EBADF)
+Uses (Some folder) (ReadNames offset size) more meant =
+    (more ≡ []) × (page : Option (List Child)) × IsPaged false folder.entries offset size page × (meant ≡ names_reply offset page)
+Uses (Some folder) GiveUp more meant = (gone : Bool) × (more ≡ Retire folder.fh gone ∷ []) × (meant ≡ given_up gone)
+Uses (Some folder) Sync more meant = (more ≡ []) × (meant ≡ Done)
+
+-- the folder of the handle is lent, and used if it is one of the node
+pub record IsUsed (node fh : ℕ) (usage : FolderUse) (folders : List FolderCall) (meant : ReplyBody) : Type 0 where
+  pub lent : Option OpenFolder
+  pub is_lent : IsLentFor fh lent
+  pub more : List FolderCall
+  pub folders_are : folders ≡ Lend fh lent ∷ more
+  pub uses : Uses (on_node node lent) usage more meant
+
+-- ---- OPENDIR
+
+-- the listing of what was found is put, if names of a folder were
+abbrev pub PutsListing : ℕ → Finding → List FolderCall → (put : Option ℕ) → Type 0
+PutsListing node (findings.Listed children) folders put = (folder : OpenFolder) × IsMade node children (Ok folder) × (folders ≡ Put folder put ∷ [])
+PutsListing node finding folders put = (folders ≡ []) × (put ≡ None)
+
+-- there is no memory for a listing, so none is put
+abbrev pub LacksListing : ℕ → Finding → List FolderCall → (put : Option ℕ) → Type 0
+LacksListing node (findings.Listed children) folders put = IsMade node children (Err Memory) × (folders ≡ []) × (put ≡ None)
+LacksListing node finding folders put = ⊥
+
+-- a listing that was put is given up where its request is settled as untaken
+abbrev pub GivesUp : (taken : Bool) → (put : Option ℕ) → List FolderCall → Type 0
+GivesUp false (Some fh) folders = (gone : Bool) × (folders ≡ Retire fh gone ∷ [])
+GivesUp false None folders = folders ≡ []
+GivesUp true put folders = folders ≡ []

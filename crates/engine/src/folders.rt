@@ -1,0 +1,53 @@
+//! Requests that use an open folder, and need no table.
+
+ghost use Rattle.std.specs.Prelude.{◌≡◌, List, Some, IfOk, OnErr};
+ghost use Rattle.backing.specs.declared.call.Child.{Child};
+ghost use Rattle.handles.specs.Listings.{OpenFolder};
+ghost use Rattle.ops.specs.Folders.{IsPaged, names_reply};
+ghost use Rattle.engine.specs.Folders.{given_up, IsUsed, Uses, FolderCall};
+ghost use Rattle.engine.specs.Replies.{TakesMemory};
+ghost use Rattle.wire.specs.declared.reply.ReplyBody.{ReplyBody};
+
+use errno::EBADF;
+use handles::{Dirs, Listing};
+use ops::{FolderUse, names_reply};
+use std::alloc::{AllocError, Global};
+use std::sync::Wait;
+use wire::ReplyBody;
+
+/// What a RELEASEDIR is answered.
+fn given_up(gone: bool) -> ReplyBody
+    ensures { result ≡ given_up gone }
+{
+    if gone {
+        ReplyBody::Done
+    } else {
+        ReplyBody::Failed { errno: EBADF }
+    }
+}
+
+/// What a request is answered that uses the folder under a handle, if it is one of the node. An error says that there was no memory
+/// for the reply.
+pub(crate) fn use_folder<H: Wait>(
+    rt: &H,
+    alloc: Global,
+    dirs: &Dirs,
+    node: u64,
+    fh: u64,
+    usage: FolderUse,
+) -> Result<ReplyBody, AllocError>
+    ensures ok { IfOk result (λ body. (folders : List FolderCall) × IsUsed node fh usage folders body) }
+    ensures err { OnErr result ((folders : List FolderCall) × (meant : ReplyBody) × IsUsed node fh usage folders meant × TakesMemory meant) }
+{
+    let Some(lent) = dirs.lend(rt, fh) else {
+        return Ok(ReplyBody::Failed { errno: EBADF });
+    };
+    if lent.listing().number() != node {
+        return Ok(ReplyBody::Failed { errno: EBADF });
+    }
+    match usage {
+        FolderUse::ReadNames { offset, size } => names_reply(alloc, lent.listing(), offset, size),
+        FolderUse::GiveUp => Ok(given_up(dirs.retire(rt, fh))),
+        FolderUse::Sync => Ok(ReplyBody::Done),
+    }
+}

@@ -1,0 +1,45 @@
+//! Names of an open folder, as replies.
+
+ghost use Rattle.std.specs.Prelude.{◌≡◌, ◌+◌, ◌^◌, ◌<◌, ◌++◌, false, length, List, Option, Some, IfOk, OnErr, OnOk};
+ghost use Rattle.backing.specs.declared.call.Child.{Child};
+ghost use Rattle.ops.specs.Folders.{CarriesAtMost, IsPaged, names_bytes, names_reply};
+
+use crate::replies::kind_of;
+use backing::Child;
+use errno::EINVAL;
+use handles::{Listing, PageFault};
+use std::alloc::{AllocError, Global};
+use wire::{Data, NO_INO, ReplyBody, encode_dirent};
+
+/// Puts entries at the end of a vector. The first stands at index `from`.
+fn put_names(out: &mut Vec<u8>, from: u64, children: &[Child]) -> Result<(), AllocError>
+    requires { from + length children.now < 2 ^ 64 }
+    ensures { OnOk result (out.new.items ≡ out.old.items ++ names_bytes from children.now) }
+{
+    let mut next = from;
+    for child in children {
+        next += 1;
+        encode_dirent(out, NO_INO, next, kind_of(child.kind), child.name.as_str())?;
+    }
+    Ok(())
+}
+
+/// What READDIR is answered: as many entries as fit, from an index on. Where one stands there and does not fit, it is EINVAL (own).
+pub fn names_reply(
+    alloc: Global,
+    listing: &Listing,
+    offset: u64,
+    size: u32,
+) -> Result<ReplyBody, AllocError>
+    ensures ok { IfOk result (λ body. (page : Option (List Child)) × IsPaged false listing.now.entries offset size page × (body ≡ names_reply offset page)) }
+    ensures short { IfOk result (λ body. CarriesAtMost size body) }
+    ensures err { OnErr result ((run : List Child) × IsPaged false listing.now.entries offset size (Some run)) }
+{
+    let page = match listing.page(offset, size, false) {
+        Ok(page) => page,
+        Err(PageFault::Small) => return Ok(ReplyBody::Failed { errno: EINVAL }),
+    };
+    let mut names = Vec::new(alloc);
+    put_names(&mut names, page.from, page.entries)?;
+    Ok(ReplyBody::Data(Data::new(names)))
+}

@@ -1,0 +1,377 @@
+//! Open folders, and lookups that are given back in batches.
+
+use crate::frames::{ABSENT, ENTRY_A, ENTRY_E_REBORN, LOOKUP_A, LOOKUP_E, LOOKUP_ZZ};
+use crate::row::{NOTHING as NO_LINES, Row, run_rows};
+use crate::stories::Says::{Done, Entry, Failed, Names, NoReply, Opened};
+use crate::stories::Stands::{File, Folder};
+use crate::stories::{NOTHING, Story, tell};
+use backing::Fault::{After, Before};
+use errno::{EACCES, EBADF, EINVAL, EIO, ENOTDIR, ESTALE};
+use ledger::Blanks;
+use std::marker::Brand;
+use std::test::Fail;
+use wire::Operation::{
+    BatchForget, Lookup, MakeDir, OpenDir, ReadDir, ReleaseDir, RemoveDir, SyncDir,
+};
+
+/// What a client reads of an open folder.
+const PAGES: &[Story] = &[
+    Story {
+        says: "the root, whole and in pages that just fit, and one that does not",
+        asks: &[
+            (1, OpenDir),
+            (
+                1,
+                ReadDir {
+                    fh: 1,
+                    offset: 0,
+                    size: 131072,
+                },
+            ),
+            (
+                1,
+                ReadDir {
+                    fh: 1,
+                    offset: 2,
+                    size: 96,
+                },
+            ),
+            (
+                1,
+                ReadDir {
+                    fh: 1,
+                    offset: 2,
+                    size: 95,
+                },
+            ),
+            (
+                1,
+                ReadDir {
+                    fh: 1,
+                    offset: 2,
+                    size: 31,
+                },
+            ),
+            (
+                1,
+                ReadDir {
+                    fh: 1,
+                    offset: 5,
+                    size: 31,
+                },
+            ),
+            (
+                1,
+                ReadDir {
+                    fh: 1,
+                    offset: 0xffffffffffffffff,
+                    size: 0,
+                },
+            ),
+        ],
+        replies: &[
+            Opened(1),
+            Names(
+                0,
+                &[
+                    (".", Folder),
+                    ("..", Folder),
+                    ("a", File(3)),
+                    ("d", Folder),
+                    ("e", File(0)),
+                ],
+            ),
+            Names(2, &[("a", File(3)), ("d", Folder), ("e", File(0))]),
+            Names(2, &[("a", File(3)), ("d", Folder)]),
+            Failed(EINVAL),
+            Names(5, &[]),
+            Names(0, &[]),
+        ],
+        ..NOTHING
+    },
+    Story {
+        says: "names stand by their bytes, reserved ones are left out, and a listing is that of its OPENDIR",
+        files: &[
+            &["d", "z"],
+            &["d", "a-b"],
+            &["d", "a"],
+            &["d", ".fuse_hidden0"],
+        ],
+        asks: &[
+            (1, Lookup { name: "d" }),
+            (2, OpenDir),
+            (2, MakeDir { name: "m" }),
+            (
+                2,
+                ReadDir {
+                    fh: 1,
+                    offset: 1,
+                    size: 4096,
+                },
+            ),
+            (2, OpenDir),
+            (
+                2,
+                ReadDir {
+                    fh: 2,
+                    offset: 3,
+                    size: 4096,
+                },
+            ),
+        ],
+        replies: &[
+            Entry(2, Folder),
+            Opened(1),
+            Entry(3, Folder),
+            Names(
+                1,
+                &[
+                    ("..", Folder),
+                    ("a", File(0)),
+                    ("a-b", File(0)),
+                    ("z", File(0)),
+                ],
+            ),
+            Opened(2),
+            Names(3, &[("a-b", File(0)), ("m", Folder), ("z", File(0))]),
+        ],
+        ..NOTHING
+    },
+];
+
+#[test]
+fn pages_of_names(rt: HostRuntime) -> Result<(), Fail> {
+    for story in PAGES {
+        tell::<HostRuntime, Brand>(&rt, rt.alloc(), Blanks::new(1), story)?;
+    }
+    Ok(())
+}
+
+/// Handles that are none, and folders that are not opened.
+const HANDLES: &[Story] = &[
+    Story {
+        says: "a handle of another node, one that was not given, and one that was given up",
+        asks: &[
+            (1, Lookup { name: "d" }),
+            (1, OpenDir),
+            (
+                2,
+                ReadDir {
+                    fh: 1,
+                    offset: 0,
+                    size: 4096,
+                },
+            ),
+            (2, SyncDir { fh: 1 }),
+            (2, ReleaseDir { fh: 1 }),
+            (
+                1,
+                ReadDir {
+                    fh: 2,
+                    offset: 0,
+                    size: 4096,
+                },
+            ),
+            (1, SyncDir { fh: 0 }),
+            (1, ReleaseDir { fh: 2 }),
+            (1, SyncDir { fh: 1 }),
+            (1, ReleaseDir { fh: 1 }),
+            (1, ReleaseDir { fh: 1 }),
+            (1, SyncDir { fh: 1 }),
+            (
+                1,
+                ReadDir {
+                    fh: 1,
+                    offset: 0,
+                    size: 4096,
+                },
+            ),
+            (1, OpenDir),
+        ],
+        replies: &[
+            Entry(2, Folder),
+            Opened(1),
+            Failed(EBADF),
+            Failed(EBADF),
+            Failed(EBADF),
+            Failed(EBADF),
+            Failed(EBADF),
+            Failed(EBADF),
+            Done,
+            Done,
+            Failed(EBADF),
+            Failed(EBADF),
+            Failed(EBADF),
+            Opened(2),
+        ],
+        ..NOTHING
+    },
+    Story {
+        says: "a file, an unknown node, and a directory that fails before its work and after it",
+        asks: &[
+            (1, Lookup { name: "a" }),
+            (2, OpenDir),
+            (9, OpenDir),
+            (1, OpenDir),
+            (1, OpenDir),
+            (1, OpenDir),
+        ],
+        faults: &[(3, Before(EACCES)), (4, After(5000))],
+        replies: &[
+            Entry(2, File(3)),
+            Failed(ENOTDIR),
+            Failed(ESTALE),
+            Failed(EACCES),
+            Failed(EIO),
+            Opened(1),
+        ],
+        ..NOTHING
+    },
+    Story {
+        says: "a folder that was removed is read on, and its node is gone for the table alone",
+        asks: &[
+            (1, Lookup { name: "d" }),
+            (2, OpenDir),
+            (1, RemoveDir { name: "d" }),
+            (2, OpenDir),
+            (
+                2,
+                ReadDir {
+                    fh: 1,
+                    offset: 0,
+                    size: 32,
+                },
+            ),
+            (2, ReleaseDir { fh: 1 }),
+        ],
+        replies: &[
+            Entry(2, Folder),
+            Opened(1),
+            Done,
+            Failed(ESTALE),
+            Names(0, &[(".", Folder)]),
+            Done,
+        ],
+        ..NOTHING
+    },
+];
+
+#[test]
+fn handles_of_folders(rt: HostRuntime) -> Result<(), Fail> {
+    for story in HANDLES {
+        tell::<HostRuntime, Brand>(&rt, rt.alloc(), Blanks::new(1), story)?;
+    }
+    Ok(())
+}
+
+/// Lookups that are given back of two nodes at once: both numbers are free again, and the least is taken first.
+const BATCHES: &[Story] = &[Story {
+    says: "two nodes, one more that is unknown, the root, and no pair",
+    asks: &[
+        (1, Lookup { name: "d" }),
+        (1, Lookup { name: "a" }),
+        (
+            0,
+            BatchForget {
+                pairs: b"\x03\0\0\0\0\0\0\0\x01\0\0\0\0\0\0\0\x09\0\0\0\0\0\0\0\x01\0\0\0\0\0\0\0\x01\0\0\0\0\0\0\0\x01\0\0\0\0\0\0\0",
+            },
+        ),
+        (0, BatchForget { pairs: b"" }),
+        (3, OpenDir),
+        (2, OpenDir),
+        (1, OpenDir),
+    ],
+    replies: &[
+        Entry(2, Folder),
+        Entry(3, File(3)),
+        NoReply,
+        NoReply,
+        Failed(ESTALE),
+        Opened(1),
+        Opened(2),
+    ],
+    ..NOTHING
+}];
+
+#[test]
+fn batches_of_lookups(rt: HostRuntime) -> Result<(), Fail> {
+    for story in BATCHES {
+        tell::<HostRuntime, Brand>(&rt, rt.alloc(), Blanks::new(1), story)?;
+    }
+    Ok(())
+}
+
+/// OPENDIR of the root, unique 3, and the handle 1.
+const OPEN_ROOT: &str =
+    "30000000 1b000000 0300000000000000 0100000000000000 00000000 00000000 00000000 00000000 00000000 00000000";
+
+const OPENED: &str = "20000000 00000000 0300000000000000 0100000000000000 00000000 00000000";
+
+/// Each run is byte for byte.
+const LINES: &[Row] = &[
+    Row {
+        says: "the first entry of a folder, in 32 bytes",
+        lines: &[
+            OPEN_ROOT,
+            "50000000 1c000000 0400000000000000 0100000000000000 00000000 00000000 00000000 00000000 \
+            0100000000000000 0000000000000000 20000000 00000000 0000000000000000 00000000 00000000",
+        ],
+        replies: &[
+            OPENED,
+            "30000000 00000000 0400000000000000 \
+            ffffffff00000000 0100000000000000 01000000 04000000 2e00000000000000",
+        ],
+        ..NO_LINES
+    },
+    Row {
+        says: "the three names of the root in 96 bytes, and none in 31",
+        lines: &[
+            OPEN_ROOT,
+            "50000000 1c000000 0400000000000000 0100000000000000 00000000 00000000 00000000 00000000 \
+            0100000000000000 0200000000000000 60000000 00000000 0000000000000000 00000000 00000000",
+            "50000000 1c000000 0500000000000000 0100000000000000 00000000 00000000 00000000 00000000 \
+            0100000000000000 0200000000000000 1f000000 00000000 0000000000000000 00000000 00000000",
+        ],
+        replies: &[
+            OPENED,
+            "70000000 00000000 0400000000000000 \
+            ffffffff00000000 0300000000000000 01000000 08000000 6100000000000000 \
+            ffffffff00000000 0400000000000000 01000000 04000000 6400000000000000 \
+            ffffffff00000000 0500000000000000 01000000 08000000 6500000000000000",
+            "10000000 eaffffff 0500000000000000",
+        ],
+        ..NO_LINES
+    },
+    Row {
+        says: "a BATCH_FORGET of (2, 1), (2, 5) and (9, 1) where node 2 has count 3: it is gone",
+        lines: &[
+            LOOKUP_A,
+            LOOKUP_A,
+            LOOKUP_A,
+            "60000000 2a000000 0900000000000000 0000000000000000 00000000 00000000 00000000 00000000 \
+            03000000 00000000 0200000000000000 0100000000000000 0200000000000000 0500000000000000 \
+            0900000000000000 0100000000000000",
+            LOOKUP_E,
+        ],
+        replies: &[ENTRY_A, ENTRY_A, ENTRY_A, ENTRY_E_REBORN],
+        ..NO_LINES
+    },
+    Row {
+        says: "the same with the count 4 does nothing",
+        lines: &[
+            LOOKUP_A,
+            "60000000 2a000000 0900000000000000 0000000000000000 00000000 00000000 00000000 00000000 \
+            04000000 00000000 0200000000000000 0100000000000000 0200000000000000 0500000000000000 \
+            0900000000000000 0100000000000000",
+            LOOKUP_A,
+            LOOKUP_ZZ,
+        ],
+        replies: &[ENTRY_A, ENTRY_A, ABSENT],
+        ..NO_LINES
+    },
+];
+
+#[test]
+fn first_dirent_and_batch_forget(rt: HostRuntime) -> Result<(), Fail> {
+    run_rows(&rt, rt.alloc(), LINES)
+}

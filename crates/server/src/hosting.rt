@@ -1,0 +1,53 @@
+//! A session with a table of its own.
+
+ghost use Rattle.std.specs.Prelude.{◌≡◌};
+ghost use Rattle.server.specs.Sessions.{ServesLink};
+
+use backing::Calls;
+use engine::{Link, SessionEnd, Settings, serve};
+use handles::Dirs;
+use ledger::{Blanks, Ledgers};
+use std::alloc::Global;
+use std::marker::Brand;
+use std::sync::Wait;
+use table::{Limits, Table};
+
+/// Serves a tree over a link with a table of one share.
+fn serve_link<H: Wait, T: Ledgers, L: Link, C: Calls + Drop>(
+    rt: &H,
+    alloc: Global,
+    blanks: Blanks,
+    mut tree: C,
+    link: &mut L,
+    settings: Settings,
+) -> SessionEnd
+    requires names { blanks ≡ T.names }
+    requires shares { T.names.parts ≡ 1 }
+    ensures { ServesLink settings L.receives L.sends C.gives tree link.old result link.new }
+{
+    let opened = Table::<T>::open(alloc, Limits::default(), blanks, 1);
+    let Ok((mut table, mut shares)) = opened else {
+        return SessionEnd::Memory;
+    };
+    let mut share = shares.pop().unwrap();
+    shares.destroy_empty();
+    let dirs = Dirs::new(alloc);
+    let end = serve(
+        rt, alloc, link, &mut tree, &mut table, &mut share, &dirs, settings,
+    );
+    share.leave();
+    end
+}
+
+/// Serves a tree to one client, until its session ends. It may wait for the link.
+pub fn serve_alone<H: Wait, L: Link, C: Calls + Drop>(
+    rt: &H,
+    alloc: Global,
+    tree: C,
+    link: &mut L,
+    settings: Settings,
+) -> SessionEnd
+    ensures { ServesLink settings L.receives L.sends C.gives tree link.old result link.new }
+{
+    serve_link::<H, Brand, L, C>(rt, alloc, Blanks::new(1), tree, link, settings)
+}

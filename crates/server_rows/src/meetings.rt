@@ -1,0 +1,182 @@
+//! The program `serve` with a client of its own, in one process: two threads and a socket between them.
+
+use crate::frames::{
+    AGREED, ARE_OF_A, ATTRIBUTES, DESTROY, DESTROYED, ENTRY_A, ENTRY_M, FORGET_A, INIT, LOOKUP_A,
+    MAKE_M, RENAME_A, RENAMED, bytes_of,
+};
+use crate::host::Host;
+use crate::places::{Shown, expect, new_folder, place_of};
+use programs::run;
+use std::io::{Read, Write};
+use std::os::unix::net::UnixStream;
+use std::test::Fail;
+use std::time::Duration;
+use std::{io, thread};
+
+/// A client: what it does in turn, and what must come of it.
+#[derive(Clone, Copy)]
+struct Meeting<'a> {
+    says: &'a str,
+    /// What it writes, each with what it then waits for. It leaves after the last of them.
+    turns: &'a [(&'a str, &'a str)],
+    status: u8,
+    fault: &'a str,
+    after: &'a [(&'a str, Shown)],
+}
+
+/// Connects to a socket that is made in a moment.
+fn connect(rt: &impl Host, path: &str) -> io::Result<UnixStream> {
+    for _try in 0..2000 {
+        match UnixStream::connect(rt, path) {
+            Ok(stream) => return Ok(stream),
+            Err(_) => thread::sleep(rt, Duration::from_millis(5)),
+        }
+    }
+    UnixStream::connect(rt, path)
+}
+
+/// Writes what is asked, and reads as many bytes as are waited for. True says that they came.
+fn turn(rt: &impl Host, stream: &mut UnixStream, asked: &str, told: &str) -> io::Result<bool> {
+    let asked = bytes_of(rt.alloc(), &[asked])?;
+    let told = bytes_of(rt.alloc(), &[told])?;
+    stream.write_all(&asked)?;
+    let mut came = Vec::new(rt.alloc());
+    came.resize(told.len(), 0)?;
+    stream.read_exact(came.as_mut_slice())?;
+    Ok(came.as_slice() == told.as_slice())
+}
+
+/// How many of its turns came out as they should.
+fn be_client(rt: &impl Host, path: &str, turns: &[(&str, &str)]) -> u64 {
+    let mut right = 0u64;
+    let Ok(mut stream) = connect(rt, path) else {
+        return right;
+    };
+    for (asked, told) in turns {
+        match turn(rt, &mut stream, asked, told) {
+            Ok(true) => right = right.saturating_add(1),
+            Ok(false) | Err(_) => return right,
+        }
+    }
+    right
+}
+
+/// Runs `serve`: its status, and whether it wrote just that line.
+fn be_server(rt: &impl Host, root: &str, path: &str, fault: &str) -> (u8, bool) {
+    let words = [
+        "mirrord",
+        "serve",
+        "--workers",
+        "4",
+        "--socket",
+        path,
+        "--root",
+        root,
+        "--uid",
+        "1000",
+        "--gid",
+        "100",
+    ];
+    let mut faults = Vec::new(rt.alloc());
+    let ended = run(
+        rt,
+        &words,
+        b"".as_slice(),
+        Vec::new(rt.alloc()),
+        &mut faults,
+    );
+    let is_told = faults.as_slice() == fault.as_bytes();
+    (ended.status, is_told && ended.output.is_empty())
+}
+
+/// What came of it is what the row says.
+fn judge(
+    rt: &impl Host,
+    root: &str,
+    row: &Meeting,
+    served: (u8, bool),
+    right: u64,
+) -> Result<(), Fail> {
+    if served != (row.status, true) || right != row.turns.len() as u64 {
+        return Err(Fail::from((row.says, served, right)));
+    }
+    // The file of the socket is gone.
+    expect(rt, root, &[("socket", Shown::Nothing)])?;
+    expect(rt, root, row.after)
+}
+
+const UNTOUCHED: &[(&str, Shown)] = &[("a", Shown::File(3))];
+
+/// Each client leaves otherwise.
+const MEETINGS: &[Meeting] = &[
+    Meeting {
+        says: "a whole session",
+        turns: &[
+            (INIT, AGREED),
+            (LOOKUP_A, ENTRY_A),
+            (MAKE_M, ENTRY_M),
+            (RENAME_A, RENAMED),
+            (ATTRIBUTES, ARE_OF_A),
+            (FORGET_A, ""),
+            (DESTROY, DESTROYED),
+        ],
+        status: 0,
+        fault: "",
+        after: &[
+            ("a", Shown::Nothing),
+            ("b", Shown::File(3)),
+            ("m", Shown::Folder),
+        ],
+    },
+    Meeting {
+        says: "it leaves at once",
+        turns: &[],
+        status: 0,
+        fault: "",
+        after: UNTOUCHED,
+    },
+    Meeting {
+        says: "it leaves in the middle of a frame",
+        turns: &[(INIT, AGREED), ("2a000000 01000000 07", "")],
+        status: 0,
+        fault: "",
+        after: UNTOUCHED,
+    },
+    Meeting {
+        says: "it leaves in the middle of a reply",
+        turns: &[(INIT, "50000000 00000000")],
+        status: 4,
+        fault: "mirrord: the link failed\n",
+        after: UNTOUCHED,
+    },
+    Meeting {
+        says: "it leaves before its reply comes",
+        turns: &[(INIT, AGREED), (MAKE_M, "")],
+        status: 4,
+        fault: "mirrord: the link failed\n",
+        after: &[("m", Shown::Folder)],
+    },
+    Meeting {
+        says: "a frame length of 39",
+        turns: &[(INIT, AGREED), ("27000000", "")],
+        status: 3,
+        fault: "mirrord: frame length 39 is not between 40 and 69632\n",
+        after: UNTOUCHED,
+    },
+];
+
+#[test]
+fn clients_over_a_socket(rt: HostRuntime) -> Result<(), Fail> {
+    for row in MEETINGS {
+        let root = new_folder(&rt, "meeting")?;
+        let path = place_of(rt.alloc(), root.as_str(), "socket")?;
+        let (there, place) = (root.as_str(), path.as_str());
+        let (served, right) = thread::join(
+            &rt,
+            || be_server(&rt, there, place, row.fault),
+            || be_client(&rt, place, row.turns),
+        );
+        judge(&rt, there, row, served, right)?;
+    }
+    Ok(())
+}

@@ -1,0 +1,57 @@
+//! Folders to begin with, and how they look.
+
+use crate::host::Host;
+use std::alloc::{AllocError, Global};
+use std::test::Fail;
+use std::{env, fs, io, process};
+
+/// Where the name stands in the folder.
+pub fn place_of(alloc: Global, root: &str, name: &str) -> Result<String, AllocError> {
+    format!(in alloc; "{root}/{name}")
+}
+
+/// A new folder for the test of that name, with a file `a` that holds `abc` and nothing of an earlier run in it.
+pub fn new_folder(rt: &HostRuntime, name: &str) -> io::Result<String> {
+    let place = env::temp_dir(rt)?;
+    let path = format!(in rt.alloc();
+        "{}/server-{name}-{}",
+        place.as_str(),
+        process::id(rt.process())
+    )?;
+    let _ = fs::remove_dir_all(rt, path.as_str());
+    fs::create_dir(rt, path.as_str())?;
+    fs::write(
+        rt,
+        place_of(rt.alloc(), path.as_str(), "a")?.as_str(),
+        "abc",
+    )?;
+    Ok(path)
+}
+
+/// What stands at a name of a folder.
+#[derive(Clone, Copy, Debug, PartialEq, Eq)]
+pub enum Shown {
+    Nothing,
+    Folder,
+    /// A file of so many bytes.
+    File(u64),
+}
+
+fn shown_at(rt: &impl Host, place: &str) -> Shown {
+    match fs::metadata(rt, place) {
+        Ok(found) if found.is_dir() => Shown::Folder,
+        Ok(found) => Shown::File(found.len()),
+        Err(_) => Shown::Nothing,
+    }
+}
+
+/// Each name of the folder is as said.
+pub fn expect(rt: &impl Host, root: &str, after: &[(&str, Shown)]) -> Result<(), Fail> {
+    for (name, wanted) in after {
+        let place = place_of(rt.alloc(), root, name)?;
+        if shown_at(rt, place.as_str()) != *wanted {
+            return Err(Fail::from(("it looks otherwise", *wanted)));
+        }
+    }
+    Ok(())
+}

@@ -1,0 +1,65 @@
+"""A small client of the protocol: builds requests, and reads replies from a socket or a pipe."""
+import struct
+
+LOOKUP, FORGET, GETATTR, MKDIR, UNLINK, RMDIR, RENAME, STATFS, INIT, DESTROY = 1, 2, 3, 9, 10, 11, 12, 17, 26, 38
+ROOT = 1
+HEADER = struct.Struct("<IIQQIIII")
+REPLY = struct.Struct("<IiQ")
+
+
+def request(opcode, unique, node=0, body=b""):
+    return HEADER.pack(HEADER.size + len(body), opcode, unique, node, 0, 0, 0, 0) + body
+
+
+def init(unique=1):
+    return request(INIT, unique, body=struct.pack("<IIII", 7, 31, 131072, 0))
+
+
+def lookup(unique, parent, name):
+    return request(LOOKUP, unique, parent, name.encode() + b"\0")
+
+
+def forget(unique, node, lookups):
+    return request(FORGET, unique, node, struct.pack("<Q", lookups))
+
+
+def getattr_of(unique, node):
+    return request(GETATTR, unique, node, bytes(16))
+
+
+def mkdir(unique, parent, name):
+    return request(MKDIR, unique, parent, bytes(8) + name.encode() + b"\0")
+
+
+def rename(unique, parent, name, new_parent, new_name):
+    return request(RENAME, unique, parent, struct.pack("<Q", new_parent) + name.encode() + b"\0" + new_name.encode() + b"\0")
+
+
+def destroy(unique):
+    return request(DESTROY, unique)
+
+
+def read_whole(read, count):
+    """So many bytes, or fewer where the server has ended."""
+    pieces = []
+    while count:
+        piece = read(count)
+        if not piece:
+            break
+        pieces.append(piece)
+        count -= len(piece)
+    return b"".join(pieces)
+
+
+def read_reply(read):
+    """The unique number, the error (0 or negative) and the body of the next reply; None where there is none."""
+    head = read_whole(read, REPLY.size)
+    if len(head) < REPLY.size:
+        return None
+    length, error, unique = REPLY.unpack(head)
+    return unique, error, read_whole(read, length - REPLY.size)
+
+
+def node_of(body):
+    """The node of an entry."""
+    return struct.unpack_from("<Q", body)[0]
