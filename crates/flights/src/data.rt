@@ -4,17 +4,26 @@ ghost use Rattle.std.specs.Prelude.{◌≡◌, ◌==◌, ◌+◌, ◌-◌, ◌<�
 ghost use Rattle.std.specs.List.{list_any};
 
 use crate::names::Names;
+use files::Need;
 use holds::Held;
 use paths::{Name, Path};
 use std::alloc::{AllocError, Global};
 use std::marker::Model;
 
+/// The handle of an open file, and what it is used for.
+#[derive(Clone, Copy, Debug, PartialEq, Eq)]
+pub struct Handle {
+    pub fh: u64,
+    pub need: Need,
+}
+
 /// What a request is begun with.
 #[derive(Drop)]
 pub enum Want {
-    /// A node (GETATTR).
+    /// A node (GETATTR), and the open file that it is used by, if one is (READ, WRITE, FSYNC, SETATTR with a handle).
     Node {
         number: u64,
+        handle: Option<Handle>,
     },
     /// A name under a parent (LOOKUP).
     Name {

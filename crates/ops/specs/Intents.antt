@@ -1,5 +1,5 @@
 -- What a request needs before its script.
-use Rattle.std.specs.Prelude.{ℕ, ℤ, ◌+◌, ◌*◌, ◌^◌, ◌==◌, Bool, true, false, if◌then◌else◌, List, [], ◌∷◌}
+use Rattle.std.specs.Prelude.{ℕ, ℤ, ◌+◌, ◌*◌, ◌^◌, ◌==◌, Bool, true, false, if◌then◌else◌, List, [], ◌∷◌, None}
 use Rattle.std.specs.Int.{bit_at}
 use Rattle.std.specs.List.{list_any}
 use Rattle.errno.specs.declared.TheConstants.{EPERM, ENOENT, EBADF, ENOSYS}
@@ -63,14 +63,14 @@ sets_other valid = if valid == 2 ^ 3 * bit_at valid 3 + 2 ^ 6 * bit_at valid 6 +
 abbrev pub set_intent : ℕ → ℕ → Intent
 set_intent node valid =
     if sets_other valid then refused EPERM else
-    if has_handle valid then refused EBADF else Begin (wants.Node node)
+    if has_handle valid then refused EBADF else Begin (wants.Node node None)
 
 -- ---- the table of intents, reserved names aside
 
 abbrev pub intended : ℕ → Operation → Intent
 intended node (ops.Lookup name) = Begin (wants.Name node name.now)
 intended node (ops.Forget n) = Forget (record { node = node; nlookup = n } ∷ [])
-intended node ops.GetAttr = Begin (wants.Node node)
+intended node ops.GetAttr = Begin (wants.Node node None)
 intended node (ops.SetAttr valid fh size) = set_intent node valid
 intended node (ops.MakeDir name) = Begin (wants.Name node name.now)
 intended node (ops.Unlink name) = Begin (wants.Remove node name.now)
@@ -85,7 +85,7 @@ intended node (ops.Release fh) = refused ENOSYS
 intended node (ops.Sync fh) = refused ENOSYS
 intended node (ops.Flush fh) = refused ENOSYS
 intended node (ops.Create name flags) = refused ENOSYS
-intended node ops.OpenDir = Begin (wants.Node node)
+intended node ops.OpenDir = Begin (wants.Node node None)
 intended node (ops.ReadDir fh offset size) = Folder fh (uses.ReadNames offset size)
 intended node (ops.ReleaseDir fh) = Folder fh uses.GiveUp
 intended node (ops.SyncDir fh) = Folder fh uses.Sync
@@ -101,7 +101,7 @@ intent q = if list_any (λ name. is_reserved name) (names_of q.operation) then r
 -- ---- an intent in its code, wherever the names lie in memory
 
 abbrev pub want_of : Wanted → Want
-want_of (wanted.Node number) = wants.Node number
+want_of (wanted.Node number) = wants.Node number None
 want_of (wanted.Name parent name) = wants.Name parent name.now
 want_of (wanted.Remove parent name) = wants.Remove parent name.now
 want_of (wanted.Move parent name new_parent new_name) = wants.Move parent name.now new_parent new_name.now

@@ -41,7 +41,10 @@ impl<'a> Wanted<'a> {
         ensures err { OnErr result (HasName self.entry) }
     {
         match self {
-            Wanted::Node { number } => Ok(Want::Node { number }),
+            Wanted::Node { number } => Ok(Want::Node {
+                number,
+                handle: None,
+            }),
             Wanted::Name { parent, name } => {
                 let name = Name::copy_of(alloc, name)?;
                 Ok(Want::Name { parent, name })

@@ -80,7 +80,10 @@ pub(crate) fn copy_of(want: &Want) -> Result<Want, AllocError>
     ensures { IfOk result (λ w. w ≡ want.now) }
 {
     match want {
-        Want::Node { number } => Ok(Want::Node { number: *number }),
+        Want::Node { number, handle } => Ok(Want::Node {
+            number: *number,
+            handle: *handle,
+        }),
         Want::Name { parent, name } => Ok(Want::Name {
             parent: *parent,
             name: name.copy()?,

@@ -25,7 +25,7 @@ module _ (at : Lookup) (f : Flight) where
 
   names_known : (want : Want) (c : Case) → IsCase at want c → ((n : ℕ) → IsPin at (row_of want c) n → Contains f.pins n)
       → ((row_of want c).births ≡ length (row_of want c).entries) ⊎ All (IsStanding at f) (row_of want c).entries
-  names_known (Node number) c fits pins = inl refl
+  names_known (Node number handle) c fits pins = inl refl
   names_known (AName parent name) c fits pins = entry_known parent name c fits pins
   names_known (Remove parent name) c fits pins = inl refl
   names_known (Move parent name new_parent new_name) c fits pins = inl refl

@@ -20,6 +20,7 @@ pub mod Attesting
 pub mod Testing
 pub mod Starting
 pub mod Refusing
+mod Using
 pub mod Reserving
 pub mod Entering
 pub mod Placing

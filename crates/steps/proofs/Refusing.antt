@@ -4,7 +4,7 @@ use Rattle.paths.specs.Prefixes.{Names}
 use Rattle.tree.specs.Places.{Lookup}
 use Rattle.wants.specs.Asked.{IsMisplaced, IsRefusedMove, IsUnsound, long, misplaced, no_memory, stale}
 use Rattle.wants.specs.Rows.{Change, Demand, cuts, moves, stays}
-use Rattle.steps.specs.Steps.{IsRefusal, crowded, full, unsound}
+use Rattle.steps.specs.Steps.{IsRefusal, bad_handle, crowded, full, unsound}
 use Rattle.steps.specs.World.{World}
 
 abbrev bits : ℤ → ℤ
@@ -26,6 +26,7 @@ unsound_bits at d e (misplaced a b why) = misplaced a b (misplaced_bits at d.don
 unsound_bits at d e (no_memory is a) = no_memory (ap bits is) a
 
 pub refusal_bits : (w : World) (d : Demand) (e : ℤ) → IsRefusal w d e → IsRefusal w d (to_z w32 (of_z w32 e))
-refusal_bits w d e (unsound why) = unsound (unsound_bits w.at d e why)
+refusal_bits w d e (bad_handle is why) = bad_handle (ap bits is) why
+refusal_bits w d e (unsound a why) = unsound a (unsound_bits w.at d e why)
 refusal_bits w d e (full is a b why) = full (ap bits is) a b why
 refusal_bits w d e (crowded is a b c why) = crowded (ap bits is) a b c why

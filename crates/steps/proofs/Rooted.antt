@@ -35,7 +35,7 @@ use Rattle.steps.proofs.Viewed.{are_kept}
 
 -- a name for which an entry may be given is under a node that is given
 pub entries_under : (want : Want) (c : Case) (key : Key) → Contains (row_of want c).entries key → Contains (row_of want c).given key.parent
-entries_under (wants.Node number) c key h = absurd (none_in key h)
+entries_under (wants.Node number handle) c key h = absurd (none_in key h)
 entries_under (wants.Name parent name) c key h = subst (λ (k : Key). Contains (parent ∷ []) k.parent) (only_in (record { parent = parent; name = name }) key h) (first_in parent [])
 entries_under (wants.Remove parent name) c key h = absurd (none_in key h)
 entries_under (wants.Move parent name new_parent new_name) c key h = absurd (none_in key h)
@@ -45,7 +45,7 @@ entries_under (wants.Page folder names) c key h =
 
 -- and is shared, but for those of a page
 entries_shared : (want : Want) (c : Case) → (row_of want c).page ≡ false → (key : Key) → Contains (row_of want c).entries key → Contains (row_of want c).shared (name_at key)
-entries_shared (wants.Node number) c one key h = absurd (none_in key h)
+entries_shared (wants.Node number handle) c one key h = absurd (none_in key h)
 entries_shared (wants.Name parent name) c one key h = subst (λ (k : Key). Contains (AtName parent name ∷ []) (name_at k)) (only_in (record { parent = parent; name = name }) key h) (first_in (AtName parent name) [])
 entries_shared (wants.Remove parent name) c one key h = absurd (none_in key h)
 entries_shared (wants.Move parent name new_parent new_name) c one key h = absurd (none_in key h)
@@ -53,7 +53,7 @@ entries_shared (wants.Page folder names) c one key h = absurd (true≢false one)
 
 -- a node is promised for each name of a page
 page_births : (want : Want) (c : Case) → (row_of want c).page ≡ true → (row_of want c).births ≡ length (row_of want c).entries
-page_births (wants.Node number) c page = refl
+page_births (wants.Node number handle) c page = refl
 page_births (wants.Name parent name) c page = absurd (false≢true page)
 page_births (wants.Remove parent name) c page = refl
 page_births (wants.Move parent name new_parent new_name) c page = refl
@@ -64,7 +64,7 @@ name_else parent name e = cc
 
 -- the root's path is not held alone
 rows_placed : (want : Want) (c : Case) → IsPlaced (row_of want c).alone
-rows_placed (wants.Node number) c h = none_in (AtNode 1) h
+rows_placed (wants.Node number handle) c h = none_in (AtNode 1) h
 rows_placed (wants.Name parent name) c h = none_in (AtNode 1) h
 rows_placed (wants.Remove parent name) c h = name_else parent name (only_in (AtName parent name) (AtNode 1) h)
 rows_placed (wants.Page folder names) c h = none_in (AtNode 1) h
@@ -111,7 +111,7 @@ lead_only at (lead ∷ []) number e leads =
 lead_only at (lead ∷ more ∷ given) number e leads = absurd (omega (arith, ap {B = ℕ} length e))
 
 lead_of : (at : Lookup) (want : Want) (c : Case) (held : Held) → Holds at (row_of want c) held → (n : ℕ) → Contains (folders_of (row_of want c)) n → LeadsTo at held.given n
-lead_of at (wants.Node number) c held holds n h = absurd (none_in n h)
+lead_of at (wants.Node number handle) c held holds n h = absurd (none_in n h)
 lead_of at (wants.Name parent name) c held holds n h = absurd (none_in n h)
 lead_of at (wants.Remove parent name) c held holds n h = absurd (none_in n h)
 lead_of at (wants.Move parent name new_parent new_name) c held holds n h = absurd (none_in n h)

@@ -76,7 +76,7 @@ module _ (at : Lookup) (tree : IsTree at) (d : Demand) (held : Held) (row : IsRo
 
 -- whether a name is moved to itself does not hang on the case
 pub same_case : (want : Want) (c : Case) → is_same (row_of want plain).done ≡ is_same (row_of want c).done
-same_case (wants.Node number) c = refl
+same_case (wants.Node number handle) c = refl
 same_case (wants.Name parent name) c = refl
 same_case (wants.Remove parent name) c = refl
 same_case (wants.Move parent name new_parent new_name) c = refl

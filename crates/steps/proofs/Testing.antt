@@ -12,7 +12,7 @@ use Rattle.wants.specs.Plans.{IsPlan, row_in}
 use Rattle.steps.specs.declared.state.State.{State}
 use Rattle.steps.specs.Beginning.{Allows, Forbids, IsTooMuch}
 use Rattle.steps.specs.Kept.{flights_in, tally_of, world_of}
-use Rattle.steps.specs.Steps.{IsCrowded, IsFull, IsHeldUp, IsRefusal, MayBegin, crowded, full}
+use Rattle.steps.specs.Steps.{IsAdmissible, IsBadHandle, IsCrowded, IsFull, IsHeldUp, IsRefusal, MayBegin, crowded, full}
 use Rattle.steps.specs.World.{HasRoom, IsTally, Tally}
 use Rattle.steps.proofs.Adding.{tally_once}
 use Rattle.steps.proofs.Apart.{held_up_recorded, held_up_same, held_up_seen}
@@ -45,7 +45,10 @@ module _ (s : State) (want : Want) (plan : Plan) (is : IsPlan (at_in s.tree) wan
   pub not_held_up : (flying.HoldsUp (flying_of s.flights).at plan.work.held → ⊥) → IsHeldUp (world_of s) (row_in plan.work) → ⊥
   not_held_up free up = free (held_up_recorded (flying_of s.flights) plan.work.held (held_up_same (at_in s.tree) (row_in plan.work) up.held plan.work.held up.holds is.holds (flights_in (flying_of s.flights)) up.up))
 
-module _ (s : State) (want : Want) (plan : Plan) (is : IsPlan (at_in s.tree) want plan) (tally : IsTally (world_of s) (tally_of s)) where
+module _ (s : State) (want : Want) (plan : Plan) (is : IsPlan (at_in s.tree) want plan) (usable : IsBadHandle (world_of s) (row_in plan.work) → ⊥) (tally : IsTally (world_of s) (tally_of s)) where
+  pub admissible : IsAdmissible (world_of s) (row_in plan.work)
+  admissible = record { usable = usable; sound = is.sound }
+
   -- the tally is the running totals
   on_totals : (t : Tally) → IsTally (world_of s) t → t ≡ tally_of s
   on_totals t it = tally_once (world_of s) t (tally_of s) it tally
@@ -68,12 +71,13 @@ module _ (s : State) (want : Want) (plan : Plan) (is : IsPlan (at_in s.tree) wan
       omega (arith, allows.flights)
 
   pub limit_refusal : (e : ℤ) → (flying.HoldsUp (flying_of s.flights).at plan.work.held → ⊥) → Forbids s plan.work.promise e → IsRefusal (world_of s) (row_in plan.work) e
-  limit_refusal e free (inl (errno, much)) = full errno is.sound (not_held_up s want plan is free) (full_of much)
+  limit_refusal e free (inl (errno, much)) = full errno admissible (not_held_up s want plan is free) (full_of much)
   limit_refusal e free (inr (errno, fits, over)) =
-      crowded errno is.sound (not_held_up s want plan is free) (not_full (room_from s plan.work.promise fits)) (record { tally = tally_of s; tallied = tally; over = over })
+      crowded errno admissible (not_held_up s want plan is free) (not_full (room_from s plan.work.promise fits)) (record { tally = tally_of s; tallied = tally; over = over })
 
   pub may_begin : (flying.HoldsUp (flying_of s.flights).at plan.work.held → ⊥) → Allows s plan.work.promise → MayBegin (world_of s) (row_in plan.work)
   may_begin free allows = record {
+    usable = usable;
     sound = is.sound;
     clear = not_held_up s want plan is free;
     room = not_full (room_of s plan.work.promise allows);

@@ -1,11 +1,16 @@
 -- The parts of a beginning, as the running totals judge them.
 use Rattle.std.specs.Prelude.{ℤ, ◌+◌, ◌^◌, ◌<◌, ◌≤◌, ◌≡◌, ◌⊎◌, length}
-use Rattle.errno.specs.declared.TheConstants.{EAGAIN, ENFILE}
+use Rattle.errno.specs.declared.TheConstants.{EAGAIN, EBADF, ENFILE}
 use Rattle.files.specs.Filed.{files_of}
 use Rattle.flights.specs.declared.data.Promise.{Promise}
 use Rattle.flights.specs.Listed.{flying_of}
 use Rattle.steps.specs.declared.state.State.{State}
+use Rattle.flights.specs.declared.data.Want.{Want}
+use Rattle.wants.specs.Asked.{IsDemand}
+use Rattle.wants.specs.Rows.{Case, Demand, row_of}
 use Rattle.steps.specs.Kept.{world_of}
+use Rattle.steps.specs.Steps.{IsBadHandle}
+use Rattle.steps.specs.World.{World}
 
 -- the files that may be opened keep within the limit, and handles are left for them
 pub record HasHandles (s : State) (p : Promise) : Type 0 where
@@ -29,6 +34,17 @@ IsTooMuch s p =
 -- they do not: the first test that fails
 abbrev pub Forbids : State → Promise → ℤ → Type 0
 Forbids s p e = ((e ≡ ENFILE) × IsTooMuch s p) ⊎ ((e ≡ EAGAIN) × (IsTooMuch s p → ⊥) × (s.limits.flights < (flying_of s.flights).many + 1))
+
+-- what the want's row uses, whatever its case, is not open, is open on another node, or lacks the access
+pub record IsRefusedHandle (w : World) (want : Want) (e : ℤ) : Type 0 where
+  pub demand : Demand
+  pub demanded : IsDemand w.at want demand
+  pub errno : e ≡ EBADF
+  pub bad : IsBadHandle w demand
+
+-- no case of the want's row has a bad handle
+abbrev pub IsHandleUsable : World → Want → Type 0
+IsHandleUsable w want = (c : Case) → IsBadHandle w (row_of want c) → ⊥
 
 -- there is room for one request more that is promised so much
 pub record IsRoomForOne (s : State) (promise : Promise) : Type 0 where

@@ -1,6 +1,8 @@
 -- The steps of a table. Each says the whole new world.
 use Rattle.std.specs.Prelude.{ℕ, ℤ, ◌+◌, ◌-◌, ◌<◌, ◌≡◌, ◌==◌, ◌&&◌, ◌↔◌, not, if◌then◌else◌, Bool, true, false, List, [], ◌∷◌, ◌++◌, Option, Some, None, Contains, length, drop, map, min}
-use Rattle.errno.specs.declared.TheConstants.{EAGAIN, ENFILE}
+use Rattle.errno.specs.declared.TheConstants.{EAGAIN, EBADF, ENFILE}
+use Rattle.files.specs.declared.data.OpenFile.{OpenFile}
+use Rattle.files.specs.Handles.{Files, allows}
 use Rattle.flights.specs.declared.data.Given.{Given}
 use Rattle.flights.specs.declared.data.Want.{Want}
 use Rattle.holds.specs.declared.held.Held.{Held}
@@ -13,7 +15,7 @@ use Rattle.tree.specs.declared.nodes.Node.{Node}
 use Rattle.tree.specs.Moves.{Changes, IsPathOfName, after_cut, after_move}
 use Rattle.tree.specs.Places.{Lookup, with_node}
 use Rattle.wants.specs.Asked.{ArePaths, HasPath, Holds, IsDemand, IsPin, IsSound, IsUnsound, promise_of}
-use Rattle.wants.specs.Rows.{Change, Demand, Location, cuts, is_same, moves, stays}
+use Rattle.wants.specs.Rows.{Change, Demand, Location, Used, cuts, is_same, moves, stays}
 use Rattle.steps.specs.declared.data.Begin.{Begin}
 use Rattle.steps.specs.declared.data.Begin.TheVariants.{Go, Busy, Refused}
 use Rattle.steps.specs.declared.data.Outcome.{Outcome}
@@ -62,6 +64,24 @@ pub record IsHeldUp (w : World) (d : Demand) : Type 0 where
   pub holds : Holds w.at d held
   pub up : HoldsUp w.flights held
 
+-- the handle is that of an open file of the node, which may be used so
+pub record IsUsable (files : Files) (used : Used) : Type 0 where
+  pub file : OpenFile
+  pub here : files used.handle.fh ≡ Some file
+  pub node : file.number ≡ used.number
+  pub access : allows file.access used.handle.need ≡ true
+
+-- the handle that the row uses is not open, is open on another node, or lacks the access
+pub record IsBadHandle (w : World) (d : Demand) : Type 0 where
+  pub used : Used
+  pub asked : d.used ≡ Some used
+  pub unusable : IsUsable w.files used → ⊥
+
+-- the tests of its handle and of the nodes alone pass
+pub record IsAdmissible (w : World) (d : Demand) : Type 0 where
+  pub usable : IsBadHandle w d → ⊥
+  pub sound : IsSound w.at d
+
 -- with what is promised, the nodes, the postings, the open files or the handles would pass their limit
 pub record IsFull (w : World) (d : Demand) : Type 0 where
   pub tally : Tally
@@ -76,16 +96,18 @@ pub record IsCrowded (w : World) : Type 0 where
 
 -- no test refuses the row, and none is in its way
 pub record MayBegin (w : World) (d : Demand) : Type 0 where
+  pub usable : IsBadHandle w d → ⊥
   pub sound : IsSound w.at d
   pub clear : IsHeldUp w d → ⊥
   pub room : IsFull w d → ⊥
   pub uncrowded : IsCrowded w → ⊥
 
--- the refusals in the order of their tests: those of the nodes alone, and want of memory, come first
+-- the refusals in the order of their tests: that of the handle comes first, then those of the nodes alone, and want of memory
 pub data IsRefusal (w : World) (d : Demand) (e : ℤ) : Type 0 where
-  unsound : IsUnsound w.at d e → IsRefusal w d e
-  full : e ≡ ENFILE → IsSound w.at d → (IsHeldUp w d → ⊥) → IsFull w d → IsRefusal w d e
-  crowded : e ≡ EAGAIN → IsSound w.at d → (IsHeldUp w d → ⊥) → (IsFull w d → ⊥) → IsCrowded w → IsRefusal w d e
+  bad_handle : e ≡ EBADF → IsBadHandle w d → IsRefusal w d e
+  unsound : (IsBadHandle w d → ⊥) → IsUnsound w.at d e → IsRefusal w d e
+  full : e ≡ ENFILE → IsAdmissible w d → (IsHeldUp w d → ⊥) → IsFull w d → IsRefusal w d e
+  crowded : e ≡ EAGAIN → IsAdmissible w d → (IsHeldUp w d → ⊥) → (IsFull w d → ⊥) → IsCrowded w → IsRefusal w d e
 
 -- ---- begin
 
@@ -108,7 +130,7 @@ pub record GoesOn (old : World) (unique : ℕ) (want : Want) (d : Demand) (ticke
 
 abbrev pub BeginsAs : World → ℕ → Want → Demand → Begin → World → Type 0
 BeginsAs old unique want d (Go ticket) new = MayBegin old d × GoesOn old unique want d ticket new
-BeginsAs old unique want d Busy new = IsSound old.at d × IsHeldUp old d × (new ≡ old)
+BeginsAs old unique want d Busy new = IsAdmissible old d × IsHeldUp old d × (new ≡ old)
 BeginsAs old unique want d (Refused e) new = IsRefusal old d e × (new ≡ old)
 
 pub record Begins (old : World) (unique : ℕ) (want : Want) (answer : Begin) (new : World) : Type 0 where

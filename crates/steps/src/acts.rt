@@ -45,7 +45,7 @@ pub(crate) fn acts_of(want: Want, copy: Option<Name>, copies: Names) -> Acts
     ensures change { (c : Case) → change_in result.change ≡ (row_of want c).done }
 {
     match want {
-        Want::Node { number: _ } => Acts {
+        Want::Node { .. } => Acts {
             entries: Entries::Nothing,
             change: Change::Stays,
         },

@@ -1,9 +1,10 @@
 //! The beginning of a request.
 
 ghost use Rattle.std.specs.Prelude.{◌≡◌, ◌≤◌, ◌<◌, ◌+◌, ◌↔◌, true, IfErr, IsTrue, OnOk};
-ghost use Rattle.steps.specs.Beginning.{Allows, Forbids, HasHandles, IsRoomForOne, IsSameButRoom};
+ghost use Rattle.files.specs.Filed.{files_of};
+ghost use Rattle.steps.specs.Beginning.{Allows, Forbids, HasHandles, IsHandleUsable, IsRefusedHandle, IsRoomForOne, IsSameButRoom};
 ghost use Rattle.steps.specs.Kept.{IsKept, tally_of, world_of};
-ghost use Rattle.steps.specs.Steps.{Begins};
+ghost use Rattle.steps.specs.Steps.{Begins, IsUsable};
 ghost use Rattle.steps.specs.World.{IsTally};
 ghost use Rattle.tree.specs.Places.{at_in};
 ghost use Rattle.wants.specs.Plans.{IsPlan};
@@ -11,8 +12,9 @@ ghost use Rattle.wants.specs.Rows.{is_same, plain, row_of};
 
 use crate::data::{Begin, Ticket};
 use crate::state::State;
-use errno::{EAGAIN, ENFILE, ENOMEM};
-use flights::{Flight, Promise, Stage, Want};
+use errno::{EAGAIN, EBADF, ENFILE, ENOMEM};
+use files::Files;
+use flights::{Flight, Handle, Promise, Stage, Want};
 use std::alloc::AllocError;
 use wants::{Plan, plan};
 
@@ -31,6 +33,16 @@ fn is_same(want: &Want) -> bool
     }
 }
 
+/// Whether the handle is that of an open file of the node, and may be used so.
+fn is_usable(files: &Files, number: u64, handle: &Handle) -> bool
+    ensures { IsTrue result ↔ IsUsable (files_of files.now).at (record { number = number; handle = handle.now }) }
+{
+    match files.get(handle.fh) {
+        Some(file) => file.number == number && file.access.allows(handle.need),
+        None => false,
+    }
+}
+
 impl State {
     /// Takes up a request, if its tests allow it, and keeps free what its end may need. Busy and a refusal change nothing.
     pub fn begin(&mut self, unique: u64, want: Want) -> Begin
@@ -38,9 +50,35 @@ impl State {
         ensures begins { Begins (world_of self.old) unique want result (world_of self.new) }
         ensures kept { IsKept self.new }
     {
+        match self.expect_handle(&want) {
+            Ok(()) => {}
+            Err(errno) => return Begin::Refused(errno),
+        }
         match plan(self.alloc, &self.tree, want) {
             Ok(plan) => self.admit(unique, plan),
             Err(errno) => Begin::Refused(errno),
+        }
+    }
+
+    /// Tests that the handle which the want uses is that of an open file of its node, and may be used so.
+    fn expect_handle(&self, want: &Want) -> Result<(), i32>
+        requires { IsKept self.now }
+        ensures ok { OnOk result (IsHandleUsable (world_of self.now) want.now) }
+        ensures err { IfErr result (IsRefusedHandle (world_of self.now) want.now) }
+    {
+        let _nodes = self.tree.len();
+        let Want::Node { number, handle } = want else {
+            return Ok(());
+        };
+        match handle {
+            Some(handle) => {
+                if is_usable(&self.files, *number, handle) {
+                    Ok(())
+                } else {
+                    Err(EBADF)
+                }
+            }
+            None => Ok(()),
         }
     }
 
@@ -48,6 +86,7 @@ impl State {
     fn admit(&mut self, unique: u64, plan: Plan) -> Begin
         requires kept { IsKept self.old }
         requires plan { IsPlan (at_in self.old.tree) plan.work.want plan }
+        requires handle { IsHandleUsable (world_of self.old) plan.work.want }
         ensures begins { Begins (world_of self.old) unique plan.work.want result (world_of self.new) }
         ensures kept { IsKept self.new }
     {

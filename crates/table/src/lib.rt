@@ -6,7 +6,7 @@
 mod export;
 mod table;
 
-pub use files::{Access, OpenFile};
-pub use flights::{Given, Names, Want};
+pub use files::{Access, Need, OpenFile};
+pub use flights::{Given, Handle, Names, Want};
 pub use steps::{Answered, Begin, FoundNames, Limits, Outcome, Settled, Ticket};
 pub use table::Table;

@@ -37,7 +37,10 @@ pub struct Desk<L: Ledgers> {
 /// The want, with names of its own.
 pub fn want_of(alloc: Global, asks: Asks) -> Result<Want, AllocError> {
     Ok(match asks {
-        Asks::Node(number) => Want::Node { number },
+        Asks::Node(number) => Want::Node {
+            number,
+            handle: None,
+        },
         Asks::Name(parent, name) => Want::Name {
             parent,
             name: Name::copy_of(alloc, name)?,

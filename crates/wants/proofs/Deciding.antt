@@ -14,7 +14,7 @@ entry_once at parent name absent plain a b = absurd (a b.0 b.1)
 entry_once at parent name absent absent a b = refl
 
 case_once : (at : Lookup) (want : Want) (c d : Case) → IsCase at want c → IsCase at want d → c ≡ d
-case_once at (wants.Node number) c d a b = a ∙ sym b
+case_once at (wants.Node number handle) c d a b = a ∙ sym b
 case_once at (wants.Name parent name) c d a b = entry_once at parent name c d a b
 case_once at (wants.Remove parent name) c d a b = a ∙ sym b
 case_once at (wants.Move parent name new_parent new_name) c d a b = a ∙ sym b

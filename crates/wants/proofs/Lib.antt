@@ -4,5 +4,5 @@ pub mod Deciding
 mod Finding
 mod Drafting
 mod Agreeing
-mod Wanting
+pub mod Wanting
 mod Paging

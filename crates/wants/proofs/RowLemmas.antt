@@ -1,5 +1,5 @@
 -- Each row has its locations at or under the nodes that it names.
-use Rattle.std.proofs.Common.{ℕ, ◌≡◌, List, [], ◌∷◌, Contains, refl, sym, ap, ◌∙◌, subst, inl, inr}
+use Rattle.std.proofs.Common.{ℕ, ◌≡◌, List, [], ◌∷◌, Contains, Option, refl, sym, ap, ◌∙◌, subst, inl, inr}
 use Rattle.std.specs.Prelude.{Any}
 use Rattle.std.proofs.lemmas.List.{length-map}
 use Rattle.paths.specs.Prefixes.{Name}
@@ -7,7 +7,7 @@ use Rattle.tree.specs.declared.nodes.Key.{Key}
 use Rattle.flights.specs.declared.data.Want.{Want}
 use Rattle.flights.specs.declared.data.Want.TheVariants as wants
 use Rattle.wants.specs.Laws.{IsRow, base_of}
-use Rattle.wants.specs.Rows.{Case, Location, AtNode, AtName, move_row, name_row, node_row, page_names, page_row, removal_row, row_of}
+use Rattle.wants.specs.Rows.{Case, Location, AtNode, AtName, Used, used_on, move_row, name_row, node_row, page_names, page_row, removal_row, row_of}
 use Rattle.wants.proofs.Members.{any_first, any_later, cases_in, first_in, in_map, later_in, none_in, only_in}
 
 -- the one location at or under the one node
@@ -17,8 +17,8 @@ under_only n l m base h = subst (λ k. Contains (n ∷ []) k) (sym base ∙ ap b
 key_only : (parent : ℕ) (name : Name) (key : Key) → Contains (record { parent = parent; name = name } ∷ []) key → Contains (AtName parent name ∷ []) (AtName key.parent key.name)
 key_only parent name key h = subst (λ (k : Key). Contains (AtName parent name ∷ []) (AtName k.parent k.name)) (only_in (record { parent = parent; name = name }) key h) (first_in (AtName parent name) [])
 
-node_is_row : (number : ℕ) → IsRow (node_row number)
-node_is_row number = record {
+node_is_row : (number : ℕ) (used : Option Used) → IsRow (record (node_row number) { used = used })
+node_is_row number used = record {
   shared = λ l h. under_only number (AtNode number) l refl h;
   alone = λ l h. absurd (none_in l h);
   paths = λ l h. under_only number (AtNode number) l refl h;
@@ -92,7 +92,7 @@ page_is_row folder names = record {
 }
 
 pub are_rows : (want : Want) (case : Case) → IsRow (row_of want case)
-are_rows (wants.Node number) c = node_is_row number
+are_rows (wants.Node number handle) c = node_is_row number (used_on number handle)
 are_rows (wants.Name parent name) c = name_is_row parent name c
 are_rows (wants.Remove parent name) c = removal_is_row parent name
 are_rows (wants.Move parent name new_parent new_name) c = move_is_row parent name new_parent new_name

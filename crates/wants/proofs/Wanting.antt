@@ -15,12 +15,13 @@ use Rattle.tree.specs.declared.nodes.Place.{Place}
 use Rattle.tree.specs.declared.nodes.Place.TheVariants as place
 use Rattle.tree.specs.Places.{Lookup, IsCensus, IsFree, IsNamed, IsTree}
 use Rattle.tree.proofs.LookupLemmas.{cases_option}
-use Rattle.wants.specs.Asked.{IsCase, IsEntryCase, IsUnsound}
+use Rattle.flights.specs.declared.data.Handle.{Handle}
+use Rattle.wants.specs.Asked.{IsCase, IsEntryCase, IsLong, IsSound, IsStale, IsUnsound, long, misplaced, no_memory, stale}
 use Rattle.wants.specs.declared.data.Plan.{Plan}
 use Rattle.wants.specs.declared.drafts.Terms.{Terms}
 use Rattle.wants.specs.Drafts.{IsEntryAt, IsTaken, IsRecord, IsTerms, IsVacant, IsWanted}
 use Rattle.wants.specs.Plans.{IsPlan, IsRefusedPlan, copied, copied_page}
-use Rattle.wants.specs.Rows.{Case, AtName, absent, entered_case, name_row, page_row, plain, row_of}
+use Rattle.wants.specs.Rows.{Case, Demand, AtName, Used, absent, entered_case, name_row, node_row, page_row, plain, row_of, used_on}
 use Rattle.wants.proofs.Members.{all_in, any_only, cases_in, first_in, later_in, none_in}
 
 -- ---- whether a node stands at a name
@@ -76,8 +77,8 @@ entry_case at parent name plain all = all_in (IsTaken at) (AtName parent name �
 entry_case at parent name absent any = any_only (IsVacant at) (AtName parent name) any
 
 -- a want has a case
-case_there : (at : Lookup) (living counts : ℕ) → IsTree at → IsCensus at living counts → (want : Want) → (c : Case) × IsCase at want c
-case_there at living counts tree census (wants.Node number) = (plain, refl)
+pub case_there : (at : Lookup) (living counts : ℕ) → IsTree at → IsCensus at living counts → (want : Want) → (c : Case) × IsCase at want c
+case_there at living counts tree census (wants.Node number handle) = (plain, refl)
 case_there at living counts tree census (wants.Name parent name) = elim (named_or_free at living counts tree census parent name) [ inl named ↦ (plain, named) | inr free ↦ (absent, free) ]
 case_there at living counts tree census (wants.Remove parent name) = (plain, refl)
 case_there at living counts tree census (wants.Move parent name new_parent new_name) = (plain, refl)
@@ -90,6 +91,46 @@ refused at living counts tree census want e unsound =
 
 pub refused_as : (at : Lookup) (living counts : ℕ) → IsTree at → IsCensus at living counts → (want w : Want) (e : ℤ) → want ≡ w → ((c : Case) → IsUnsound at (row_of w c) e) → IsRefusedPlan at want e
 refused_as at living counts tree census want w e is unsound = subst (λ (v : Want). IsRefusedPlan at v e) (sym is) (refused at living counts tree census w e unsound)
+
+-- no test of the nodes looks at the open file that a row uses
+sound_using : (at : Lookup) (d : Demand) (u : Option Used) → IsSound at d → IsSound at (record d { used = u })
+sound_using at d u sound = record {
+  not_stale = λ s. sound.not_stale (record { number = s.number; named = s.named; lost = s.lost });
+  not_long = λ s. sound.not_long (record { location = s.location; asked = s.asked; path = s.path; leads = s.leads; long = s.long });
+  not_misplaced = sound.not_misplaced;
+}
+
+not_stale_using : (at : Lookup) (d : Demand) (u : Option Used) → (IsStale at d → ⊥) → IsStale at (record d { used = u }) → ⊥
+not_stale_using at d u none s = none (record { number = s.number; named = s.named; lost = s.lost })
+
+not_long_using : (at : Lookup) (d : Demand) (u : Option Used) → (IsLong at d → ⊥) → IsLong at (record d { used = u }) → ⊥
+not_long_using at d u none s = none (record { location = s.location; asked = s.asked; path = s.path; leads = s.leads; long = s.long })
+
+unsound_using : (at : Lookup) (d : Demand) (u : Option Used) (e : ℤ) → IsUnsound at d e → IsUnsound at (record d { used = u }) e
+unsound_using at d u e (stale is s) = stale is (record { number = s.number; named = s.named; lost = s.lost })
+unsound_using at d u e (long is a s) = long is (not_stale_using at d u a) (record { location = s.location; asked = s.asked; path = s.path; leads = s.leads; long = s.long })
+unsound_using at d u e (misplaced a b bad) = misplaced (not_stale_using at d u a) (not_long_using at d u b) bad
+unsound_using at d u e (no_memory is a) = no_memory is (not_stale_using at d u a)
+
+terms_using : (at : Lookup) (d : Demand) (u : Option Used) (t : Terms) → IsTerms at d t → IsTerms at (record d { used = u }) t
+terms_using at d u t terms = record {
+  sound = sound_using at d u terms.sound;
+  holds = record { numbers = terms.holds.numbers; leads = terms.holds.leads; shared = terms.holds.shared; exclusive = terms.holds.exclusive };
+  pins = terms.pins;
+  paths = terms.paths;
+  promise = terms.promise;
+  pin_room = terms.pin_room;
+  answer_room = terms.answer_room;
+  unanswered = terms.unanswered;
+}
+
+pub node_wanted : (at : Lookup) (want : Want) (number : ℕ) (handle : Option Handle) (t : Terms) → want ≡ wants.Node number handle → IsTerms at (node_row number) t → IsWanted at want t
+node_wanted at want number handle t is terms =
+    subst (λ (v : Want). IsWanted at v t) (sym is) (record { fits = refl; terms = terms_using at (node_row number) (used_on number handle) t terms })
+
+pub node_refused : (at : Lookup) (living counts : ℕ) → IsTree at → IsCensus at living counts → (want : Want) (number : ℕ) (handle : Option Handle) (e : ℤ) → want ≡ wants.Node number handle → IsUnsound at (node_row number) e → IsRefusedPlan at want e
+node_refused at living counts tree census want number handle e is unsound =
+    refused_as at living counts tree census want (wants.Node number handle) e is (λ c. unsound_using at (node_row number) (used_on number handle) e unsound)
 
 -- a name for which an entry may be given
 pub named_wanted : (at : Lookup) (want : Want) (parent : ℕ) (name : Name) (t : Terms) → want ≡ wants.Name parent name → IsEntryAt at (AtName parent name ∷ []) (entered_case t.promise) → IsTerms at (name_row parent name (entered_case t.promise)) t → IsWanted at want t

@@ -31,7 +31,7 @@ IsEntryCase at parent name plain = (n : ℕ) × IsNamed at n parent name
 IsEntryCase at parent name absent = IsFree at parent name
 
 abbrev pub IsCase : Lookup → Want → Case → Type 0
-IsCase at (wants.Node number) c = c ≡ plain
+IsCase at (wants.Node number handle) c = c ≡ plain
 IsCase at (wants.Name parent name) c = IsEntryCase at parent name c
 IsCase at (wants.Remove parent name) c = c ≡ plain
 IsCase at (wants.Move parent name new_parent new_name) c = c ≡ plain

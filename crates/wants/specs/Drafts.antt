@@ -87,6 +87,7 @@ demand_in ls hold enters change c = record {
   page = false;
   done = change_in change ls;
   opens = None;
+  used = None;
 }
 
 abbrev pub demand_of : Row → Case → Demand

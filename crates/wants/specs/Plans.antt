@@ -16,7 +16,7 @@ row_in work = row_of work.want (case_in work.want work.promise)
 
 -- the name that the want may give to a node, which is put into the tree under a key and a copy of it
 abbrev pub copied : Want → Option Name
-copied (wants.Node number) = None
+copied (wants.Node number handle) = None
 copied (wants.Name parent name) = Some name
 copied (wants.Remove parent name) = None
 copied (wants.Move parent name new_parent new_name) = Some new_name
@@ -24,7 +24,7 @@ copied (wants.Page folder names) = None
 
 -- the same of the names of a page
 abbrev pub copied_page : Want → List Name
-copied_page (wants.Node number) = []
+copied_page (wants.Node number handle) = []
 copied_page (wants.Name parent name) = []
 copied_page (wants.Remove parent name) = []
 copied_page (wants.Move parent name new_parent new_name) = []

@@ -1,9 +1,10 @@
 -- What a want asks of a table: one row for each want. What a beginning tests, holds, pins and promises, and what an
 -- outcome does, follow from the row alone.
-use Rattle.std.specs.Prelude.{ℕ, ◌==◌, ◌&&◌, Bool, true, false, if◌then◌else◌, List, [], ◌∷◌, Option, None, length, map}
+use Rattle.std.specs.Prelude.{ℕ, ◌==◌, ◌&&◌, Bool, true, false, if◌then◌else◌, List, [], ◌∷◌, Option, Some, None, length, map}
 use Rattle.files.specs.declared.data.Access.{Access}
 use Rattle.paths.specs.Prefixes.{Name, is_name}
 use Rattle.tree.specs.declared.nodes.Key.{Key}
+use Rattle.flights.specs.declared.data.Handle.{Handle}
 use Rattle.flights.specs.declared.data.Promise.{Promise}
 use Rattle.flights.specs.declared.data.Want.{Want}
 use Rattle.flights.specs.declared.data.Want.TheVariants as wants
@@ -30,6 +31,11 @@ pub record Opening : Type 0 where
   pub target : Location
   pub access : Access
 
+-- a handle that is to be that of an open file of the node
+pub record Used : Type 0 where
+  pub number : ℕ
+  pub handle : Handle
+
 pub record Demand : Type 0 where
   -- the nodes that it names: each must have a path, and is pinned
   pub given : List ℕ
@@ -48,9 +54,11 @@ pub record Demand : Type 0 where
   pub done : Change
   -- the file that may be opened
   pub opens : Option Opening
+  -- the open file that it uses
+  pub used : Option Used
 
 abbrev pub no_demand : Demand
-no_demand = record { given = []; paths = []; shared = []; alone = []; entries = []; births = 0; page = false; done = stays; opens = None }
+no_demand = record { given = []; paths = []; shared = []; alone = []; entries = []; births = 0; page = false; done = stays; opens = None; used = None }
 
 -- ---- cases
 
@@ -95,6 +103,11 @@ move_row parent name new_parent new_name = record no_demand {
   done = moves (AtName parent name) (AtName new_parent new_name);
 }
 
+-- the handle of the node, if one is used
+abbrev pub used_on : ℕ → Option Handle → Option Used
+used_on number None = None
+used_on number (Some handle) = Some (record { number = number; handle = handle })
+
 -- the names of a page: their paths are told, and nothing is held of them
 abbrev pub page_names : ℕ → List Name → List Location
 page_names folder names = map (λ name. AtName folder name) names
@@ -111,7 +124,7 @@ page_row folder names = record (node_row folder) {
 }
 
 abbrev pub row_of : Want → Case → Demand
-row_of (wants.Node number) c = node_row number
+row_of (wants.Node number handle) c = record (node_row number) { used = used_on number handle }
 row_of (wants.Name parent name) c = name_row parent name c
 row_of (wants.Remove parent name) c = removal_row parent name
 row_of (wants.Move parent name new_parent new_name) c = move_row parent name new_parent new_name
@@ -123,7 +136,7 @@ entered_case p = if p.nodes == 0 then plain else absent
 
 -- the case of a request that was promised so much
 abbrev pub case_in : Want → Promise → Case
-case_in (wants.Node number) p = plain
+case_in (wants.Node number handle) p = plain
 case_in (wants.Name parent name) p = entered_case p
 case_in (wants.Remove parent name) p = plain
 case_in (wants.Move parent name new_parent new_name) p = plain

@@ -71,7 +71,7 @@ pub(crate) fn terms_for(alloc: Global, tree: &Tree, want: &Want) -> Result<Terms
     ensures err { IfErr result (λ refusal. IsRefusedPlan (at_in tree.now) want.now (errno_of refusal)) }
 {
     match want {
-        Want::Node { number } => {
+        Want::Node { number, handle: _ } => {
             let row = Row {
                 locations: &[Location::AtNode(*number)],
                 hold: Hold::Shared,

@@ -3,14 +3,21 @@ use Rattle.tree.specs.Places.{at_in}
 use Rattle.wants.specs.declared.refusal.Refusal.{Refusal}
 use Rattle.wants.specs.Drafts.{IsWanted, errno_of}
 use Rattle.wants.specs.Plans.{IsRefusedPlan}
-use Rattle.wants.proofs.Wanting.{named_wanted, refused_as}
+use Rattle.wants.specs.Rows.{plain}
+use Rattle.wants.proofs.Wanting.{named_wanted, node_refused, node_wanted, refused_as}
 use Rattle.wants.proofs.rows.terms_for.Goals as goal
 
 pub returns-in-Node-clause-err : goal.returns-in-Node-clause-err
 returns-in-Node-clause-err c =
     let at = at_in c.args.tree.now in
     let t = c.terms_of.ensures in
-    IfErr-weaker c.terms_of.result _ (λ (r : Refusal). IsRefusedPlan at c.args.want.now (errno_of r)) (λ r unsound. refused_as at _ _ t.tree t.census c.args.want.now _ (errno_of r) c.in-Node.is unsound) t.err
+    IfErr-weaker c.terms_of.result _ (λ (r : Refusal). IsRefusedPlan at c.args.want.now (errno_of r))
+    (λ r unsound. node_refused at _ _ t.tree t.census c.args.want.now _ c.in-Node.handle (errno_of r) c.in-Node.is (unsound plain)) t.err
+
+pub returns-in-Node-clause-ok : goal.returns-in-Node-clause-ok
+returns-in-Node-clause-ok c =
+    let at = at_in c.args.tree.now in
+    IfOk-weaker c.terms_of.result _ (λ t. IsWanted at c.args.want.now t) (λ t agreed. node_wanted at c.args.want.now _ c.in-Node.handle t c.in-Node.is agreed.terms) c.terms_of.ensures.ok
 
 pub returns-in-Name-clause-ok : goal.returns-in-Name-clause-ok
 returns-in-Name-clause-ok c =

@@ -1,6 +1,6 @@
 use Rattle.std.proofs.Common.{refl}
 use Rattle.steps.specs.Kept.{world_of}
-use Rattle.steps.specs.Steps.{unsound}
+use Rattle.steps.specs.Steps.{bad_handle}
 use Rattle.steps.proofs.Refusing.{refusal_bits}
 use Rattle.steps.proofs.state.State.begin.Goals as goal
 
@@ -10,5 +10,5 @@ returns-in-Err-clause-begins c =
     record {
       demand = it.demand;
       demanded = it.demanded;
-      begins = (refusal_bits (world_of c.args.self.now) it.demand c.in-Err.errno (unsound it.unsound), refl);
+      begins = (refusal_bits (world_of c.args.self.now) it.demand c.in-Err.errno (bad_handle it.errno it.bad), refl);
     }
