@@ -7,7 +7,5 @@ mod data;
 mod items;
 mod lawful;
 
-pub use data::{
-    Hold, Holds, Image, Nodes, Numbers, OpenFiles, Postings, Record, Records, Stage,
-};
+pub use data::{Hold, Holds, Image, Nodes, Numbers, OpenFiles, Postings, Record, Records, Stage};
 pub use items::Items;

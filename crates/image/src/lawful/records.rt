@@ -9,8 +9,8 @@ ghost use Rattle.image.specs.Law.{AreAlive, HaveReasons, is_kept, is_pinned};
 ghost use Rattle.image.specs.Parts.{IsLiving, PinsLiving, HaveOtherIds, IsChildOf, IsReasoned};
 
 use crate::data::Record;
-use crate::lawful::opened::{are_files_alive, is_open};
 use crate::lawful::nodes::find;
+use crate::lawful::opened::{are_files_alive, is_open};
 use files::Filed;
 use tree::{Node, Place};
 
