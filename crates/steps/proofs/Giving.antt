@@ -1,5 +1,5 @@
 -- What is kept of a table when a request gives an entry, and pins its node.
-use Rattle.std.proofs.Common.{ℕ, ◌+◌, ◌<◌, ◌≤◌, ◌≡◌, ◌==◌, ◌||◌, Bool, false, [], ◌∷◌, ◌++◌, Some, Contains, refl, sym, ap, ◌∙◌, inl, inr, arith}
+use Rattle.std.proofs.Common.{ℕ, ◌+◌, ◌<◌, ◌≤◌, ◌≡◌, ◌==◌, ◌||◌, Bool, false, [], ◌∷◌, ◌++◌, Some, None, Contains, refl, sym, ap, ◌∙◌, inl, inr, arith}
 use Rattle.std.proofs.lemmas.Bool.{or_cases, or_left, eqb-true}
 use Rattle.ledger.specs.Postings.{Postings}
 use Rattle.tree.specs.declared.nodes.Key.{Key}
@@ -123,7 +123,7 @@ module _ (s : State) (id : ℕ) (key : Key) (may : MayEnter s id (key ∷ [])) w
       alone = o.alone;
     })
 
-    pub give_ends : Ends (world_of s) id (flight_of may.flight) (entering (key ∷ [])) (key ∷ []) (record { id = id; given = Some g ∷ []; lost = false }) (world_of (record s { tree = tree; ledger = ledger; flights = flights; counts = s.counts + 1 }))
+    pub give_ends : Ends (world_of s) id (flight_of may.flight) (entering (key ∷ [])) (key ∷ []) (record { id = id; given = Some g ∷ []; lost = false; opened = None }) (world_of (record s { tree = tree; ledger = ledger; flights = flights; counts = s.counts + 1 }))
     give_ends = record {
       answer_id = refl;
       not_lost = refl;
@@ -131,6 +131,7 @@ module _ (s : State) (id : ℕ) (key : Key) (may : MayEnter s id (key ∷ [])) w
       enters = (still_unowned, (at_in tree, ledger.made, enters, (refl, refl)));
       altered = at_in tree;
       alters = refl;
+      opens = (refl, refl, refl);
       sweeps = record { kept = kept_by flights s.files; keeps = are_kept flights s.files flying kept.filed; swept = IsSwept-refl (kept_by flights s.files) (at_in tree) };
       new_is = ap (λ (fs : Flights). let w : World = record (world_of s) { at = at_in tree; postings = ledger.made; flights = fs } in w) flights_are;
     }

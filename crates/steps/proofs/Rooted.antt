@@ -1,6 +1,6 @@
 -- What a request whose work has ended may do: each node that it names has a path, and no other holds its names alone.
-use Rattle.std.proofs.Common.{ℕ, ◌≡◌, [], ◌∷◌, Contains, length, reverse, sym, ap, ◌∙◌, subst, ◌⊎◌, inl, inr}
-use Rattle.std.specs.Prelude.{option_map}
+use Rattle.std.proofs.Common.{ℕ, ◌≡◌, ◌==◌, if◌then◌else◌, Bool, true, false, [], ◌∷◌, Contains, Option, None, length, refl, reverse, sym, ap, ◌∙◌, subst, ◌⊎◌, inl, inr}
+use Rattle.std.specs.Prelude.{map, option_map}
 use Rattle.std.proofs.lemmas.List.Elements.{All-contains}
 use Rattle.paths.specs.Prefixes.{Name, Names}
 use Rattle.paths.proofs.PrefixLemmas.{is_prefix-same}
@@ -17,14 +17,15 @@ use Rattle.tree.specs.Places.{Lookup, IsNamed, IsPathOf, Leads, at_in}
 use Rattle.wants.specs.Asked.{Holds, IsPrefixAt, promise_of}
 use Rattle.wants.specs.Laws.{AreOwn, IsRow, base_of}
 use Rattle.wants.specs.Plans.{row_in}
-use Rattle.wants.specs.Rows.{AtName, AtNode, Case, Change, Demand, case_in, cuts, moves, row_of, stays}
+use Rattle.wants.specs.Rows.{AtName, AtNode, Case, Change, Demand, Opening, case_in, cuts, moves, row_of, stays}
 use Rattle.wants.proofs.Members.{any_in, cases_in, first_in, in_map, none_in, only_in}
 use Rattle.wants.proofs.RowLemmas.{are_rows}
 use Rattle.steps.specs.declared.state.State.{State}
-use Rattle.steps.specs.Ending.{AreUnder, IsEnding, MayAlter, MayEnter, name_at}
+use Rattle.steps.specs.Ending.{AreUnder, IsEnding, MayAlter, MayEnter, entering, name_at}
 use Rattle.steps.specs.Kept.{IsKept, flight_of, flights_in}
 use Rattle.steps.specs.Laws.{IsPlaced}
-use Rattle.steps.specs.Steps.{HoldsUp, IsOwned}
+use Rattle.steps.specs.Steps.{Act, HoldsUp, IsOwned, act_of, opened_alone}
+use Rattle.steps.specs.declared.data.Outcome.TheVariants.{Entry}
 use Rattle.steps.specs.World.{Flights, IsStanding}
 use Rattle.steps.proofs.Guarding.{not_empty}
 use Rattle.steps.proofs.Viewed.{are_kept}
@@ -50,6 +51,27 @@ rows_placed (wants.Move parent name new_parent new_name) c h = elim (cases_in (A
   | inl e ↦ name_else parent name e
   | inr more ↦ name_else new_parent new_name (only_in (AtName new_parent new_name) (AtNode 1) more)
 ]
+
+-- no row opens a file
+no_opens : (want : Want) (c : Case) → (row_of want c).opens ≡ None
+no_opens (wants.Node number handle) c = refl
+no_opens (wants.Name parent name) c = refl
+no_opens (wants.Remove parent name) c = refl
+no_opens (wants.Move parent name new_parent new_name) c = refl
+
+none_if : (b : Bool) (o : Option Opening) → o ≡ None → (if b then o else None) ≡ None
+none_if true o e = e
+none_if false o e = refl
+
+none_unless : (b : Bool) (o : Option Opening) → o ≡ None → (if b then None else o) ≡ None
+none_unless true o e = refl
+none_unless false o e = e
+
+pub none_alone : (want : Want) (c : Case) → opened_alone (row_of want c) ≡ None
+none_alone want c = none_if (length (row_of want c).entries == 0) (row_of want c).opens (no_opens want c)
+
+pub enters_alone : (want : Want) (c : Case) → entering (row_of want c).entries ≡ act_of (row_of want c) Entry
+enters_alone want c = ap (λ (o : Option Opening). let a : Act = record { found = map (λ key. true) (row_of want c).entries; change = stays; opens = o } in a) (sym (none_unless (length (row_of want c).entries == 0) (row_of want c).opens (no_opens want c)))
 
 -- ---- paths
 

@@ -38,7 +38,7 @@ change_in (Moves key target) = moves (name_at key) (name_at target.key)
 
 -- an entry is given for each name
 abbrev pub entering : List Key → Act
-entering keys = record { found = map (λ key. true) keys; change = stays }
+entering keys = record { found = map (λ key. true) keys; change = stays; opens = None }
 
 -- ---- what its end rests on
 

@@ -19,7 +19,7 @@ use flights::{Givens, Work};
 fn give_none(id: u64, entry: &Option<Keys>, answer: Givens) -> Answered
     requires room { length (keys_in entry.now) ≤ answer.room }
     requires unanswered { answer.items ≡ [] }
-    ensures { result ≡ record { id = id; given = map (λ _. None) (keys_in entry.now); lost = false } }
+    ensures { result ≡ record { id = id; given = map (λ _. None) (keys_in entry.now); lost = false; opened = None } }
 {
     let mut given = answer;
     if entry.is_some() {
@@ -29,6 +29,7 @@ fn give_none(id: u64, entry: &Option<Keys>, answer: Givens) -> Answered
         id,
         given,
         lost: false,
+        opened: None,
     }
 }
 
@@ -47,6 +48,7 @@ impl State {
                 id,
                 given: answer,
                 lost: false,
+                opened: None,
             };
         };
         let mut given = answer;
@@ -64,6 +66,7 @@ impl State {
             id,
             given,
             lost: false,
+            opened: None,
         }
     }
 
@@ -122,6 +125,7 @@ impl State {
                 id,
                 given: Givens::new(self.alloc),
                 lost: true,
+                opened: None,
             };
         };
         self.end(id, work, outcome)

@@ -1,4 +1,4 @@
-use Rattle.std.proofs.Common.{◌≡◌, ◌+◌, ◌++◌, false, List, [], ◌∷◌, Option, Some, refl, sym, ap, ◌∙◌, subst}
+use Rattle.std.proofs.Common.{◌≡◌, ◌+◌, ◌++◌, false, List, [], ◌∷◌, Option, None, Some, refl, sym, ap, ◌∙◌, subst}
 use Rattle.flights.specs.declared.data.Given.{Given}
 use Rattle.flights.specs.Roomy.{Listed}
 use Rattle.tree.specs.declared.nodes.Key.{Key}
@@ -16,11 +16,11 @@ use Rattle.steps.proofs.state.State.give.Goals as goal
 pub returns-in_default-clause-ends : goal.returns-in_default-clause-ends
 returns-in_default-clause-ends c =
     let s = c.args.self.now in
-    let answer : Answer = record { id = c.args.id; given = c.args.answer.items; lost = false } in
+    let answer : Answer = record { id = c.args.id; given = c.args.answer.items; lost = false; opened = None } in
     let none : keys_in c.args.entry ≡ [] = ap {B = List Key} keys_in c.in_default.is in
     subst (λ (ks : List Key). (may : MayEnter s c.args.id ks) → Ends (world_of s) c.args.id (flight_of may.flight) (entering ks) ks answer (world_of s)) (sym none)
-    (λ may. subst (λ (gs : List (Option Given)). Ends (world_of s) c.args.id (flight_of may.flight) (entering []) [] (record { id = c.args.id; given = gs; lost = false }) (world_of s)) (sym c.requires.unanswered)
-    (ends_changed (world_of s) (world_of s) c.args.id (flight_of may.flight) (ap (λ o. option_map flight_of o) may.here) (ap stage_of may.answered) (entering []) [] refl (nothing_changes (world_of s) (kept_by s.flights s.files) (are_kept s.flights s.files c.requires.kept.flying c.requires.kept.filed))))
+    (λ may. subst (λ (gs : List (Option Given)). Ends (world_of s) c.args.id (flight_of may.flight) (entering []) [] (record { id = c.args.id; given = gs; lost = false; opened = None }) (world_of s)) (sym c.requires.unanswered)
+    (ends_changed (world_of s) (world_of s) c.args.id (flight_of may.flight) (ap (λ o. option_map flight_of o) may.here) (ap stage_of may.answered) (entering []) [] refl refl (nothing_changes (world_of s) (kept_by s.flights s.files) (are_kept s.flights s.files c.requires.kept.flying c.requires.kept.filed))))
 
 pub enter-entered-requires-clause-node_room : goal.enter-entered-requires-clause-node_room
 enter-entered-requires-clause-node_room c =
@@ -33,11 +33,11 @@ returns-clause-ends c =
     let key = c.in-Some.keys.key in
     let g = c.enter-entered.result in
     let new = world_of (record s { tree = c.enter-entered.new.tree; ledger = c.enter-entered.new.ledger; flights = c.pin.new.self; counts = s.counts + 1 }) in
-    let answer : Answer = record { id = c.args.id; given = c.add.new.self.items; lost = false } in
+    let answer : Answer = record { id = c.args.id; given = c.add.new.self.items; lost = false; opened = None } in
     let one : keys_in c.args.entry ≡ key ∷ [] = ap {B = List Key} keys_in c.in-Some.is in
     let given : c.add.new.self.items ≡ Some g ∷ [] = ap (λ (l : Listed). l.items) c.add.ensures ∙ ap (λ (gs : List (Option Given)). gs ++ Some g ∷ []) c.requires.unanswered in
     subst (λ (ks : List Key). (may : MayEnter s c.args.id ks) → Ends (world_of s) c.args.id (flight_of may.flight) (entering ks) ks answer new) (sym one)
-    (λ may. subst (λ (gs : List (Option Given)). Ends (world_of s) c.args.id (flight_of may.flight) (entering (key ∷ [])) (key ∷ []) (record { id = c.args.id; given = gs; lost = false }) new) (sym given)
+    (λ may. subst (λ (gs : List (Option Given)). Ends (world_of s) c.args.id (flight_of may.flight) (entering (key ∷ [])) (key ∷ []) (record { id = c.args.id; given = gs; lost = false; opened = None }) new) (sym given)
     (give_ends s c.args.id key may c.requires.kept g c.enter-entered.new.tree c.enter-entered.new.ledger c.pin.new.self
     c.enter-entered.ensures.law c.enter-entered.ensures.enters c.enter-entered.ensures.more (c.pin.ensures.pins may.flight may.here) c.pin.ensures.law))
 
