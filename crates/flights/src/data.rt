@@ -3,7 +3,7 @@
 ghost use Rattle.std.specs.Prelude.{◌≡◌, ◌==◌, ◌+◌, ◌-◌, ◌<◌, [], ◌∷◌, ◌++◌, IfOk, Some, length, count_by, is_some};
 ghost use Rattle.std.specs.List.{list_any};
 
-use files::Need;
+use files::{Access, Need};
 use holds::Held;
 use paths::{Name, Path};
 use std::alloc::{AllocError, Global};
@@ -40,6 +40,17 @@ pub enum Want {
         name: Name,
         new_parent: u64,
         new_name: Name,
+    },
+    /// A file to be opened (OPEN).
+    Open {
+        number: u64,
+        access: Access,
+    },
+    /// A file to be made and opened (CREATE).
+    Create {
+        parent: u64,
+        name: Name,
+        access: Access,
     },
 }
 

@@ -103,5 +103,18 @@ pub(crate) fn copy_of(want: &Want) -> Result<Want, AllocError>
             new_parent: *new_parent,
             new_name: new_name.copy()?,
         }),
+        Want::Open { number, access } => Ok(Want::Open {
+            number: *number,
+            access: *access,
+        }),
+        Want::Create {
+            parent,
+            name,
+            access,
+        } => Ok(Want::Create {
+            parent: *parent,
+            name: name.copy()?,
+            access: *access,
+        }),
     }
 }

@@ -1,6 +1,8 @@
 -- What a request whose work has ended may do: each node that it names has a path, and no other holds its names alone.
-use Rattle.std.proofs.Common.{ℕ, ◌≡◌, ◌==◌, if◌then◌else◌, Bool, true, false, [], ◌∷◌, Contains, Option, None, length, refl, reverse, sym, ap, ◌∙◌, subst, ◌⊎◌, inl, inr}
-use Rattle.std.specs.Prelude.{map, option_map}
+use Rattle.std.proofs.Common.{ℕ, ◌≡◌, [], ◌∷◌, Contains, Some, length, reverse, sym, ap, ◌∙◌, subst, ◌⊎◌, inl, inr}
+use Rattle.std.specs.Prelude.{option_map}
+use Rattle.std.proofs.lemmas.Option.{none-some, same_Some}
+use Rattle.files.specs.declared.data.Access.{Access}
 use Rattle.std.proofs.lemmas.List.Elements.{All-contains}
 use Rattle.paths.specs.Prefixes.{Name, Names}
 use Rattle.paths.proofs.PrefixLemmas.{is_prefix-same}
@@ -21,11 +23,10 @@ use Rattle.wants.specs.Rows.{AtName, AtNode, Case, Change, Demand, Opening, case
 use Rattle.wants.proofs.Members.{any_in, cases_in, first_in, in_map, none_in, only_in}
 use Rattle.wants.proofs.RowLemmas.{are_rows}
 use Rattle.steps.specs.declared.state.State.{State}
-use Rattle.steps.specs.Ending.{AreUnder, IsEnding, MayAlter, MayEnter, entering, name_at}
+use Rattle.steps.specs.Ending.{AreUnder, IsEnding, MayAlter, MayEnter, name_at}
 use Rattle.steps.specs.Kept.{IsKept, flight_of, flights_in}
 use Rattle.steps.specs.Laws.{IsPlaced}
-use Rattle.steps.specs.Steps.{Act, HoldsUp, IsOwned, act_of, opened_alone}
-use Rattle.steps.specs.declared.data.Outcome.TheVariants.{Entry}
+use Rattle.steps.specs.Steps.{HoldsUp, IsOwned, opened_alone}
 use Rattle.steps.specs.World.{Flights, IsStanding}
 use Rattle.steps.proofs.Guarding.{not_empty}
 use Rattle.steps.proofs.Viewed.{are_kept}
@@ -38,6 +39,8 @@ entries_shared (wants.Node number handle) c key h = absurd (none_in key h)
 entries_shared (wants.Name parent name) c key h = subst (λ (k : Key). Contains (AtName parent name ∷ []) (name_at k)) (only_in (record { parent = parent; name = name }) key h) (first_in (AtName parent name) [])
 entries_shared (wants.Remove parent name) c key h = absurd (none_in key h)
 entries_shared (wants.Move parent name new_parent new_name) c key h = absurd (none_in key h)
+entries_shared (wants.Open number access) c key h = absurd (none_in key h)
+entries_shared (wants.Create parent name access) c key h = subst (λ (k : Key). Contains (AtName parent name ∷ []) (name_at k)) (only_in (record { parent = parent; name = name }) key h) (first_in (AtName parent name) [])
 
 name_else : (parent : ℕ) (name : Name) → AtName parent name ≡ AtNode 1 → ⊥
 name_else parent name e = cc
@@ -51,27 +54,21 @@ rows_placed (wants.Move parent name new_parent new_name) c h = elim (cases_in (A
   | inl e ↦ name_else parent name e
   | inr more ↦ name_else new_parent new_name (only_in (AtName new_parent new_name) (AtNode 1) more)
 ]
+rows_placed (wants.Open number access) c h = none_in (AtNode 1) h
+rows_placed (wants.Create parent name access) c h = none_in (AtNode 1) h
 
--- no row opens a file
-no_opens : (want : Want) (c : Case) → (row_of want c).opens ≡ None
-no_opens (wants.Node number handle) c = refl
-no_opens (wants.Name parent name) c = refl
-no_opens (wants.Remove parent name) c = refl
-no_opens (wants.Move parent name new_parent new_name) c = refl
-
-none_if : (b : Bool) (o : Option Opening) → o ≡ None → (if b then o else None) ≡ None
-none_if true o e = e
-none_if false o e = refl
-
-none_unless : (b : Bool) (o : Option Opening) → o ≡ None → (if b then None else o) ≡ None
-none_unless true o e = refl
-none_unless false o e = e
-
-pub none_alone : (want : Want) (c : Case) → opened_alone (row_of want c) ≡ None
-none_alone want c = none_if (length (row_of want c).entries == 0) (row_of want c).opens (no_opens want c)
-
-pub enters_alone : (want : Want) (c : Case) → entering (row_of want c).entries ≡ act_of (row_of want c) Entry
-enters_alone want c = ap (λ (o : Option Opening). let a : Act = record { found = map (λ key. true) (row_of want c).entries; change = stays; opens = o } in a) (sym (none_unless (length (row_of want c).entries == 0) (row_of want c).opens (no_opens want c)))
+-- a file that is opened without an entry is that of a node that is given
+pub node_given : (want : Want) (c : Case) (number : ℕ) (access : Access) → Some (record { target = AtNode number; access = access }) ≡ opened_alone (row_of want c) → Contains (row_of want c).given number
+node_given (wants.Node n handle) c number access e = absurd (none-some _ (sym e))
+node_given (wants.Name parent name) c number access e = absurd (none-some _ (sym e))
+node_given (wants.Remove parent name) c number access e = absurd (none-some _ (sym e))
+node_given (wants.Move parent name new_parent new_name) c number access e = absurd (none-some _ (sym e))
+node_given (wants.Open n a) c number access e =
+    let one : Opening = record { target = AtNode number; access = access } in
+    let two : Opening = record { target = AtNode n; access = a } in
+    let same : number ≡ n = ap base_of (ap (λ (o : Opening). o.target) (same_Some one two e)) in
+    subst (λ k. Contains (n ∷ []) k) (sym same) (first_in n [])
+node_given (wants.Create parent name a) c number access e = absurd (none-some _ (sym e))
 
 -- ---- paths
 

@@ -1,19 +1,27 @@
 -- What the end of a request's work rests on, and what it does.
-use Rattle.std.specs.Prelude.{ℕ, ℤ, ◌*◌, ◌≡◌, ◌≤◌, ◌⊎◌, true, List, [], ◌∷◌, Option, Some, None, Contains, length, map}
+use Rattle.std.specs.Prelude.{ℕ, ℤ, ◌+◌, ◌*◌, ◌^◌, ◌<◌, ◌≡◌, ◌≤◌, ◌⊎◌, true, List, [], ◌∷◌, Option, Some, None, Contains, length, map}
+use Rattle.files.specs.declared.data.Access.{Access}
+use Rattle.files.specs.Filed.{files_of}
+use Rattle.files.specs.Handles.{IsFiled, after_open}
 use Rattle.flights.specs.declared.data.Flight.{Flight as Recorded}
+use Rattle.flights.specs.declared.data.Given.{Given}
 use Rattle.flights.specs.declared.data.Promise.{Promise}
 use Rattle.flights.specs.declared.data.Stage.TheVariants as recorded
 use Rattle.flights.specs.declared.data.Work.{Work as RecordedWork}
 use Rattle.flights.specs.Listed.{flying_of}
 use Rattle.holds.specs.declared.held.Held.{Held}
 use Rattle.tree.specs.declared.nodes.Key.{Key}
-use Rattle.tree.specs.Places.{Lookup, HasChild, IsCut, IsNamed, Leads, at_in}
+use Rattle.tree.specs.declared.nodes.Node.{Node}
+use Rattle.tree.specs.Places.{Lookup, HasChild, IsAlive, IsCut, IsNamed, Leads, at_in}
 use Rattle.wants.specs.Asked.{Holds, IsMisplaced}
 use Rattle.wants.specs.Laws.{AreOwn, IsRow, base_of}
 use Rattle.wants.specs.Plans.{IsProvided}
-use Rattle.wants.specs.Rows.{Change, Demand, AtName, Location, cuts, moves, stays}
+use Rattle.wants.specs.Rows.{Change, Demand, AtName, AtNode, Location, Opening, cuts, moves, stays}
+use Rattle.steps.specs.Answers.{Answer}
 use Rattle.steps.specs.declared.acts.Change.{Change as Changing}
 use Rattle.steps.specs.declared.acts.Change.TheVariants.{Stays, Cuts, Moves}
+use Rattle.steps.specs.declared.acts.Opens.{Opens}
+use Rattle.steps.specs.declared.acts.Opens.TheVariants as opens
 use Rattle.steps.specs.declared.keys.Keys.{Keys}
 use Rattle.steps.specs.declared.state.State.{State}
 use Rattle.steps.specs.Keeping.{kept_by}
@@ -35,6 +43,62 @@ abbrev pub change_in : Changing → Change
 change_in Stays = stays
 change_in (Cuts key) = cuts (name_at key)
 change_in (Moves key target) = moves (name_at key) (name_at target.key)
+
+-- the file that is opened without an entry, and the one of the name for which an entry is given
+abbrev pub alone_in : Opens → Option Opening
+alone_in opens.Nothing = None
+alone_in (opens.Node number access) = Some (record { target = AtNode number; access = access })
+alone_in (opens.Entry access) = None
+
+abbrev pub with_in : Opens → List Key → Option Opening
+with_in opens.Nothing keys = None
+with_in (opens.Node number access) keys = None
+with_in (opens.Entry access) [] = None
+with_in (opens.Entry access) (key ∷ keys) = Some (record { target = name_at key; access = access })
+
+-- one file more may be opened
+pub record HasFileRoom (s : State) : Type 0 where
+  pub room : (flying_of s.flights).files + 1 ≤ (files_of s.files).room
+  pub within : (files_of s.files).many + (flying_of s.flights).files + 1 ≤ s.limits.files
+  pub handles : (files_of s.files).last + (flying_of s.flights).files + 1 < 2 ^ 64
+
+-- the file may be opened, if there is one
+abbrev pub MayOpen : State → Opens → Type 0
+MayOpen s opens.Nothing = Unit {0}
+MayOpen s (opens.Node number access) = IsAlive (at_in s.tree) number × HasFileRoom s
+MayOpen s (opens.Entry access) = Unit {0}
+
+abbrev pub MayOpenGiven : State → Opens → Option Given → Type 0
+MayOpenGiven s opens.Nothing entered = Unit {0}
+MayOpenGiven s (opens.Node number access) entered = Unit {0}
+MayOpenGiven s (opens.Entry access) None = Unit {0}
+MayOpenGiven s (opens.Entry access) (Some g) = IsAlive (at_in s.tree) g.number × HasFileRoom s
+
+-- the files with one of that node more
+pub record OpensAt (s : State) (number : ℕ) (access : Access) (new : State) : Type 0 where
+  pub node : Node
+  pub here : at_in s.tree number ≡ Some node
+  pub rest : new ≡ record s { files = new.files }
+  pub files : files_of new.files ≡ after_open (files_of s.files) (record { number = number; generation = node.generation; access = access })
+  pub filed : IsFiled (files_of new.files)
+
+-- the file of the node is opened, if one may be
+abbrev pub OpensNode : State → Opens → Option ℕ → State → Type 0
+OpensNode s opens.Nothing opened new = (opened ≡ None) × (new ≡ s)
+OpensNode s (opens.Node number access) opened new = (opened ≡ Some ((files_of s.files).last + 1)) × OpensAt s number access new
+OpensNode s (opens.Entry access) opened new = (opened ≡ None) × (new ≡ s)
+
+-- that of the node that was given is, if one may be
+abbrev pub OpensGiven : State → Opens → Option Given → Option ℕ → State → Type 0
+OpensGiven s opens.Nothing entered opened new = (opened ≡ None) × (new ≡ s)
+OpensGiven s (opens.Node number access) entered opened new = (opened ≡ None) × (new ≡ s)
+OpensGiven s (opens.Entry access) None opened new = (opened ≡ None) × (new ≡ s)
+OpensGiven s (opens.Entry access) (Some g) opened new = (opened ≡ Some ((files_of s.files).last + 1)) × OpensAt s g.number access new
+
+-- what was given for the name, if there is one
+abbrev pub IsGivenFor : State → List Key → Answer → Option Given → Type 0
+IsGivenFor new [] answer entered = entered ≡ None
+IsGivenFor new (key ∷ keys) answer entered = (g : Given) × (entered ≡ Some g) × (answer.given ≡ Some g ∷ []) × IsAlive (at_in new.tree) g.number
 
 -- an entry is given for each name
 abbrev pub entering : List Key → Act

@@ -1,11 +1,13 @@
 //! What the end of a request's work may do: the names of its row, taken out of its want.
 
 ghost use Rattle.std.specs.Prelude.{◌≡◌};
-ghost use Rattle.steps.specs.Ending.{change_in, keys_in};
+ghost use Rattle.steps.specs.Ending.{alone_in, change_in, keys_in, with_in};
+ghost use Rattle.steps.specs.Steps.{opened_alone, opened_with};
 ghost use Rattle.wants.specs.Plans.{copied};
 ghost use Rattle.wants.specs.Rows.{Case, row_of};
 
 use crate::keys::Keys;
+use files::Access;
 use flights::Want;
 use paths::Name;
 use tree::Key;
@@ -20,12 +22,23 @@ pub(crate) enum Change {
     Moves(Key, Keys),
 }
 
+/// Which file may be opened.
+#[derive(Clone, Copy)]
+pub(crate) enum Opens {
+    Nothing,
+    /// That of the node.
+    Node(u64, Access),
+    /// That of the name for which an entry is given.
+    Entry(Access),
+}
+
 /// What the outcomes of a request may do.
 #[derive(Drop)]
 pub(crate) struct Acts {
     /// The name for which an entry may be given.
     pub(crate) entry: Option<Keys>,
     pub(crate) change: Change,
+    pub(crate) opens: Opens,
 }
 
 /// What the row of the want says.
@@ -33,19 +46,24 @@ pub(crate) fn acts_of(want: Want, copy: Option<Name>) -> Acts
     requires { copy ≡ copied want }
     ensures entry { (c : Case) → keys_in result.entry ≡ (row_of want c).entries }
     ensures change { (c : Case) → change_in result.change ≡ (row_of want c).done }
+    ensures alone { (c : Case) → alone_in result.opens ≡ opened_alone (row_of want c) }
+    ensures entered { (c : Case) → with_in result.opens (keys_in result.entry) ≡ opened_with (row_of want c) }
 {
     match want {
         Want::Node { .. } => Acts {
             entry: None,
             change: Change::Stays,
+            opens: Opens::Nothing,
         },
         Want::Name { parent, name } => Acts {
             entry: Some(Keys::new(parent, name, copy)),
             change: Change::Stays,
+            opens: Opens::Nothing,
         },
         Want::Remove { parent, name } => Acts {
             entry: None,
             change: Change::Cuts(Key { parent, name }),
+            opens: Opens::Nothing,
         },
         Want::Move {
             parent,
@@ -55,6 +73,21 @@ pub(crate) fn acts_of(want: Want, copy: Option<Name>) -> Acts
         } => Acts {
             entry: None,
             change: Change::Moves(Key { parent, name }, Keys::new(new_parent, new_name, copy)),
+            opens: Opens::Nothing,
+        },
+        Want::Open { number, access } => Acts {
+            entry: None,
+            change: Change::Stays,
+            opens: Opens::Node(number, access),
+        },
+        Want::Create {
+            parent,
+            name,
+            access,
+        } => Acts {
+            entry: Some(Keys::new(parent, name, copy)),
+            change: Change::Stays,
+            opens: Opens::Entry(access),
         },
     }
 }

@@ -29,7 +29,11 @@ fn is_same(want: &Want) -> bool
             new_parent,
             new_name,
         } => parent == new_parent && name.is(new_name),
-        Want::Node { .. } | Want::Name { .. } | Want::Remove { .. } => false,
+        Want::Node { .. }
+        | Want::Name { .. }
+        | Want::Remove { .. }
+        | Want::Open { .. }
+        | Want::Create { .. } => false,
     }
 }
 

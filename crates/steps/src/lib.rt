@@ -11,6 +11,7 @@ mod finish;
 mod forget;
 mod keys;
 mod laws;
+mod opening;
 mod places;
 mod settle;
 mod state;

@@ -9,7 +9,7 @@ use ledger::{Gather, Ledgers, Share};
 use paths::Name;
 use std::alloc::{AllocError, AllocFailed, Global};
 use std::mem::swap;
-use table::{Answered, Begin, Outcome, Table, Ticket};
+use table::{Access, Answered, Begin, Handle, Need, Outcome, Table, Ticket};
 
 /// The ticket of the request that bears a unique number.
 pub struct Begun {
@@ -54,6 +54,22 @@ pub fn want_of(alloc: Global, asks: Asks) -> Result<Want, AllocError> {
             name: Name::copy_of(alloc, name)?,
             new_parent,
             new_name: Name::copy_of(alloc, new_name)?,
+        },
+        Asks::Read(number, fh) => Want::Node {
+            number,
+            handle: Some(Handle {
+                fh,
+                need: Need::Reading,
+            }),
+        },
+        Asks::Open(number) => Want::Open {
+            number,
+            access: Access::Reading,
+        },
+        Asks::Create(parent, name) => Want::Create {
+            parent,
+            name: Name::copy_of(alloc, name)?,
+            access: Access::Writing,
         },
     })
 }

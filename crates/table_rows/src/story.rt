@@ -49,6 +49,12 @@ pub enum Asks<'a> {
     Remove(u64, &'a str),
     /// The move of a name under a parent to another name under another.
     Move(u64, &'a str, u64, &'a str),
+    /// A node, which is read by a handle.
+    Read(u64, u64),
+    /// The file of a node, opened for reading.
+    Open(u64),
+    /// A file that is made at a name under a parent, and opened for writing.
+    Create(u64, &'a str),
 }
 
 /// What a call told.
@@ -138,6 +144,8 @@ pub enum Step<'a> {
     Stranger(u64),
     /// The ticket of that request has these paths, of a move the old one and then the new one.
     Paths(u64, &'a [&'a str]),
+    /// The handle is that of an open file of the node, or of none.
+    File(u64, Option<u64>),
     /// The living nodes, all of them.
     Nodes(&'a [Living<'a>]),
     /// The postings, all of them, the oldest first.

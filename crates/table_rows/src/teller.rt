@@ -103,6 +103,9 @@ impl<L: Ledgers> Desk<L> {
         match *step {
             Step::Paths(unique, paths) => self.has_paths(unique, paths),
             Step::Share(index, sum) => Ok(self.has_share(index, sum)),
+            Step::File(handle, number) => Ok(
+                self.table.file(handle).map(|file| file.number) == number,
+            ),
             _ => shows(self.alloc, &self.image()?, step),
         }
     }

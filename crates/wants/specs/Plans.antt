@@ -20,6 +20,8 @@ copied (wants.Node number handle) = None
 copied (wants.Name parent name) = Some name
 copied (wants.Remove parent name) = None
 copied (wants.Move parent name new_parent new_name) = Some new_name
+copied (wants.Open number access) = None
+copied (wants.Create parent name access) = Some name
 
 -- its end takes no memory: there is room for what it may pin and answer
 pub record IsProvided (work : Work) (pins : Pinned) : Type 0 where

@@ -111,6 +111,8 @@ row_of (wants.Node number handle) c = record (node_row number) { used = used_on 
 row_of (wants.Name parent name) c = name_row parent name c
 row_of (wants.Remove parent name) c = removal_row parent name
 row_of (wants.Move parent name new_parent new_name) c = move_row parent name new_parent new_name
+row_of (wants.Open number access) c = record (node_row number) { opens = Some (record { target = AtNode number; access = access }) }
+row_of (wants.Create parent name access) c = record (name_row parent name c) { opens = Some (record { target = AtName parent name; access = access }) }
 
 -- the case of a request that was promised so much: a node is promised where none stood at its name
 abbrev pub case_in : Promise → Case

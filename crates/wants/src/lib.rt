@@ -57,8 +57,10 @@ fn copied(want: &Want) -> Result<Option<Name>, AllocError>
     ensures { IfOk result (λ copy. copy ≡ name_copied want.now) }
 {
     match want {
-        Want::Node { .. } | Want::Remove { .. } => Ok(None),
-        Want::Name { name, .. } | Want::Move { new_name: name, .. } => Ok(Some(name.copy()?)),
+        Want::Node { .. } | Want::Remove { .. } | Want::Open { .. } => Ok(None),
+        Want::Name { name, .. } | Want::Move { new_name: name, .. } | Want::Create { name, .. } => {
+            Ok(Some(name.copy()?))
+        }
     }
 }
 

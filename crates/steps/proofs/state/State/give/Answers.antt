@@ -3,13 +3,14 @@ use Rattle.flights.specs.declared.data.Given.{Given}
 use Rattle.flights.specs.Roomy.{Listed}
 use Rattle.tree.specs.declared.nodes.Key.{Key}
 use Rattle.steps.specs.Keeping.{kept_by}
+use Rattle.steps.specs.declared.state.State.{State}
 use Rattle.steps.specs.Answers.{Answer}
-use Rattle.steps.specs.Ending.{MayEnter, entering, keys_in}
+use Rattle.steps.specs.Ending.{IsGivenFor, MayEnter, entering, keys_in}
 use Rattle.steps.specs.Kept.{flight_of, stage_of, world_of}
 use Rattle.steps.specs.Steps.{Ends}
 use Rattle.std.specs.Prelude.{option_map}
 use Rattle.steps.proofs.Ends.{ends_changed, nothing_changes}
-use Rattle.steps.proofs.Giving.{give_ends, give_kept, room_to_bear}
+use Rattle.steps.proofs.Giving.{alive, give_ends, give_kept, room_to_bear}
 use Rattle.steps.proofs.Viewed.{are_kept}
 use Rattle.steps.proofs.state.State.give.Goals as goal
 
@@ -49,3 +50,21 @@ returns-clause-kept c =
     let may : MayEnter s c.args.id (key ∷ []) = subst (λ (ks : List Key). MayEnter s c.args.id ks) one c.requires.may in
     give_kept s c.args.id key may c.requires.kept c.enter-entered.result c.enter-entered.new.tree c.enter-entered.new.ledger c.pin.new.self
     c.enter-entered.ensures.law c.enter-entered.ensures.enters c.enter-entered.ensures.more (c.pin.ensures.pins may.flight may.here) c.pin.ensures.law
+
+pub returns-clause-given : goal.returns-clause-given
+returns-clause-given c =
+    let s = c.args.self.now in
+    let key = c.in-Some.keys.key in
+    let one : keys_in c.args.entry ≡ key ∷ [] = ap {B = List Key} keys_in c.in-Some.is in
+    let may : MayEnter s c.args.id (key ∷ []) = subst (λ (ks : List Key). MayEnter s c.args.id ks) one c.requires.may in
+    let new : State = record s { tree = c.enter-entered.new.tree; ledger = c.enter-entered.new.ledger; flights = c.pin.new.self; counts = s.counts + 1 } in
+    let g = c.enter-entered.result in
+    let answer : Answer = record { id = c.args.id; given = c.add.new.self.items; lost = false; opened = None } in
+    let given : c.add.new.self.items ≡ Some g ∷ [] = ap (λ (l : Listed). l.items) c.add.ensures ∙ ap (λ (gs : List (Option Given)). gs ++ Some g ∷ []) c.requires.unanswered in
+    subst (λ (ks : List Key). IsGivenFor new ks answer (Some g)) (sym one) (
+      g,
+      refl,
+      given,
+      alive s c.args.id key may c.requires.kept g c.enter-entered.new.tree c.enter-entered.new.ledger c.pin.new.self
+          c.enter-entered.ensures.law c.enter-entered.ensures.enters c.enter-entered.ensures.more (c.pin.ensures.pins may.flight may.here) c.pin.ensures.law,
+    )
