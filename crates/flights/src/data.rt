@@ -4,7 +4,7 @@ ghost use Rattle.std.specs.Prelude.{◌≡◌, ◌==◌, ◌+◌, ◌-◌, ◌<�
 ghost use Rattle.std.specs.List.{list_any};
 
 use crate::names::Names;
-use files::Need;
+use files::{Access, Need};
 use holds::Held;
 use paths::{Name, Path};
 use std::alloc::{AllocError, Global};
@@ -46,6 +46,17 @@ pub enum Want {
     Page {
         folder: u64,
         names: Names,
+    },
+    /// A file to be opened (OPEN).
+    Open {
+        number: u64,
+        access: Access,
+    },
+    /// A file to be made and opened (CREATE).
+    Create {
+        parent: u64,
+        name: Name,
+        access: Access,
     },
 }
 

@@ -107,5 +107,18 @@ pub(crate) fn copy_of(want: &Want) -> Result<Want, AllocError>
             folder: *folder,
             names: names.copy()?,
         }),
+        Want::Open { number, access } => Ok(Want::Open {
+            number: *number,
+            access: *access,
+        }),
+        Want::Create {
+            parent,
+            name,
+            access,
+        } => Ok(Want::Create {
+            parent: *parent,
+            name: name.copy()?,
+            access: *access,
+        }),
     }
 }

@@ -1,5 +1,5 @@
 -- The end of the work on a request: it holds nothing any more, and what it was promised is free for its end.
-use Rattle.std.proofs.Common.{ℕ, ◌≡◌, ◌==◌, Bool, true, List, [], append-nil, Some, refl, sym, ap, ◌∙◌, subst, inl, inr, arith}
+use Rattle.std.proofs.Common.{ℕ, ◌≡◌, ◌==◌, Bool, true, List, [], append-nil, Some, None, refl, sym, ap, ◌∙◌, subst, inl, inr, arith}
 use Rattle.std.proofs.lemmas.Bool.{cond-true, eq-eqb, true≢false}
 use Rattle.std.proofs.lemmas.Option.{same_Some}
 use Rattle.tree.specs.Places.{at_in}
@@ -30,7 +30,7 @@ recorded_working all id none f work at =
     let it = recorded_at all id f work at in
     true≢false (sym (ap is_working it.working) ∙ none it.flight it.here)
 
-pub finishes_none : (s : State) (flights : InFlight) (id : ℕ) (o : Outcome) (answer : Answer) → answer ≡ record { id = id; given = []; lost = true } → HasNoneWorking (flying_of s.flights).at id → flights ≡ s.flights
+pub finishes_none : (s : State) (flights : InFlight) (id : ℕ) (o : Outcome) (answer : Answer) → answer ≡ record { id = id; given = []; lost = true; opened = None } → HasNoneWorking (flying_of s.flights).at id → flights ≡ s.flights
     → Finishes (world_of s) id o answer (world_of (record s { flights = flights }))
 finishes_none s flights id o answer is none same = record {
   lost = λ _. (is, ap (λ (f : InFlight). world_of (record s { flights = f })) same);

@@ -6,7 +6,7 @@ use Rattle.paths.specs.Prefixes.{Name}
 use Rattle.tree.specs.declared.nodes.Key.{Key}
 use Rattle.tree.specs.Places.{Lookup}
 use Rattle.flights.specs.declared.data.Want.{Want}
-use Rattle.flights.specs.declared.data.Want.TheVariants.{Node, Name as AName, Remove, Move, Page}
+use Rattle.flights.specs.declared.data.Want.TheVariants.{Node, Name as AName, Remove, Move, Page, Open, Create}
 use Rattle.steps.specs.Answers.{Claim}
 use Rattle.wants.specs.Asked.{IsCase, IsDemand, IsEntryCase, IsPin, IsThere}
 use Rattle.wants.specs.Rows.{AtName, Case, Demand, absent, name_row, plain, row_of}
@@ -30,6 +30,8 @@ module _ (at : Lookup) (f : Flight) where
   names_known (Remove parent name) c fits pins = inl refl
   names_known (Move parent name new_parent new_name) c fits pins = inl refl
   names_known (Page folder names) c fits pins = inl (sym (length-map names (λ (name : Name). let key : Key = record { parent = folder; name = name } in key)))
+  names_known (Open number access) c fits pins = inl refl
+  names_known (Create parent name access) c fits pins = entry_known parent name c fits pins
 
 pub begun_ready : (old new : World) (unique : ℕ) (want : Want) (d : Demand) (ticket : Claim) → IsDemand old.at want d → MayBegin old d → (goes : GoesOn old unique want d ticket new)
     → IsReady old.at (record { unique = unique; stage = Working (record { want = want; row = d; held = goes.held }); pins = goes.pins }) (record { want = want; row = d; held = goes.held })

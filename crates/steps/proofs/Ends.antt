@@ -1,5 +1,5 @@
 -- The end of a request's work: that nothing is given, what a change of names leaves, and the world in which it was not yet answered.
-use Rattle.std.proofs.Common.{ℕ, ◌≡◌, ◌==◌, ◌++◌, Bool, true, false, if◌then◌else◌, List, [], ◌∷◌, append-nil, Option, Some, None, refl, sym, ap, ◌∙◌, subst, inl, inr}
+use Rattle.std.proofs.Common.{ℕ, ◌+◌, ◌≡◌, ◌==◌, ◌++◌, Bool, true, false, if◌then◌else◌, List, [], ◌∷◌, append-nil, Option, Some, None, refl, sym, ap, ◌∙◌, subst, inl, inr}
 use Rattle.std.specs.Prelude.{map}
 use Rattle.std.proofs.lemmas.Bool.{cases_eq, cond-false, cond-true, eq-eqb, ne_eqb}
 use Rattle.std.proofs.lemmas.Option.{same_Some}
@@ -8,10 +8,11 @@ use Rattle.ledger.specs.declared.postings.Posting.{Posting}
 use Rattle.flights.specs.declared.data.Given.{Given}
 use Rattle.tree.specs.declared.nodes.Key.{Key}
 use Rattle.tree.specs.Places.{Lookup}
-use Rattle.wants.specs.Rows.{stays}
+use Rattle.files.specs.Handles.{Files}
+use Rattle.wants.specs.Rows.{Opening, stays}
 use Rattle.steps.specs.Answers.{Answer}
 use Rattle.steps.specs.Ending.{ChangesNames}
-use Rattle.steps.specs.Steps.{Act, Ends, EntersAll, answered, numbers_of}
+use Rattle.steps.specs.Steps.{Act, Ends, EntersAll, Opens, answered, numbers_of}
 use Rattle.steps.specs.World.{AreKept, Answered, Flight, Flights, IsAtWork, Work, Working, World, with_entry}
 use Rattle.steps.proofs.Reasons.{IsSwept-refl}
 
@@ -62,14 +63,16 @@ pub nothing_changes : (w : World) (kept : ℕ → Bool) → AreKept w.flights w.
 nothing_changes w kept keeps = record { altered = w.at; alters = refl; sweeps = record { kept = kept; keeps = keeps; swept = IsSwept-refl kept w.at }; new_is = refl }
 
 -- a change of names alone
-pub ends_changed : (old new : World) (id : ℕ) (f : Flight) → old.flights id ≡ Some f → f.stage ≡ Answered → (act : Act) (keys : List Key) → act.found ≡ map (λ key. false) keys → ChangesNames old act.change new
-    → Ends old id f act keys (record { id = id; given = nothing_for keys; lost = false }) new
-ends_changed old new id f here idle act keys found changes =
+pub ends_changed : (old new : World) (id : ℕ) (f : Flight) → old.flights id ≡ Some f → f.stage ≡ Answered → (act : Act) (keys : List Key) → act.found ≡ map (λ key. false) keys → act.opens ≡ None → ChangesNames old act.change new
+    → Ends old id f act keys (record { id = id; given = nothing_for keys; lost = false; opened = None }) new
+ends_changed old new id f here idle act keys found none changes =
     let given = nothing_for keys in
     let owners = with_entry old.flights id (Some (answered f [])) in
     let flights : with_entry old.flights id (Some (answered f given)) ≡ old.flights =
     ap (λ (g : Flight). with_entry old.flights id (Some g)) (answered_same f given idle (none_numbered keys)) ∙ entry_same old.flights id (Some f) here in
     let postings : new.postings ≡ old.postings = ap (λ (w : World). w.postings) changes.new_is in
+    let files : new.files ≡ old.files = ap (λ (w : World). w.files) changes.new_is in
+    let last : new.last_handle ≡ old.last_handle = ap (λ (w : World). w.last_handle) changes.new_is in
     record {
       answer_id = refl;
       not_lost = refl;
@@ -78,11 +81,27 @@ ends_changed old new id f here idle act keys found changes =
           (subst (λ ps. EntersAll owners old.at old.postings keys (map (λ key. false) keys) given old.at ps) (sym postings) (none_entered owners old.at old.postings keys));
       altered = changes.altered;
       alters = changes.alters;
+      opens = subst (λ (o : Option Opening). Opens changes.altered o old None new.files new.last_handle) (sym none) (refl, files, last);
       sweeps = changes.sweeps;
       new_is = changes.new_is
           ∙ (ap (λ (ps : List Posting). let w : World = record old { at = new.at; postings = ps } in w) (sym postings)
-          ∙ ap (λ (fs : Flights). let w : World = record old { at = new.at; postings = new.postings; flights = fs } in w) (sym flights));
+          ∙ (ap (λ (fs : Flights). let w : World = record old { at = new.at; postings = new.postings; flights = fs } in w) (sym flights)
+          ∙ (ap (λ (fs : Files). let w : World = record old { at = new.at; postings = new.postings; flights = with_entry old.flights id (Some (answered f given)); files = fs } in w) (sym files)
+          ∙ ap (λ (n : ℕ). let w : World = record old { at = new.at; postings = new.postings; flights = with_entry old.flights id (Some (answered f given)); files = new.files; last_handle = n } in w) (sym last))));
     }
+
+-- what is opened looks at the open files and the last handle alone
+opens_same : (at : Lookup) (o : Option Opening) (v w : World) (opened : Option ℕ) (files : Files) (last : ℕ) → v.files ≡ w.files → v.last_handle ≡ w.last_handle → Opens at o v opened files last → Opens at o w opened files last
+opens_same at None v w opened files last e f it = (it.0, it.1 ∙ e, it.2 ∙ f)
+opens_same at (Some opening) v w opened files last e f it = record {
+  number = it.number;
+  there = it.there;
+  node = it.node;
+  here = it.here;
+  last_is = it.last_is ∙ ap (λ (n : ℕ). n + 1) f;
+  opened_is = it.opened_is;
+  files_are = it.files_are ∙ ap (λ (fs : Files). with_entry fs last (Some (record { number = it.number; generation = it.node.generation; access = opening.access }))) e;
+}
 
 -- ---- what was answered first
 
@@ -110,8 +129,9 @@ ends_answered old mid new id f act keys answer is e =
           (subst (λ (ps : List Posting). EntersAll (with_entry mid.flights id (Some (answered (answered f []) []))) mid.at ps keys act.found answer.given e.entered new.postings) postings e.enters));
       altered = e.altered;
       alters = e.alters;
+      opens = opens_same e.altered act.opens mid old answer.opened new.files new.last_handle (ap (λ (w : World). w.files) is) (ap (λ (w : World). w.last_handle) is) e.opens;
       sweeps = e.sweeps;
       new_is = e.new_is
-          ∙ (ap (λ (w : World). let v : World = record w { at = new.at; postings = new.postings; flights = with_entry mid.flights id (Some (answered (answered f []) answer.given)) } in v) is
-          ∙ ap (λ (fs : Flights). let v : World = record old { at = new.at; postings = new.postings; flights = fs } in v) last);
+          ∙ (ap (λ (w : World). let v : World = record w { at = new.at; postings = new.postings; flights = with_entry mid.flights id (Some (answered (answered f []) answer.given)); files = new.files; last_handle = new.last_handle } in v) is
+          ∙ ap (λ (fs : Flights). let v : World = record old { at = new.at; postings = new.postings; flights = fs; files = new.files; last_handle = new.last_handle } in v) last);
     }

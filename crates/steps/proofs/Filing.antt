@@ -1,11 +1,11 @@
 -- What the parts keep alive, and that open files keep their nodes in each step.
-use Rattle.std.proofs.Common.{ℕ, ◌+◌, ◌-◌, ◌≡◌, ◌||◌, Bool, true, false, List, [], ◌∷◌, Option, Some, None, refl, sym, ap, ◌∙◌, subst, ◌⊎◌, inl, inr}
-use Rattle.std.proofs.lemmas.Bool.{cases_Bool, cases_eq, true≢false, or_cases, or_left, or_right}
+use Rattle.std.proofs.Common.{ℕ, ◌+◌, ◌-◌, ◌≡◌, ◌==◌, ◌||◌, Bool, true, false, List, [], ◌∷◌, Option, Some, None, refl, sym, ap, ◌∙◌, subst, ◌⊎◌, inl, inr, arith}
+use Rattle.std.proofs.lemmas.Bool.{cases_Bool, cases_eq, cond-false, cond-true, eq-eqb, ne_eqb, true≢false, or_cases, or_left, or_right}
 use Rattle.std.proofs.lemmas.Option.{none-some, same_Some}
 use mathlib.Core.Path.{fun_ext}
 use Rattle.files.specs.declared.data.OpenFile.{OpenFile}
 use Rattle.files.specs.Filed.{Filing, files_of}
-use Rattle.files.specs.Handles.{Files, IsFiled, no_files}
+use Rattle.files.specs.Handles.{Files, IsFiled, Opened, after_close, no_files}
 use Rattle.flights.specs.declared.data.Given.{Given}
 use Rattle.flights.specs.Listed.{InFlight, flying_of}
 use Rattle.ledger.specs.declared.postings.Posting.{Posting}
@@ -18,6 +18,10 @@ use Rattle.steps.specs.Entries.{Enters, TakesAllBack, newborn}
 use Rattle.steps.specs.Keeping.{kept_by}
 use Rattle.steps.specs.Swept.{IsSwept}
 use Rattle.steps.specs.World.{HaveNodes}
+use Rattle.steps.specs.Steps.{files_without}
+use Rattle.steps.specs.Sweeping.{IsAmong, IsClosed, IsPruned}
+use Rattle.steps.proofs.Ends.{entry_same}
+use Rattle.steps.proofs.Reasons.{HaveReasons-unpin}
 use Rattle.steps.proofs.Standing.{stays_pinned}
 
 -- ---- what is kept
@@ -120,3 +124,64 @@ none_kept flights files none filed empty = fun_ext (λ n. elim (cases_Bool (kept
   ]
   | inr left ↦ left
 ])
+
+-- ---- files that are closed
+
+-- fewer open files keep less
+pub kept_fewer : (flights : InFlight) (files now : Filing) → ((n : ℕ) → (files_of now).opened n ≡ true → (files_of files).opened n ≡ true) → (n : ℕ) → kept_by flights now n ≡ true → kept_by flights files n ≡ true
+kept_fewer flights files now fewer n h = elim (cases_kept flights now n h) [
+  | inl pin ↦ keeps_pinned flights files n pin
+  | inr opened ↦ keeps_open flights files n (fewer n opened)
+]
+
+-- what is still open was so before
+pub still_open : (handle : Option ℕ) (files : Files) (k : ℕ) (file : OpenFile) → files_without handle files k ≡ Some file → files k ≡ Some file
+still_open None files k file h = h
+still_open (Some handle) files k file h = elim (cases_eq handle k) [
+  | inl e ↦ absurd (none-some file (sym (cond-true (handle == k) None (files k) (eq-eqb handle k e)) ∙ h))
+  | inr ne ↦ sym (cond-false (handle == k) None (files k) (ne_eqb handle k ne)) ∙ h
+]
+
+pub nodes_fewer : (at : Lookup) (handle : Option ℕ) (files now : Files) → now ≡ files_without handle files → HaveNodes at files → HaveNodes at now
+nodes_fewer at handle files now is have k file here = have k file (still_open handle files k file (ap (λ (fs : Files). fs k) (sym is) ∙ here))
+
+module _ (flights : InFlight) (old new : Filing) (handle : ℕ) (file : OpenFile) (filed : IsFiled (files_of old)) (filed' : IsFiled (files_of new))
+    (here : (files_of old).at handle ≡ Some file) (is : files_of new ≡ after_close (files_of old) handle (files_of new).opened) where
+  at_is : (files_of new).at ≡ files_without (Some handle) (files_of old).at
+  at_is = ap (λ (o : Opened). o.at) is
+
+  pub closed_some : IsClosed (files_of old) (Some handle) (files_of new)
+  closed_some = record {
+    at = at_is;
+    opened = λ n h.
+        let it = (filed'.opens n).0 h in
+        (filed.opens n).1 (record { handle = it.handle; file = it.file; here = still_open (Some handle) (files_of old).at it.handle it.file (ap (λ (fs : Files). fs it.handle) (sym at_is) ∙ it.here); node = it.node });
+    fewer = omega (arith, ap (λ (o : Opened). o.many) is);
+    last = ap (λ (o : Opened). o.last) is;
+    room = omega (arith, ap (λ (o : Opened). o.room) is);
+    filed = filed';
+  }
+
+  -- its node may have lost its last reason
+  closed_reason : (n : ℕ) (but : List ℕ) → kept_by flights old n ≡ true → (kept_by flights new n ≡ true) ⊎ IsAmong n (file.number ∷ but)
+  closed_reason n but h = elim (cases_kept flights old n h) [
+    | inl pin ↦ inl (keeps_pinned flights new n pin)
+    | inr opened ↦
+        let it = (filed.opens n).0 opened in
+        elim (cases_eq handle it.handle) [
+          | inl e ↦ inr (inl (sym it.node ∙ ap (λ (f : OpenFile). f.number) (same_Some it.file file (sym it.here ∙ (ap (files_of old).at (sym e) ∙ here)))))
+          | inr ne ↦
+              let still : (files_of new).at it.handle ≡ Some it.file = ap (λ (fs : Files). fs it.handle) at_is ∙ (cond-false (handle == it.handle) None ((files_of old).at it.handle) (ne_eqb handle it.handle ne) ∙ it.here) in
+              inl (keeps_open flights new n ((filed'.opens n).1 (record { handle = it.handle; file = it.file; here = still; node = it.node })))
+        ]
+  ]
+
+  pub closed_pruned : (at : Lookup) (but : List ℕ) → IsPruned at (kept_by flights old) but → IsPruned at (kept_by flights new) (file.number ∷ but)
+  closed_pruned at but pruned = record {
+    tree = pruned.tree;
+    reasons = HaveReasons-unpin at (kept_by flights old) (kept_by flights new) but (file.number ∷ but) (λ n h. closed_reason n but h) (λ n among. inr among) pruned.reasons;
+  }
+
+-- a handle that is not open
+pub closed_none : (all : Opened) (handle : ℕ) → IsFiled all → all.at handle ≡ None → IsClosed all (Some handle) all
+closed_none all handle filed none = record { at = sym (entry_same all.at handle None none); opened = λ n h. h; fewer = omega arith; last = refl; room = omega arith; filed = filed }

@@ -6,6 +6,7 @@ use Rattle.std.specs.declared.vec.IntoIter.{IntoIter}
 use Rattle.std.proofs.lemmas.Bool.{cases_eq, cond-false, cond-true, eq-eqb, ne_eqb}
 use Rattle.std.proofs.lemmas.List.{map-append, take_more}
 use Rattle.std.proofs.lemmas.Option.{same_Some}
+use Rattle.files.specs.Handles.{Files}
 use Rattle.flights.specs.declared.data.Flight.{Flight as Recorded}
 use Rattle.flights.specs.declared.data.Given.{Given}
 use Rattle.flights.specs.declared.data.Stage.{Stage as Recording}
@@ -118,10 +119,13 @@ gives_owned w id f key here idle owned = record { enters = (owned, (refl, refl))
 
 -- entries alone are the end of a request
 pub ends_given : (old new : World) (id : ℕ) (f : Flight) (keys : List Key) (found : List Bool) (given : List (Option Given)) (kept : ℕ → Bool) → old.flights id ≡ Some f → f.stage ≡ Answered → AreKept new.flights new.files kept
-    → GivesAll old id f keys found given new → Ends old id f (record { found = found; change = stays }) keys (record { id = id; given = given; lost = false }) new
+    → GivesAll old id f keys found given new → Ends old id f (record { found = found; change = stays; opens = None }) keys (record { id = id; given = given; lost = false; opened = None }) new
 ends_given old new id f keys found given kept here idle keeps gives =
     let owners : with_entry old.flights id (Some (answered f [])) ≡ old.flights =
     ap (λ (g : Flight). with_entry old.flights id (Some g)) (answered_same f [] idle refl) ∙ entry_same old.flights id (Some f) here in
+    let now = with_entry old.flights id (Some (answered f given)) in
+    let files : new.files ≡ old.files = ap (λ (w : World). w.files) gives.new_is in
+    let last : new.last_handle ≡ old.last_handle = ap (λ (w : World). w.last_handle) gives.new_is in
     record {
       answer_id = refl;
       not_lost = refl;
@@ -129,8 +133,11 @@ ends_given old new id f keys found given kept here idle keeps gives =
       enters = subst (λ (fs : Flights). EntersAll fs old.at old.postings keys found given new.at new.postings) (sym owners) gives.enters;
       altered = new.at;
       alters = refl;
+      opens = (refl, files, last);
       sweeps = record { kept = kept; keeps = keeps; swept = IsSwept-refl kept new.at };
-      new_is = gives.new_is;
+      new_is = gives.new_is
+          ∙ (ap (λ (fs : Files). let w : World = record old { at = new.at; postings = new.postings; flights = now; files = fs } in w) (sym files)
+          ∙ ap (λ (n : ℕ). let w : World = record old { at = new.at; postings = new.postings; flights = now; files = new.files; last_handle = n } in w) (sym last));
     }
 
 -- ---- who holds a name alone

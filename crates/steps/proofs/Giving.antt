@@ -41,7 +41,7 @@ module _ (s : State) (id : ℕ) (key : Key) (may : MayEnter s id (key ∷ [])) w
   module _ (kept : IsKept s) (g : Given) (tree : Nodes) (ledger : Postings) (flights : InFlight) (law : IsLawful (at_in tree) ledger.made (kept_by s.flights s.files))
       (enters : Enters (at_in s.tree) s.ledger.made key.parent key.name g (at_in tree) ledger.made) (entered : IsEntered s.tree s.ledger key.parent key.name tree ledger)
       (pins : PinsMore (flying_of s.flights) id may.flight g.number (flying_of flights)) (flying : IsFlying (flying_of flights)) where
-    alive : IsAlive (at_in tree) g.number
+    pub alive : IsAlive (at_in tree) g.number
     alive = elim enters [
       | inl again ↦ alive_written (at_in s.tree) (at_in tree) g.number (record again.node { count = again.node.count + 1 }) again.nodes
       | inr born ↦ alive_written (at_in s.tree) (at_in tree) g.number (newborn g key.parent key.name) born.nodes

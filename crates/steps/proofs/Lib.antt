@@ -21,6 +21,8 @@ pub mod Testing
 pub mod Starting
 pub mod Refusing
 mod Using
+mod OneFile
+mod Offering
 pub mod Reserving
 pub mod Entering
 pub mod Placing

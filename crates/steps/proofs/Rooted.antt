@@ -1,8 +1,10 @@
 -- What a request whose work has ended may do: each node that it names has a path, and no other holds its names alone.
-use Rattle.std.proofs.Common.{ℕ, ◌*◌, ◌≡◌, true, false, List, [], ◌∷◌, All, Contains, length, reverse, refl, sym, ap, ◌∙◌, subst, ◌⊎◌, inl, inr, arith}
+use Rattle.std.proofs.Common.{ℕ, ◌*◌, ◌≡◌, ◌==◌, if◌then◌else◌, Bool, true, false, List, [], ◌∷◌, All, Contains, Option, Some, None, length, reverse, refl, sym, ap, ◌∙◌, subst, ◌⊎◌, inl, inr, arith}
 use Rattle.std.specs.Prelude.{map, option_map}
 use Rattle.std.proofs.lemmas.Bool.{false≢true, true≢false}
 use Rattle.std.proofs.lemmas.List.{length-map}
+use Rattle.std.proofs.lemmas.Option.{none-some, same_Some}
+use Rattle.files.specs.declared.data.Access.{Access}
 use Rattle.std.proofs.lemmas.List.Elements.{All-contains}
 use Rattle.paths.specs.Prefixes.{Name, Names}
 use Rattle.paths.proofs.PrefixLemmas.{is_prefix-same}
@@ -19,14 +21,14 @@ use Rattle.tree.specs.Places.{Lookup, IsNamed, IsPathOf, Leads, at_in}
 use Rattle.wants.specs.Asked.{Holds, IsPrefixAt, promise_of}
 use Rattle.wants.specs.Laws.{AreOwn, IsRow, base_of}
 use Rattle.wants.specs.Plans.{row_in}
-use Rattle.wants.specs.Rows.{AtName, AtNode, Case, Change, Demand, case_in, cuts, moves, row_of, stays}
+use Rattle.wants.specs.Rows.{AtName, AtNode, Case, Change, Demand, Opening, case_in, cuts, moves, page_keys, row_of, stays}
 use Rattle.wants.proofs.Members.{any_in, cases_in, first_in, in_map, none_in, only_in}
 use Rattle.wants.proofs.RowLemmas.{are_rows}
 use Rattle.steps.specs.declared.state.State.{State}
 use Rattle.steps.specs.Ending.{AreUnder, AreUnowned, IsEnding, LeadsTo, MayAlter, MayEnter, MayFill, folders_of, name_at}
 use Rattle.steps.specs.Kept.{IsKept, flight_of, flights_in}
 use Rattle.steps.specs.Laws.{IsPlaced}
-use Rattle.steps.specs.Steps.{HoldsUp, IsOwned}
+use Rattle.steps.specs.Steps.{HoldsUp, IsOwned, opened_alone}
 use Rattle.steps.specs.World.{Flights, IsStanding}
 use Rattle.steps.proofs.Guarding.{not_empty}
 use Rattle.steps.proofs.Viewed.{are_kept}
@@ -42,6 +44,8 @@ entries_under (wants.Move parent name new_parent new_name) c key h = absurd (non
 entries_under (wants.Page folder names) c key h =
     let it = in_map (λ (name : Name). let k : Key = record { parent = folder; name = name } in k) names key h in
     subst (λ (k : Key). Contains (folder ∷ []) k.parent) it.2 (first_in folder [])
+entries_under (wants.Open number access) c key h = absurd (none_in key h)
+entries_under (wants.Create parent name access) c key h = subst (λ (k : Key). Contains (parent ∷ []) k.parent) (only_in (record { parent = parent; name = name }) key h) (first_in parent [])
 
 -- and is shared, but for those of a page
 entries_shared : (want : Want) (c : Case) → (row_of want c).page ≡ false → (key : Key) → Contains (row_of want c).entries key → Contains (row_of want c).shared (name_at key)
@@ -50,6 +54,8 @@ entries_shared (wants.Name parent name) c one key h = subst (λ (k : Key). Conta
 entries_shared (wants.Remove parent name) c one key h = absurd (none_in key h)
 entries_shared (wants.Move parent name new_parent new_name) c one key h = absurd (none_in key h)
 entries_shared (wants.Page folder names) c one key h = absurd (true≢false one)
+entries_shared (wants.Open number access) c one key h = absurd (none_in key h)
+entries_shared (wants.Create parent name access) c one key h = subst (λ (k : Key). Contains (AtName parent name ∷ []) (name_at k)) (only_in (record { parent = parent; name = name }) key h) (first_in (AtName parent name) [])
 
 -- a node is promised for each name of a page
 page_births : (want : Want) (c : Case) → (row_of want c).page ≡ true → (row_of want c).births ≡ length (row_of want c).entries
@@ -58,6 +64,8 @@ page_births (wants.Name parent name) c page = absurd (false≢true page)
 page_births (wants.Remove parent name) c page = refl
 page_births (wants.Move parent name new_parent new_name) c page = refl
 page_births (wants.Page folder names) c page = sym (length-map names (λ (name : Name). let k : Key = record { parent = folder; name = name } in k))
+page_births (wants.Open number access) c page = refl
+page_births (wants.Create parent name access) c page = absurd (false≢true page)
 
 name_else : (parent : ℕ) (name : Name) → AtName parent name ≡ AtNode 1 → ⊥
 name_else parent name e = cc
@@ -72,6 +80,27 @@ rows_placed (wants.Move parent name new_parent new_name) c h = elim (cases_in (A
   | inl e ↦ name_else parent name e
   | inr more ↦ name_else new_parent new_name (only_in (AtName new_parent new_name) (AtNode 1) more)
 ]
+rows_placed (wants.Open number access) c h = none_in (AtNode 1) h
+rows_placed (wants.Create parent name access) c h = none_in (AtNode 1) h
+
+-- where no file is opened, none is opened without an entry
+pub none_alone : (b : Bool) (o : Option Opening) → o ≡ None → (if b then o else None) ≡ None
+none_alone true o none = none
+none_alone false o none = refl
+
+-- a file that is opened without an entry is that of a node that is given
+pub node_given : (want : Want) (c : Case) (number : ℕ) (access : Access) → Some (record { target = AtNode number; access = access }) ≡ opened_alone (row_of want c) → Contains (row_of want c).given number
+node_given (wants.Node n handle) c number access e = absurd (none-some _ (sym e))
+node_given (wants.Name parent name) c number access e = absurd (none-some _ (sym e))
+node_given (wants.Remove parent name) c number access e = absurd (none-some _ (sym e))
+node_given (wants.Move parent name new_parent new_name) c number access e = absurd (none-some _ (sym e))
+node_given (wants.Page folder names) c number access e = absurd (none-some _ (sym (e ∙ none_alone (length (page_keys folder names) == 0) None refl)))
+node_given (wants.Open n a) c number access e =
+    let one : Opening = record { target = AtNode number; access = access } in
+    let two : Opening = record { target = AtNode n; access = a } in
+    let same : number ≡ n = ap base_of (ap (λ (o : Opening). o.target) (same_Some one two e)) in
+    subst (λ k. Contains (n ∷ []) k) (sym same) (first_in n [])
+node_given (wants.Create parent name a) c number access e = absurd (none-some _ (sym e))
 
 -- ---- paths
 
@@ -116,6 +145,8 @@ lead_of at (wants.Name parent name) c held holds n h = absurd (none_in n h)
 lead_of at (wants.Remove parent name) c held holds n h = absurd (none_in n h)
 lead_of at (wants.Move parent name new_parent new_name) c held holds n h = absurd (none_in n h)
 lead_of at (wants.Page folder names) c held holds n h = subst (λ k. LeadsTo at held.given k) (only_in folder n h) (lead_only at held.given folder holds.numbers holds.leads)
+lead_of at (wants.Open number access) c held holds n h = absurd (none_in n h)
+lead_of at (wants.Create parent name access) c held holds n h = absurd (none_in n h)
 
 -- ---- what a request that ends may do
 

@@ -7,7 +7,8 @@ use Rattle.ledger.specs.declared.postings.Posting.{Posting}
 use Rattle.ledger.specs.Postings.{Postings}
 use Rattle.tree.specs.Places.{Lookup, Nodes, at_in, IsPathOf}
 use Rattle.flights.specs.declared.data.Flight.{Flight as Recorded}
-use Rattle.files.specs.Filed.{files_of}
+use Rattle.files.specs.Filed.{Filing, files_of}
+use Rattle.files.specs.Handles.{Files}
 use Rattle.flights.specs.declared.data.Given.{Given}
 use Rattle.flights.specs.Flying.{Flying, IsFlying, Goes, HasNoneAnswered, is_working}
 use Rattle.flights.specs.Listed.{InFlight, flying_of}
@@ -16,12 +17,12 @@ use Rattle.steps.specs.declared.state.State.{State}
 use Rattle.steps.specs.Answers.{Answer, Settlement, entries_in}
 use Rattle.steps.specs.Entries.{TakesAllBack, untaken_of}
 use Rattle.steps.specs.Kept.{IsKept, flight_of, flights_in, stage_of, work_of, world_of}
-use Rattle.steps.specs.Steps.{EndsFor, IsAnswered, Settles, numbers_of}
+use Rattle.steps.specs.Steps.{EndsFor, IsAnswered, Settles, files_without, numbers_of, untaken_file}
 use Rattle.steps.specs.Swept.{IsSwept}
-use Rattle.steps.specs.Sweeping.{IsAmong, IsPruned, IsSameRest, IsNearly, IsTakenBack}
-use Rattle.steps.specs.World.{AreReady, Answered, Flight, Flights, Working, World}
+use Rattle.steps.specs.Sweeping.{IsAmong, IsBooked, IsClosed, IsPruned, IsSameRest, IsNearly, IsTakenBack}
+use Rattle.steps.specs.World.{AreReady, Answered, Flight, Flights, Working, World, with_entry}
 use Rattle.steps.proofs.Booked.{IsBooked-pins}
-use Rattle.steps.proofs.Filing.{cases_kept, keeps_open, keeps_pinned, kept_more, nodes_back, nodes_swept}
+use Rattle.steps.proofs.Filing.{cases_kept, keeps_open, keeps_pinned, kept_fewer, kept_more, nodes_back, nodes_fewer, nodes_swept}
 use Rattle.steps.proofs.Kept.{KeepsAllPaths, held_ready, paths_written, ready_swept, ready_where}
 use Rattle.steps.proofs.Lawful.{booked_of, lawful_swept}
 use Rattle.steps.proofs.Reasons.{HaveReasons-some, HaveReasons-unpin, IsSwept-trans, IsSameRest-trans}
@@ -73,65 +74,77 @@ module _ (s : State) (kept : IsKept s) (flights : InFlight) (id : ℕ) (pins : L
   fewer : IsFewer (flying_of s.flights) (flying_of flights)
   fewer = fewer_without (flying_of s.flights) (flying_of flights) id goes.at
 
-  module _ (given : List (Option Given)) (tree two new : Nodes) (ledger : Postings) (back : TakesAllBack (at_in s.tree) s.ledger.made given (at_in tree) ledger.made)
+  module _ (given : List (Option Given)) (tree one two new : Nodes) (ledger : Postings) (files : Filing) (handle : Option ℕ) (back : TakesAllBack (at_in s.tree) s.ledger.made given (at_in tree) ledger.made)
       (nearly : IsNearly (at_in tree) ledger.made (kept_by flights s.files) (numbers_of given ++ pins)) (rest : IsTakenBack s.tree s.ledger tree ledger)
-      (swept_given : IsSwept (kept_by flights s.files) (at_in tree) (at_in two)) (swept_pins : IsSwept (kept_by flights s.files) (at_in two) (at_in new)) (rest_given : IsSameRest tree two) (rest_pins : IsSameRest two new)
-      (pruned : IsPruned (at_in new) (kept_by flights s.files) []) (counts : ℕ) where
-    swept : IsSwept (kept_by flights s.files) (at_in tree) (at_in new)
-    swept = IsSwept-trans (kept_by flights s.files) (at_in tree) (at_in two) (at_in new) swept_given swept_pins
+      (closed : IsClosed (files_of s.files) handle (files_of files)) (swept_closed : IsSwept (kept_by flights files) (at_in tree) (at_in one)) (rest_closed : IsSameRest tree one)
+      (swept_given : IsSwept (kept_by flights files) (at_in one) (at_in two)) (swept_pins : IsSwept (kept_by flights files) (at_in two) (at_in new)) (rest_given : IsSameRest one two) (rest_pins : IsSameRest two new)
+      (pruned : IsPruned (at_in new) (kept_by flights files) []) (counts : ℕ) where
+    now_kept : (n : ℕ) → kept_by flights files n ≡ true → kept_by flights s.files n ≡ true
+    now_kept = kept_fewer flights s.files files closed.opened
+
+    booked : IsBooked (at_in tree) ledger.made (kept_by flights files)
+    booked = IsBooked-pins (at_in tree) ledger.made (kept_by flights s.files) (kept_by flights files) (λ n h. nearly.booked.alive n (now_kept n h)) nearly.booked
+
+    swept : IsSwept (kept_by flights files) (at_in tree) (at_in new)
+    swept = IsSwept-trans (kept_by flights files) (at_in tree) (at_in one) (at_in new) swept_closed (IsSwept-trans (kept_by flights files) (at_in one) (at_in two) (at_in new) swept_given swept_pins)
 
     still_ready : AreReady (at_in new) (flights_in (flying_of flights))
     still_ready =
         let all = flying_of s.flights in
-        ready_swept (at_in tree) (at_in new) flights s.files law kept.filed pruned.tree swept
+        ready_swept (at_in tree) (at_in new) flights files law closed.filed pruned.tree swept
         (fewer_ready all (flying_of flights) fewer (at_in tree)
         (ready_where (at_in s.tree) (at_in tree) (flights_in all) nearly.pruned.tree (paths_back given (at_in s.tree) (at_in tree) s.ledger.made ledger.made back) kept.ready))
 
-    pub settle_kept : counts ≡ tree.counts → IsKept (record s { tree = new; ledger = ledger; flights = flights; counts = counts })
+    pub settle_kept : counts ≡ tree.counts → IsKept (record s { tree = new; ledger = ledger; flights = flights; counts = counts; files = files })
     settle_kept same =
         let all = flying_of s.flights in
-        let after = IsSameRest-trans tree two new rest_given rest_pins in
+        let after = IsSameRest-trans tree one new rest_closed (IsSameRest-trans one two new rest_given rest_pins) in
         record {
-          law = lawful_swept (at_in tree) (at_in new) ledger.made (kept_by flights s.files) nearly.booked swept pruned;
+          law = lawful_swept (at_in tree) (at_in new) ledger.made (kept_by flights files) booked swept pruned;
           flying = law;
           held = held_ready (at_in s.tree) (at_in new) (flights_in (flying_of flights)) still_ready (fewer_held all (flying_of flights) fewer (at_in s.tree) kept.held);
           ready = still_ready;
           provided = fewer_provided all (flying_of flights) fewer kept.provided;
-          reserved = record { nodes = omega (arith, kept.reserved.nodes, goes.nodes, rest.room, after.room); postings = omega (arith, kept.reserved.postings, goes.postings, rest.posting_room, after.counts); files = omega (arith, kept.reserved.files, goes.files) };
+          reserved = record { nodes = omega (arith, kept.reserved.nodes, goes.nodes, rest.room, after.room); postings = omega (arith, kept.reserved.postings, goes.postings, rest.posting_room, after.counts); files = omega (arith, kept.reserved.files, goes.files, closed.room) };
           limited = record {
             nodes = omega (arith, kept.limited.nodes, goes.nodes, rest.living, after.fewer);
             postings = omega (arith, kept.limited.postings, goes.postings, rest.postings, after.counts);
             flights = omega (arith, kept.limited.flights, goes.many);
-            files = omega (arith, kept.limited.files, goes.files);
-            handles = omega (arith, kept.limited.handles, goes.files);
+            files = omega (arith, kept.limited.files, goes.files, closed.fewer);
+            handles = omega (arith, kept.limited.handles, goes.files, closed.last);
             node_limit = after.limit ∙ (rest.limit ∙ kept.limited.node_limit);
             posting_limit = rest.posting_limit ∙ kept.limited.posting_limit;
             short = kept.limited.short;
           };
           counts = same ∙ sym after.counts;
-          filed = kept.filed;
-          files = nodes_swept flights s.files kept.filed (at_in tree) (at_in new) swept (nodes_back (files_of s.files).at given (at_in s.tree) (at_in tree) s.ledger.made ledger.made back kept.files);
+          filed = closed.filed;
+          files = nodes_swept flights files closed.filed (at_in tree) (at_in new) swept
+              (nodes_fewer (at_in tree) handle (files_of s.files).at (files_of files).at closed.at (nodes_back (files_of s.files).at given (at_in s.tree) (at_in tree) s.ledger.made ledger.made back kept.files));
         }
 
     is_answered : IsAnswered (flights_in (flying_of s.flights)) id
     is_answered = record { flight = flight_of goes.flight; here = ap (λ (o : Option Recorded). option_map flight_of o) goes.here; ended = ap stage_of goes.answered }
 
-    ends_for : (all : List (Option Given)) (taken lost : Bool) → given ≡ untaken_of taken all
-        → EndsFor (world_of s) (record { id = id; given = all; lost = lost }) taken (world_of (record s { tree = new; ledger = ledger; flights = flights; counts = counts }))
-    ends_for all taken lost some = record {
-      mid = at_in tree;
-      back = subst (λ gs. TakesAllBack (at_in s.tree) s.ledger.made gs (at_in tree) ledger.made) some back;
-      sweeps = record { kept = (kept_by flights s.files); keeps = are_kept flights s.files law kept.filed; swept = swept };
-      new_is = ap (λ (fs : Flights). let w : World = record (world_of s) { at = at_in new; postings = ledger.made; flights = fs } in w) (flights_without (flying_of s.flights) (flying_of flights) id goes.at);
-    }
+    ends_for : (all : List (Option Given)) (taken lost : Bool) (opened : Option ℕ) → given ≡ untaken_of taken all → handle ≡ untaken_file taken opened
+        → EndsFor (world_of s) (record { id = id; given = all; lost = lost; opened = opened }) taken (world_of (record s { tree = new; ledger = ledger; flights = flights; counts = counts; files = files }))
+    ends_for all taken lost opened some shut =
+        let gone = with_entry (flights_in (flying_of s.flights)) id None in
+        record {
+          mid = at_in tree;
+          back = subst (λ gs. TakesAllBack (at_in s.tree) s.ledger.made gs (at_in tree) ledger.made) some back;
+          sweeps = record { kept = kept_by flights files; keeps = are_kept flights files law closed.filed; swept = swept };
+          new_is = ap (λ (fs : Flights). let w : World = record (world_of s) { at = at_in new; postings = ledger.made; flights = fs; files = (files_of files).at; last_handle = (files_of files).last } in w) (flights_without (flying_of s.flights) (flying_of flights) id goes.at)
+              ∙ (ap (λ (n : ℕ). let w : World = record (world_of s) { at = at_in new; postings = ledger.made; flights = gone; files = (files_of files).at; last_handle = n } in w) closed.last
+              ∙ ap (λ (fs : Files). let w : World = record (world_of s) { at = at_in new; postings = ledger.made; flights = gone; files = fs } in w) (closed.at ∙ ap (λ (h : Option ℕ). files_without h (files_of s.files).at) shut));
+        }
 
-    pub Settles-found : (all : List (Option Given)) (taken lost : Bool) (settled : Settlement) → given ≡ untaken_of taken all → lost ≡ false → settled ≡ record { id = id; entries = entries_in all; taken = taken }
-        → Settles (world_of s) (record { id = id; given = all; lost = lost }) taken settled (world_of (record s { tree = new; ledger = ledger; flights = flights; counts = counts }))
-    Settles-found all taken lost settled some found is = record {
+    pub Settles-found : (all : List (Option Given)) (taken lost : Bool) (opened : Option ℕ) (settled : Settlement) → given ≡ untaken_of taken all → handle ≡ untaken_file taken opened → lost ≡ false → settled ≡ record { id = id; entries = entries_in all; taken = taken }
+        → Settles (world_of s) (record { id = id; given = all; lost = lost; opened = opened }) taken settled (world_of (record s { tree = new; ledger = ledger; flights = flights; counts = counts; files = files }))
+    Settles-found all taken lost opened settled some shut found is = record {
       settled_is = is;
       lost = λ e. absurd (true≢false (sym e ∙ found));
       unknown = λ none. absurd (none is_answered);
-      found = λ _ _. ends_for all taken lost some;
+      found = λ _ _. ends_for all taken lost opened some shut;
     }
 
 not_working : (f : Recorded) → is_working f.stage ≡ true → stage_of f.stage ≡ Answered → ⊥

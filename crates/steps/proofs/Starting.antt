@@ -81,6 +81,8 @@ same_case (wants.Name parent name) c = refl
 same_case (wants.Remove parent name) c = refl
 same_case (wants.Move parent name new_parent new_name) c = refl
 same_case (wants.Page folder names) c = refl
+same_case (wants.Open number access) c = refl
+same_case (wants.Create parent name access) c = refl
 
 same_record : (v w : RecordedWork) → recorded.Working v ≡ recorded.Working w → v ≡ w
 same_record v w e = cc

@@ -9,11 +9,13 @@ pub record Claim : Type 0 where
   pub paths : List Names
   pub same : Bool
 
--- what a finished request gives: a node or none for each of its names
+-- what a finished request gives: a node or none for each of its names, and the file that it opened
 pub record Answer : Type 0 where
   pub id : ℕ
   pub given : List (Option Given)
   pub lost : Bool
+  -- the handle of the file that was opened
+  pub opened : Option ℕ
 
 -- what a settle did
 pub record Settlement : Type 0 where

@@ -1,5 +1,8 @@
 -- What the end of a request's work rests on, and what it does.
-use Rattle.std.specs.Prelude.{ℕ, ℤ, ◌*◌, ◌≡◌, ◌≤◌, ◌⊎◌, Bool, true, false, if◌then◌else◌, List, [], ◌∷◌, Option, Some, Contains, length}
+use Rattle.std.specs.Prelude.{ℕ, ℤ, ◌+◌, ◌*◌, ◌^◌, ◌<◌, ◌≡◌, ◌≤◌, ◌⊎◌, Bool, true, false, if◌then◌else◌, List, [], ◌∷◌, Option, Some, None, Contains, length}
+use Rattle.files.specs.declared.data.Access.{Access}
+use Rattle.files.specs.Filed.{files_of}
+use Rattle.files.specs.Handles.{IsFiled, after_open}
 use Rattle.flights.specs.declared.data.Flight.{Flight as Recorded}
 use Rattle.flights.specs.declared.data.Given.{Given}
 use Rattle.flights.specs.declared.data.Promise.{Promise}
@@ -9,15 +12,18 @@ use Rattle.flights.specs.Listed.{flying_of}
 use Rattle.holds.specs.declared.held.GivenPath.{GivenPath}
 use Rattle.holds.specs.declared.held.Held.{Held}
 use Rattle.tree.specs.declared.nodes.Key.{Key}
-use Rattle.tree.specs.Places.{Lookup, HasChild, IsCut, IsNamed, IsPathOf, Leads, at_in}
+use Rattle.tree.specs.declared.nodes.Node.{Node}
+use Rattle.tree.specs.Places.{Lookup, HasChild, IsAlive, IsCut, IsNamed, IsPathOf, Leads, at_in}
 use Rattle.wants.specs.Asked.{Holds, IsMisplaced}
 use Rattle.wants.specs.Laws.{AreOwn, IsRow, base_of}
 use Rattle.wants.specs.Plans.{IsProvided}
-use Rattle.wants.specs.Rows.{Change, Demand, AtName, Location, cuts, moves, page_keys, stays}
+use Rattle.wants.specs.Rows.{Change, Demand, AtName, AtNode, Location, Opening, cuts, moves, page_keys, stays}
 use Rattle.steps.specs.declared.acts.Change.{Change as Changing}
 use Rattle.steps.specs.declared.acts.Change.TheVariants.{Stays, Cuts, Moves}
 use Rattle.steps.specs.declared.acts.Entries.{Entries}
 use Rattle.steps.specs.declared.acts.Entries.TheVariants.{Nothing, One, Page}
+use Rattle.steps.specs.declared.acts.Opens.{Opens}
+use Rattle.steps.specs.declared.acts.Opens.TheVariants as opens
 use Rattle.steps.specs.declared.state.State.{State}
 use Rattle.steps.specs.Entries.{Enters}
 use Rattle.steps.specs.Keeping.{kept_by}
@@ -54,6 +60,64 @@ abbrev pub change_in : Changing → Change
 change_in Stays = stays
 change_in (Cuts key) = cuts (name_at key)
 change_in (Moves key target) = moves (name_at key) (name_at target.key)
+
+-- the file that is opened without an entry, and the one of the name for which an entry is given
+abbrev pub alone_in : Opens → Option Opening
+alone_in opens.Nothing = None
+alone_in (opens.Node number access) = Some (record { target = AtNode number; access = access })
+alone_in (opens.Entry access) = None
+
+abbrev pub with_in : Opens → Entries → Option Opening
+with_in opens.Nothing entries = None
+with_in (opens.Node number access) entries = None
+with_in (opens.Entry access) Nothing = None
+with_in (opens.Entry access) (One keys) = Some (record { target = name_at keys.key; access = access })
+with_in (opens.Entry access) (Page keys) = None
+
+-- one file more may be opened
+pub record HasFileRoom (s : State) : Type 0 where
+  pub room : (flying_of s.flights).files + 1 ≤ (files_of s.files).room
+  pub within : (files_of s.files).many + (flying_of s.flights).files + 1 ≤ s.limits.files
+  pub handles : (files_of s.files).last + (flying_of s.flights).files + 1 < 2 ^ 64
+
+-- the file may be opened, if there is one
+abbrev pub MayOpen : State → Opens → Type 0
+MayOpen s opens.Nothing = Unit {0}
+MayOpen s (opens.Node number access) = IsAlive (at_in s.tree) number × HasFileRoom s
+MayOpen s (opens.Entry access) = Unit {0}
+
+abbrev pub MayOpenGiven : State → Opens → Option Given → Type 0
+MayOpenGiven s opens.Nothing entered = Unit {0}
+MayOpenGiven s (opens.Node number access) entered = Unit {0}
+MayOpenGiven s (opens.Entry access) None = Unit {0}
+MayOpenGiven s (opens.Entry access) (Some g) = IsAlive (at_in s.tree) g.number × HasFileRoom s
+
+-- the files with one of that node more
+pub record OpensAt (s : State) (number : ℕ) (access : Access) (new : State) : Type 0 where
+  pub node : Node
+  pub here : at_in s.tree number ≡ Some node
+  pub rest : new ≡ record s { files = new.files }
+  pub files : files_of new.files ≡ after_open (files_of s.files) (record { number = number; generation = node.generation; access = access })
+  pub filed : IsFiled (files_of new.files)
+
+-- the file of the node is opened, if one may be
+abbrev pub OpensNode : State → Opens → Option ℕ → State → Type 0
+OpensNode s opens.Nothing opened new = (opened ≡ None) × (new ≡ s)
+OpensNode s (opens.Node number access) opened new = (opened ≡ Some ((files_of s.files).last + 1)) × OpensAt s number access new
+OpensNode s (opens.Entry access) opened new = (opened ≡ None) × (new ≡ s)
+
+-- that of the node that was given is, if one may be
+abbrev pub OpensGiven : State → Opens → Option Given → Option ℕ → State → Type 0
+OpensGiven s opens.Nothing entered opened new = (opened ≡ None) × (new ≡ s)
+OpensGiven s (opens.Node number access) entered opened new = (opened ≡ None) × (new ≡ s)
+OpensGiven s (opens.Entry access) None opened new = (opened ≡ None) × (new ≡ s)
+OpensGiven s (opens.Entry access) (Some g) opened new = (opened ≡ Some ((files_of s.files).last + 1)) × OpensAt s g.number access new
+
+-- what was given for the one name, if there is one
+abbrev pub IsGivenFor : State → Entries → List (Option Given) → Option Given → Type 0
+IsGivenFor new Nothing given entered = entered ≡ None
+IsGivenFor new (One keys) given entered = (g : Given) × (entered ≡ Some g) × (given ≡ Some g ∷ []) × IsAlive (at_in new.tree) g.number
+IsGivenFor new (Page keys) given entered = entered ≡ None
 
 -- ---- what its end rests on
 

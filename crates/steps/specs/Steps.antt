@@ -14,8 +14,8 @@ use Rattle.tree.specs.declared.nodes.Key.{Key}
 use Rattle.tree.specs.declared.nodes.Node.{Node}
 use Rattle.tree.specs.Moves.{Changes, IsPathOfName, after_cut, after_move}
 use Rattle.tree.specs.Places.{Lookup, with_node}
-use Rattle.wants.specs.Asked.{ArePaths, HasPath, Holds, IsDemand, IsPin, IsSound, IsUnsound, promise_of}
-use Rattle.wants.specs.Rows.{Change, Demand, Location, Used, cuts, is_same, moves, stays}
+use Rattle.wants.specs.Asked.{ArePaths, HasPath, Holds, IsDemand, IsPin, IsSound, IsThere, IsUnsound, promise_of}
+use Rattle.wants.specs.Rows.{Change, Demand, Location, Opening, Used, cuts, is_same, moves, stays}
 use Rattle.steps.specs.declared.data.Begin.{Begin}
 use Rattle.steps.specs.declared.data.Begin.TheVariants.{Go, Busy, Refused}
 use Rattle.steps.specs.declared.data.Outcome.{Outcome}
@@ -140,17 +140,18 @@ pub record Begins (old : World) (unique : ℕ) (want : Want) (answer : Begin) (n
 
 -- ---- finish: what an outcome comes to
 
--- which names are to be given, and what becomes of names
+-- which names are to be given, what becomes of names, and which file is opened
 pub record Act : Type 0 where
   pub found : List Bool
   pub change : Change
+  pub opens : Option Opening
 
 -- nothing is done
 abbrev pub none_found : List Key → List Bool
 none_found keys = map (λ key. false) keys
 
 abbrev pub failure : Demand → Act
-failure d = record { found = none_found d.entries; change = stays }
+failure d = record { found = none_found d.entries; change = stays; opens = None }
 
 -- the name of a request that has one, and is no page
 abbrev pub one_found : Bool → List Key → List Bool
@@ -160,11 +161,18 @@ one_found page keys = map (λ key. not page) keys
 abbrev pub page_found : Bool → List Key → List Bool → List Bool
 page_found page keys found = if page && (length found == length keys) then found else none_found keys
 
+-- the file that is opened without an entry, and the one that is opened with one
+abbrev pub opened_alone : Demand → Option Opening
+opened_alone d = if length d.entries == 0 then d.opens else None
+
+abbrev pub opened_with : Demand → Option Opening
+opened_with d = if length d.entries == 0 then None else d.opens
+
 -- an outcome that does not fit the row acts as a failure
 abbrev pub act_of : Demand → Outcome → Act
 act_of d Failed = failure d
-act_of d Done = record (failure d) { change = d.done }
-act_of d Entry = record (failure d) { found = one_found d.page d.entries }
+act_of d Done = record (failure d) { change = d.done; opens = opened_alone d }
+act_of d Entry = record (failure d) { found = one_found d.page d.entries; opens = opened_with d }
 act_of d (Entries found) = record (failure d) { found = page_found d.page d.entries found }
 
 -- ---- finish: entries
@@ -209,6 +217,22 @@ Alters old stays new = new ≡ old
 Alters old (cuts l) new = Cuts old l new
 Alters old (moves source target) new = Moves old source target new
 
+-- ---- finish: files
+
+-- a file of the node that stands at the target is opened under the next handle
+pub record OpensFile (at : Lookup) (opening : Opening) (old : World) (opened : Option ℕ) (files : Files) (last : ℕ) : Type 0 where
+  pub number : ℕ
+  pub there : IsThere at opening.target number
+  pub node : Node
+  pub here : at number ≡ Some node
+  pub last_is : last ≡ old.last_handle + 1
+  pub opened_is : opened ≡ Some last
+  pub files_are : files ≡ with_entry old.files last (Some (record { number = number; generation = node.generation; access = opening.access }))
+
+abbrev pub Opens : Lookup → Option Opening → World → Option ℕ → Files → ℕ → Type 0
+Opens at None old opened files last = (opened ≡ None) × (files ≡ old.files) × (last ≡ old.last_handle)
+Opens at (Some opening) old opened files last = OpensFile at opening old opened files last
+
 -- ---- finish
 
 -- the numbers of the nodes given
@@ -221,7 +245,7 @@ numbers_of (Some g ∷ given) = g.number ∷ numbers_of given
 abbrev pub answered : Flight → List (Option Given) → Flight
 answered f given = record f { stage = Answered; pins = f.pins ++ numbers_of given }
 
--- the act comes about: entries, and then changes of names; what nothing keeps any more goes
+-- the act comes about: entries, then changes of names, and then the file; what nothing keeps any more goes
 pub record Ends (old : World) (id : ℕ) (f : Flight) (act : Act) (entries : List Key) (answer : Answer) (new : World) : Type 0 where
   pub answer_id : answer.id ≡ id
   pub not_lost : answer.lost ≡ false
@@ -229,21 +253,34 @@ pub record Ends (old : World) (id : ℕ) (f : Flight) (act : Act) (entries : Lis
   pub enters : EntersAll (with_entry old.flights id (Some (answered f []))) old.at old.postings entries act.found answer.given entered new.postings
   pub altered : Lookup
   pub alters : Alters entered act.change altered
+  pub opens : Opens altered act.opens old answer.opened new.files new.last_handle
   pub sweeps : Sweeps altered new
   pub new_is : new ≡ record old {
     at = new.at;
     postings = new.postings;
     flights = with_entry old.flights id (Some (answered f answer.given));
+    files = new.files;
+    last_handle = new.last_handle;
   }
 
 pub record Finishes (old : World) (id : ℕ) (outcome : Outcome) (answer : Answer) (new : World) : Type 0 where
   -- a ticket that no request is worked on under
-  pub lost : ((f : Flight) (work : Work) → IsAtWork old.flights id f work → ⊥) → (answer ≡ record { id = id; given = []; lost = true }) × (new ≡ old)
+  pub lost : ((f : Flight) (work : Work) → IsAtWork old.flights id f work → ⊥) → (answer ≡ record { id = id; given = []; lost = true; opened = None }) × (new ≡ old)
   pub found : (f : Flight) (work : Work) → IsAtWork old.flights id f work → Ends old id f (act_of work.row outcome) work.row.entries answer new
 
 -- ---- settle
 
--- the request goes with its pins; what was not taken goes back, entries in order
+-- the handle that is closed: none where the reply was taken
+abbrev pub untaken_file : Bool → Option ℕ → Option ℕ
+untaken_file true opened = None
+untaken_file false opened = opened
+
+-- the same files, but the one that is closed
+abbrev pub files_without : Option ℕ → Files → Files
+files_without None files = files
+files_without (Some handle) files = with_entry files handle None
+
+-- the request goes with its pins; what was not taken goes back, entries in order, and the file that it opened is closed, if it still is open
 pub record EndsFor (old : World) (answer : Answer) (taken : Bool) (new : World) : Type 0 where
   pub mid : Lookup
   pub back : TakesAllBack old.at old.postings (untaken_of taken answer.given) mid new.postings
@@ -252,6 +289,7 @@ pub record EndsFor (old : World) (answer : Answer) (taken : Bool) (new : World) 
     at = new.at;
     postings = new.postings;
     flights = with_entry old.flights answer.id None;
+    files = files_without (untaken_file taken answer.opened) old.files;
   }
 
 -- a request whose work has ended is in flight under the id

@@ -1,5 +1,6 @@
 -- What holds while nodes that nothing keeps are dropped one by one.
-use Rattle.std.specs.Prelude.{ℕ, ◌+◌, ◌≡◌, ◌≢◌, ◌≤◌, ◌<◌, ◌⊎◌, Bool, List, [], ◌∷◌, Option, Some, None, length}
+use Rattle.std.specs.Prelude.{ℕ, ◌+◌, ◌≡◌, ◌≢◌, ◌≤◌, ◌<◌, ◌⊎◌, Bool, true, List, [], ◌∷◌, Option, Some, None, length}
+use Rattle.files.specs.Handles.{IsFiled, Opened}
 use Rattle.paths.specs.Prefixes.{Name}
 use Rattle.tree.specs.declared.nodes.Node.{Node}
 use Rattle.tree.specs.declared.nodes.Place.{Place}
@@ -7,6 +8,7 @@ use Rattle.tree.specs.declared.nodes.Place.TheVariants.{Root, Named, Cut}
 use Rattle.tree.specs.Places.{Lookup, Nodes, at_in, IsNamed, IsTree}
 use Rattle.ledger.specs.Postings.{Postings}
 use Rattle.ledger.specs.declared.postings.Posting.{Posting}
+use Rattle.steps.specs.Steps.{files_without}
 use Rattle.image.specs.Law.{HasPlainRoot, IsCounted, IsBornInOrder, AreMarksNamed, AreAlive, HasReason}
 
 abbrev pub IsAmong : ℕ → List ℕ → Type 0
@@ -51,6 +53,15 @@ pub record IsSameRest (old new : Nodes) : Type 0 where
   pub counts : new.counts ≡ old.counts
   pub limit : new.limit ≡ old.limit
   pub room : old.room ≤ new.room
+
+-- the files without one or none of them: the handles stay given, and there is no less room
+pub record IsClosed (old : Opened) (handle : Option ℕ) (new : Opened) : Type 0 where
+  pub at : new.at ≡ files_without handle old.at
+  pub opened : (n : ℕ) → new.opened n ≡ true → old.opened n ≡ true
+  pub fewer : new.many ≤ old.many
+  pub last : new.last ≡ old.last
+  pub room : old.room ≤ new.room
+  pub filed : IsFiled new
 
 -- what an entry adds, with a birth or without one: one to the sum of the counts, and so many nodes and postings
 pub record IsOneMore (born : ℕ) (old : Nodes) (made : Postings) (new : Nodes) (more : Postings) : Type 0 where

@@ -1,11 +1,13 @@
 //! What the end of a request's work may do: the names of its row, taken out of its want.
 
 ghost use Rattle.std.specs.Prelude.{◌≡◌};
-ghost use Rattle.steps.specs.Ending.{change_in, folders_in, folders_of, is_page, keys_in};
+ghost use Rattle.steps.specs.Ending.{alone_in, change_in, folders_in, folders_of, is_page, keys_in, with_in};
+ghost use Rattle.steps.specs.Steps.{opened_alone, opened_with};
 ghost use Rattle.wants.specs.Plans.{copied, copied_page};
 ghost use Rattle.wants.specs.Rows.{Case, row_of};
 
 use crate::keys::{Keys, PageKeys};
+use files::Access;
 use flights::{Names, Want};
 use paths::Name;
 use tree::Key;
@@ -28,11 +30,22 @@ pub(crate) enum Change {
     Moves(Key, Keys),
 }
 
+/// Which file may be opened.
+#[derive(Clone, Copy)]
+pub(crate) enum Opens {
+    Nothing,
+    /// That of the node.
+    Node(u64, Access),
+    /// That of the name for which an entry is given.
+    Entry(Access),
+}
+
 /// What the outcomes of a request may do.
 #[derive(Drop)]
 pub(crate) struct Acts {
     pub(crate) entries: Entries,
     pub(crate) change: Change,
+    pub(crate) opens: Opens,
 }
 
 /// What the row of the want says.
@@ -43,19 +56,24 @@ pub(crate) fn acts_of(want: Want, copy: Option<Name>, copies: Names) -> Acts
     ensures page { (c : Case) → is_page result.entries ≡ (row_of want c).page }
     ensures folders { (c : Case) → folders_in result.entries ≡ folders_of (row_of want c) }
     ensures change { (c : Case) → change_in result.change ≡ (row_of want c).done }
+    ensures alone { (c : Case) → alone_in result.opens ≡ opened_alone (row_of want c) }
+    ensures entered { (c : Case) → with_in result.opens result.entries ≡ opened_with (row_of want c) }
 {
     match want {
         Want::Node { .. } => Acts {
             entries: Entries::Nothing,
             change: Change::Stays,
+            opens: Opens::Nothing,
         },
         Want::Name { parent, name } => Acts {
             entries: Entries::One(Keys::new(parent, name, copy)),
             change: Change::Stays,
+            opens: Opens::Nothing,
         },
         Want::Remove { parent, name } => Acts {
             entries: Entries::Nothing,
             change: Change::Cuts(Key { parent, name }),
+            opens: Opens::Nothing,
         },
         Want::Move {
             parent,
@@ -65,6 +83,7 @@ pub(crate) fn acts_of(want: Want, copy: Option<Name>, copies: Names) -> Acts
         } => Acts {
             entries: Entries::Nothing,
             change: Change::Moves(Key { parent, name }, Keys::new(new_parent, new_name, copy)),
+            opens: Opens::Nothing,
         },
         Want::Page { folder, names } => Acts {
             entries: Entries::Page(PageKeys {
@@ -73,6 +92,21 @@ pub(crate) fn acts_of(want: Want, copy: Option<Name>, copies: Names) -> Acts
                 copies,
             }),
             change: Change::Stays,
+            opens: Opens::Nothing,
+        },
+        Want::Open { number, access } => Acts {
+            entries: Entries::Nothing,
+            change: Change::Stays,
+            opens: Opens::Node(number, access),
+        },
+        Want::Create {
+            parent,
+            name,
+            access,
+        } => Acts {
+            entries: Entries::One(Keys::new(parent, name, copy)),
+            change: Change::Stays,
+            opens: Opens::Entry(access),
         },
     }
 }

@@ -29,7 +29,12 @@ fn is_same(want: &Want) -> bool
             new_parent,
             new_name,
         } => parent == new_parent && name.is(new_name),
-        Want::Node { .. } | Want::Name { .. } | Want::Remove { .. } | Want::Page { .. } => false,
+        Want::Node { .. }
+        | Want::Name { .. }
+        | Want::Remove { .. }
+        | Want::Page { .. }
+        | Want::Open { .. }
+        | Want::Create { .. } => false,
     }
 }
 

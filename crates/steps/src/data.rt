@@ -103,6 +103,7 @@ pub struct Answered {
     pub(crate) id: u64,
     pub(crate) given: Givens,
     pub(crate) lost: bool,
+    pub(crate) opened: Option<u64>,
 }
 
 impl Model for Answered {
@@ -110,7 +111,7 @@ impl Model for Answered {
 
     ghost Value = { Answer };
 
-    ghost view = { λ a. record { id = a.id; given = a.given.items; lost = a.lost } };
+    ghost view = { λ a. record { id = a.id; given = a.given.items; lost = a.lost; opened = a.opened } };
 }
 
 impl Answered {
@@ -135,12 +136,20 @@ impl Answered {
         self.lost
     }
 
+    /// The handle of the file that was opened. It is closed where the reply is settled as untaken.
+    pub fn opened(&self) -> Option<u64>
+        ensures { result ≡ self.now.opened }
+    {
+        self.opened
+    }
+
     /// Gives it up for good: its request stays in flight.
     pub fn leave(self) {
         let Answered {
             id: _,
             given: _,
             lost: _,
+            opened: _,
         } = self;
     }
 }

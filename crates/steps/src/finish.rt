@@ -1,5 +1,6 @@
 //! The end of the work on a request.
 
+ghost use Rattle.std.specs.Prelude.{◌≡◌};
 ghost use Rattle.steps.specs.Ending.{ChangesNames, IsEnding, MayAlter, change_in};
 ghost use Rattle.steps.specs.Kept.{IsKept, flight_of, world_of};
 ghost use Rattle.steps.specs.Steps.{Ends, Finishes, act_of};
@@ -13,12 +14,31 @@ use crate::state::State;
 use crate::sweep::sweep_cut;
 use flights::{Givens, Work};
 
+/// The same answer with the handle of the file that was opened.
+fn with_file(answered: Answered, opened: Option<u64>) -> Answered
+    ensures { result ≡ record answered { opened = opened } }
+{
+    let Answered {
+        id,
+        given,
+        lost,
+        opened: _,
+    } = answered;
+    Answered {
+        id,
+        given,
+        lost,
+        opened,
+    }
+}
+
 impl State {
     /// Cuts or moves names, with all below them, and drops what nothing keeps any more.
     fn change(&mut self, change: Change)
         requires kept { IsKept self.old }
         requires may { MayAlter self.old (change_in change) }
         ensures changes { ChangesNames (world_of self.old) (change_in change) (world_of self.new) }
+        ensures rest { self.new ≡ record self.old { tree = self.new.tree } }
         ensures kept { IsKept self.new }
     {
         if matches!(change, Change::Stays) {
@@ -43,14 +63,23 @@ impl State {
             promise: _,
             answer,
         } = work;
-        let Acts { entries, change } = acts_of(want, copy, copies);
+        let Acts {
+            entries,
+            change,
+            opens,
+        } = acts_of(want, copy, copies);
         match outcome {
-            Outcome::Failed => give_none(id, &entries, answer),
+            Outcome::Failed => give_none(id, &entries, answer, None),
             Outcome::Done => {
                 self.change(change);
-                give_none(id, &entries, answer)
+                let opened = self.open_node(opens);
+                give_none(id, &entries, answer, opened)
             }
-            Outcome::Entry => self.give_entry(id, entries, answer),
+            Outcome::Entry => {
+                let (answered, entered) = self.give_entry(id, entries, answer);
+                let opened = self.open_given(opens, entered);
+                with_file(answered, opened)
+            }
             Outcome::Entries(found) => self.give_entries(id, &held, entries, &found, answer),
         }
     }
@@ -71,6 +100,7 @@ impl State {
                 id,
                 given: Givens::new(self.alloc),
                 lost: true,
+                opened: None,
             };
         };
         self.end(id, work, outcome)

@@ -4,11 +4,11 @@ ghost use Rattle.std.specs.Prelude.{ℕ, ◌≡◌, ◌≤◌, true, false, List
 ghost use Rattle.flights.specs.declared.data.Flight.{Flight as Recorded};
 ghost use Rattle.flights.specs.Listed.{flying_of};
 ghost use Rattle.holds.specs.declared.held.GivenPath.{GivenPath as Lead};
-ghost use Rattle.steps.specs.Ending.{AreUnowned, EntersName, GivesAll, LeadsTo, MayEnter, MayFill, folders_in, is_page, keys_in};
+ghost use Rattle.steps.specs.Ending.{AreUnowned, EntersName, GivesAll, IsGivenFor, LeadsTo, MayEnter, MayFill, folders_in, is_page, keys_in};
 ghost use Rattle.steps.specs.Kept.{IsKept, flight_of, world_of};
 ghost use Rattle.steps.specs.Steps.{one_found, page_found};
 ghost use Rattle.tree.specs.declared.nodes.Key.{Key as Under};
-ghost use Rattle.tree.specs.Places.{IsPathOf, at_in};
+ghost use Rattle.tree.specs.Places.{IsAlive, IsPathOf, at_in};
 ghost use Rattle.wants.specs.Rows.{page_keys};
 
 use crate::acts::Entries;
@@ -35,10 +35,10 @@ impl Entries {
 }
 
 /// The answer of a request that gives nothing for its names.
-pub(crate) fn give_none(id: u64, entries: &Entries, answer: Givens) -> Answered
+pub(crate) fn give_none(id: u64, entries: &Entries, answer: Givens, opened: Option<u64>) -> Answered
     requires room { length (keys_in entries.now) ≤ answer.room }
     requires unanswered { answer.items ≡ [] }
-    ensures { result ≡ record { id = id; given = map (λ _. None) (keys_in entries.now); lost = false } }
+    ensures { result ≡ record { id = id; given = map (λ _. None) (keys_in entries.now); lost = false; opened = opened } }
 {
     let mut given = answer;
     for next in 0..entries.len() {
@@ -48,6 +48,7 @@ pub(crate) fn give_none(id: u64, entries: &Entries, answer: Givens) -> Answered
         id,
         given,
         lost: false,
+        opened,
     }
 }
 
@@ -66,6 +67,10 @@ impl State {
         requires may { MayEnter self.old id (keys.key ∷ []) }
         ensures enters { (f : Recorded) → (flying_of self.old.flights).at id ≡ Some f → EntersName (world_of self.old) id (flight_of f) keys.key result (world_of self.new) }
         ensures more { (rest : List Under) → MayFill self.old id (keys.key ∷ rest) → MayFill self.new id rest }
+        ensures alive { IsAlive (at_in self.new.tree) result.number }
+        ensures files { self.new.files ≡ self.old.files }
+        ensures limits { self.new.limits ≡ self.old.limits }
+        ensures promised { (flying_of self.new.flights).files ≡ (flying_of self.old.flights).files }
         ensures kept { IsKept self.new }
     {
         let entered = enter(
@@ -114,7 +119,7 @@ impl State {
         requires fits { length found.now ≡ length page.names }
         requires room { length page.names ≤ answer.room }
         requires unanswered { answer.items ≡ [] }
-        ensures told { result ≡ record { id = id; given = result.given; lost = false } }
+        ensures told { result ≡ record { id = id; given = result.given; lost = false; opened = None } }
         ensures gives { (f : Recorded) → (flying_of self.old.flights).at id ≡ Some f → GivesAll (world_of self.old) id (flight_of f) (page_keys page.folder page.names) found.now result.given (world_of self.new) }
         ensures kept { IsKept self.new }
     {
@@ -136,32 +141,45 @@ impl State {
             id,
             given,
             lost: false,
+            opened: None,
         }
     }
 
     /// Gives an entry of the one name of a request that is no page.
-    pub(crate) fn give_entry(&mut self, id: u64, entries: Entries, answer: Givens) -> Answered
+    pub(crate) fn give_entry(
+        &mut self,
+        id: u64,
+        entries: Entries,
+        answer: Givens,
+    ) -> (Answered, Option<Given>)
         requires kept { IsKept self.old }
         requires may { MayEnter self.old id (keys_in entries) }
         requires unowned { is_page entries ≡ false → AreUnowned self.old (keys_in entries) }
         requires room { length (keys_in entries) ≤ answer.room }
         requires unanswered { answer.items ≡ [] }
-        ensures told { result ≡ record { id = id; given = result.given; lost = false } }
-        ensures gives { (f : Recorded) → (flying_of self.old.flights).at id ≡ Some f → GivesAll (world_of self.old) id (flight_of f) (keys_in entries) (one_found (is_page entries) (keys_in entries)) result.given (world_of self.new) }
+        ensures told { result.0 ≡ record { id = id; given = result.0.given; lost = false; opened = None } }
+        ensures gives { (f : Recorded) → (flying_of self.old.flights).at id ≡ Some f → GivesAll (world_of self.old) id (flight_of f) (keys_in entries) (one_found (is_page entries) (keys_in entries)) result.0.given (world_of self.new) }
+        ensures given { IsGivenFor self.new entries result.0.given result.1 }
+        ensures files { self.new.files ≡ self.old.files }
+        ensures limits { self.new.limits ≡ self.old.limits }
+        ensures promised { (flying_of self.new.flights).files ≡ (flying_of self.old.flights).files }
         ensures kept { IsKept self.new }
     {
         match entries {
             Entries::One(keys) => {
                 let mut given = answer;
-                given.add(Some(self.give(id, keys)));
-                Answered {
+                let entered = self.give(id, keys);
+                given.add(Some(entered));
+                let answered = Answered {
                     id,
                     given,
                     lost: false,
-                }
+                    opened: None,
+                };
+                (answered, Some(entered))
             }
-            Entries::Nothing => give_none(id, &Entries::Nothing, answer),
-            Entries::Page(page) => give_none(id, &Entries::Page(page), answer),
+            Entries::Nothing => (give_none(id, &Entries::Nothing, answer, None), None),
+            Entries::Page(page) => (give_none(id, &Entries::Page(page), answer, None), None),
         }
     }
 
@@ -180,7 +198,7 @@ impl State {
         requires leads { (n : ℕ) → Contains (folders_in entries) n → LeadsTo (at_in self.old.tree) held.now.given n }
         requires room { length (keys_in entries) ≤ answer.room }
         requires unanswered { answer.items ≡ [] }
-        ensures told { result ≡ record { id = id; given = result.given; lost = false } }
+        ensures told { result ≡ record { id = id; given = result.given; lost = false; opened = None } }
         ensures gives { (f : Recorded) → (flying_of self.old.flights).at id ≡ Some f → GivesAll (world_of self.old) id (flight_of f) (keys_in entries) (page_found (is_page entries) (keys_in entries) found.now) result.given (world_of self.new) }
         ensures kept { IsKept self.new }
     {
@@ -188,12 +206,12 @@ impl State {
             Entries::Page(page) => {
                 let found = found.as_slice();
                 if found.len() != page.names.as_slice().len() {
-                    return give_none(id, &Entries::Page(page), answer);
+                    return give_none(id, &Entries::Page(page), answer, None);
                 }
                 self.give_page(id, path_of(held), page, found, answer)
             }
-            Entries::Nothing => give_none(id, &Entries::Nothing, answer),
-            Entries::One(keys) => give_none(id, &Entries::One(keys), answer),
+            Entries::Nothing => give_none(id, &Entries::Nothing, answer, None),
+            Entries::One(keys) => give_none(id, &Entries::One(keys), answer, None),
         }
     }
 }

@@ -13,6 +13,7 @@ mod found;
 mod give;
 mod keys;
 mod laws;
+mod opening;
 mod places;
 mod settle;
 mod state;

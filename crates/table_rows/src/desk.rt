@@ -9,7 +9,10 @@ use ledger::{Gather, Ledgers, Share};
 use paths::Name;
 use std::alloc::{AllocError, AllocFailed, Global};
 use std::mem::swap;
-use table::{Answered, Begin, FoundNames, Given, Outcome as TableOutcome, Table, Ticket};
+use table::{
+    Access, Answered, Begin, FoundNames, Given, Handle, Need, Outcome as TableOutcome, Table,
+    Ticket,
+};
 
 /// The ticket of the request that bears a unique number.
 pub struct Begun {
@@ -58,6 +61,22 @@ pub fn want_of(alloc: Global, asks: Asks) -> Result<Want, AllocError> {
         Asks::Page(folder, names) => Want::Page {
             folder,
             names: names_of(alloc, names)?,
+        },
+        Asks::Read(number, fh) => Want::Node {
+            number,
+            handle: Some(Handle {
+                fh,
+                need: Need::Reading,
+            }),
+        },
+        Asks::Open(number) => Want::Open {
+            number,
+            access: Access::Reading,
+        },
+        Asks::Create(parent, name) => Want::Create {
+            parent,
+            name: Name::copy_of(alloc, name)?,
+            access: Access::Writing,
         },
     })
 }

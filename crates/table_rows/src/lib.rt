@@ -26,6 +26,8 @@ mod lookup_rows;
 #[cfg(test)]
 mod moving_rows;
 #[cfg(test)]
+mod opening_rows;
+#[cfg(test)]
 mod order_rows;
 #[cfg(test)]
 mod page_rows;

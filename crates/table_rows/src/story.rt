@@ -51,6 +51,12 @@ pub enum Asks<'a> {
     Move(u64, &'a str, u64, &'a str),
     /// Names in a folder.
     Page(u64, &'a [&'a str]),
+    /// A node, which is read by a handle.
+    Read(u64, u64),
+    /// The file of a node, opened for reading.
+    Open(u64),
+    /// A file that is made at a name under a parent, and opened for writing.
+    Create(u64, &'a str),
 }
 
 /// What a request came to.
@@ -155,6 +161,8 @@ pub enum Step<'a> {
     Paths(u64, &'a [&'a str]),
     /// The answer of that request lists these nodes, by number and generation, or none, name by name.
     Lists(u64, &'a [Option<(u64, u64)>]),
+    /// The handle is that of an open file of the node, or of none.
+    File(u64, Option<u64>),
     /// The living nodes, all of them.
     Nodes(&'a [Living<'a>]),
     /// The postings, all of them, the oldest first.

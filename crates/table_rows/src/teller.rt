@@ -111,6 +111,9 @@ impl<L: Ledgers> Desk<L> {
             Step::Paths(unique, paths) => self.has_paths(unique, paths),
             Step::Lists(unique, said) => Ok(self.has_listed(unique, said)),
             Step::Share(index, sum) => Ok(self.has_share(index, sum)),
+            Step::File(handle, number) => Ok(
+                self.table.file(handle).map(|file| file.number) == number,
+            ),
             _ => shows(self.alloc, &self.image()?, step),
         }
     }

@@ -19,6 +19,8 @@ case_once at (wants.Name parent name) c d a b = entry_once at parent name c d a 
 case_once at (wants.Remove parent name) c d a b = a ∙ sym b
 case_once at (wants.Move parent name new_parent new_name) c d a b = a ∙ sym b
 case_once at (wants.Page folder names) c d a b = a ∙ sym b
+case_once at (wants.Open number access) c d a b = a ∙ sym b
+case_once at (wants.Create parent name access) c d a b = entry_once at parent name c d a b
 
 pub demand_once : (at : Lookup) (want : Want) (d e : Demand) → IsTree at → IsDemand at want d → IsDemand at want e → d ≡ e
 demand_once at want d e tree a b = a.row ∙ (ap (λ c. row_of want c) (case_once at want a.case b.case a.fits b.fits) ∙ sym b.row)

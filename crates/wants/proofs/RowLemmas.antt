@@ -1,5 +1,5 @@
 -- Each row has its locations at or under the nodes that it names.
-use Rattle.std.proofs.Common.{ℕ, ◌≡◌, List, [], ◌∷◌, Contains, Option, refl, sym, ap, ◌∙◌, subst, inl, inr}
+use Rattle.std.proofs.Common.{ℕ, ◌≡◌, List, [], ◌∷◌, Contains, Option, None, Some, refl, sym, ap, ◌∙◌, subst, inl, inr}
 use Rattle.std.specs.Prelude.{Any}
 use Rattle.std.proofs.lemmas.List.{length-map}
 use Rattle.paths.specs.Prefixes.{Name}
@@ -7,7 +7,7 @@ use Rattle.tree.specs.declared.nodes.Key.{Key}
 use Rattle.flights.specs.declared.data.Want.{Want}
 use Rattle.flights.specs.declared.data.Want.TheVariants as wants
 use Rattle.wants.specs.Laws.{IsRow, base_of}
-use Rattle.wants.specs.Rows.{Case, Location, AtNode, AtName, Used, used_on, move_row, name_row, node_row, page_names, page_row, removal_row, row_of}
+use Rattle.wants.specs.Rows.{Case, Location, AtNode, AtName, Opening, Used, used_on, move_row, name_row, node_row, page_names, page_row, removal_row, row_of}
 use Rattle.wants.proofs.Members.{any_first, any_later, cases_in, first_in, in_map, later_in, none_in, only_in}
 
 -- the one location at or under the one node
@@ -17,8 +17,8 @@ under_only n l m base h = subst (λ k. Contains (n ∷ []) k) (sym base ∙ ap b
 key_only : (parent : ℕ) (name : Name) (key : Key) → Contains (record { parent = parent; name = name } ∷ []) key → Contains (AtName parent name ∷ []) (AtName key.parent key.name)
 key_only parent name key h = subst (λ (k : Key). Contains (AtName parent name ∷ []) (AtName k.parent k.name)) (only_in (record { parent = parent; name = name }) key h) (first_in (AtName parent name) [])
 
-node_is_row : (number : ℕ) (used : Option Used) → IsRow (record (node_row number) { used = used })
-node_is_row number used = record {
+node_is_row : (number : ℕ) (used : Option Used) (opens : Option Opening) → IsRow (record (node_row number) { used = used; opens = opens })
+node_is_row number used opens = record {
   shared = λ l h. under_only number (AtNode number) l refl h;
   alone = λ l h. absurd (none_in l h);
   paths = λ l h. under_only number (AtNode number) l refl h;
@@ -27,8 +27,8 @@ node_is_row number used = record {
   own = tt;
 }
 
-name_is_row : (parent : ℕ) (name : Name) (c : Case) → IsRow (name_row parent name c)
-name_is_row parent name c = record {
+name_is_row : (parent : ℕ) (name : Name) (c : Case) (opens : Option Opening) → IsRow (record (name_row parent name c) { opens = opens })
+name_is_row parent name c opens = record {
   shared = λ l h. under_only parent (AtName parent name) l refl h;
   alone = λ l h. absurd (none_in l h);
   paths = λ l h. under_only parent (AtName parent name) l refl h;
@@ -92,8 +92,10 @@ page_is_row folder names = record {
 }
 
 pub are_rows : (want : Want) (case : Case) → IsRow (row_of want case)
-are_rows (wants.Node number handle) c = node_is_row number (used_on number handle)
-are_rows (wants.Name parent name) c = name_is_row parent name c
+are_rows (wants.Node number handle) c = node_is_row number (used_on number handle) None
+are_rows (wants.Name parent name) c = name_is_row parent name c None
 are_rows (wants.Remove parent name) c = removal_is_row parent name
 are_rows (wants.Move parent name new_parent new_name) c = move_is_row parent name new_parent new_name
 are_rows (wants.Page folder names) c = page_is_row folder names
+are_rows (wants.Open number access) c = node_is_row number None (Some (record { target = AtNode number; access = access }))
+are_rows (wants.Create parent name access) c = name_is_row parent name c (Some (record { target = AtName parent name; access = access }))

@@ -1,5 +1,5 @@
 -- What a want's row asks for, and why it is refused.
-use Rattle.std.proofs.Common.{ℕ, ℤ, ◌≡◌, List, [], ◌∷◌, Option, Contains, refl, sym, ap, ◌∙◌, subst, ◌⊎◌, inl, inr}
+use Rattle.std.proofs.Common.{ℕ, ℤ, ◌≡◌, List, [], ◌∷◌, Option, Some, Contains, refl, sym, ap, ◌∙◌, subst, ◌⊎◌, inl, inr}
 use Rattle.std.specs.Prelude.{IsSome}
 use Rattle.std.proofs.lemmas.Bool.{cases_Bool, cases_eq, false≢true}
 use Rattle.std.proofs.lemmas.Option.{none-some, same_Some}
@@ -15,13 +15,15 @@ use Rattle.tree.specs.declared.nodes.Place.{Place}
 use Rattle.tree.specs.declared.nodes.Place.TheVariants as place
 use Rattle.tree.specs.Places.{Lookup, IsCensus, IsFree, IsNamed, IsTree}
 use Rattle.tree.proofs.LookupLemmas.{cases_option}
+use Rattle.files.specs.declared.data.Access.{Access}
 use Rattle.flights.specs.declared.data.Handle.{Handle}
+use Rattle.flights.specs.declared.data.Promise.{Promise}
 use Rattle.wants.specs.Asked.{IsCase, IsEntryCase, IsLong, IsSound, IsStale, IsUnsound, long, misplaced, no_memory, stale}
 use Rattle.wants.specs.declared.data.Plan.{Plan}
 use Rattle.wants.specs.declared.drafts.Terms.{Terms}
 use Rattle.wants.specs.Drafts.{IsEntryAt, IsTaken, IsRecord, IsTerms, IsVacant, IsWanted}
 use Rattle.wants.specs.Plans.{IsPlan, IsRefusedPlan, copied, copied_page}
-use Rattle.wants.specs.Rows.{Case, Demand, AtName, Used, absent, entered_case, name_row, node_row, page_row, plain, row_of, used_on}
+use Rattle.wants.specs.Rows.{Case, Demand, AtName, AtNode, Opening, Used, absent, entered_case, name_row, node_row, page_row, plain, row_of, used_on}
 use Rattle.wants.proofs.Members.{all_in, any_only, cases_in, first_in, later_in, none_in}
 
 -- ---- whether a node stands at a name
@@ -83,6 +85,8 @@ case_there at living counts tree census (wants.Name parent name) = elim (named_o
 case_there at living counts tree census (wants.Remove parent name) = (plain, refl)
 case_there at living counts tree census (wants.Move parent name new_parent new_name) = (plain, refl)
 case_there at living counts tree census (wants.Page folder names) = (plain, refl)
+case_there at living counts tree census (wants.Open number access) = (plain, refl)
+case_there at living counts tree census (wants.Create parent name access) = elim (named_or_free at living counts tree census parent name) [ inl named ↦ (plain, named) | inr free ↦ (absent, free) ]
 
 refused : (at : Lookup) (living counts : ℕ) → IsTree at → IsCensus at living counts → (want : Want) (e : ℤ) → ((c : Case) → IsUnsound at (row_of want c) e) → IsRefusedPlan at want e
 refused at living counts tree census want e unsound =
@@ -131,6 +135,48 @@ node_wanted at want number handle t is terms =
 pub node_refused : (at : Lookup) (living counts : ℕ) → IsTree at → IsCensus at living counts → (want : Want) (number : ℕ) (handle : Option Handle) (e : ℤ) → want ≡ wants.Node number handle → IsUnsound at (node_row number) e → IsRefusedPlan at want e
 node_refused at living counts tree census want number handle e is unsound =
     refused_as at living counts tree census want (wants.Node number handle) e is (λ c. unsound_using at (node_row number) (used_on number handle) e unsound)
+
+-- no test of the nodes looks at the file that a row opens
+stale_opening : (at : Lookup) (d : Demand) (o : Option Opening) → (IsStale at d → ⊥) → IsStale at (record d { opens = o }) → ⊥
+stale_opening at d o none s = none (record { number = s.number; named = s.named; lost = s.lost })
+
+long_opening : (at : Lookup) (d : Demand) (o : Option Opening) → (IsLong at d → ⊥) → IsLong at (record d { opens = o }) → ⊥
+long_opening at d o none s = none (record { location = s.location; asked = s.asked; path = s.path; leads = s.leads; long = s.long })
+
+pub unsound_opening : (at : Lookup) (d : Demand) (o : Option Opening) (e : ℤ) → IsUnsound at d e → IsUnsound at (record d { opens = o }) e
+unsound_opening at d o e (stale is s) = stale is (record { number = s.number; named = s.named; lost = s.lost })
+unsound_opening at d o e (long is a s) = long is (stale_opening at d o a) (record { location = s.location; asked = s.asked; path = s.path; leads = s.leads; long = s.long })
+unsound_opening at d o e (misplaced a b bad) = misplaced (stale_opening at d o a) (long_opening at d o b) bad
+unsound_opening at d o e (no_memory is a) = no_memory is (stale_opening at d o a)
+
+-- one file is promised besides
+abbrev pub opening_one : Terms → Terms
+opening_one t = record t { promise = record t.promise { files = 1 } }
+
+terms_opening : (at : Lookup) (d : Demand) (o : Opening) (t : Terms) → IsTerms at d t → IsTerms at (record d { opens = Some o }) (opening_one t)
+terms_opening at d o t terms = record {
+  sound = record { not_stale = stale_opening at d (Some o) terms.sound.not_stale; not_long = long_opening at d (Some o) terms.sound.not_long; not_misplaced = terms.sound.not_misplaced };
+  holds = record { numbers = terms.holds.numbers; leads = terms.holds.leads; shared = terms.holds.shared; exclusive = terms.holds.exclusive };
+  pins = terms.pins;
+  paths = terms.paths;
+  promise = ap (λ (p : Promise). let q : Promise = record p { files = 1 } in q) terms.promise;
+  pin_room = terms.pin_room;
+  answer_room = terms.answer_room;
+  unanswered = terms.unanswered;
+}
+
+pub node_opened : (at : Lookup) (want : Want) (number : ℕ) (access : Access) (t u : Terms) → want ≡ wants.Open number access → IsTerms at (node_row number) t → u ≡ opening_one t → IsWanted at want u
+node_opened at want number access t u is terms made = subst (λ (v : Terms). IsWanted at want v) (sym made) (subst (λ (v : Want). IsWanted at v (opening_one t)) (sym is) (record {
+  fits = refl;
+  terms = terms_opening at (node_row number) (record { target = AtNode number; access = access }) t terms;
+}))
+
+pub name_opened : (at : Lookup) (want : Want) (parent : ℕ) (name : Name) (access : Access) (t u : Terms) → want ≡ wants.Create parent name access → IsEntryAt at (AtName parent name ∷ []) (entered_case t.promise)
+    → IsTerms at (name_row parent name (entered_case t.promise)) t → u ≡ opening_one t → IsWanted at want u
+name_opened at want parent name access t u is fits terms made = subst (λ (v : Terms). IsWanted at want v) (sym made) (subst (λ (v : Want). IsWanted at v (opening_one t)) (sym is) (record {
+  fits = entry_case at parent name (entered_case t.promise) fits;
+  terms = terms_opening at (name_row parent name (entered_case t.promise)) (record { target = AtName parent name; access = access }) t terms;
+}))
 
 -- a name for which an entry may be given
 pub named_wanted : (at : Lookup) (want : Want) (parent : ℕ) (name : Name) (t : Terms) → want ≡ wants.Name parent name → IsEntryAt at (AtName parent name ∷ []) (entered_case t.promise) → IsTerms at (name_row parent name (entered_case t.promise)) t → IsWanted at want t

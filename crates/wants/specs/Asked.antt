@@ -36,6 +36,8 @@ IsCase at (wants.Name parent name) c = IsEntryCase at parent name c
 IsCase at (wants.Remove parent name) c = c ≡ plain
 IsCase at (wants.Move parent name new_parent new_name) c = c ≡ plain
 IsCase at (wants.Page folder names) c = c ≡ plain
+IsCase at (wants.Open number access) c = c ≡ plain
+IsCase at (wants.Create parent name access) c = IsEntryCase at parent name c
 
 -- what the want asks of the table as its nodes stand
 pub record IsDemand (at : Lookup) (want : Want) (d : Demand) : Type 0 where

@@ -276,6 +276,12 @@ pub record IsAgreed (at : Lookup) (row : Row) (t : Terms) : Type 0 where
   pub fits : IsCaseOf at row.enters (locations_of row) (entered_case t.promise)
   pub terms : IsTerms at (demand_of row (entered_case t.promise)) t
 
+-- the same, with a file that may be opened
+pub record IsOpening (at : Lookup) (row : Row) (t : Terms) : Type 0 where
+  pub terms : Terms
+  pub agreed : IsAgreed at row terms
+  pub more : t ≡ record terms { promise = record terms.promise { files = 1 } }
+
 pub record IsWanted (at : Lookup) (want : Want) (t : Terms) : Type 0 where
   pub fits : IsCase at want (case_in want t.promise)
   pub terms : IsTerms at (row_of want (case_in want t.promise)) t

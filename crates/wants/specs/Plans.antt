@@ -21,6 +21,8 @@ copied (wants.Name parent name) = Some name
 copied (wants.Remove parent name) = None
 copied (wants.Move parent name new_parent new_name) = Some new_name
 copied (wants.Page folder names) = None
+copied (wants.Open number access) = None
+copied (wants.Create parent name access) = Some name
 
 -- the same of the names of a page
 abbrev pub copied_page : Want → List Name
@@ -29,6 +31,8 @@ copied_page (wants.Name parent name) = []
 copied_page (wants.Remove parent name) = []
 copied_page (wants.Move parent name new_parent new_name) = []
 copied_page (wants.Page folder names) = names
+copied_page (wants.Open number access) = []
+copied_page (wants.Create parent name access) = []
 
 -- its end takes no memory: there is room for what it may pin and answer
 pub record IsProvided (work : Work) (pins : Pinned) : Type 0 where

@@ -129,6 +129,8 @@ row_of (wants.Name parent name) c = name_row parent name c
 row_of (wants.Remove parent name) c = removal_row parent name
 row_of (wants.Move parent name new_parent new_name) c = move_row parent name new_parent new_name
 row_of (wants.Page folder names) c = page_row folder names
+row_of (wants.Open number access) c = record (node_row number) { opens = Some (record { target = AtNode number; access = access }) }
+row_of (wants.Create parent name access) c = record (name_row parent name c) { opens = Some (record { target = AtName parent name; access = access }) }
 
 -- for a name a node is promised where none stood there
 abbrev pub entered_case : Promise → Case
@@ -141,6 +143,8 @@ case_in (wants.Name parent name) p = entered_case p
 case_in (wants.Remove parent name) p = plain
 case_in (wants.Move parent name new_parent new_name) p = plain
 case_in (wants.Page folder names) p = plain
+case_in (wants.Open number access) p = plain
+case_in (wants.Create parent name access) p = entered_case p
 
 -- ---- what a ticket tells of its row
 

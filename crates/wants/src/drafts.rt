@@ -4,7 +4,7 @@ ghost use Rattle.std.specs.Prelude.{ℕ, ◌+◌, ◌*◌, ◌^◌, ◌<◌, ◌
 ghost use Rattle.paths.specs.Prefixes.{prefixes};
 ghost use Rattle.tree.specs.Places.{IsCensus, IsTree, at_in};
 ghost use Rattle.wants.specs.Asked.{IsUnsound};
-ghost use Rattle.wants.specs.Drafts.{Adds, AreRooted, IsAgreed, IsBadRow, IsDraft, IsDrawn, IsFit, IsNoDraft, demand_of, entries_of, errno_of, locations_of, own_paths, shared_path};
+ghost use Rattle.wants.specs.Drafts.{Adds, AreRooted, IsAgreed, IsBadRow, IsDraft, IsDrawn, IsFit, IsNoDraft, IsOpening, demand_of, entries_of, errno_of, locations_of, own_paths, shared_path};
 ghost use Rattle.wants.specs.Rows.{Case};
 
 use crate::found::{Found, expect_change, expect_rooted, find};
@@ -166,6 +166,29 @@ impl Draft {
     }
 }
 
+/// The same with one file that may be opened.
+fn with_file(terms: Terms) -> Terms
+    ensures { result ≡ record terms { promise = record terms.promise { files = 1 } } }
+{
+    let Terms {
+        held,
+        promise,
+        answer,
+        pins,
+        paths,
+    } = terms;
+    Terms {
+        held,
+        promise: Promise {
+            files: 1,
+            ..promise
+        },
+        answer,
+        pins,
+        paths,
+    }
+}
+
 /// What is found at the row's locations, which lead to the root.
 fn draft_of(alloc: Global, tree: &Tree, row: &Row) -> Result<Draft, Refusal>
     requires tree { IsTree (at_in tree.now) }
@@ -199,4 +222,18 @@ pub(crate) fn terms_of(alloc: Global, tree: &Tree, row: &Row) -> Result<Terms, R
     let births = if draft.absent { entries as u64 } else { 0 };
     let terms = draft.into_terms(alloc, births, entries)?;
     Ok(terms)
+}
+
+/// What the row asks for, and a file that may be opened.
+pub(crate) fn terms_with_file(alloc: Global, tree: &Tree, row: &Row) -> Result<Terms, Refusal>
+    requires { IsFit row.now }
+    ensures ok { IfOk result (IsOpening (at_in tree.now) row.now) }
+    ensures err { IfErr result (λ refusal. (c : Case) → IsUnsound (at_in tree.now) (demand_of row.now c) (errno_of refusal)) }
+    ensures census { IsCensus (at_in tree.now) tree.now.living tree.now.counts }
+    ensures tree { IsTree (at_in tree.now) }
+{
+    match terms_of(alloc, tree, row) {
+        Ok(terms) => Ok(with_file(terms)),
+        Err(refusal) => Err(refusal),
+    }
 }

@@ -58,8 +58,10 @@ fn copied(want: &Want) -> Result<Option<Name>, AllocError>
     ensures { IfOk result (λ copy. copy ≡ name_copied want.now) }
 {
     match want {
-        Want::Node { .. } | Want::Remove { .. } | Want::Page { .. } => Ok(None),
-        Want::Name { name, .. } | Want::Move { new_name: name, .. } => Ok(Some(name.copy()?)),
+        Want::Node { .. } | Want::Remove { .. } | Want::Page { .. } | Want::Open { .. } => Ok(None),
+        Want::Name { name, .. } | Want::Move { new_name: name, .. } | Want::Create { name, .. } => {
+            Ok(Some(name.copy()?))
+        }
     }
 }
 
@@ -69,9 +71,12 @@ fn copies(alloc: Global, want: &Want) -> Result<Names, AllocError>
 {
     match want {
         Want::Page { names, .. } => names.copy(),
-        Want::Node { .. } | Want::Name { .. } | Want::Remove { .. } | Want::Move { .. } => {
-            Ok(Names::new(alloc))
-        }
+        Want::Node { .. }
+        | Want::Name { .. }
+        | Want::Remove { .. }
+        | Want::Move { .. }
+        | Want::Open { .. }
+        | Want::Create { .. } => Ok(Names::new(alloc)),
     }
 }
 

@@ -6,7 +6,7 @@ ghost use Rattle.wants.specs.Drafts.{IsWanted, errno_of, location_of};
 ghost use Rattle.wants.specs.Laws.{base_of};
 ghost use Rattle.wants.specs.Plans.{IsRefusedPlan};
 
-use crate::drafts::{Terms, terms_of};
+use crate::drafts::{Terms, terms_of, terms_with_file};
 use crate::pages::page_terms;
 use crate::refusal::Refusal;
 use flights::Want;
@@ -115,5 +115,27 @@ pub(crate) fn terms_for(alloc: Global, tree: &Tree, want: &Want) -> Result<Terms
             terms_of(alloc, tree, &row)
         }
         Want::Page { folder, names } => page_terms(alloc, tree, *folder, names.as_slice()),
+        Want::Open { number, access: _ } => {
+            let row = Row {
+                locations: &[Location::AtNode(*number)],
+                hold: Hold::Shared,
+                enters: false,
+                change: Change::Stays,
+            };
+            terms_with_file(alloc, tree, &row)
+        }
+        Want::Create {
+            parent,
+            name,
+            access: _,
+        } => {
+            let row = Row {
+                locations: &[Location::AtName(*parent, name)],
+                hold: Hold::Shared,
+                enters: true,
+                change: Change::Stays,
+            };
+            terms_with_file(alloc, tree, &row)
+        }
     }
 }

@@ -3,8 +3,8 @@ use Rattle.tree.specs.Places.{at_in}
 use Rattle.wants.specs.declared.refusal.Refusal.{Refusal}
 use Rattle.wants.specs.Drafts.{IsWanted, errno_of}
 use Rattle.wants.specs.Plans.{IsRefusedPlan}
-use Rattle.wants.specs.Rows.{plain}
-use Rattle.wants.proofs.Wanting.{named_wanted, node_refused, node_wanted, refused_as}
+use Rattle.wants.specs.Rows.{name_row, node_row, plain}
+use Rattle.wants.proofs.Wanting.{name_opened, named_wanted, node_opened, node_refused, node_wanted, refused_as, unsound_opening}
 use Rattle.wants.proofs.rows.terms_for.Goals as goal
 
 pub returns-in-Node-clause-err : goal.returns-in-Node-clause-err
@@ -41,3 +41,27 @@ returns-in-Move-clause-err c =
     let at = at_in c.args.tree.now in
     let t = c.terms_of-in-Move.ensures in
     IfErr-weaker c.terms_of-in-Move.result _ (λ (r : Refusal). IsRefusedPlan at c.args.want.now (errno_of r)) (λ r unsound. refused_as at _ _ t.tree t.census c.args.want.now _ (errno_of r) c.in-Move.is unsound) t.err
+
+pub returns-in-Open-clause-ok : goal.returns-in-Open-clause-ok
+returns-in-Open-clause-ok c =
+    let at = at_in c.args.tree.now in
+    IfOk-weaker c.terms_with_file.result _ (λ t. IsWanted at c.args.want.now t) (λ t o. node_opened at c.args.want.now _ c.in-Open.access o.terms t c.in-Open.is o.agreed.terms o.more) c.terms_with_file.ensures.ok
+
+pub returns-in-Open-clause-err : goal.returns-in-Open-clause-err
+returns-in-Open-clause-err c =
+    let at = at_in c.args.tree.now in
+    let t = c.terms_with_file.ensures in
+    IfErr-weaker c.terms_with_file.result _ (λ (r : Refusal). IsRefusedPlan at c.args.want.now (errno_of r))
+    (λ r unsound. refused_as at _ _ t.tree t.census c.args.want.now _ (errno_of r) c.in-Open.is (λ k. unsound_opening at (node_row c.in-Open.number) _ (errno_of r) (unsound k))) t.err
+
+pub returns-in-Create-clause-ok : goal.returns-in-Create-clause-ok
+returns-in-Create-clause-ok c =
+    let at = at_in c.args.tree.now in
+    IfOk-weaker c.terms_with_file-in-Create.result _ (λ t. IsWanted at c.args.want.now t) (λ t o. name_opened at c.args.want.now _ _ c.in-Create.access o.terms t c.in-Create.is o.agreed.fits o.agreed.terms o.more) c.terms_with_file-in-Create.ensures.ok
+
+pub returns-in-Create-clause-err : goal.returns-in-Create-clause-err
+returns-in-Create-clause-err c =
+    let at = at_in c.args.tree.now in
+    let t = c.terms_with_file-in-Create.ensures in
+    IfErr-weaker c.terms_with_file-in-Create.result _ (λ (r : Refusal). IsRefusedPlan at c.args.want.now (errno_of r))
+    (λ r unsound. refused_as at _ _ t.tree t.census c.args.want.now _ (errno_of r) c.in-Create.is (λ k. unsound_opening at (name_row c.in-Create.parent c.in-Create.name k) _ (errno_of r) (unsound k))) t.err

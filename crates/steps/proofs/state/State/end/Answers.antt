@@ -1,22 +1,24 @@
-use Rattle.std.proofs.Common.{ℕ, ◌≡◌, Contains, List, Bool, Some, false, refl, sym, ap, ◌∙◌, subst}
+use Rattle.std.proofs.Common.{ℕ, ◌≡◌, Contains, List, Bool, Option, Some, None, false, refl, sym, ap, ◌∙◌, subst}
 use Rattle.std.specs.Prelude.{option_map}
 use Rattle.flights.specs.declared.data.Flight.{Flight as Recorded}
+use Rattle.flights.specs.declared.data.Given.{Given}
 use Rattle.flights.specs.Listed.{flying_of}
 use Rattle.tree.specs.declared.nodes.Key.{Key}
 use Rattle.wants.specs.Plans.{row_in}
-use Rattle.wants.specs.Rows.{Change, Demand, case_in, stays}
+use Rattle.wants.specs.Rows.{Change, Demand, Opening, case_in, stays}
 use Rattle.steps.specs.declared.acts.Entries.{Entries as Entered}
 use Rattle.steps.specs.Keeping.{kept_by}
 use Rattle.steps.specs.declared.data.Outcome.{Outcome}
-use Rattle.steps.specs.declared.data.Outcome.TheVariants.{Done, Failed}
+use Rattle.steps.specs.declared.data.Outcome.TheVariants.{Done, Entry, Failed}
 use Rattle.steps.specs.declared.state.State.{State}
 use Rattle.steps.specs.Answers.{Answer}
-use Rattle.steps.specs.Ending.{AreUnowned, ChangesNames, GivesAll, MayAlter, MayEnter, MayFill, folders_in, folders_of, is_page, keys_in}
+use Rattle.steps.specs.Ending.{AreUnowned, ChangesNames, GivesAll, MayAlter, MayEnter, MayFill, folders_in, folders_of, is_page, keys_in, with_in}
 use Rattle.steps.specs.Kept.{IsKept, flight_of, stage_of, world_of}
-use Rattle.steps.specs.Steps.{Ends, act_of, one_found, page_found}
+use Rattle.steps.specs.Steps.{Act, Ends, act_of, none_found, one_found, opened_with, page_found}
 use Rattle.steps.specs.World.{Answered}
 use Rattle.steps.proofs.Ends.{ends_changed, nothing_changes, nothing_for}
 use Rattle.steps.proofs.Filling.{ends_given}
+use Rattle.steps.proofs.Offering.{ends_alone, ends_entry, may_given, may_open}
 use Rattle.steps.proofs.Rooted.{are_unowned, folder_leads, may_alter, may_enter, may_fill}
 use Rattle.steps.proofs.Viewed.{are_kept}
 use Rattle.steps.proofs.state.State.end.Goals as goal
@@ -27,42 +29,61 @@ returns-in-Failed-clause-ends c e =
     let work = c.args.work in
     let row = row_in work in
     let entries : keys_in c.acts_of-entries.result.entries ≡ row.entries = c.acts_of-entries.ensures.entries (case_in work.want work.promise) in
-    let answer : c.give_none.result ≡ record { id = c.args.id; given = nothing_for row.entries; lost = false } =
-    c.give_none.ensures ∙ ap (λ (ks : List Key). let a : Answer = record { id = c.args.id; given = nothing_for ks; lost = false } in a) entries in
+    let answer : c.give_none.result ≡ record { id = c.args.id; given = nothing_for row.entries; lost = false; opened = None } =
+    c.give_none.ensures ∙ ap (λ (ks : List Key). let a : Answer = record { id = c.args.id; given = nothing_for ks; lost = false; opened = None } in a) entries in
     subst (λ (o : Outcome). Ends w c.args.id (flight_of e.flight) (act_of row o) row.entries c.give_none.result w) (sym c.in-Failed.is)
     (subst (λ (a : Answer). Ends w c.args.id (flight_of e.flight) (act_of row Failed) row.entries a w) (sym answer)
-    (ends_changed w w c.args.id (flight_of e.flight) (ap (λ o. option_map flight_of o) e.here) (ap stage_of e.answered) (act_of row Failed) row.entries refl (nothing_changes w (kept_by c.args.self.now.flights c.args.self.now.files) (are_kept c.args.self.now.flights c.args.self.now.files c.requires.kept.flying c.requires.kept.filed))))
+    (ends_changed w w c.args.id (flight_of e.flight) (ap (λ o. option_map flight_of o) e.here) (ap stage_of e.answered) (act_of row Failed) row.entries refl refl (nothing_changes w (kept_by c.args.self.now.flights c.args.self.now.files) (are_kept c.args.self.now.flights c.args.self.now.files c.requires.kept.flying c.requires.kept.filed))))
 
 pub change-requires-clause-may : goal.change-requires-clause-may
 change-requires-clause-may c =
     let work = c.args.work in
     subst (λ (change : Change). MayAlter c.args.self.now change) (sym (c.acts_of-entries.ensures.change (case_in work.want work.promise))) (may_alter c.args.self.now c.args.id work c.requires.kept c.requires.ending)
 
+pub open_node-opened-requires-clause-may : goal.open_node-opened-requires-clause-may
+open_node-opened-requires-clause-may c =
+    let work = c.args.work in
+    may_open c.args.self.now c.args.id work c.requires.kept c.requires.ending c.change.new.self c.change.ensures.kept c.change.ensures.rest c.acts_of-entries.result.opens (c.acts_of-entries.ensures.alone (case_in work.want work.promise))
+
 pub returns-in-Done-clause-ends : goal.returns-in-Done-clause-ends
 returns-in-Done-clause-ends c e =
     let w = world_of c.args.self.now in
-    let new = world_of c.change.new.self in
+    let mid = c.change.new.self in
+    let new = c.open_node-opened.new.self in
+    let opened = c.open_node-opened.result in
     let work = c.args.work in
+    let case = case_in work.want work.promise in
     let row = row_in work in
-    let entries : keys_in c.acts_of-entries.result.entries ≡ row.entries = c.acts_of-entries.ensures.entries (case_in work.want work.promise) in
-    let answer : c.give_none-in-Done.result ≡ record { id = c.args.id; given = nothing_for row.entries; lost = false } =
-    c.give_none-in-Done.ensures ∙ ap (λ (ks : List Key). let a : Answer = record { id = c.args.id; given = nothing_for ks; lost = false } in a) entries in
-    let changes : ChangesNames w row.done new = subst (λ (change : Change). ChangesNames w change new) (c.acts_of-entries.ensures.change (case_in work.want work.promise)) c.change.ensures.changes in
-    subst (λ (o : Outcome). Ends w c.args.id (flight_of e.flight) (act_of row o) row.entries c.give_none-in-Done.result new) (sym c.in-Done.is)
-    (subst (λ (a : Answer). Ends w c.args.id (flight_of e.flight) (act_of row Done) row.entries a new) (sym answer)
-    (ends_changed w new c.args.id (flight_of e.flight) (ap (λ o. option_map flight_of o) e.here) (ap stage_of e.answered) (act_of row Done) row.entries refl changes))
+    let entries : keys_in c.acts_of-entries.result.entries ≡ row.entries = c.acts_of-entries.ensures.entries case in
+    let answer : c.give_none-in-Done.result ≡ record { id = c.args.id; given = nothing_for row.entries; lost = false; opened = opened } =
+    c.give_none-in-Done.ensures ∙ ap (λ (ks : List Key). let a : Answer = record { id = c.args.id; given = nothing_for ks; lost = false; opened = opened } in a) entries in
+    let changes : ChangesNames w row.done (world_of mid) = subst (λ (change : Change). ChangesNames w change (world_of mid)) (c.acts_of-entries.ensures.change case) c.change.ensures.changes in
+    let act : Act = record { found = none_found row.entries; change = row.done; opens = None } in
+    let unopened : Answer = record { id = c.args.id; given = nothing_for row.entries; lost = false; opened = None } in
+    let first = ends_changed w (world_of mid) c.args.id (flight_of e.flight) (ap (λ o. option_map flight_of o) e.here) (ap stage_of e.answered) act row.entries refl refl changes in
+    let whole = ends_alone w c.args.id (flight_of e.flight) mid new c.change.ensures.kept opened act row.entries unopened first refl refl c.acts_of-entries.result.opens c.open_node-opened.ensures.opens in
+    subst (λ (o : Outcome). Ends w c.args.id (flight_of e.flight) (act_of row o) row.entries c.give_none-in-Done.result (world_of new)) (sym c.in-Done.is)
+    (subst (λ (a : Answer). Ends w c.args.id (flight_of e.flight) (act_of row Done) row.entries a (world_of new)) (sym answer)
+    (subst (λ (o : Option Opening). Ends w c.args.id (flight_of e.flight) (record act { opens = o }) row.entries (record unopened { opened = opened }) (world_of new)) (c.acts_of-entries.ensures.alone case) whole))
 
-pub give_entry-requires-clause-may : goal.give_entry-requires-clause-may
-give_entry-requires-clause-may c =
+pub give_entry-answered-requires-clause-may : goal.give_entry-answered-requires-clause-may
+give_entry-answered-requires-clause-may c =
     let work = c.args.work in
     subst (λ (ks : List Key). MayEnter c.args.self.now c.args.id ks) (sym (c.acts_of-entries.ensures.entries (case_in work.want work.promise))) (may_enter c.args.self.now c.args.id work c.requires.kept c.requires.ending)
 
-pub give_entry-requires-clause-unowned : goal.give_entry-requires-clause-unowned
-give_entry-requires-clause-unowned c one =
+pub give_entry-answered-requires-clause-unowned : goal.give_entry-answered-requires-clause-unowned
+give_entry-answered-requires-clause-unowned c one =
     let work = c.args.work in
     let case = case_in work.want work.promise in
     subst (λ (ks : List Key). AreUnowned c.args.self.now ks) (sym (c.acts_of-entries.ensures.entries case))
     (are_unowned c.args.self.now c.args.id work c.requires.kept c.requires.ending (sym (c.acts_of-entries.ensures.page case) ∙ one))
+
+pub open_given-opened-requires-clause-may : goal.open_given-opened-requires-clause-may
+open_given-opened-requires-clause-may c =
+    let work = c.args.work in
+    let r = c.give_entry-answered in
+    may_given c.args.self.now c.args.id work c.requires.kept c.requires.ending r.new.self r.ensures.files r.ensures.limits r.ensures.promised
+    c.acts_of-entries.result.opens c.acts_of-entries.result.entries r.result.0.given r.result.1 (c.acts_of-entries.ensures.entered (case_in work.want work.promise)) r.ensures.given
 
 pub give_entries-requires-clause-may : goal.give_entries-requires-clause-may
 give_entries-requires-clause-may c =
@@ -83,35 +104,57 @@ give_entries-requires-clause-leads c n h =
     folder_leads c.args.self.now c.args.id work c.requires.kept c.requires.ending n (subst (λ ns. Contains ns n) folders h)
 
 -- the end of a request, by the entries that it gave
-ends_with : (s new : State) → IsKept new → (id : ℕ) (x : Recorded) → (flying_of s.flights).at id ≡ Some x → stage_of x.stage ≡ Answered → (entered : Entered) (row : Demand) (found : Bool → List Key → List Bool) (answer : Answer)
-    → keys_in entered ≡ row.entries → is_page entered ≡ row.page → answer ≡ record { id = id; given = answer.given; lost = false }
-    → GivesAll (world_of s) id (flight_of x) (keys_in entered) (found (is_page entered) (keys_in entered)) answer.given (world_of new)
-    → Ends (world_of s) id (flight_of x) (record { found = found row.page row.entries; change = stays }) row.entries answer (world_of new)
-ends_with s new kept id x here idle entered row found answer keys page is gives =
-    let one : GivesAll (world_of s) id (flight_of x) row.entries (found row.page row.entries) answer.given (world_of new) =
-    subst (λ (b : Bool). GivesAll (world_of s) id (flight_of x) row.entries (found b row.entries) answer.given (world_of new)) page
-    (subst (λ (ks : List Key). GivesAll (world_of s) id (flight_of x) ks (found (is_page entered) ks) answer.given (world_of new)) keys gives) in
-    subst (λ (a : Answer). Ends (world_of s) id (flight_of x) (record { found = found row.page row.entries; change = stays }) row.entries a (world_of new)) (sym is)
-    (ends_given (world_of s) (world_of new) id (flight_of x) row.entries (found row.page row.entries) answer.given (kept_by new.flights new.files) (ap (λ o. option_map flight_of o) here) idle (are_kept new.flights new.files kept.flying kept.filed) one)
+ends_by : (s new : State) → IsKept new → (id : ℕ) (x : Recorded) → (flying_of s.flights).at id ≡ Some x → stage_of x.stage ≡ Answered → (keys : List Key) (found : List Bool) (answer : Answer) → answer ≡ record { id = id; given = answer.given; lost = false; opened = None }
+    → GivesAll (world_of s) id (flight_of x) keys found answer.given (world_of new)
+    → Ends (world_of s) id (flight_of x) (record { found = found; change = stays; opens = None }) keys answer (world_of new)
+ends_by s new kept id x here idle keys found answer is gives =
+    subst (λ (a : Answer). Ends (world_of s) id (flight_of x) (record { found = found; change = stays; opens = None }) keys a (world_of new)) (sym is)
+    (ends_given (world_of s) (world_of new) id (flight_of x) keys found answer.given (kept_by new.flights new.files) (ap (λ o. option_map flight_of o) here) idle (are_kept new.flights new.files kept.flying kept.filed) gives)
+
+-- the names are those of the row
+ends_row : (s new : State) (id : ℕ) (x : Recorded) (entered : Entered) (row : Demand) (found : Bool → List Key → List Bool) (opened other : Option Opening) (answer : Answer) → keys_in entered ≡ row.entries → is_page entered ≡ row.page → opened ≡ other
+    → Ends (world_of s) id (flight_of x) (record { found = found (is_page entered) (keys_in entered); change = stays; opens = opened }) (keys_in entered) answer (world_of new)
+    → Ends (world_of s) id (flight_of x) (record { found = found row.page row.entries; change = stays; opens = other }) row.entries answer (world_of new)
+ends_row s new id x entered row found opened other answer keys page opens ends =
+    subst (λ (o : Option Opening). Ends (world_of s) id (flight_of x) (record { found = found row.page row.entries; change = stays; opens = o }) row.entries answer (world_of new)) opens
+    (subst (λ (b : Bool). Ends (world_of s) id (flight_of x) (record { found = found b row.entries; change = stays; opens = opened }) row.entries answer (world_of new)) page
+    (subst (λ (ks : List Key). Ends (world_of s) id (flight_of x) (record { found = found (is_page entered) ks; change = stays; opens = opened }) ks answer (world_of new)) keys ends))
 
 pub returns-in-Entry-clause-ends : goal.returns-in-Entry-clause-ends
 returns-in-Entry-clause-ends c e =
+    let s = c.args.self.now in
     let work = c.args.work in
     let case = case_in work.want work.promise in
     let row = row_in work in
-    let w = world_of c.args.self.now in
-    let r = c.give_entry.ensures in
-    subst (λ (o : Outcome). Ends w c.args.id (flight_of e.flight) (act_of row o) row.entries c.give_entry.result (world_of c.give_entry.new.self)) (sym c.in-Entry.is)
-    (ends_with c.args.self.now c.give_entry.new.self r.kept c.args.id e.flight e.here (ap stage_of e.answered) c.acts_of-entries.result.entries row one_found c.give_entry.result
-    (c.acts_of-entries.ensures.entries case) (c.acts_of-entries.ensures.page case) r.told (r.gives e.flight e.here))
+    let w = world_of s in
+    let acts = c.acts_of-entries in
+    let es : Entered = acts.result.entries in
+    let o = acts.result.opens in
+    let r = c.give_entry-answered.ensures in
+    let mid = c.give_entry-answered.new.self in
+    let new = c.open_given-opened.new.self in
+    let opened = c.open_given-opened.result in
+    let answer : Answer = c.give_entry-answered.result.0 in
+    let entered : Option Given = c.give_entry-answered.result.1 in
+    let unopened : answer.opened ≡ None = ap (λ (a : Answer). a.opened) r.told in
+    let first = ends_by s mid r.kept c.args.id e.flight e.here (ap stage_of e.answered) (keys_in es) (one_found (is_page es) (keys_in es)) answer r.told (r.gives e.flight e.here) in
+    let whole = ends_entry w c.args.id (flight_of e.flight) mid new r.kept opened es answer first unopened o entered r.given c.open_given-opened.ensures.opens in
+    subst (λ (out : Outcome). Ends w c.args.id (flight_of e.flight) (act_of row out) row.entries c.with_file.result (world_of new)) (sym c.in-Entry.is)
+    (subst (λ (a : Answer). Ends w c.args.id (flight_of e.flight) (act_of row Entry) row.entries a (world_of new)) (sym c.with_file.ensures)
+    (ends_row s new c.args.id e.flight es row one_found (with_in o es) (opened_with row) (record answer { opened = opened }) (acts.ensures.entries case) (acts.ensures.page case) (acts.ensures.entered case) whole))
 
 pub returns-clause-ends : goal.returns-clause-ends
 returns-clause-ends c e =
+    let s = c.args.self.now in
     let work = c.args.work in
     let case = case_in work.want work.promise in
     let row = row_in work in
-    let w = world_of c.args.self.now in
+    let w = world_of s in
+    let acts = c.acts_of-entries in
+    let es : Entered = acts.result.entries in
     let r = c.give_entries.ensures in
-    subst (λ (o : Outcome). Ends w c.args.id (flight_of e.flight) (act_of row o) row.entries c.give_entries.result (world_of c.give_entries.new.self)) (sym c.in-Entries.is)
-    (ends_with c.args.self.now c.give_entries.new.self r.kept c.args.id e.flight e.here (ap stage_of e.answered) c.acts_of-entries.result.entries row (λ page keys. page_found page keys c.in-Entries.found) c.give_entries.result
-    (c.acts_of-entries.ensures.entries case) (c.acts_of-entries.ensures.page case) r.told (r.gives e.flight e.here))
+    let new = c.give_entries.new.self in
+    let found : Bool → List Key → List Bool = λ page keys. page_found page keys c.in-Entries.found in
+    subst (λ (out : Outcome). Ends w c.args.id (flight_of e.flight) (act_of row out) row.entries c.give_entries.result (world_of new)) (sym c.in-Entries.is)
+    (ends_row s new c.args.id e.flight es row found None None c.give_entries.result (acts.ensures.entries case) (acts.ensures.page case) refl
+    (ends_by s new r.kept c.args.id e.flight e.here (ap stage_of e.answered) (keys_in es) (found (is_page es) (keys_in es)) c.give_entries.result r.told (r.gives e.flight e.here)))

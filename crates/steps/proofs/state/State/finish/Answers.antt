@@ -1,4 +1,4 @@
-use Rattle.std.proofs.Common.{true, ap, subst, sym}
+use Rattle.std.proofs.Common.{None, true, ap, subst, sym}
 use Rattle.flights.specs.Listed.{InFlight}
 use Rattle.steps.specs.Answers.{Answer, Claim}
 use Rattle.steps.specs.Kept.{IsKept, world_of}
@@ -8,9 +8,9 @@ use Rattle.steps.proofs.state.State.finish.Goals as goal
 
 pub returns-in_default-clause-finishes : goal.returns-in_default-clause-finishes
 returns-in_default-clause-finishes c =
-    let r : Answer = record { id = c.ticket.inside.id; given = c.new.result.items; lost = true } in
+    let r : Answer = record { id = c.ticket.inside.id; given = c.new.result.items; lost = true; opened = None } in
     subst (λ (t : Claim). Finishes (world_of c.args.self.now) t.id c.args.outcome r (world_of (record c.args.self.now { flights = c.answer.new.self }))) c.ticket.view_is
-    (finishes_none c.args.self.now c.answer.new.self c.ticket.inside.id c.args.outcome r (ap (λ g. record { id = c.ticket.inside.id; given = g; lost = true }) c.new.ensures) c.in_default.ensures.none c.in_default.ensures.same)
+    (finishes_none c.args.self.now c.answer.new.self c.ticket.inside.id c.args.outcome r (ap (λ g. record { id = c.ticket.inside.id; given = g; lost = true; opened = None }) c.new.ensures) c.in_default.ensures.none c.in_default.ensures.same)
 
 pub returns-in_default-clause-kept : goal.returns-in_default-clause-kept
 returns-in_default-clause-kept c = subst (λ (f : InFlight). IsKept (record c.args.self.now { flights = f })) (sym c.in_default.ensures.same) c.requires
