@@ -127,5 +127,5 @@ pub record RemovesLeft {W C : Type 0} (table : Table W) (gives : C → Asked →
 -- a client was served, and then what it left hidden was removed
 pub record IsSessionRun {W L C : Type 0} (table : Table W) (settings : Settings) (receives : L → Heard → L → Type 0) (sends : L → List ℕ → Sent → L → Type 0) (gives : C → Asked → Answer → C → Type 0) (link : L) (calls : C) (world : W) (link' : L) (calls' : C) (world' : W) (end : SessionEnd) : Type 0 where
   pub left : C
-  pub run : IsClientRun table settings receives sends gives link calls world link' left world' end
+  pub client : IsClientRun table settings receives sends gives link calls world link' left world' end
   pub removal : RemovesLeft table gives left world' calls'

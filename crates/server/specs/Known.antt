@@ -29,7 +29,7 @@ OnTree old (device ∷ devices) (made ∷ more) new = (mid : Tree) × Performs o
 pub record IsKnownServed {L C : Type 0} (settings : Settings) (receives : L → Heard → L → Type 0) (sends : L → List ℕ → Sent → L → Type 0) (gives : C → Asked → Answer → C → Type 0) (tree_of : C → Tree) (faults : C → ℕ) (tree : C) (old : L) (over : SessionEnd) (new : L) : Type 0 where
   pub served : IsServed settings receives sends gives tree old over new
   pub devices : List Device
-  pub on_tree : OnTree (tree_of tree) devices (made_of (turns_of served.run.run.steps) ++ served.run.removal.removals) (tree_of served.left)
+  pub on_tree : OnTree (tree_of tree) devices (made_of (turns_of served.run.client.steps) ++ served.run.removal.removals) (tree_of served.left)
   pub counts : faults served.left ≡ counted (faults tree) (faults_in devices)
 
 -- the same, unless there is no memory for a table
