@@ -2,6 +2,7 @@
 import struct
 
 LOOKUP, FORGET, GETATTR, MKDIR, UNLINK, RMDIR, RENAME, STATFS, INIT, DESTROY = 1, 2, 3, 9, 10, 11, 12, 17, 26, 38
+OPEN, READ, WRITE, FSYNC, FLUSH, CREATE = 14, 15, 16, 20, 25, 35
 OPENDIR, READDIR, RELEASEDIR = 27, 28, 29
 ROOT = 1
 HEADER = struct.Struct("<IIQQIIII")
@@ -34,6 +35,30 @@ def mkdir(unique, parent, name):
 
 def rename(unique, parent, name, new_parent, new_name):
     return request(RENAME, unique, parent, struct.pack("<Q", new_parent) + name.encode() + b"\0" + new_name.encode() + b"\0")
+
+
+def open_file(unique, node, flags):
+    return request(OPEN, unique, node, struct.pack("<II", flags, 0))
+
+
+def create(unique, parent, name, flags):
+    return request(CREATE, unique, parent, struct.pack("<IIII", flags, 0, 0, 0) + name.encode() + b"\0")
+
+
+def read(unique, node, handle, offset, size):
+    return request(READ, unique, node, struct.pack("<QQIIQII", handle, offset, size, 0, 0, 0, 0))
+
+
+def write(unique, node, handle, offset, data):
+    return request(WRITE, unique, node, struct.pack("<QQIIQII", handle, offset, len(data), 0, 0, 0, 0) + data)
+
+
+def fsync(unique, node, handle):
+    return request(FSYNC, unique, node, struct.pack("<QII", handle, 0, 0))
+
+
+def flush(unique, node, handle):
+    return request(FLUSH, unique, node, struct.pack("<QIIQ", handle, 0, 0, 0))
 
 
 def opendir(unique, node):
@@ -79,8 +104,18 @@ def node_of(body):
 
 
 def handle_of(body):
-    """The handle of an open folder."""
+    """The handle of an open file or folder."""
     return struct.unpack_from("<Q", body)[0]
+
+
+def created_of(body):
+    """The node of a file that was made, and its handle."""
+    return struct.unpack_from("<Q", body)[0], struct.unpack_from("<Q", body, 128)[0]
+
+
+def written_of(body):
+    """How many bytes were written."""
+    return struct.unpack_from("<I", body)[0]
 
 
 def names_of(body):

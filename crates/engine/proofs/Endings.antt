@@ -42,6 +42,10 @@ plain node (findings.Error errno) h = (refl, refl)
 plain node findings.Nothing h = (refl, refl)
 plain node (findings.NewEntry found) h = (refl, refl)
 plain node (findings.Attributes found) h = (refl, refl)
+plain node (findings.NewFile found) h = (refl, refl)
+plain node findings.Opening h = (refl, refl)
+plain node (findings.Bytes bytes) h = (refl, refl)
+plain node (findings.Written size) h = (refl, refl)
 
 abbrev ended : Finding → End
 ended finding = record { outcome = outcome_of finding; findings = finding }
@@ -52,6 +56,10 @@ plain_end (findings.Error errno) h = refl
 plain_end findings.Nothing h = refl
 plain_end (findings.NewEntry found) h = refl
 plain_end (findings.Attributes found) h = refl
+plain_end (findings.NewFile found) h = refl
+plain_end findings.Opening h = refl
+plain_end (findings.Bytes bytes) h = refl
+plain_end (findings.Written size) h = refl
 
 none_given_up : (taken : Bool) → GivesUp taken None []
 none_given_up true = refl
@@ -63,6 +71,10 @@ is_plain (findings.Error errno) h = tt
 is_plain findings.Nothing h = tt
 is_plain (findings.NewEntry found) h = tt
 is_plain (findings.Attributes found) h = tt
+is_plain (findings.NewFile found) h = tt
+is_plain findings.Opening h = tt
+is_plain (findings.Bytes bytes) h = tt
+is_plain (findings.Written size) h = tt
 
 module _ {W L : Type 0} (table : Table W) (settings : Settings) (sends : L → List ℕ → Sent → L → Type 0) where
   -- a reply that found no memory

@@ -24,6 +24,7 @@ use Rattle.wire.specs.declared.pairs.Forgotten.{Forgotten}
 use Rattle.ops.specs.declared.intents.FolderUse.{FolderUse}
 use Rattle.engine.specs.Classes.{is_unanswered}
 use Rattle.engine.specs.Replies.{refusal, TakesMemory}
+use Rattle.ops.specs.Replies.{file_reply}
 use Rattle.ops.specs.Scripts.{Made}
 use Rattle.engine.specs.Tables.{Table}
 use Rattle.engine.specs.Walks.{IsAnswered, IsUsedBy, WorkedOff, Performs, CarriesOut}
@@ -96,6 +97,22 @@ module _ {W L C : Type 0} (table : Table W) (settings : Settings) (sends : L →
         sent_is = refl;
         lives = refl;
         asks = inl (q, is, subst (λ (x : Intent). Serves table settings q x world turn world) i (a.said, a.said_is, record { offers = refl; no_call = refl; no_folder = refl; same = refl }));
+        makes = refl;
+        passes = a.offer;
+      }
+
+  -- a request that asks whether a file is open
+  pub asked_of_file : (frame : List ℕ) (q : Request) (fh : ℕ) (meant : ReplyBody) (link link' : L) (calls : C) (world : W) (sent : Sent) → IsRequest frame q → intents.File fh ≡ intent q → meant ≡ file_reply q.node (table.file world fh)
+      → IsAnswered sends (record { unique = q.unique; body = meant }) link sent link'
+      → WorkedOff table settings sends gives frame link calls world (Some sent) link' calls world
+  asked_of_file frame q fh meant link link' calls world sent is i e a =
+      let turn = answering frame a.refused [] q.unique a.said sent in
+      record {
+        turn = turn;
+        frame_is = refl;
+        sent_is = refl;
+        lives = refl;
+        asks = inl (q, is, subst (λ (x : Intent). Serves table settings q x world turn world) i (a.said, subst (λ (body : ReplyBody). IsSaid a.refused body a.said) e a.said_is, record { offers = refl; no_call = refl; no_folder = refl; same = refl }));
         makes = refl;
         passes = a.offer;
       }

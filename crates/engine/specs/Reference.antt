@@ -34,7 +34,7 @@ use Rattle.ops.specs.declared.intents.FolderUse.{FolderUse}
 use Rattle.ops.specs.Intents.{Intent, intent}
 use Rattle.ops.specs.Intents as intents
 use Rattle.engine.specs.Replies.{TakesMemory}
-use Rattle.ops.specs.Replies.{reply_to}
+use Rattle.ops.specs.Replies.{file_reply, reply_to}
 use Rattle.ops.specs.Scripts.{plan_of, End, Made, Follows}
 use Rattle.engine.specs.Tables.{Table}
 
@@ -223,6 +223,7 @@ module _ {W : Type 0} (table : Table W) (settings : Settings) where
   abbrev pub Serves : Request → Intent → W → Turn → W → Type 0
   Serves q (intents.Reply meant) old turn new = Answers q.unique meant old turn new
   Serves q (intents.Begin want) old turn new = WorksOff turn.refused q want old turn new
+  Serves q (intents.File fh) old turn new = Answers q.unique (file_reply q.node (table.file old fh)) old turn new
   Serves q (intents.Folder fh usage) old turn new = UsesFolder q fh usage old turn new
   Serves q (intents.Forget lookups) old turn new = IsSilent turn × ForgetsAll table old lookups new
   Serves q intents.Nothing old turn new = IsSilent turn × (new ≡ old)

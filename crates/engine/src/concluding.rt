@@ -83,7 +83,7 @@ impl Desk {
     {
         let (unique, node) = (request.unique, request.node);
         let answered = table.finish(share, ticket, found.outcome());
-        let body = reply_to(self.settings, node, &found, None, &answered);
+        let body = reply_to(self.settings, node, found, None, &answered);
         let (sent, _) = self.settle(link, table, share, answered, Reply { unique, body });
         sent
     }

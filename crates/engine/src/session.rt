@@ -21,7 +21,7 @@ use errno::{EIO, ENOMEM};
 use flights::Want;
 use handles::{Dirs, Listing, ListingFault};
 use ledger::{Ledgers, Share};
-use ops::{Finding, FolderUse, Intent, Script, Settings, intent_of};
+use ops::{Finding, FolderUse, Intent, Script, Settings, file_reply, intent_of};
 use std::alloc::Global;
 use std::sync::Wait;
 use table::{Begin, Table, Ticket};
@@ -247,6 +247,11 @@ impl Desk {
                 Ok(want) => Some(self.carry(rt, dirs, link, calls, table, share, request, want)),
                 Err(_) => Some(refuse(link, request.unique, ENOMEM)),
             },
+            Intent::File { fh } => {
+                let body = file_reply(request.node, table.file(fh));
+                let unique = request.unique;
+                Some(self.answer(link, Reply { unique, body }))
+            }
             Intent::Folder { fh, usage } => {
                 Some(self.use_folder(rt, dirs, link, &request, fh, usage))
             }

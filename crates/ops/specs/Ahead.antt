@@ -6,19 +6,23 @@ use Rattle.steps.specs.declared.data.Outcome.{Outcome}
 use Rattle.steps.specs.declared.data.Outcome.TheVariants.{Failed, Done, Entry}
 use Rattle.ops.specs.declared.findings.Found.{Found}
 use Rattle.ops.specs.declared.findings.Finding.{Finding}
-use Rattle.ops.specs.declared.findings.Finding.TheVariants.{Error, Nothing, NewEntry, Attributes, Listed}
+use Rattle.ops.specs.declared.findings.Finding.TheVariants.{Error, Nothing, NewEntry, NewFile, Attributes, Opening, Bytes, Written, Listed}
 use Rattle.ops.specs.declared.script.Ending.{Ending}
 use Rattle.ops.specs.declared.script.Ending.TheVariants as ending
 use Rattle.ops.specs.declared.script.Script.{Script}
 use Rattle.ops.specs.declared.script.Telling.{Telling}
 use Rattle.ops.specs.declared.script.Telling.TheVariants as telling
-use Rattle.ops.specs.Scripts.{Plan, Over, End, failed, list, listed_end, make, look}
+use Rattle.ops.specs.Scripts.{Plan, Over, End, failed, list, listed_end, make, look, open_end, read, write}
 
 abbrev pub outcome_of : Finding → Outcome
 outcome_of (Error errno) = Failed
 outcome_of Nothing = Done
 outcome_of (NewEntry found) = Entry
+outcome_of (NewFile found) = Entry
 outcome_of (Attributes found) = Done
+outcome_of Opening = Done
+outcome_of (Bytes bytes) = Done
+outcome_of (Written count) = Done
 outcome_of (Listed children) = Done
 
 -- names that are lawless are an error
@@ -27,14 +31,18 @@ end_of (Listed children) = listed_end children
 end_of finding = record { outcome = outcome_of finding; findings = finding }
 
 -- what is told of what was found
-abbrev pub told_of : Telling → Found → Finding
-told_of telling.Nothing found = Nothing
-told_of telling.Entry found = NewEntry found
-told_of telling.Attributes found = Attributes found
+abbrev pub told_of : Telling → Found → End
+told_of telling.Nothing found = end_of Nothing
+told_of telling.Entry found = end_of (NewEntry found)
+told_of telling.NewFile found = end_of (NewFile found)
+told_of telling.Attributes found = end_of (Attributes found)
+told_of telling.Opening found = open_end found.kind
 
 abbrev pub plan_ending : Ending → Plan
-plan_ending (ending.Look p tells) = look p.now (λ found. Over (end_of (told_of tells found)))
+plan_ending (ending.Look p tells) = look p.now (λ found. Over (told_of tells found))
 plan_ending (ending.List p) = list p.now
+plan_ending (ending.Read p offset size) = read p.now offset size
+plan_ending (ending.Write p offset piece) = write p.now offset piece.now
 plan_ending (ending.Over finding) = Over (end_of finding)
 
 abbrev pub plan_from : Option Call → Plan → Plan
@@ -54,6 +62,8 @@ plan_ahead script = plan_from script.change (plan_ending script.ending)
 abbrev pub calls_ending : Ending → ℕ
 calls_ending (ending.Look p tells) = 1
 calls_ending (ending.List p) = 1
+calls_ending (ending.Read p offset size) = 1
+calls_ending (ending.Write p offset piece) = 1
 calls_ending (ending.Over finding) = 0
 
 abbrev pub calls_from : Option Call → ℕ

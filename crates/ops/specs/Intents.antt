@@ -1,8 +1,12 @@
 -- What a request needs before its script.
-use Rattle.std.specs.Prelude.{ℕ, ℤ, ◌+◌, ◌*◌, ◌^◌, ◌==◌, Bool, true, false, if◌then◌else◌, List, [], ◌∷◌, None}
+use Rattle.std.specs.Prelude.{ℕ, ℤ, ◌+◌, ◌*◌, ◌^◌, ◌%◌, ◌==◌, Bool, true, false, if◌then◌else◌, List, [], ◌∷◌, Option, Some, None}
 use Rattle.std.specs.Int.{bit_at}
 use Rattle.std.specs.List.{list_any}
-use Rattle.errno.specs.declared.TheConstants.{EPERM, ENOENT, EBADF, ENOSYS}
+use Rattle.errno.specs.declared.TheConstants.{EPERM, ENOENT, EINVAL, ENOSYS}
+use Rattle.files.specs.declared.data.Access.{Access}
+use Rattle.files.specs.declared.data.Access.TheVariants.{Reading, Writing, Both}
+use Rattle.files.specs.declared.data.Need.{Need}
+use Rattle.files.specs.declared.data.Need.TheVariants as need
 use Rattle.flights.specs.declared.data.Want.{Want}
 use Rattle.flights.specs.declared.data.Want.TheVariants as wants
 use Rattle.hidden.specs.Hidden.{is_reserved}
@@ -23,6 +27,7 @@ use Rattle.ops.specs.declared.wanted.Wanted.TheVariants as wanted
 pub data Intent : Type 0 where
   Reply : (body : ReplyBody) → Intent  -- it is answered at once
   Begin : (want : Want) → Intent  -- it is begun with a want
+  File : (fh : ℕ) → Intent  -- it asks whether a file is open under a handle on its node, and needs no script
   Folder : (fh : ℕ) → (usage : FolderUse) → Intent  -- it uses the folder that is open under a handle
   Forget : (lookups : List Forgotten) → Intent  -- it gives lookups back, one after another, and is not answered
   Nothing : Intent  -- the session works it off itself, or it is passed over
@@ -59,11 +64,31 @@ has_handle valid = bit_at valid 6 == 1
 abbrev pub sets_other : ℕ → Bool
 sets_other valid = if valid == 2 ^ 3 * bit_at valid 3 + 2 ^ 6 * bit_at valid 6 + 2 ^ 9 * bit_at valid 9 then false else true
 
--- No file can be open yet, so no handle is.
-abbrev pub set_intent : ℕ → ℕ → Intent
-set_intent node valid =
+-- ---- open files
+
+-- the two lowest bits of the flags of an open
+abbrev pub access_of : ℕ → Option Access
+access_of flags =
+    if flags % 4 == 0 then Some Reading else
+    if flags % 4 == 1 then Some Writing else
+    if flags % 4 == 2 then Some Both else None
+
+abbrev pub open_intent : ℕ → Option Access → Intent
+open_intent node (Some access) = Begin (wants.Open node access)
+open_intent node None = refused EINVAL
+
+abbrev pub create_intent : ℕ → List ℕ → Option Access → Intent
+create_intent parent name (Some access) = Begin (wants.Create parent name access)
+create_intent parent name None = refused EINVAL
+
+-- the node, by the handle of an open file
+abbrev pub by_handle : ℕ → ℕ → Need → Intent
+by_handle node fh needed = Begin (wants.Node node (Some (record { fh = fh; need = needed })))
+
+abbrev pub set_intent : ℕ → ℕ → ℕ → Intent
+set_intent node valid fh =
     if sets_other valid then refused EPERM else
-    if has_handle valid then refused EBADF else Begin (wants.Node node None)
+    if has_handle valid then by_handle node fh need.Writing else Begin (wants.Node node None)
 
 -- ---- the table of intents, reserved names aside
 
@@ -71,20 +96,20 @@ abbrev pub intended : ℕ → Operation → Intent
 intended node (ops.Lookup name) = Begin (wants.Name node name.now)
 intended node (ops.Forget n) = Forget (record { node = node; nlookup = n } ∷ [])
 intended node ops.GetAttr = Begin (wants.Node node None)
-intended node (ops.SetAttr valid fh size) = set_intent node valid
+intended node (ops.SetAttr valid fh size) = set_intent node valid fh
 intended node (ops.MakeDir name) = Begin (wants.Name node name.now)
 intended node (ops.Unlink name) = Begin (wants.Remove node name.now)
 intended node (ops.RemoveDir name) = Begin (wants.Remove node name.now)
 intended node (ops.Rename name new_parent new_name) = Begin (wants.Move node name.now new_parent new_name.now)
 intended node ops.StatFs = Reply StatFs
 intended node (ops.Init major minor max_readahead flags) = Nothing
-intended node (ops.Open flags) = refused ENOSYS
-intended node (ops.Read fh offset size) = refused ENOSYS
-intended node (ops.Write fh offset written) = refused ENOSYS
+intended node (ops.Open flags) = open_intent node (access_of flags)
+intended node (ops.Read fh offset size) = by_handle node fh need.Reading
+intended node (ops.Write fh offset written) = by_handle node fh need.Writing
 intended node (ops.Release fh) = refused ENOSYS
-intended node (ops.Sync fh) = refused ENOSYS
-intended node (ops.Flush fh) = refused ENOSYS
-intended node (ops.Create name flags) = refused ENOSYS
+intended node (ops.Sync fh) = by_handle node fh need.Any
+intended node (ops.Flush fh) = File fh
+intended node (ops.Create name flags) = create_intent node name.now (access_of flags)
 intended node ops.OpenDir = Begin (wants.Node node None)
 intended node (ops.ReadDir fh offset size) = Folder fh (uses.ReadNames offset size)
 intended node (ops.ReleaseDir fh) = Folder fh uses.GiveUp
@@ -101,14 +126,17 @@ intent q = if list_any (λ name. is_reserved name) (names_of q.operation) then r
 -- ---- an intent in its code, wherever the names lie in memory
 
 abbrev pub want_of : Wanted → Want
-want_of (wanted.Node number) = wants.Node number None
+want_of (wanted.Node number handle) = wants.Node number handle
 want_of (wanted.Name parent name) = wants.Name parent name.now
 want_of (wanted.Remove parent name) = wants.Remove parent name.now
 want_of (wanted.Move parent name new_parent new_name) = wants.Move parent name.now new_parent new_name.now
+want_of (wanted.Open number access) = wants.Open number access
+want_of (wanted.Create parent name access) = wants.Create parent name.now access
 
 abbrev pub intent_in : Coded → Intent
 intent_in (coded.Reply body) = Reply body
 intent_in (coded.Want wanted) = Begin (want_of wanted)
+intent_in (coded.File fh) = File fh
 intent_in (coded.Folder fh usage) = Folder fh usage
 intent_in (coded.Forget lookups) = Forget (lookups ∷ [])
 intent_in (coded.ForgetAll pairs) = Forget (pairs_in pairs.now)
@@ -116,5 +144,6 @@ intent_in coded.Nothing = Nothing
 
 -- it has a name, which takes memory to keep
 abbrev pub HasName : Wanted → Type 0
-HasName (wanted.Node number) = ⊥
+HasName (wanted.Node number handle) = ⊥
+HasName (wanted.Open number access) = ⊥
 HasName wanted = Unit {0}

@@ -1,11 +1,11 @@
 -- What an answer of a directory counts as: one that is not right for its call is EIO.
-use Rattle.std.specs.Prelude.{ℕ, ℤ, pos, int_le, ◌&&◌, ◌==◌, Bool, true, false, if◌then◌else◌}
+use Rattle.std.specs.Prelude.{ℕ, ℤ, pos, int_le, nat_le, nat_lt, ◌^◌, ◌&&◌, ◌==◌, Bool, true, false, if◌then◌else◌, List, length}
 use Rattle.errno.specs.declared.TheConstants.{EIO}
 use Rattle.backing.specs.declared.call.Kind.{Kind}
 use Rattle.backing.specs.declared.call.Kind.TheVariants.{Folder, File}
 use Rattle.backing.specs.declared.call.Answer.{Answer}
-use Rattle.backing.specs.declared.call.Answer.TheVariants.{Done, Stat, Names, Fault}
-use Rattle.backing.specs.Calls.{Asked, AskStat, AskList, AskMakeDir, AskRemove, AskRemoveDir, AskRename, AskSetLen}
+use Rattle.backing.specs.declared.call.Answer.TheVariants.{Done, Stat, Names, Bytes, Wrote, Fault}
+use Rattle.backing.specs.Calls.{Asked, AskStat, AskList, AskMake, AskMakeDir, AskRemove, AskRemoveDir, AskRename, AskRead, AskWrite, AskSetLen, AskSync}
 
 -- an error number is 1 to 4,095
 abbrev pub is_errno : ℤ → Bool
@@ -21,15 +21,23 @@ abbrev pub is_sized : Kind → ℕ → Bool
 is_sized Folder size = size == 0
 is_sized File size = true
 
--- the answer is of its call's kind and shape; a call that joins is one more line
+-- as many were written as are there, or fewer; and a reply can tell it, by 32 bits
+abbrev pub is_written : List ℕ → ℕ → Bool
+is_written piece count = nat_le count (length piece) && nat_lt count (2 ^ 32)
+
+-- the answer is of its call's kind and shape, and no more than was asked
 abbrev pub fits : Asked → Answer → Bool
 fits (AskStat p) (Stat kind size) = is_sized kind size
 fits (AskList p) (Names children) = true
+fits (AskMake p) Done = true
 fits (AskMakeDir p) Done = true
 fits (AskRemove p) Done = true
 fits (AskRemoveDir p) Done = true
 fits (AskRename s t) Done = true
+fits (AskRead p offset size) (Bytes bytes) = nat_le (length bytes) size
+fits (AskWrite p offset piece) (Wrote count) = is_written piece count
 fits (AskSetLen p size) Done = true
+fits (AskSync p) Done = true
 fits call answer = false
 
 abbrev pub judged : Asked → Answer → Answer

@@ -1,13 +1,15 @@
 -- What each request asks of the directory, and what it comes to.
 use Rattle.std.specs.Prelude.{ℕ, ℤ, ◌≡◌, Bool, true, false, if◌then◌else◌, List, [], ◌∷◌, Option, Some, None}
-use Rattle.errno.specs.declared.TheConstants.{EIO}
+use Rattle.errno.specs.declared.TheConstants.{EIO, EISDIR}
 use Rattle.paths.specs.Prefixes.{Names}
+use Rattle.backing.specs.declared.call.Kind.{Kind}
+use Rattle.backing.specs.declared.call.Kind.TheVariants as kinds
 use Rattle.backing.specs.declared.call.Answer.{Answer}
 use Rattle.backing.specs.declared.call.Answer.TheVariants as told
 use Rattle.backing.specs.declared.call.Call.{Call}
 use Rattle.backing.specs.declared.call.Child.{Child}
 use Rattle.handles.specs.Listings.{are_lawful}
-use Rattle.backing.specs.Calls.{Asked, asked, AskStat, AskList, AskMakeDir, AskRemove, AskRemoveDir, AskRename, AskSetLen}
+use Rattle.backing.specs.Calls.{Asked, asked, AskStat, AskList, AskMake, AskMakeDir, AskRemove, AskRemoveDir, AskRename, AskRead, AskWrite, AskSetLen, AskSync}
 use Rattle.steps.specs.Answers.{Claim}
 use Rattle.steps.specs.declared.data.Outcome.{Outcome}
 use Rattle.steps.specs.declared.data.Outcome.TheVariants.{Failed, Done, Entry}
@@ -15,7 +17,7 @@ use Rattle.wire.specs.declared.request.Operation.{Operation}
 use Rattle.wire.specs.declared.request.Operation.TheVariants as ops
 use Rattle.ops.specs.declared.findings.Found.{Found}
 use Rattle.ops.specs.declared.findings.Finding.{Finding}
-use Rattle.ops.specs.declared.findings.Finding.TheVariants.{Error, Nothing, NewEntry, Attributes, Listed}
+use Rattle.ops.specs.declared.findings.Finding.TheVariants.{Error, Nothing, NewEntry, NewFile, Attributes, Opening, Bytes, Written, Listed}
 use Rattle.ops.specs.Intents.{sets_size}
 use Rattle.ops.specs.Judged.{errno_in, judged}
 
@@ -64,6 +66,20 @@ if_listed answer = failed (errno_in answer)
 abbrev pub list : Names → Plan
 list p = Ask (AskList p) if_listed
 
+abbrev pub if_read : Answer → Plan
+if_read (told.Bytes bytes) = over Done (Bytes bytes)
+if_read answer = failed (errno_in answer)
+
+abbrev pub read : Names → (offset size : ℕ) → Plan
+read p offset size = Ask (AskRead p offset size) if_read
+
+abbrev pub if_written : Answer → Plan
+if_written (told.Wrote count) = over Done (Written count)
+if_written answer = failed (errno_in answer)
+
+abbrev pub write : Names → ℕ → List ℕ → Plan
+write p offset piece = Ask (AskWrite p offset piece) if_written
+
 -- ---- the paths of a ticket. One that has not the paths of its request, which no table makes, is an EIO.
 
 -- the node's, or the name's
@@ -83,6 +99,17 @@ give_entry p = look p (λ found. over Entry (NewEntry found))
 
 abbrev pub tell_attributes : Names → Plan
 tell_attributes p = look p (λ found. over Done (Attributes found))
+
+abbrev pub give_file : Names → Plan
+give_file p = look p (λ found. over Entry (NewFile found))
+
+-- a folder is not opened as a file
+abbrev pub open_end : Kind → End
+open_end kinds.Folder = record { outcome = Failed; findings = Error EISDIR }
+open_end kinds.File = record { outcome = Done; findings = Opening }
+
+abbrev pub open_file : Names → Plan
+open_file p = look p (λ found. Over (open_end found.kind))
 
 abbrev pub done : Plan
 done = over Done Nothing
@@ -108,18 +135,18 @@ plan_of (ops.MakeDir name) ticket = at_path ticket.paths (λ p. make (AskMakeDir
 plan_of (ops.Unlink name) ticket = at_path ticket.paths (λ p. make (AskRemove p) done)
 plan_of (ops.RemoveDir name) ticket = at_path ticket.paths (λ p. make (AskRemoveDir p) done)
 plan_of (ops.Rename name new_parent new_name) ticket = at_paths ticket.paths (λ s t. rename ticket.same s t)
+plan_of (ops.Open flags) ticket = at_path ticket.paths (λ p. open_file p)
+plan_of (ops.Read fh offset size) ticket = at_path ticket.paths (λ p. read p offset size)
+plan_of (ops.Write fh offset piece) ticket = at_path ticket.paths (λ p. write p offset piece.now)
+plan_of (ops.Sync fh) ticket = at_path ticket.paths (λ p. make (AskSync p) done)
+plan_of (ops.Create name flags) ticket = at_path ticket.paths (λ p. make (AskMake p) (give_file p))
 plan_of ops.OpenDir ticket = at_path ticket.paths (λ p. list p)
 -- The others make no call.
 plan_of (ops.Forget n) ticket = failed EIO
 plan_of ops.StatFs ticket = failed EIO
 plan_of (ops.Init major minor max_readahead flags) ticket = failed EIO
-plan_of (ops.Open flags) ticket = failed EIO
-plan_of (ops.Read fh offset size) ticket = failed EIO
-plan_of (ops.Write fh offset written) ticket = failed EIO
 plan_of (ops.Release fh) ticket = failed EIO
-plan_of (ops.Sync fh) ticket = failed EIO
 plan_of (ops.Flush fh) ticket = failed EIO
-plan_of (ops.Create name flags) ticket = failed EIO
 plan_of (ops.ReadDir fh offset size) ticket = failed EIO
 plan_of (ops.ReleaseDir fh) ticket = failed EIO
 plan_of (ops.SyncDir fh) ticket = failed EIO

@@ -3,7 +3,7 @@
 ghost use Rattle.std.specs.Prelude.{◌≡◌};
 ghost use Rattle.ops.specs.Ahead.{outcome_of};
 
-use backing::{Children, Kind};
+use backing::{Bytes, Children, Kind};
 use table::Outcome;
 
 /// What stands at a path.
@@ -23,8 +23,16 @@ pub enum Finding {
     Nothing,
     /// An entry of this is to be given.
     NewEntry(Found),
+    /// A file of this was made: an entry of it is to be given, and it is to be opened.
+    NewFile(Found),
     /// Attributes are told.
     Attributes(Found),
+    /// A file stands there, and is to be opened.
+    Opening,
+    /// Bytes of a file.
+    Bytes(Bytes),
+    /// So many bytes were written.
+    Written { size: u32 },
     /// A folder has these names. A listing is made of them yet; where they are lawless, that is an error, EIO (own).
     Listed(Children),
 }
@@ -36,8 +44,13 @@ impl Finding {
     {
         match self {
             Finding::Error { .. } => Outcome::Failed,
-            Finding::Nothing | Finding::Attributes(_) | Finding::Listed(_) => Outcome::Done,
-            Finding::NewEntry(_) => Outcome::Entry,
+            Finding::Nothing
+            | Finding::Attributes(_)
+            | Finding::Opening
+            | Finding::Bytes(_)
+            | Finding::Written { .. }
+            | Finding::Listed(_) => Outcome::Done,
+            Finding::NewEntry(_) | Finding::NewFile(_) => Outcome::Entry,
         }
     }
 }

@@ -5,8 +5,10 @@ ghost use Rattle.std.specs.List.{list_any};
 ghost use Rattle.hidden.specs.Hidden.{is_reserved};
 ghost use Rattle.ops.specs.Intents.{intent_in, has_handle, intended, intent, names_of, refused, reserved_errno, set_intent, sets_other, sets_size};
 
+use crate::opening::{by_handle, create_intent, open_intent};
 use crate::wanted::Wanted;
-use errno::{EBADF, ENOENT, ENOSYS, EPERM};
+use errno::{ENOENT, ENOSYS, EPERM};
+use files::Need;
 use hidden::is_reserved;
 use wire::{Forgotten, Operation, ReplyBody, Request};
 
@@ -17,6 +19,8 @@ pub enum Intent<'a> {
     Reply(ReplyBody),
     /// It is begun with a want.
     Want(Wanted<'a>),
+    /// It asks whether a file is open under a handle on its node, and needs no script.
+    File { fh: u64 },
     /// It uses the folder that is open under a handle, and needs no table.
     Folder { fh: u64, usage: FolderUse },
     /// It gives lookups of a node back, and is not answered.
@@ -112,23 +116,26 @@ fn sets_other(valid: u32) -> bool
 }
 
 /// It is refused at once.
-fn refused<'a>(errno: i32) -> Intent<'a>
+pub(crate) fn refused<'a>(errno: i32) -> Intent<'a>
     ensures { intent_in result ≡ refused errno }
 {
     Intent::Reply(ReplyBody::Failed { errno })
 }
 
-/// SETATTR changes a size alone: any other field is EPERM (own). A handle is EBADF (POSIX's `ftruncate`), since no file can be open yet.
-fn set_intent<'a>(node: u64, valid: u32) -> Intent<'a>
-    ensures { intent_in result ≡ set_intent node valid }
+/// SETATTR changes a size alone: any other field is EPERM (own). With a handle the file must be open for writing.
+fn set_intent<'a>(node: u64, valid: u32, fh: u64) -> Intent<'a>
+    ensures { intent_in result ≡ set_intent node valid fh }
 {
     if sets_other(valid) {
         return refused(EPERM);
     }
     if has_handle(valid) {
-        return refused(EBADF);
+        return by_handle(node, fh, Need::Writing);
     }
-    Intent::Want(Wanted::Node { number: node })
+    Intent::Want(Wanted::Node {
+        number: node,
+        handle: None,
+    })
 }
 
 /// What the operation needs, reserved names aside.
@@ -142,8 +149,17 @@ fn intended<'a>(node: u64, operation: Operation<'a>) -> Intent<'a>
         }
         Operation::Forget { nlookup } => Intent::Forget(Forgotten { node, nlookup }),
         Operation::BatchForget { pairs } => Intent::ForgetAll { pairs },
-        Operation::GetAttr | Operation::OpenDir => Intent::Want(Wanted::Node { number: node }),
-        Operation::SetAttr { valid, .. } => set_intent(node, valid),
+        Operation::GetAttr | Operation::OpenDir => Intent::Want(Wanted::Node {
+            number: node,
+            handle: None,
+        }),
+        Operation::SetAttr { valid, fh, .. } => set_intent(node, valid, fh),
+        Operation::Open { flags } => open_intent(node, flags),
+        Operation::Create { name, flags } => create_intent(parent, name, flags),
+        Operation::Read { fh, .. } => by_handle(node, fh, Need::Reading),
+        Operation::Write { fh, .. } => by_handle(node, fh, Need::Writing),
+        Operation::Sync { fh } => by_handle(node, fh, Need::Any),
+        Operation::Flush { fh } => Intent::File { fh },
         Operation::Unlink { name } | Operation::RemoveDir { name } => {
             Intent::Want(Wanted::Remove { parent, name })
         }
@@ -170,22 +186,15 @@ fn intended<'a>(node: u64, operation: Operation<'a>) -> Intent<'a>
             fh,
             usage: FolderUse::Sync,
         },
-        Operation::Open { .. }
-        | Operation::Read { .. }
-        | Operation::Write { .. }
-        | Operation::Release { .. }
-        | Operation::Sync { .. }
-        | Operation::Flush { .. }
-        | Operation::Create { .. }
-        | Operation::ReadDirPlus { .. } => refused(ENOSYS),
+        Operation::Release { .. } | Operation::ReadDirPlus { .. } => refused(ENOSYS),
         Operation::Init { .. } | Operation::Interrupt | Operation::Destroy => Intent::Nothing,
     }
 }
 
 /// What the request needs. It takes no memory: names stay in the request's frame.
 ///
-/// Refused at once are, in this order: a reserved name, by ENOENT for LOOKUP and EPERM for any other (own); SETATTR of any field but the
-/// size, a handle and the owner of a lock, by EPERM (own); and SETATTR by a handle, by EBADF (POSIX).
+/// Refused at once are: a reserved name, before all else, by ENOENT for LOOKUP and EPERM for any other (own); SETATTR of any field but the
+/// size, a handle and the owner of a lock, by EPERM (own); and OPEN and CREATE whose flags name no access, by EINVAL.
 pub fn intent_of<'a>(request: &Request<'a>) -> Intent<'a>
     ensures { intent_in result ≡ intent request.now }
 {

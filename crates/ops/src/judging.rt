@@ -2,23 +2,34 @@
 
 ghost use Rattle.std.specs.Prelude.{◌≡◌};
 ghost use Rattle.backing.specs.Calls.{asked};
-ghost use Rattle.ops.specs.Judged.{errno_in, fits, judged};
+ghost use Rattle.ops.specs.Judged.{errno_in, fits, is_written, judged};
 
 use backing::{Answer, Call, Kind};
 use errno::EIO;
 
-/// Whether the answer is of its call's kind and shape. Calls that no script makes yet have no such answer.
+/// Whether so many bytes of the piece may have been written: no more than there are, nor than a reply can tell.
+fn is_written(piece: &[u8], count: usize) -> bool
+    ensures { result ≡ is_written piece.now count }
+{
+    count <= piece.len() && count < 1 << 32
+}
+
+/// Whether the answer is of its call's kind and shape, and no more than was asked for.
 fn fits(call: Call<'_>, answer: &Answer) -> bool
     ensures { result ≡ fits (asked call.entry) answer.now }
 {
     match (call, answer) {
         (Call::Stat(_), Answer::Stat { kind, size }) => *kind == Kind::File || *size == 0,
+        (Call::Read { size, .. }, Answer::Bytes(bytes)) => bytes.len() <= size as usize,
+        (Call::Write { data, .. }, Answer::Wrote(count)) => is_written(data, *count),
         (
-            Call::MakeDir(_)
+            Call::Make(_)
+            | Call::MakeDir(_)
             | Call::Remove(_)
             | Call::RemoveDir(_)
             | Call::Rename { .. }
-            | Call::SetLen { .. },
+            | Call::SetLen { .. }
+            | Call::Sync(_),
             Answer::Done,
         )
         | (Call::List(_), Answer::Names(_)) => true,

@@ -1,13 +1,14 @@
 //! Replies to requests.
 
 ghost use Rattle.std.specs.Prelude.{◌≡◌};
-ghost use Rattle.ops.specs.Replies.{attributes_of, entry_of, entry_reply, first, kind_of, opened_reply, reply_to};
+ghost use Rattle.ops.specs.Replies.{attributes_of, created_reply, entry_of, entry_reply, file_reply, first, handle_reply, kind_of, opened_reply, reply_to};
 
 use crate::findings::{Finding, Found};
-use errno::{EIO, ENFILE};
+use errno::{EBADF, EIO, ENFILE};
+use files::OpenFile;
 use flights::Given;
 use table::Answered;
-use wire::{Attributes, Entry, Kind, ReplyBody};
+use wire::{Attributes, Data, Entry, Kind, ReplyBody};
 
 /// Who owns what is mirrored.
 #[derive(Clone, Copy, Debug, PartialEq, Eq)]
@@ -69,38 +70,79 @@ fn entry_reply(settings: Settings, found: Found, given: Option<Given>) -> ReplyB
     }
 }
 
+/// The entry and the handle of a file that was made and opened, or EIO (own) where either was not given.
+fn created_reply(
+    settings: Settings,
+    found: Found,
+    given: Option<Given>,
+    opened: Option<u64>,
+) -> ReplyBody
+    ensures { result ≡ created_reply settings found given opened }
+{
+    match (given, opened) {
+        (Some(given), Some(fh)) => ReplyBody::Created {
+            entry: entry_of(settings, found, given),
+            fh,
+        },
+        _ => ReplyBody::Failed { errno: EIO },
+    }
+}
+
+/// The handle, or the error where there is none.
+fn handle_reply(fh: Option<u64>, errno: i32) -> ReplyBody
+    ensures { result ≡ handle_reply errno fh }
+{
+    match fh {
+        Some(fh) => ReplyBody::Opened { fh },
+        None => ReplyBody::Failed { errno },
+    }
+}
+
 /// The handle under which a listing was stored, or ENFILE (own) where it was not.
 pub fn opened_reply(put: Option<u64>) -> ReplyBody
     ensures { result ≡ opened_reply put }
 {
-    match put {
-        Some(fh) => ReplyBody::Opened { fh },
-        None => ReplyBody::Failed { errno: ENFILE },
+    handle_reply(put, ENFILE)
+}
+
+/// What FLUSH is answered, by the open file under its handle: it is done where that is of the node, else EBADF.
+pub fn file_reply(node: u64, file: Option<OpenFile>) -> ReplyBody
+    ensures { result ≡ file_reply node file }
+{
+    match file {
+        Some(file) if file.number == node => ReplyBody::Done,
+        _ => ReplyBody::Failed { errno: EBADF },
     }
 }
 
 /// What a request about a node is answered, by what its script found, the handle under which its listing was stored, if it was, and
 /// what its table gave.
 ///
-/// An error that its script found is told as it is. An entry that the table did not give is EIO (own), and a listing that was not
-/// stored ENFILE (own).
+/// An error that its script found is told as it is. An entry or a handle that the table did not give is EIO (own), and a listing that
+/// was not stored ENFILE (own). It takes no memory: bytes that were read become the reply.
 pub fn reply_to(
     settings: Settings,
     node: u64,
-    finding: &Finding,
+    finding: Finding,
     put: Option<u64>,
     answered: &Answered,
 ) -> ReplyBody
-    ensures { result ≡ reply_to settings node finding.now put answered.now }
+    ensures { result ≡ reply_to settings node finding put answered.now }
 {
     match finding {
-        Finding::Error { errno } => ReplyBody::Failed { errno: *errno },
+        Finding::Error { errno } => ReplyBody::Failed { errno },
         Finding::Nothing => ReplyBody::Done,
-        Finding::NewEntry(found) => entry_reply(settings, *found, first_given(answered)),
+        Finding::NewEntry(found) => entry_reply(settings, found, first_given(answered)),
+        Finding::NewFile(found) => {
+            created_reply(settings, found, first_given(answered), answered.opened())
+        }
         Finding::Attributes(found) => ReplyBody::Attributes {
             node,
-            attributes: attributes_of(settings, *found),
+            attributes: attributes_of(settings, found),
         },
+        Finding::Opening => handle_reply(answered.opened(), EIO),
+        Finding::Bytes(bytes) => ReplyBody::Data(Data::new(bytes.into_vec())),
+        Finding::Written { size } => ReplyBody::Wrote { size },
         Finding::Listed(_) => opened_reply(put),
     }
 }

@@ -1,15 +1,17 @@
-//! The calls of one request: at most one that changes something, and then at most one look at what stands there.
+//! The calls of one request: at most one that changes something, and then at most one whose answer the reply tells.
 
 ghost use Rattle.std.specs.Prelude.{◌≡◌, ◌<◌};
-ghost use Rattle.ops.specs.Ahead.{calls_left, end_of, plan_ahead, plan_from, told_of, unless};
+ghost use Rattle.backing.specs.Calls.{AskWrite};
+ghost use Rattle.ops.specs.Ahead.{calls_left, end_of, plan_ahead, plan_ending, plan_from, told_of, unless};
 ghost use Rattle.ops.specs.Intents.{sets_size};
-ghost use Rattle.ops.specs.Scripts.{after, at_paths, if_done, if_found, if_listed, next_of, plan_of, rename, set_size, AsksNext, End, Over, Plan};
+ghost use Rattle.ops.specs.Judged.{judged};
+ghost use Rattle.ops.specs.Scripts.{after, at_paths, if_done, if_found, if_listed, if_read, if_written, look, next_of, open_end, plan_of, rename, set_size, AsksNext, End, Over, Plan};
 
 use crate::findings::{Finding, Found};
 use crate::intents::sets_size;
 use crate::judging::{errno_in, judge};
-use backing::{Answer, Call};
-use errno::EIO;
+use backing::{Answer, Call, Kind};
+use errno::{EIO, EISDIR};
 use paths::Path;
 use table::Ticket;
 use wire::Operation;
@@ -19,16 +21,37 @@ use wire::Operation;
 pub enum Telling {
     Nothing,
     Entry,
+    /// A file that was made is given and opened.
+    NewFile,
     Attributes,
+    /// A file is opened; a folder is EISDIR.
+    Opening,
 }
 
 /// How a script ends.
 #[derive(Drop)]
 pub enum Ending<'a> {
     /// It asks what stands at the path, and tells that of it.
-    Look { path: &'a Path, tells: Telling },
+    Look {
+        path: &'a Path,
+        tells: Telling,
+    },
     /// It asks for the names in the folder at the path.
-    List { path: &'a Path },
+    List {
+        path: &'a Path,
+    },
+    /// It asks for bytes of the file at the path.
+    Read {
+        path: &'a Path,
+        offset: u64,
+        size: u32,
+    },
+    /// It lays data over the file at the path, and tells how many bytes were written.
+    Write {
+        path: &'a Path,
+        offset: u64,
+        data: &'a [u8],
+    },
     /// It has nothing more to ask.
     Over(Finding),
 }
@@ -47,22 +70,34 @@ const DONE: Ending<'static> = Ending::Over(Finding::Nothing);
 /// A ticket that has not the paths of its request, or a request that has no script.
 const UNFIT: Ending<'static> = Ending::Over(Finding::Error { errno: EIO });
 
+/// How an OPEN ends that found this.
+fn opening(kind: Kind) -> Finding
+    ensures { end_of result ≡ open_end kind }
+{
+    match kind {
+        Kind::Folder => Finding::Error { errno: EISDIR },
+        Kind::File => Finding::Opening,
+    }
+}
+
 impl Telling {
     /// What is told of what was found.
     fn of(self, found: Found) -> Finding
-        ensures { result ≡ told_of self found }
+        ensures { end_of result ≡ told_of self found }
     {
         match self {
             Telling::Nothing => Finding::Nothing,
             Telling::Entry => Finding::NewEntry(found),
+            Telling::NewFile => Finding::NewFile(found),
             Telling::Attributes => Finding::Attributes(found),
+            Telling::Opening => opening(found.kind),
         }
     }
 }
 
 /// What is told of an answer to a look.
 fn looked(tells: Telling, answer: &Answer) -> Finding
-    ensures { Over (end_of result) ≡ if_found (λ found. Over (end_of (told_of tells found))) answer.now }
+    ensures { Over (end_of result) ≡ if_found (λ found. Over (told_of tells found)) answer.now }
 {
     match answer {
         Answer::Stat { kind, size } => tells.of(Found {
@@ -87,6 +122,35 @@ fn listed(answer: Answer) -> Finding
     }
 }
 
+/// What is told of an answer to a read.
+fn bytes_of(answer: Answer) -> Finding
+    ensures { Over (end_of result) ≡ if_read answer }
+{
+    match answer {
+        Answer::Bytes(bytes) => Finding::Bytes(bytes),
+        other => Finding::Error {
+            errno: errno_in(&other),
+        },
+    }
+}
+
+/// What is told of an answer to a write.
+fn written(path: &Path, offset: u64, piece: &[u8], answer: Answer) -> Finding
+    ensures { Over (end_of result) ≡ if_written (judged (AskWrite path.now offset piece.now) answer) }
+{
+    let call = Call::Write {
+        path,
+        offset,
+        data: piece,
+    };
+    match judge(call, answer) {
+        Answer::Wrote(count) => Finding::Written { size: count as u32 },
+        other => Finding::Error {
+            errno: errno_in(&other),
+        },
+    }
+}
+
 /// The error with which a script ends after the answer to its change, if it does.
 fn refused(answer: &Answer) -> Option<i32>
     ensures { (rest : Plan) → if_done rest answer.now ≡ unless result rest }
@@ -95,6 +159,13 @@ fn refused(answer: &Answer) -> Option<i32>
         Answer::Done => None,
         other => Some(errno_in(other)),
     }
+}
+
+/// What stands at the path is looked at, and told.
+fn look(path: &Path, tells: Telling) -> Ending<'_>
+    ensures { plan_ending result ≡ look path.now (λ found. Over (told_of tells found)) }
+{
+    Ending::Look { path, tells }
 }
 
 /// What a SETATTR changes: the size, if it asks for one.
@@ -130,7 +201,7 @@ impl<'a> Script<'a> {
     /// The script of a request that began with this ticket.
     ///
     /// A ticket that has not the paths of its request, and a request that makes no call, has a script that is over with EIO (own).
-    pub fn start(operation: Operation<'_>, ticket: &'a Ticket) -> Script<'a>
+    pub fn start(operation: Operation<'a>, ticket: &'a Ticket) -> Script<'a>
         ensures { plan_ahead result ≡ plan_of operation.entry ticket.now }
     {
         let Some(path) = ticket.paths().first() else {
@@ -139,19 +210,19 @@ impl<'a> Script<'a> {
                 ending: UNFIT,
             };
         };
-        let entry = Ending::Look {
-            path,
-            tells: Telling::Entry,
-        };
-        let attributes = Ending::Look {
-            path,
-            tells: Telling::Attributes,
-        };
         let (change, ending) = match operation {
-            Operation::Lookup { .. } => (None, entry),
-            Operation::GetAttr => (None, attributes),
-            Operation::SetAttr { valid, size, .. } => (size_change(valid, path, size), attributes),
-            Operation::MakeDir { .. } => (Some(Call::MakeDir(path)), entry),
+            Operation::Lookup { .. } => (None, look(path, Telling::Entry)),
+            Operation::GetAttr => (None, look(path, Telling::Attributes)),
+            Operation::SetAttr { valid, size, .. } => (
+                size_change(valid, path, size),
+                look(path, Telling::Attributes),
+            ),
+            Operation::MakeDir { .. } => (Some(Call::MakeDir(path)), look(path, Telling::Entry)),
+            Operation::Create { .. } => (Some(Call::Make(path)), look(path, Telling::NewFile)),
+            Operation::Open { .. } => (None, look(path, Telling::Opening)),
+            Operation::Read { offset, size, .. } => (None, Ending::Read { path, offset, size }),
+            Operation::Write { offset, data, .. } => (None, Ending::Write { path, offset, data }),
+            Operation::Sync { .. } => (Some(Call::Sync(path)), DONE),
             Operation::OpenDir => (None, Ending::List { path }),
             Operation::Unlink { .. } => (Some(Call::Remove(path)), DONE),
             Operation::RemoveDir { .. } => (Some(Call::RemoveDir(path)), DONE),
@@ -159,13 +230,8 @@ impl<'a> Script<'a> {
             Operation::Forget { .. }
             | Operation::StatFs
             | Operation::Init { .. }
-            | Operation::Open { .. }
-            | Operation::Read { .. }
-            | Operation::Write { .. }
             | Operation::Release { .. }
-            | Operation::Sync { .. }
             | Operation::Flush { .. }
-            | Operation::Create { .. }
             | Operation::ReadDir { .. }
             | Operation::ReleaseDir { .. }
             | Operation::SyncDir { .. }
@@ -185,6 +251,16 @@ impl<'a> Script<'a> {
             (Some(call), _) => Some(*call),
             (None, Ending::Look { path, .. }) => Some(Call::Stat(path)),
             (None, Ending::List { path }) => Some(Call::List(path)),
+            (None, Ending::Read { path, offset, size }) => Some(Call::Read {
+                path,
+                offset: *offset,
+                size: *size,
+            }),
+            (None, Ending::Write { path, offset, data }) => Some(Call::Write {
+                path,
+                offset: *offset,
+                data,
+            }),
             (None, Ending::Over(_)) => None,
         }
     }
@@ -206,6 +282,10 @@ impl<'a> Script<'a> {
         let finding = match self.ending {
             Ending::Look { path, tells } => looked(tells, &judge(Call::Stat(path), answer)),
             Ending::List { path } => listed(judge(Call::List(path), answer)),
+            Ending::Read { path, offset, size } => {
+                bytes_of(judge(Call::Read { path, offset, size }, answer))
+            }
+            Ending::Write { path, offset, data } => written(path, offset, data, answer),
             Ending::Over(_) => return,
         };
         self.ending = Ending::Over(finding);
@@ -218,7 +298,10 @@ impl<'a> Script<'a> {
         let Self { ending, .. } = self;
         match ending {
             Ending::Over(finding) => finding,
-            Ending::Look { .. } | Ending::List { .. } => Finding::Error { errno: EIO },
+            Ending::Look { .. }
+            | Ending::List { .. }
+            | Ending::Read { .. }
+            | Ending::Write { .. } => Finding::Error { errno: EIO },
         }
     }
 }

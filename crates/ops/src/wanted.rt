@@ -2,16 +2,18 @@
 
 ghost use Rattle.std.specs.Prelude.{◌≡◌, IfOk, OnErr};
 
-use flights::Want;
+use files::Access;
+use flights::{Handle, Want};
 use paths::Name;
 use std::alloc::{AllocError, Global};
 
 /// What a request is begun with. Its names are slices of the request's frame.
 #[derive(Clone, Copy, Debug, PartialEq, Eq)]
 pub enum Wanted<'a> {
-    /// A node.
+    /// A node, and the handle of the open file that it is used by, if one is.
     Node {
         number: u64,
+        handle: Option<Handle>,
     },
     /// A name under a parent.
     Name {
@@ -30,6 +32,17 @@ pub enum Wanted<'a> {
         new_parent: u64,
         new_name: &'a str,
     },
+    /// A file to be opened.
+    Open {
+        number: u64,
+        access: Access,
+    },
+    /// A file to be made and opened.
+    Create {
+        parent: u64,
+        name: &'a str,
+        access: Access,
+    },
 }
 
 impl<'a> Wanted<'a> {
@@ -41,10 +54,20 @@ impl<'a> Wanted<'a> {
         ensures err { OnErr result (HasName self.entry) }
     {
         match self {
-            Wanted::Node { number } => Ok(Want::Node {
-                number,
-                handle: None,
-            }),
+            Wanted::Node { number, handle } => Ok(Want::Node { number, handle }),
+            Wanted::Open { number, access } => Ok(Want::Open { number, access }),
+            Wanted::Create {
+                parent,
+                name,
+                access,
+            } => {
+                let name = Name::copy_of(alloc, name)?;
+                Ok(Want::Create {
+                    parent,
+                    name,
+                    access,
+                })
+            }
             Wanted::Name { parent, name } => {
                 let name = Name::copy_of(alloc, name)?;
                 Ok(Want::Name { parent, name })

@@ -4,7 +4,9 @@ ghost use Rattle.std.specs.Prelude.{◌≡◌};
 
 use crate::slow::{Stands, ask_of, ends_of, stands_after};
 use backing::{Answer, Bytes, Children, Kind};
-use ledger::{Blanks, Ledgers};
+use files::Access;
+use flights::Want;
+use ledger::{Blanks, Ledgers, Share};
 use ops::{Intent, Script, intent_of};
 use std::alloc::{AllocError, Global};
 use std::test::Fail;
@@ -12,14 +14,14 @@ use table::{Begin, Limits, Outcome, Table, Ticket};
 use wire::{Operation, Request};
 
 /// How many answers are tried for each call.
-const ANSWERS: u32 = 12;
+const ANSWERS: u32 = 14;
 
 /// How many lists of at most three answers there are.
 const LISTS: u32 = 1 + ANSWERS + ANSWERS * ANSWERS + ANSWERS * ANSWERS * ANSWERS;
 
 /// An answer of each kind, of each shape, and of each sort of error number.
-fn answer_of(alloc: Global, number: u32) -> Answer {
-    match number {
+fn answer_of(alloc: Global, number: u32) -> Result<Answer, AllocError> {
+    Ok(match number {
         0 => Answer::Done,
         1 => Answer::Stat {
             kind: Kind::File,
@@ -34,14 +36,16 @@ fn answer_of(alloc: Global, number: u32) -> Answer {
             size: 5,
         },
         4 => Answer::Names(Children::from_vec(Vec::new(alloc))),
-        5 => Answer::Bytes(Bytes::from_vec(Vec::new(alloc))),
-        6 => Answer::Wrote(1),
-        7 => Answer::Fault(2),
-        8 => Answer::Fault(0),
-        9 => Answer::Fault(-2),
-        10 => Answer::Fault(4095),
+        5 => Answer::Bytes(Bytes::from_vec(Vec::from_slice(alloc, b"abcd")?)),
+        6 => Answer::Bytes(Bytes::from_vec(Vec::from_slice(alloc, b"abcde")?)),
+        7 => Answer::Wrote(2),
+        8 => Answer::Wrote(3),
+        9 => Answer::Fault(2),
+        10 => Answer::Fault(0),
+        11 => Answer::Fault(-2),
+        12 => Answer::Fault(4095),
         _ => Answer::Fault(4096),
-    }
+    })
 }
 
 /// The list of answers under that number: none is the first, then those of one answer, and so on.
@@ -51,7 +55,7 @@ fn answers_of(alloc: Global, number: u32) -> Result<Vec<Answer>, AllocError> {
     for _ in 0..3 {
         if left > 0 {
             let last = left - 1;
-            answers.push(answer_of(alloc, last % ANSWERS))?;
+            answers.push(answer_of(alloc, last % ANSWERS)?)?;
             left = last / ANSWERS;
         }
     }
@@ -86,6 +90,23 @@ fn first_other(
     Ok(None)
 }
 
+/// Opens the root as file 1, for reading and writing. True says that it was.
+fn open_root<L: Ledgers>(table: &mut Table<L>, share: &mut Share<L>) -> bool {
+    let want = Want::Open {
+        number: 1,
+        access: Access::Both,
+    };
+    match table.begin(1, want) {
+        Begin::Go(ticket) => {
+            let answered = table.finish(share, ticket, Outcome::Done);
+            let is_first = answered.opened() == Some(1);
+            table.settle(share, answered, true);
+            is_first
+        }
+        Begin::Busy | Begin::Refused(_) => false,
+    }
+}
+
 /// Compares the script of a request with the slow program's, on a table of its own. Fails with the number of the first list of answers after
 /// which they differ.
 pub fn compare<L: Ledgers>(
@@ -108,6 +129,7 @@ pub fn compare<L: Ledgers>(
     let (mut table, mut shares) = Table::<L>::open(alloc, Limits::default(), blanks, 1)?;
     let mut share = shares.pop().unwrap();
     shares.destroy_empty();
+    let is_open = open_root(&mut table, &mut share);
     let other = match table.begin(request.unique, want) {
         Begin::Go(ticket) => {
             let other = first_other(alloc, operation, &ticket);
@@ -119,7 +141,8 @@ pub fn compare<L: Ledgers>(
     };
     share.leave();
     match other? {
-        None => Ok(()),
+        None if is_open => Ok(()),
+        None => Err(Fail::from(("the root is not open", request.unique))),
         Some(number) => Err(Fail::from(("differs after list", number))),
     }
 }

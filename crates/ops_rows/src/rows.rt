@@ -5,10 +5,11 @@ use ledger::Blanks;
 use std::marker::Brand;
 use std::test::Fail;
 use wire::Operation::{
-    self, GetAttr, Lookup, MakeDir, OpenDir, RemoveDir, Rename, SetAttr, Unlink,
+    self, Create, GetAttr, Lookup, MakeDir, Open, OpenDir, Read, RemoveDir, Rename, SetAttr, Sync,
+    Unlink, Write,
 };
 
-/// About the root, or a name in it. Some have several scripts.
+/// About the root, which is open as file 1, or a name in it. Some have several scripts.
 const OPERATIONS: &[Operation] = &[
     Lookup { name: "a" },
     GetAttr,
@@ -33,6 +34,28 @@ const OPERATIONS: &[Operation] = &[
         fh: 0,
         size: 7,
     },
+    // By a handle.
+    SetAttr {
+        valid: 0x48,
+        fh: 1,
+        size: 7,
+    },
+    Open { flags: 0 },
+    Create {
+        name: "a",
+        flags: 2,
+    },
+    Read {
+        fh: 1,
+        offset: 6,
+        size: 4,
+    },
+    Write {
+        fh: 1,
+        offset: 6,
+        data: b"de",
+    },
+    Sync { fh: 1 },
     OpenDir,
     MakeDir { name: "a" },
     Unlink { name: "a" },

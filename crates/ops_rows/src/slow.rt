@@ -1,7 +1,7 @@
 //! The scripts of all requests as a plain slow program: where a script stands is found by going over all of its answers anew.
 
 use backing::{Answer, Call, Kind};
-use errno::EIO;
+use errno::{EIO, EISDIR};
 use ops::{Finding, Found};
 use paths::Path;
 use wire::Operation;
@@ -11,6 +11,7 @@ use wire::Operation;
 pub enum Ask {
     Stat,
     List,
+    Make,
     MakeDir,
     Remove,
     RemoveDir,
@@ -18,6 +19,11 @@ pub enum Ask {
     Rename,
     /// To so many bytes.
     SetLen(u64),
+    /// From that byte on, so many.
+    Read(u64, u32),
+    /// From that byte on, so many.
+    Write(u64, usize),
+    Sync,
     /// No script asks this.
     Other,
 }
@@ -35,16 +41,24 @@ pub enum Ends {
     Error(i32),
     Nothing,
     NewEntry(Found),
+    NewFile(Found),
     Attributes(Found),
+    Opening,
+    /// So many bytes are told.
+    Bytes(usize),
+    Written(u32),
     /// So many names are listed.
     Listed(usize),
 }
 
-/// What an answer counts as.
+/// What an answer counts as. Of names and bytes it says how many.
+#[derive(Clone, Copy, Debug, PartialEq, Eq)]
 enum Counts {
     Done,
     Found(Found),
     Names(usize),
+    Bytes(usize),
+    Wrote(u32),
     Error(i32),
 }
 
@@ -54,7 +68,11 @@ pub fn ends_of(finding: &Finding) -> Ends {
         Finding::Error { errno } => Ends::Error(*errno),
         Finding::Nothing => Ends::Nothing,
         Finding::NewEntry(found) => Ends::NewEntry(*found),
+        Finding::NewFile(found) => Ends::NewFile(*found),
         Finding::Attributes(found) => Ends::Attributes(*found),
+        Finding::Opening => Ends::Opening,
+        Finding::Bytes(bytes) => Ends::Bytes(bytes.len()),
+        Finding::Written { size } => Ends::Written(*size),
         Finding::Listed(names) => Ends::Listed(names.as_slice().len()),
     }
 }
@@ -67,10 +85,14 @@ pub fn ask_of(call: Call<'_>, paths: &[Path]) -> Ask {
     match call {
         Call::Stat(path) if path.is(first) => Ask::Stat,
         Call::List(path) if path.is(first) => Ask::List,
+        Call::Make(path) if path.is(first) => Ask::Make,
         Call::MakeDir(path) if path.is(first) => Ask::MakeDir,
         Call::Remove(path) if path.is(first) => Ask::Remove,
         Call::RemoveDir(path) if path.is(first) => Ask::RemoveDir,
         Call::SetLen { path, size } if path.is(first) => Ask::SetLen(size),
+        Call::Read { path, offset, size } if path.is(first) => Ask::Read(offset, size),
+        Call::Write { path, offset, data } if path.is(first) => Ask::Write(offset, data.len()),
+        Call::Sync(path) if path.is(first) => Ask::Sync,
         Call::Rename { from, to } if from.is(first) && paths.get(1).is_some_and(|p| p.is(to)) =>
             Ask::Rename,
         _ => Ask::Other,
@@ -80,7 +102,14 @@ pub fn ask_of(call: Call<'_>, paths: &[Path]) -> Ask {
 /// The calls of a request, one after another, where nothing fails.
 fn asks_of(operation: Operation<'_>, same: bool) -> (Option<Ask>, Option<Ask>) {
     match operation {
-        Operation::Lookup { .. } | Operation::GetAttr => (Some(Ask::Stat), None),
+        Operation::Lookup { .. } | Operation::GetAttr | Operation::Open { .. } => (
+            Some(Ask::Stat),
+            None,
+        ),
+        Operation::Create { .. } => (Some(Ask::Make), Some(Ask::Stat)),
+        Operation::Read { offset, size, .. } => (Some(Ask::Read(offset, size)), None),
+        Operation::Write { offset, data, .. } => (Some(Ask::Write(offset, data.len())), None),
+        Operation::Sync { .. } => (Some(Ask::Sync), None),
         Operation::OpenDir => (Some(Ask::List), None),
         Operation::SetAttr { valid, size, .. } if valid & 8 == 8 => (
             Some(Ask::SetLen(size)),
@@ -96,7 +125,7 @@ fn asks_of(operation: Operation<'_>, same: bool) -> (Option<Ask>, Option<Ask>) {
     }
 }
 
-/// A folder has no size. Error numbers are 1 to 4,095. An answer of another kind than its call's is EIO.
+/// A folder has no size, and no more is read or written than was asked for. Error numbers are 1 to 4,095. An answer of another kind than its call's is EIO.
 fn counts_as(ask: Ask, answer: &Answer) -> Counts {
     match (ask, answer) {
         (_, Answer::Fault(errno)) if (1..4096).contains(errno) => Counts::Error(*errno),
@@ -123,41 +152,58 @@ fn counts_as(ask: Ask, answer: &Answer) -> Counts {
         (Ask::Stat, _) => Counts::Error(EIO),
         (Ask::List, Answer::Names(names)) => Counts::Names(names.as_slice().len()),
         (Ask::List, _) => Counts::Error(EIO),
+        (Ask::Read(_, size), Answer::Bytes(bytes)) if bytes.len() <= size as usize => {
+            Counts::Bytes(bytes.len())
+        }
+        (Ask::Write(_, given), Answer::Wrote(count)) if *count <= given => match u32::try_from(
+            *count,
+        ) {
+            Ok(size) => Counts::Wrote(size),
+            Err(_) => Counts::Error(EIO),
+        },
+        (Ask::Read(..) | Ask::Write(..), _) => Counts::Error(EIO),
         (_, Answer::Done) => Counts::Done,
         (_, _) => Counts::Error(EIO),
     }
 }
 
-/// What is told at the end, of what was found and listed last.
-fn ends_with(operation: Operation<'_>, found: Option<Found>, listed: Option<usize>) -> Ends {
-    match (operation, found, listed) {
-        (Operation::Lookup { .. } | Operation::MakeDir { .. }, Some(found), _) => {
+/// What is told at the end, by what the last answer counts as.
+fn ends_with(operation: Operation<'_>, last: Counts) -> Ends {
+    match (operation, last) {
+        (Operation::Lookup { .. } | Operation::MakeDir { .. }, Counts::Found(found)) => {
             Ends::NewEntry(found)
         }
-        (Operation::GetAttr | Operation::SetAttr { .. }, Some(found), _) => Ends::Attributes(found),
-        (Operation::OpenDir, _, Some(names)) => Ends::Listed(names),
+        (Operation::Create { .. }, Counts::Found(found)) => Ends::NewFile(found),
+        (Operation::GetAttr | Operation::SetAttr { .. }, Counts::Found(found)) => {
+            Ends::Attributes(found)
+        }
+        (Operation::Open { .. }, Counts::Found(found)) if found.kind == Kind::Folder => {
+            Ends::Error(EISDIR)
+        }
+        (Operation::Open { .. }, Counts::Found(_)) => Ends::Opening,
+        (Operation::Read { .. }, Counts::Bytes(bytes)) => Ends::Bytes(bytes),
+        (Operation::Write { .. }, Counts::Wrote(size)) => Ends::Written(size),
+        (Operation::OpenDir, Counts::Names(names)) => Ends::Listed(names),
         _ => Ends::Nothing,
     }
 }
 
 /// Where the script of a request stands after these answers. Answers after its end are not looked at.
 pub fn stands_after(operation: Operation<'_>, same: bool, answers: &[Answer]) -> Stands {
-    let (mut found, mut listed) = (None, None);
+    let mut last = Counts::Done;
     let (first, second) = asks_of(operation, same);
     let mut answers = answers.iter();
     for ask in [first, second] {
         let Some(ask) = ask else {
-            return Stands::Over(ends_with(operation, found, listed));
+            return Stands::Over(ends_with(operation, last));
         };
         let Some(answer) = answers.next() else {
             return Stands::Asks(ask);
         };
-        match counts_as(ask, answer) {
-            Counts::Done => {}
-            Counts::Found(stands) => found = Some(stands),
-            Counts::Names(names) => listed = Some(names),
-            Counts::Error(errno) => return Stands::Over(Ends::Error(errno)),
+        last = counts_as(ask, answer);
+        if let Counts::Error(errno) = last {
+            return Stands::Over(Ends::Error(errno));
         }
     }
-    Stands::Over(ends_with(operation, found, listed))
+    Stands::Over(ends_with(operation, last))
 }

@@ -95,7 +95,7 @@ const SIZES: &[Story] = &[
         ..NOTHING
     },
     Story {
-        says: "other fields, and a handle that cannot be open",
+        says: "other fields, and a handle that is not open",
         asks: &[
             (1, Lookup { name: "a" }),
             (

@@ -6,6 +6,8 @@ mod attributes;
 #[cfg(test)]
 mod client;
 #[cfg(test)]
+mod file_frames;
+#[cfg(test)]
 mod folders;
 #[cfg(test)]
 mod frames;
@@ -19,6 +21,8 @@ mod listings;
 mod lookups;
 #[cfg(test)]
 mod names;
+#[cfg(test)]
+mod open_files;
 #[cfg(test)]
 mod renames;
 #[cfg(test)]

@@ -22,6 +22,8 @@ pub struct Story<'a> {
     pub says: &'a str,
     /// How many nodes may live, the root among them.
     pub nodes: u64,
+    /// How many files may be open.
+    pub open_files: u64,
     /// Empty files that stand in the tree beside the samples.
     pub files: &'a [&'a [&'a str]],
     /// What is asked of which node, one after another. The requests are numbered from 1.
@@ -47,6 +49,7 @@ pub enum Stands {
 pub const NOTHING: Story = Story {
     says: "nothing",
     nodes: 65536,
+    open_files: 4096,
     files: &[],
     asks: &[],
     faults: &[],
@@ -73,8 +76,14 @@ pub enum Says<'a> {
     Attributes(u64, Stands),
     /// The sizes of the file system.
     Sizes,
-    /// The handle of an open folder.
+    /// The handle of an open file or folder.
     Opened(u64),
+    /// The entry of an empty file that was made and of a node that was born once, and its handle.
+    Created(u64, u64),
+    /// Bytes of a file.
+    Bytes(&'a [u8]),
+    /// How many bytes were written.
+    Wrote(u32),
     /// Names of a folder from that index on, and what they are.
     Names(u64, &'a [(&'a str, Stands)]),
     /// It gets no reply.
@@ -91,6 +100,14 @@ fn attributes_of(stands: Stands) -> Attributes {
         size,
         uid: 0,
         gid: 0,
+    }
+}
+
+fn entry_of(node: u64, stands: Stands) -> Entry {
+    Entry {
+        node,
+        generation: 0,
+        attributes: attributes_of(stands),
     }
 }
 
@@ -116,17 +133,19 @@ fn body_of(alloc: Global, says: Says) -> Result<Option<ReplyBody>, AllocError> {
     Ok(Some(match says {
         Says::Failed(errno) => ReplyBody::Failed { errno },
         Says::Done => ReplyBody::Done,
-        Says::Entry(node, stands) => ReplyBody::Entry(Entry {
-            node,
-            generation: 0,
-            attributes: attributes_of(stands),
-        }),
+        Says::Entry(node, stands) => ReplyBody::Entry(entry_of(node, stands)),
         Says::Attributes(node, stands) => ReplyBody::Attributes {
             node,
             attributes: attributes_of(stands),
         },
         Says::Sizes => ReplyBody::StatFs,
         Says::Opened(fh) => ReplyBody::Opened { fh },
+        Says::Created(node, fh) => ReplyBody::Created {
+            entry: entry_of(node, Stands::File(0)),
+            fh,
+        },
+        Says::Bytes(bytes) => ReplyBody::Data(Data::new(Vec::from_slice(alloc, bytes)?)),
+        Says::Wrote(size) => ReplyBody::Wrote { size },
         Says::Names(from, names) => names_of(alloc, from, names)?,
         Says::NoReply => return Ok(None),
     }))
@@ -253,6 +272,7 @@ pub fn tell<H: Wait, L: Ledgers>(
     let mut client = Client::new(alloc, frames_of(alloc, story.asks)?, 0);
     let limits = Limits {
         nodes: story.nodes,
+        files: story.open_files,
         ..Limits::default()
     };
     serve_client::<H, L>(rt, alloc, blanks, limits, &mut tree, &mut client)?;

@@ -3,8 +3,9 @@
 ghost use Rattle.std.specs.Prelude.{◌≡◌};
 
 use crate::client::{Client, Over, serve_client};
+use crate::file_frames::{CREATE_N, FLUSH, FLUSH_REFUSED, OPEN_A};
 use crate::frames::{
-    ABSENT, AGREED, DESTROY, ENTRY_E_REBORN, INIT, LOOKUP_A, LOOKUP_E, LOOKUP_ZZ, lines_of,
+    ABSENT, AGREED, DESTROY, ENTRY_A, ENTRY_E_REBORN, INIT, LOOKUP_A, LOOKUP_E, LOOKUP_ZZ, lines_of,
 };
 use backing::Fault;
 use engine::SessionEnd;
@@ -59,6 +60,10 @@ fn are_taken(alloc: Global, taken: &[u8], replies: &[&str]) -> Result<bool, Fail
     Ok(taken == bytes.as_slice())
 }
 
+/// LOOKUP `n` in the root, unique 8.
+const LOOKUP_N: &str =
+    "2a000000 01000000 0800000000000000 0100000000000000 00000000 00000000 00000000 00000000 6e00";
+
 // The entry of `a` comes back, so its node is gone; the session goes on, and its number is born again for `e`.
 #[test]
 fn untaken_lookup(rt: HostRuntime) -> Result<(), Fail> {
@@ -93,6 +98,37 @@ fn untaken_opendir(rt: HostRuntime) -> Result<(), Fail> {
     let over = serve_samples::<HostRuntime, Brand>(&rt, alloc, Blanks::new(1), None, &mut client)?;
     assert_eq!(rt; over.end, SessionEnd::Closed { rest: 0 });
     assert!(rt; are_taken(alloc, &client.taken, &replies)?);
+    Ok(())
+}
+
+// The handle of a file whose reply is not taken is closed, and its entry given back. The file stays.
+#[test]
+fn untaken_create(rt: HostRuntime) -> Result<(), Fail> {
+    let alloc = rt.alloc();
+    let mut client = client_of(alloc, &[CREATE_N, FLUSH, LOOKUP_N], 2)?;
+    let over = serve_samples::<HostRuntime, Brand>(&rt, alloc, Blanks::new(1), None, &mut client)?;
+    let totals = Totals {
+        born: 2,
+        entries: 2,
+        backs: 1,
+        forgotten: 0,
+    };
+    assert_eq!(rt; over.end, SessionEnd::Closed { rest: 0 });
+    assert!(rt; are_taken(alloc, &client.taken, &[FLUSH_REFUSED, ENTRY_E_REBORN])?);
+    assert_eq!(rt; over.totals, totals);
+    Ok(())
+}
+
+// The same of a file that is opened. Its handle is given to no other.
+#[test]
+fn untaken_open(rt: HostRuntime) -> Result<(), Fail> {
+    let alloc = rt.alloc();
+    let lines = [LOOKUP_A, OPEN_A, FLUSH, OPEN_A];
+    let opened = "20000000 00000000 0800000000000000 0200000000000000 00000000 00000000";
+    let mut client = client_of(alloc, &lines, 3)?;
+    let over = serve_samples::<HostRuntime, Brand>(&rt, alloc, Blanks::new(1), None, &mut client)?;
+    assert_eq!(rt; over.end, SessionEnd::Closed { rest: 0 });
+    assert!(rt; are_taken(alloc, &client.taken, &[ENTRY_A, FLUSH_REFUSED, opened])?);
     Ok(())
 }
 

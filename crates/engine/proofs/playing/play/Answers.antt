@@ -16,6 +16,8 @@ asks_left : (change : Option Call) (ending : Ending) (call : Asked) → next_of 
 asks_left (Some first) ending call e = omega arith
 asks_left None (endings.Look p tells) call e = lit< tt
 asks_left None (endings.List p) call e = lit< tt
+asks_left None (endings.Read p offset size) call e = lit< tt
+asks_left None (endings.Write p offset piece) call e = lit< tt
 asks_left None (endings.Over finding) call e = absurd (none-some call e)
 
 pub loop-call-smaller : goal.loop-call-smaller

@@ -1,11 +1,13 @@
-use Rattle.std.proofs.Common.{[], ◌∷◌, refl, ap, ◌∙◌}
+use Rattle.std.proofs.Common.{[], ◌∷◌, Option, refl, ap, ◌∙◌}
+use Rattle.files.specs.declared.data.OpenFile.{OpenFile}
+use Rattle.ops.specs.Replies.{file_reply}
 use Rattle.wire.specs.Pairs.{pairs_in}
 use Rattle.steps.specs.Kept.{world_of}
 use Rattle.table.proofs.Gaining.{gains_same}
 use Rattle.engine.proofs.Alone.{forgets_idle}
 use Rattle.engine.specs.Tables.{worlds}
 use Rattle.ops.specs.Intents.{Begin, want_of}
-use Rattle.engine.proofs.Turns.{carried, fault_answered, forgot, passed_over, said_at_once, unbegun, used}
+use Rattle.engine.proofs.Turns.{asked_of_file, carried, fault_answered, forgot, passed_over, said_at_once, unbegun, used}
 use Rattle.engine.proofs.session.Desk.work_off.Goals as goal
 
 pub returns-in-Err-clause-worked : goal.returns-in-Err-clause-worked
@@ -68,3 +70,11 @@ returns-in-Err-own-clause-gains g c = gains_same (world_of c.args.table.now) (wo
 
 pub returns-in-Forget-clause-gains : goal.returns-in-Forget-clause-gains
 returns-in-Forget-clause-gains g c = record { lawful = c.forget.ensures.lawful; grows = c.forget.ensures.grows; share = c.forget.ensures.share }
+
+pub returns-in-File-clause-worked : goal.returns-in-File-clause-worked
+returns-in-File-clause-worked g c =
+    asked_of_file worlds c.args.self.now.settings g.L.LinkOut.sends g.C.Calls.gives c.args.frame.now c.in-Ok.request c.in-File.fh c.file_reply-body.result c.args.link.now c.answer-in-File.new.link c.args.calls.now (world_of c.args.table.now) c.answer-in-File.result
+    c.in-Ok.ensures.found c.in-File.ensures (c.file_reply-body.ensures ∙ ap (λ (file : Option OpenFile). file_reply c.in-Ok.request.node file) c.file.ensures) c.answer-in-File.ensures.said
+
+pub returns-in-File-clause-gains : goal.returns-in-File-clause-gains
+returns-in-File-clause-gains g c = gains_same (world_of c.args.table.now) (world_of c.args.table.now) c.args.share.now c.args.share.now c.attest.ensures refl refl

@@ -1,0 +1,62 @@
+//! What requests need that open a file, or use one that is open.
+
+ghost use Rattle.std.specs.Prelude.{◌≡◌};
+ghost use Rattle.ops.specs.Intents.{access_of, by_handle, create_intent, intent_in, open_intent};
+
+use crate::intents::{Intent, refused};
+use crate::wanted::Wanted;
+use errno::EINVAL;
+use files::{Access, Need};
+use flights::Handle;
+
+/// The bits of an open's flags that say for what it is (`O_ACCMODE` of `fcntl.h`).
+const ACCESS_MODE: u32 = 3;
+
+/// For what a file is to be opened, by the flags of OPEN and CREATE; the other bits are not looked at.
+fn access_of(flags: u32) -> Option<Access>
+    ensures { result ≡ access_of flags }
+{
+    match flags & ACCESS_MODE {
+        0 => Some(Access::Reading),
+        1 => Some(Access::Writing),
+        2 => Some(Access::Both),
+        _ => None,
+    }
+}
+
+/// OPEN. Flags that name no access are EINVAL.
+pub(crate) fn open_intent<'a>(node: u64, flags: u32) -> Intent<'a>
+    ensures { intent_in result ≡ open_intent node (access_of flags) }
+{
+    match access_of(flags) {
+        Some(access) => Intent::Want(Wanted::Open {
+            number: node,
+            access,
+        }),
+        None => refused(EINVAL),
+    }
+}
+
+/// CREATE. Flags that name no access are EINVAL.
+pub(crate) fn create_intent<'a>(parent: u64, name: &'a str, flags: u32) -> Intent<'a>
+    ensures { intent_in result ≡ create_intent parent name.now (access_of flags) }
+{
+    match access_of(flags) {
+        Some(access) => Intent::Want(Wanted::Create {
+            parent,
+            name,
+            access,
+        }),
+        None => refused(EINVAL),
+    }
+}
+
+/// It is about the node, by the handle of a file that is open on it.
+pub(crate) fn by_handle<'a>(node: u64, fh: u64, need: Need) -> Intent<'a>
+    ensures { intent_in result ≡ by_handle node fh need }
+{
+    Intent::Want(Wanted::Node {
+        number: node,
+        handle: Some(Handle { fh, need }),
+    })
+}
