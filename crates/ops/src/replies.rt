@@ -1,6 +1,8 @@
 //! Replies to requests.
 
 ghost use Rattle.std.specs.Prelude.{◌≡◌};
+ghost use Rattle.ops.specs.Ahead.{IsOfNoPage};
+ghost use Rattle.ops.specs.Pages.{Paged};
 ghost use Rattle.ops.specs.Replies.{attributes_of, entry_of, entry_reply, first, kind_of, opened_reply, reply_to};
 
 use crate::findings::{Finding, Found};
@@ -83,7 +85,7 @@ pub fn opened_reply(put: Option<u64>) -> ReplyBody
 /// what its table gave.
 ///
 /// An error that its script found is told as it is. An entry that the table did not give is EIO (own), and a listing that was not
-/// stored ENFILE (own).
+/// stored ENFILE (own). A page is told by `entries_reply`.
 pub fn reply_to(
     settings: Settings,
     node: u64,
@@ -91,7 +93,8 @@ pub fn reply_to(
     put: Option<u64>,
     answered: &Answered,
 ) -> ReplyBody
-    ensures { result ≡ reply_to settings node finding.now put answered.now }
+    requires { IsOfNoPage finding.now }
+    ensures { (page : Paged) → result ≡ reply_to settings node page finding.now put answered.now }
 {
     match finding {
         Finding::Error { errno } => ReplyBody::Failed { errno: *errno },
@@ -102,5 +105,6 @@ pub fn reply_to(
             attributes: attributes_of(settings, *found),
         },
         Finding::Listed(_) => opened_reply(put),
+        Finding::Looked(_) => unreachable!(),
     }
 }
