@@ -2,7 +2,7 @@
 
 ghost use Rattle.std.specs.Prelude.{◌≡◌, ◌+◌, ◌^◌, ◌<◌, ◌++◌, length, drop, IfOk, OnOk};
 ghost use Rattle.handles.specs.Names.{is_dot};
-ghost use Rattle.ops.specs.Pages.{names_on, page_want};
+ghost use Rattle.ops.specs.Pages.{names_on, no_page, page_want};
 ghost use Rattle.ops.specs.Replies.{entries_bytes, first, plus_entry};
 ghost use Rattle.wire.specs.Dirents.{plus_bytes};
 ghost use Rattle.wire.specs.declared.reply.ReplyBody.TheVariants.{Data as Told};
@@ -63,6 +63,16 @@ fn names_on(alloc: Global, entries: &[Child]) -> Result<Names, AllocError>
 }
 
 impl Paged {
+    /// A page without entries, for a request that is of none. It takes no memory.
+    pub fn none(alloc: Global) -> Paged
+        ensures { result ≡ no_page }
+    {
+        Paged {
+            from: 0,
+            entries: Vec::new(alloc),
+        }
+    }
+
     /// The same page.
     pub fn copy_of(alloc: Global, page: Page<'_>) -> Result<Paged, AllocError>
         ensures { IfOk result (λ paged. paged ≡ record { from = page.entry.from; entries = page.entry.entries.now }) }
@@ -70,17 +80,6 @@ impl Paged {
         let from = page.from;
         let entries = copy_entries(alloc, page.entries)?;
         Ok(Paged { from, entries })
-    }
-
-    /// The page, lent.
-    pub fn page(&self) -> Page<'_>
-        ensures from { result.from ≡ self.now.from }
-        ensures entries { result.entries.now ≡ self.now.entries }
-    {
-        Page {
-            from: self.from,
-            entries: &self.entries,
-        }
     }
 
     /// What a request is begun with that tells this page of the folder.
@@ -176,20 +175,19 @@ fn put_entries(
     Ok(())
 }
 
-/// What READDIRPLUS is answered whose page is these entries, the first at index `from`: each with the node of what was found and given
-/// for its name, but `.` and `..`, for which nothing is looked up.
+/// What READDIRPLUS is answered that tells this page: each entry with the node of what was found and given for its name, but `.` and
+/// `..`, for which nothing is looked up.
 pub fn entries_reply(
     alloc: Global,
     settings: Settings,
-    from: u64,
-    children: &[Child],
+    page: &Paged,
     founds: &[Option<Found>],
     givens: &[Option<Given>],
 ) -> Result<ReplyBody, AllocError>
-    requires { from + length children.now < 2 ^ 64 }
-    ensures { IfOk result (λ body. body ≡ Told (entries_bytes settings from children.now founds.now givens.now)) }
+    ensures { IfOk result (λ body. body ≡ Told (entries_bytes settings page.now.from page.now.entries founds.now givens.now)) }
 {
     let mut entries = Vec::new(alloc);
-    put_entries(&mut entries, settings, from, children, founds, givens)?;
+    let from = page.from;
+    put_entries(&mut entries, settings, from, &page.entries, founds, givens)?;
     Ok(ReplyBody::Data(Data::new(entries)))
 }
