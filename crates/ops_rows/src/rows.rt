@@ -5,7 +5,7 @@ use ledger::Blanks;
 use std::marker::Brand;
 use std::test::Fail;
 use wire::Operation::{
-    self, GetAttr, Lookup, MakeDir, OpenDir, RemoveDir, Rename, SetAttr, Unlink,
+    self, GetAttr, Lookup, MakeDir, OpenDir, ReadDirPlus, RemoveDir, Rename, SetAttr, Unlink,
 };
 
 /// About the root, or a name in it. Some have several scripts.
@@ -34,6 +34,11 @@ const OPERATIONS: &[Operation] = &[
         size: 7,
     },
     OpenDir,
+    ReadDirPlus {
+        fh: 1,
+        offset: 0,
+        size: 4096,
+    },
     MakeDir { name: "a" },
     Unlink { name: "a" },
     RemoveDir { name: "a" },

@@ -10,6 +10,8 @@ use wire::Operation;
 #[derive(Clone, Copy, Debug, PartialEq, Eq)]
 pub enum Ask {
     Stat,
+    /// Of the path of a page's name, counted from 1.
+    StatOf(usize),
     List,
     MakeDir,
     Remove,
@@ -38,6 +40,8 @@ pub enum Ends {
     Attributes(Found),
     /// So many names are listed.
     Listed(usize),
+    /// What stands at the two names of a page, and whether something does.
+    Looked([Option<Found>; 2], [bool; 2]),
 }
 
 /// What an answer counts as.
@@ -49,13 +53,20 @@ enum Counts {
 }
 
 /// What a finding is.
-pub fn ends_of(finding: &Finding) -> Ends {
+pub fn ends_of(finding: Finding) -> Ends {
     match finding {
-        Finding::Error { errno } => Ends::Error(*errno),
+        Finding::Error { errno } => Ends::Error(errno),
         Finding::Nothing => Ends::Nothing,
-        Finding::NewEntry(found) => Ends::NewEntry(*found),
-        Finding::Attributes(found) => Ends::Attributes(*found),
+        Finding::NewEntry(found) => Ends::NewEntry(found),
+        Finding::Attributes(found) => Ends::Attributes(found),
         Finding::Listed(names) => Ends::Listed(names.as_slice().len()),
+        Finding::Looked(looked) => {
+            let (there, founds) = looked.into_parts();
+            match (founds.as_slice(), there.as_slice()) {
+                ([a, b], [at_a, at_b]) => Ends::Looked([*a, *b], [*at_a, *at_b]),
+                _ => Ends::Nothing,
+            }
+        }
     }
 }
 
@@ -66,6 +77,8 @@ pub fn ask_of(call: Call<'_>, paths: &[Path]) -> Ask {
     };
     match call {
         Call::Stat(path) if path.is(first) => Ask::Stat,
+        Call::Stat(path) if paths.get(1).is_some_and(|p| p.is(path)) => Ask::StatOf(1),
+        Call::Stat(path) if paths.get(2).is_some_and(|p| p.is(path)) => Ask::StatOf(2),
         Call::List(path) if path.is(first) => Ask::List,
         Call::MakeDir(path) if path.is(first) => Ask::MakeDir,
         Call::Remove(path) if path.is(first) => Ask::Remove,
@@ -140,8 +153,27 @@ fn ends_with(operation: Operation<'_>, found: Option<Found>, listed: Option<usiz
     }
 }
 
+/// Where that of a page with two names stands: what is not found is nothing, and does not end it.
+fn page_after(answers: &[Answer]) -> Stands {
+    let mut founds = [None, None];
+    for name in 0..2usize {
+        let Some(answer) = answers.get(name) else {
+            return Stands::Asks(Ask::StatOf(name + 1));
+        };
+        match counts_as(Ask::Stat, answer) {
+            Counts::Found(found) => founds[name] = Some(found),
+            Counts::Done | Counts::Names(_) | Counts::Error(_) => {}
+        }
+    }
+    let there = [founds[0].is_some(), founds[1].is_some()];
+    Stands::Over(Ends::Looked(founds, there))
+}
+
 /// Where the script of a request stands after these answers. Answers after its end are not looked at.
 pub fn stands_after(operation: Operation<'_>, same: bool, answers: &[Answer]) -> Stands {
+    if let Operation::ReadDirPlus { .. } = operation {
+        return page_after(answers);
+    }
     let (mut found, mut listed) = (None, None);
     let (first, second) = asks_of(operation, same);
     let mut answers = answers.iter();
