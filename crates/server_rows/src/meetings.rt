@@ -1,8 +1,9 @@
 //! The program `serve` with a client of its own, in one process: two threads and a socket between them.
 
 use crate::frames::{
-    AGREED, ARE_OF_A, ATTRIBUTES, DESTROY, DESTROYED, ENTRY_A, ENTRY_M, FORGET_A, INIT, LOOKUP_A,
-    MAKE_M, RENAME_A, RENAMED, bytes_of,
+    AGREED, ARE_FIVE, ARE_OF_A, ATTRIBUTES, CREATE_N, CREATED_N, DESTROY, DESTROYED, ENTRY_A,
+    ENTRY_M, FORGET_A, FSYNC, INIT, LOOKUP_A, MAKE_M, READ_TEN, RENAME_A, RENAME_N, RENAMED,
+    WRITE_DE, WROTE_DE, bytes_of,
 };
 use crate::host::Host;
 use crate::places::{Shown, expect, new_folder, place_of};
@@ -126,6 +127,24 @@ const MEETINGS: &[Meeting] = &[
             ("a", Shown::Nothing),
             ("b", Shown::File(3)),
             ("m", Shown::Folder),
+        ],
+    },
+    Meeting {
+        says: "a file is made, written, moved and read",
+        turns: &[
+            (INIT, AGREED),
+            (CREATE_N, CREATED_N),
+            (WRITE_DE, WROTE_DE),
+            (RENAME_N, RENAMED),
+            (READ_TEN, ARE_FIVE),
+            (FSYNC, RENAMED),
+        ],
+        status: 0,
+        fault: "",
+        after: &[
+            ("a", Shown::File(3)),
+            ("n", Shown::Nothing),
+            ("k", Shown::File(5)),
         ],
     },
     Meeting {
