@@ -1,11 +1,13 @@
 -- A table by its steps, and what a session knows of its insides: how it stands between two requests.
-use Rattle.std.specs.Prelude.{ℕ, ◌≡◌, Bool, None}
+use Rattle.std.specs.Prelude.{ℕ, ◌≡◌, Bool, List, None}
+use Rattle.paths.specs.Prefixes.{Names}
 use Rattle.flights.specs.declared.data.Want.{Want}
 use Rattle.steps.specs.Answers.{Answer, Settlement}
 use Rattle.steps.specs.Steps.{Begins, Finishes, Settles, Forgets}
 use Rattle.steps.specs.World.{World}
 use Rattle.steps.specs.declared.data.Begin.{Begin}
 use Rattle.steps.specs.declared.data.Outcome.{Outcome}
+use Rattle.table.specs.Leftovers.{AreLeftovers}
 
 -- a table whose states are the elements of W
 pub record Table (W : Type 0) : Type 1 where
@@ -13,6 +15,8 @@ pub record Table (W : Type 0) : Type 1 where
   pub finishes : W → (id : ℕ) → Outcome → Answer → W → Type 0
   pub settles : W → Answer → (taken : Bool) → W → Type 0
   pub forgets : W → (number n : ℕ) → W → Type 0
+  -- these are the paths of all hidden files
+  pub leftovers : W → List Names → Type 0
   -- no request is in flight
   pub is_idle : W → Type 0
 
@@ -26,5 +30,6 @@ worlds = record {
   finishes = Finishes;
   settles = λ old answer taken new. (settled : Settlement) × Settles old answer taken settled new;
   forgets = λ old number n new. (amount : ℕ) × Forgets old number n amount new;
+  leftovers = λ world paths. AreLeftovers world.at paths;
   is_idle = IsIdle;
 }
