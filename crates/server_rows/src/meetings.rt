@@ -1,8 +1,9 @@
 //! The program `serve` with a client of its own, in one process: two threads and a socket between them.
 
 use crate::frames::{
-    AGREED, ARE_OF_A, ATTRIBUTES, DESTROY, DESTROYED, ENTRY_A, ENTRY_M, FORGET_A, INIT, LOOKUP_A,
-    MAKE_M, RENAME_A, RENAMED, bytes_of,
+    AGREED, ARE_OF_A, ATTRIBUTES, DESTROY, DESTROYED, ENTRY_A, ENTRY_M, ENTRY_OF_M_ALONE, FORGET_A,
+    INIT, LAST_ENTRY, LOOKUP_A, MAKE_M, NO_ENTRY, ONE_ENTRY, OPEN_ROOT, OPENED, READ_MORE, READ_ON,
+    READ_ONE, RENAME_A, RENAMED, bytes_of,
 };
 use crate::host::Host;
 use crate::places::{Shown, expect, new_folder, place_of};
@@ -127,6 +128,21 @@ const MEETINGS: &[Meeting] = &[
             ("b", Shown::File(3)),
             ("m", Shown::Folder),
         ],
+    },
+    Meeting {
+        says: "it reads a folder by pages, with the nodes of its names",
+        turns: &[
+            (INIT, AGREED),
+            (MAKE_M, ENTRY_OF_M_ALONE),
+            (OPEN_ROOT, OPENED),
+            (READ_ONE, ONE_ENTRY),
+            (READ_MORE, LAST_ENTRY),
+            (READ_ON, NO_ENTRY),
+            (DESTROY, DESTROYED),
+        ],
+        status: 0,
+        fault: "",
+        after: &[("a", Shown::File(3)), ("m", Shown::Folder)],
     },
     Meeting {
         says: "it leaves at once",
