@@ -3,7 +3,7 @@ import struct
 
 LOOKUP, FORGET, GETATTR, MKDIR, UNLINK, RMDIR, RENAME, STATFS, INIT, DESTROY = 1, 2, 3, 9, 10, 11, 12, 17, 26, 38
 OPEN, READ, WRITE, FSYNC, FLUSH, CREATE = 14, 15, 16, 20, 25, 35
-OPENDIR, READDIR, RELEASEDIR = 27, 28, 29
+OPENDIR, READDIR, RELEASEDIR, READDIRPLUS = 27, 28, 29, 44
 ROOT = 1
 HEADER = struct.Struct("<IIQQIIII")
 REPLY = struct.Struct("<IiQ")
@@ -69,6 +69,10 @@ def readdir(unique, node, handle, offset, size):
     return request(READDIR, unique, node, struct.pack("<QQIIQII", handle, offset, size, 0, 0, 0, 0))
 
 
+def readdirplus(unique, node, handle, offset, size):
+    return request(READDIRPLUS, unique, node, struct.pack("<QQIIQII", handle, offset, size, 0, 0, 0, 0))
+
+
 def releasedir(unique, node, handle):
     return request(RELEASEDIR, unique, node, struct.pack("<QIIQ", handle, 0, 0, 0))
 
@@ -126,3 +130,14 @@ def names_of(body):
         names.append((body[at + 24:at + 24 + length].decode(), following))
         at += (24 + length + 7) // 8 * 8
     return names
+
+
+def entries_of(body):
+    """The names of a page, each with the index of the next one and its node, which is 0 where none was given."""
+    entries, at = [], 0
+    while at < len(body):
+        node, = struct.unpack_from("<Q", body, at)
+        _, following, length, _ = struct.unpack_from("<QQII", body, at + 128)
+        entries.append((body[at + 152:at + 152 + length].decode(), following, node))
+        at += (152 + length + 7) // 8 * 8
+    return entries

@@ -1,7 +1,9 @@
 //! READDIRPLUS: a page of an open folder whose names are looked up, and the reply that tells it.
 
-ghost use Rattle.std.specs.Prelude.{◌≡◌, ◌+◌, ◌^◌, ◌<◌, ◌++◌, length, drop, IfOk, OnOk};
+ghost use Rattle.std.specs.Prelude.{◌≡◌, ◌+◌, ◌^◌, ◌<◌, ◌++◌, true, length, drop, IfOk, OnOk};
 ghost use Rattle.handles.specs.Names.{is_dot};
+ghost use Rattle.handles.specs.Pages.{bytes_of};
+ghost use Rattle.ops.specs.Folders.{CarriesAtMost};
 ghost use Rattle.ops.specs.Pages.{names_on, no_page, page_want};
 ghost use Rattle.ops.specs.Replies.{entries_bytes, first, plus_entry};
 ghost use Rattle.wire.specs.Dirents.{plus_bytes};
@@ -184,7 +186,8 @@ pub fn entries_reply(
     founds: &[Option<Found>],
     givens: &[Option<Given>],
 ) -> Result<ReplyBody, AllocError>
-    ensures { IfOk result (λ body. body ≡ Told (entries_bytes settings page.now.from page.now.entries founds.now givens.now)) }
+    ensures ok { IfOk result (λ body. body ≡ Told (entries_bytes settings page.now.from page.now.entries founds.now givens.now)) }
+    ensures short { IfOk result (λ body. CarriesAtMost (bytes_of true page.now.entries) body) }
 {
     let mut entries = Vec::new(alloc);
     let from = page.from;

@@ -19,7 +19,7 @@ pub use entries::{Paged, entries_reply};
 pub use findings::{Finding, Found};
 pub use folders::names_reply;
 pub use intents::{FolderUse, Intent, intent_of};
-pub use looks::{Looked, Looks};
+pub use looks::Looked;
 pub use replies::{Settings, file_reply, opened_reply, reply_to};
 pub use script::Script;
 pub use wanted::Wanted;

@@ -2,8 +2,9 @@
 
 use crate::frames::{
     AGREED, ARE_FIVE, ARE_OF_A, ATTRIBUTES, CREATE_N, CREATED_N, DESTROY, DESTROYED, ENTRY_A,
-    ENTRY_M, FORGET_A, FSYNC, INIT, LOOKUP_A, MAKE_M, READ_TEN, RENAME_A, RENAME_N, RENAMED,
-    WRITE_DE, WROTE_DE, bytes_of,
+    ENTRY_M, ENTRY_OF_M_ALONE, FORGET_A, FSYNC, INIT, LAST_ENTRY, LOOKUP_A, MAKE_M, NO_ENTRY,
+    ONE_ENTRY, OPEN_ROOT, OPENED, READ_MORE, READ_ON, READ_ONE, READ_TEN, RENAME_A, RENAME_N,
+    RENAMED, WRITE_DE, WROTE_DE, bytes_of,
 };
 use crate::host::Host;
 use crate::places::{Shown, expect, new_folder, place_of};
@@ -146,6 +147,21 @@ const MEETINGS: &[Meeting] = &[
             ("n", Shown::Nothing),
             ("k", Shown::File(5)),
         ],
+    },
+    Meeting {
+        says: "it reads a folder by pages, with the nodes of its names",
+        turns: &[
+            (INIT, AGREED),
+            (MAKE_M, ENTRY_OF_M_ALONE),
+            (OPEN_ROOT, OPENED),
+            (READ_ONE, ONE_ENTRY),
+            (READ_MORE, LAST_ENTRY),
+            (READ_ON, NO_ENTRY),
+            (DESTROY, DESTROYED),
+        ],
+        status: 0,
+        fault: "",
+        after: &[("a", Shown::File(3)), ("m", Shown::Folder)],
     },
     Meeting {
         says: "it leaves at once",

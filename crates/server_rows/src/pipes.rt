@@ -1,8 +1,8 @@
 //! The program `pipe`, from its words to its exit status.
 
 use crate::frames::{
-    ABSENT, AGREED, ARE_OF_A, ATTRIBUTES, DESTROY, DESTROYED, ENTRY_A, ENTRY_M, FORGET_A, INIT,
-    LOOKUP_A, MAKE_M, RENAME_A, RENAMED, STALE, bytes_of,
+    ABSENT, AGREED, ARE_OF_A, ATTRIBUTES, DESTROY, DESTROYED, ENTRY_A, ENTRY_M, ENTRY_OF_M_ALONE,
+    FORGET_A, INIT, LOOKUP_A, MAKE_M, RENAME_A, RENAMED, STALE, bytes_of,
 };
 use crate::host::Host;
 use crate::places::{Shown, expect, new_folder};
@@ -114,13 +114,6 @@ const RUNS: &[Run] = &[
         after: &[("a", Shown::File(3)), ("m", Shown::Folder)],
     },
 ];
-
-/// The entry of `m` where it is node 2.
-const ENTRY_OF_M_ALONE: &str = "90000000 00000000 0400000000000000 \
-    0200000000000000 0000000000000000 0100000000000000 0100000000000000 00000000 00000000 \
-    0200000000000000 0000000000000000 0000000000000000 \
-    0000000000000000 0000000000000000 0000000000000000 00000000 00000000 00000000 \
-    ed410000 02000000 e8030000 64000000 00000000 00100000 00000000";
 
 #[test]
 fn sessions_over_a_pipe(rt: HostRuntime) -> Result<(), Fail> {

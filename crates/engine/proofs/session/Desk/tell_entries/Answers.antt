@@ -17,7 +17,7 @@ returns-in-Ok-clause-concludes g c made follows =
     let page = c.args.page.now in
     let answered = c.finish-answered.result in
     let finishes = subst (λ (there : List Bool). Finishes (world_of c.args.table.now) c.args.ticket.id (Entries there) answered (world_of c.finish-answered.new.self)) c.into_parts-there.ensures.there c.finish-answered.ensures.finishes in
-    let told = c.in-Ok.ensures
+    let told = c.in-Ok.ensures.ok
     ∙ ap (λ (fs : List (Option Found)). Data (entries_bytes s page.from page.entries fs c.given.result.now)) (c.deref.ensures.value ∙ c.into_parts-there.ensures.found)
     ∙ ap (λ (gs : List (Option Given)). Data (entries_bytes s page.from page.entries c.args.looked gs)) c.given.ensures in
     concluded_entries worlds s g.L.LinkOut.sends c.args.request page c.args.ticket made c.args.looked c.in-Ok.body answered c.args.link.now c.settle-sent.new.link
