@@ -19,7 +19,7 @@ use Rattle.ops.specs.declared.replies.Settings.{Settings}
 use Rattle.engine.specs.Chain.{Chain}
 use Rattle.engine.specs.Links.{Heard, Piece, Ended, Broke, Event, Happens}
 use Rattle.engine.specs.Reference.{At, Offer, Stop, AtEnd, Lost, IsTurn, frames_of, starting, Closes}
-use Rattle.engine.specs.Serving.{Step, Hears, Works, Gives, Makes, GoesOn, IsSessionRun, Paces, bytes_of, events_of, heard_of, made_of, sent_of, stop_in, stops_of, turns_of}
+use Rattle.engine.specs.Serving.{Step, Hears, Works, Gives, Makes, GoesOn, IsClientRun, Paces, bytes_of, events_of, heard_of, made_of, sent_of, stop_in, stops_of, turns_of}
 use Rattle.engine.specs.Tables.{Table}
 use Rattle.engine.specs.Walks.{Side, Stand, side, stand, standing, Drains, IsStep, Passes, Stops, Walks}
 use Rattle.engine.proofs.Runs.{chain_append}
@@ -172,7 +172,7 @@ module _ {W L C : Type 0} (table : Table W) (settings : Settings) (receives : L 
       → start.at ≡ starting world → start.kept ≡ [] → table.is_idle world
       → Walks table settings receives sends gives start s → Tells s last link calls at kept (option_to_list stop)
       → Splits kept dropped rest → Closes at.end end stop dropped rest
-      → IsSessionRun table settings receives sends gives start.link start.calls world link calls at.world end
+      → IsClientRun table settings receives sends gives start.link start.calls world link calls at.world end
   closing start s last link calls at kept stop dropped rest end world begins empty fresh walks t splits closes =
       let all = tells_on walks.steps last start s link calls at kept (option_to_list stop) walks.chain t in
       let steps = walks.steps ++ last in
@@ -207,26 +207,26 @@ module _ {W L C : Type 0} (table : Table W) (settings : Settings) (receives : L 
   module _ (link mid : L) (calls calls' : C) (world : W) (s : Stand W) (kept : List ℕ) (fresh : table.is_idle world) (partial : IsPartial kept) (walks : Walks table settings receives sends gives (side link calls (stand world false) []) (side mid calls' s kept)) where
     -- hearing ends
     by_heard : (heard : Heard) (link' : L) (now : List ℕ) (stop : Option Stop) (dropped : List (List ℕ)) (rest : List ℕ) (end : SessionEnd) → receives mid heard link' → now ≡ kept ++ bytes_of heard → stop_in heard ++ [] ≡ option_to_list stop → Splits now dropped rest → Closes None end stop dropped rest
-        → IsSessionRun table settings receives sends gives link calls world link' calls' s.world end
+        → IsClientRun table settings receives sends gives link calls world link' calls' s.world end
     by_heard heard link' now stop dropped rest end r is stops splits closes =
         closing (side link calls (stand world false) []) (side mid calls' s kept) (Hears heard ∷ []) link' calls' (standing s None) now stop dropped rest end world refl refl fresh walks
         (subst (λ (ss : List Stop). Tells (side mid calls' s kept) (Hears heard ∷ []) link' calls' (standing s None) now ss) stops (tells_heard (side mid calls' s kept) heard link' now refl partial r is))
         splits closes
 
-    pub at_end : (link' : L) (rest : ℕ) → receives mid Ended link' → rest ≡ length kept → IsSessionRun table settings receives sends gives link calls world link' calls' s.world (ends.Closed rest)
+    pub at_end : (link' : L) (rest : ℕ) → receives mid Ended link' → rest ≡ length kept → IsClientRun table settings receives sends gives link calls world link' calls' s.world (ends.Closed rest)
     at_end link' rest r is = by_heard Ended link' kept (Some AtEnd) [] kept (ends.Closed rest) r (sym (append-nil kept)) refl (no_frame kept (partial_ends kept partial)) (refl, refl, partial, is)
 
-    pub at_break : (link' : L) → receives mid Broke link' → IsSessionRun table settings receives sends gives link calls world link' calls' s.world ends.LinkBroken
+    pub at_break : (link' : L) → receives mid Broke link' → IsClientRun table settings receives sends gives link calls world link' calls' s.world ends.LinkBroken
     at_break link' r = by_heard Broke link' kept (Some Lost) [] kept ends.LinkBroken r (sym (append-nil kept)) refl (no_frame kept (partial_ends kept partial)) (refl, refl, partial)
 
-    pub unfed : (link' : L) (piece : List ℕ) → receives mid (Piece piece) link' → IsSessionRun table settings receives sends gives link calls world link' calls' s.world ends.Memory
+    pub unfed : (link' : L) (piece : List ℕ) → receives mid (Piece piece) link' → IsClientRun table settings receives sends gives link calls world link' calls' s.world ends.Memory
     unfed link' piece r =
         let all = splits_all (kept ++ piece) in
         by_heard (Piece piece) link' (kept ++ piece) None all.frames all.rest ends.Memory r refl refl all.splits refl
 
   -- the session ended by a frame, a bad length or want of memory
   by_stop : (link link' : L) (calls calls' : C) (world : W) (s : Stand W) (kept : List ℕ) (reached : Option SessionEnd) (end : SessionEnd) → table.is_idle world → Walks table settings receives sends gives (side link calls (stand world false) []) (ended link' calls' s reached kept) → Stops reached (Some end) kept
-      → IsSessionRun table settings receives sends gives link calls world link' calls' s.world end
+      → IsClientRun table settings receives sends gives link calls world link' calls' s.world end
   by_stop link link' calls calls' world s kept (Some reached) end fresh walks stops =
       let all = splits_all kept in
       closing (side link calls (stand world false) []) (ended link' calls' s (Some reached) kept) [] link' calls' (standing s (Some reached)) kept None all.frames all.rest end world refl refl fresh walks
@@ -244,7 +244,7 @@ module _ {W L C : Type 0} (table : Table W) (settings : Settings) (receives : L 
 
   pub drained_end : (link mid link' : L) (calls calls' calls'' : C) (world : W) (s s' : Stand W) (fed kept : List ℕ) (result : Option SessionEnd) (end : SessionEnd) (now : Settings) → now ≡ settings → table.is_idle world → Walks table settings receives sends gives (side link calls (stand world false) []) (side mid calls' s fed) → result ≡ Some end
       → Drains table now receives sends gives (side mid calls' s fed) link' calls'' s' kept result
-      → IsSessionRun table settings receives sends gives link calls world link' calls'' s'.world end
+      → IsClientRun table settings receives sends gives link calls world link' calls'' s'.world end
   drained_end link mid link' calls calls' calls'' world s s' fed kept result end now set fresh walks is given =
       let d = subst (λ (t : Settings). Drains table t receives sends gives (side mid calls' s fed) link' calls'' s' kept result) set given in
       by_stop link link' calls calls'' world s' kept d.reached end fresh

@@ -4,5 +4,6 @@ pub mod ByClass
 pub mod Endings
 pub mod Lending
 pub mod Runs
+pub mod Removing
 pub mod Turns
 pub mod Walking

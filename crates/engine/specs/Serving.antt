@@ -1,6 +1,7 @@
 -- What a server does: a session as it ought to go, over a link and a directory.
-use Rattle.std.specs.Prelude.{ℕ, ◌≡◌, ◌⊎◌, List, [], ◌∷◌, ◌++◌, Option, Some, None, option_to_list}
-use Rattle.backing.specs.Calls.{Asked}
+use Rattle.std.specs.Prelude.{ℕ, ◌≡◌, ◌⊎◌, List, [], ◌∷◌, ◌++◌, map, Option, Some, None, option_to_list}
+use Rattle.paths.specs.Prefixes.{Names}
+use Rattle.backing.specs.Calls.{Asked, AskRemove}
 use Rattle.backing.specs.declared.call.Answer.{Answer}
 use Rattle.wire.specs.Requests.{IsFramed}
 use Rattle.wire.specs.Stream.{IsPartial}
@@ -92,9 +93,9 @@ Makes gives = Chain (Gives gives)
 
 -- ---- what serving promises
 
--- Served was a session as it ought to go: of the bytes that the link gave; its replies were offered, and its calls made, each once
+-- The client was served as it ought to be: the bytes are those that the link gave; its replies were offered, and the calls made, each once
 -- and in order.
-pub record IsSessionRun {W L C : Type 0} (table : Table W) (settings : Settings) (receives : L → Heard → L → Type 0) (sends : L → List ℕ → Sent → L → Type 0) (gives : C → Asked → Answer → C → Type 0) (link : L) (calls : C) (world : W) (link' : L) (calls' : C) (world' : W) (end : SessionEnd) : Type 0 where
+pub record IsClientRun {W L C : Type 0} (table : Table W) (settings : Settings) (receives : L → Heard → L → Type 0) (sends : L → List ℕ → Sent → L → Type 0) (gives : C → Asked → Answer → C → Type 0) (link : L) (calls : C) (world : W) (link' : L) (calls' : C) (world' : W) (end : SessionEnd) : Type 0 where
   pub steps : List Step
   pub passes : Chain (Happens receives sends) link (events_of steps) link'
   pub makes : Makes gives calls (made_of (turns_of steps)) calls'
@@ -103,3 +104,28 @@ pub record IsSessionRun {W L C : Type 0} (table : Table W) (settings : Settings)
   pub stop : Option Stop
   pub stopped : stops_of steps ≡ option_to_list stop
   pub session : IsSession table settings world (heard_of steps) stop (turns_of steps) world' end
+
+-- At the end of a session each file that is still hidden is removed by one call, whatever its answer. That there was no memory for the
+-- list of them is an input: then nothing is removed.
+abbrev pub Removes : {W : Type 0} → Table W → W → (listed : Option (List Names)) → List Made → Type 0
+Removes table world None removals = removals ≡ []
+Removes table world (Some paths) removals = table.leftovers world paths × (map (λ (m : Made). m.call) removals ≡ map (λ path. AskRemove path) paths)
+
+-- each of these files is removed by one call, in order
+pub record RemovesAll {C : Type 0} (gives : C → Asked → Answer → C → Type 0) (calls : C) (paths : List Names) (calls' : C) : Type 0 where
+  pub removals : List Made
+  pub asked : map (λ (m : Made). m.call) removals ≡ map (λ path. AskRemove path) paths
+  pub makes : Makes gives calls removals calls'
+
+-- the same, with the calls made each once and in order
+pub record RemovesLeft {W C : Type 0} (table : Table W) (gives : C → Asked → Answer → C → Type 0) (calls : C) (world : W) (calls' : C) : Type 0 where
+  pub listed : Option (List Names)
+  pub removals : List Made
+  pub removes : Removes table world listed removals
+  pub makes : Makes gives calls removals calls'
+
+-- a client was served, and then what it left hidden was removed
+pub record IsSessionRun {W L C : Type 0} (table : Table W) (settings : Settings) (receives : L → Heard → L → Type 0) (sends : L → List ℕ → Sent → L → Type 0) (gives : C → Asked → Answer → C → Type 0) (link : L) (calls : C) (world : W) (link' : L) (calls' : C) (world' : W) (end : SessionEnd) : Type 0 where
+  pub left : C
+  pub client : IsClientRun table settings receives sends gives link calls world link' left world' end
+  pub removal : RemovesLeft table gives left world' calls'

@@ -1,5 +1,6 @@
 -- A table by its steps, and what a session knows of its insides: how it stands between two requests.
-use Rattle.std.specs.Prelude.{ℕ, ◌≡◌, Bool, Option, None}
+use Rattle.std.specs.Prelude.{ℕ, ◌≡◌, Bool, List, Option, None}
+use Rattle.paths.specs.Prefixes.{Names}
 use Rattle.files.specs.declared.data.OpenFile.{OpenFile}
 use Rattle.flights.specs.declared.data.Want.{Want}
 use Rattle.steps.specs.Answers.{Answer, Settlement}
@@ -7,6 +8,7 @@ use Rattle.steps.specs.Steps.{Begins, Finishes, Settles, Forgets}
 use Rattle.steps.specs.World.{World}
 use Rattle.steps.specs.declared.data.Begin.{Begin}
 use Rattle.steps.specs.declared.data.Outcome.{Outcome}
+use Rattle.table.specs.Leftovers.{AreLeftovers}
 
 -- a table whose states are the elements of W
 pub record Table (W : Type 0) : Type 1 where
@@ -16,6 +18,8 @@ pub record Table (W : Type 0) : Type 1 where
   pub forgets : W → (number n : ℕ) → W → Type 0
   -- the open file under a handle
   pub file : W → (fh : ℕ) → Option OpenFile
+  -- these are the paths of all hidden files
+  pub leftovers : W → List Names → Type 0
   -- no request is in flight
   pub is_idle : W → Type 0
 
@@ -30,5 +34,6 @@ worlds = record {
   settles = λ old answer taken new. (settled : Settlement) × Settles old answer taken settled new;
   forgets = λ old number n new. (amount : ℕ) × Forgets old number n amount new;
   file = λ w fh. w.files fh;
+  leftovers = λ world paths. AreLeftovers world.at paths;
   is_idle = IsIdle;
 }

@@ -7,17 +7,18 @@ ghost use Rattle.steps.specs.Kept.{world_of};
 ghost use Rattle.steps.specs.Steps.{gained};
 ghost use Rattle.steps.specs.World.{IsLawfulWorld};
 ghost use Rattle.table.specs.Gains.{Gains};
-ghost use Rattle.engine.specs.Serving.{IsSessionRun};
+ghost use Rattle.engine.specs.Serving.{IsClientRun, IsSessionRun, RemovesAll, RemovesLeft};
 ghost use Rattle.engine.specs.Tables.{worlds, IsIdle};
 ghost use Rattle.engine.specs.Walks.{side, stand, Drains};
 
 use crate::ends::SessionEnd;
 use crate::links::{Link, Received};
 use crate::session::Desk;
-use backing::Calls;
+use backing::{Call, Calls};
 use handles::Dirs;
 use ledger::{Ledgers, Share};
 use ops::Settings;
+use paths::Path;
 use std::alloc::Global;
 use std::sync::Wait;
 use table::Table;
@@ -62,9 +63,8 @@ fn drain<H: Wait, T: Ledgers, L: Link, C: Calls>(
     }
 }
 
-/// Serves a client on one thread until its session ends. The share counts the postings. No request may be in flight in the
-/// table. It may wait for the link.
-pub fn serve<H: Wait, T: Ledgers, L: Link, C: Calls>(
+/// Works off what a client sends until its session is over.
+fn attend<H: Wait, T: Ledgers, L: Link, C: Calls>(
     rt: &H,
     alloc: Global,
     link: &mut L,
@@ -75,7 +75,7 @@ pub fn serve<H: Wait, T: Ledgers, L: Link, C: Calls>(
     settings: Settings,
 ) -> SessionEnd
     requires fresh { IsIdle (world_of table.old) }
-    ensures serves { IsSessionRun worlds settings L.receives L.sends C.gives
+    ensures serves { IsClientRun worlds settings L.receives L.sends C.gives
         link.old calls.old (world_of table.old) link.new calls.new (world_of table.new) result }
     ensures lawful { IsLawfulWorld (world_of table.new) }
     ensures grows { (world_of table.new).postings ≡ (world_of table.old).postings ++ gained (world_of table.old) (world_of table.new) }
@@ -111,4 +111,47 @@ pub fn serve<H: Wait, T: Ledgers, L: Link, C: Calls>(
         }
     }
     unreachable!()
+}
+
+/// Removes these files, each by one call. A fault leaves the file.
+fn remove_all<C: Calls>(calls: &mut C, paths: &[Path])
+    ensures { RemovesAll C.gives calls.old paths.now calls.new }
+{
+    for path in paths {
+        let _ = calls.call(Call::Remove(path));
+    }
+}
+
+/// Removes the files that are still hidden. Without memory for the list of them nothing is removed.
+fn remove_leftovers<T: Ledgers, C: Calls>(calls: &mut C, table: &Table<T>)
+    ensures { RemovesLeft worlds C.gives calls.old (world_of table.now) calls.new }
+{
+    match table.leftover() {
+        Ok(paths) => remove_all(calls, paths.as_slice()),
+        Err(_) => {}
+    }
+}
+
+/// Serves a client on one thread until its session ends, and removes the files that are still hidden then. The share counts the
+/// postings. No request may be in flight in the table. It may wait for the link.
+pub fn serve<H: Wait, T: Ledgers, L: Link, C: Calls>(
+    rt: &H,
+    alloc: Global,
+    link: &mut L,
+    calls: &mut C,
+    table: &mut Table<T>,
+    share: &mut Share<T>,
+    dirs: &Dirs,
+    settings: Settings,
+) -> SessionEnd
+    requires fresh { IsIdle (world_of table.old) }
+    ensures serves { IsSessionRun worlds settings L.receives L.sends C.gives
+        link.old calls.old (world_of table.old) link.new calls.new (world_of table.new) result }
+    ensures lawful { IsLawfulWorld (world_of table.new) }
+    ensures grows { (world_of table.new).postings ≡ (world_of table.old).postings ++ gained (world_of table.old) (world_of table.new) }
+    ensures share { share.new ≡ record share.old { totals = plus share.old.totals (totals_of (gained (world_of table.old) (world_of table.new))) } }
+{
+    let end = attend(rt, alloc, link, calls, table, share, dirs, settings);
+    remove_leftovers(calls, table);
+    end
 }

@@ -47,6 +47,6 @@ hex_served sampled tree old over new start (inl known) = inl (record {
   tree = tree;
   start = start;
   known = known;
-  written = written old new (events_of known.served.run.steps) known.served.run.passes;
+  written = written old new (events_of known.served.run.client.steps) known.served.run.client.passes;
 })
 hex_served sampled tree old over new start (inr none) = inr none

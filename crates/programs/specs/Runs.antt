@@ -36,7 +36,7 @@ pub record IsHexServed (sampled : Bool) (old : Hexing) (over : SessionEnd) (new 
   pub tree : MemTree
   pub start : IsStart sampled tree
   pub known : IsKnownServed nobody Receives Sends Gives memory_tree failed_in tree old over new
-  pub written : has_broken (events_of known.served.run.steps) ≡ false → Appends old.output new.output (lines_in (events_of known.served.run.steps))
+  pub written : has_broken (events_of known.served.run.client.steps) ≡ false → Appends old.output new.output (lines_in (events_of known.served.run.client.steps))
 
 -- the same, unless there is no memory for a tree or a table
 abbrev pub ServesHex : Bool → Hexing → SessionEnd → Hexing → Type 0

@@ -19,6 +19,8 @@ pub struct Client {
     sends: u32,
     /// The reply that is not taken, counted from 1.
     declined: u32,
+    /// Whether the link breaks at it.
+    breaks: bool,
     /// The replies that were taken, one after another.
     pub taken: Vec<u8>,
     failures: u64,
@@ -32,8 +34,17 @@ impl Client {
             given: 0,
             sends: 0,
             declined,
+            breaks: false,
             taken: Vec::new(alloc),
             failures: 0,
+        }
+    }
+
+    /// The same client, whose link breaks at the reply that it does not take.
+    pub fn breaking(self) -> Client {
+        Client {
+            breaks: true,
+            ..self
         }
     }
 }
@@ -74,7 +85,11 @@ impl LinkOut for Client {
         self.sends = self.sends.saturating_add(1);
         if self.sends == self.declined {
             self.failures = self.failures.saturating_add(1);
-            return Sent::Untaken;
+            return if self.breaks {
+                Sent::Broken
+            } else {
+                Sent::Untaken
+            };
         }
         match self.taken.extend_from_slice(frame) {
             Ok(()) => Sent::Taken,

@@ -198,3 +198,32 @@ fn destroyed_session(rt: HostRuntime) -> Result<(), Fail> {
     assert!(rt; are_taken(alloc, &client.taken, &[])?);
     Ok(())
 }
+
+// A link that breaks at the reply to a DESTROY is what ends the session.
+#[test]
+fn broken_farewell(rt: HostRuntime) -> Result<(), Fail> {
+    let alloc = rt.alloc();
+    let mut client = client_of(alloc, &[DESTROY, LOOKUP_ZZ], 2)?.breaking();
+    let over = serve_samples::<HostRuntime, Brand>(&rt, alloc, Blanks::new(1), None, &mut client)?;
+    assert_eq!(rt; over.end, SessionEnd::LinkBroken);
+    assert!(rt; are_taken(alloc, &client.taken, &[])?);
+    Ok(())
+}
+
+// Nothing is served after the link broke, and the entry whose reply was lost comes back.
+#[test]
+fn broken_lookup(rt: HostRuntime) -> Result<(), Fail> {
+    let alloc = rt.alloc();
+    let mut client = client_of(alloc, &[LOOKUP_A, LOOKUP_E], 2)?.breaking();
+    let over = serve_samples::<HostRuntime, Brand>(&rt, alloc, Blanks::new(1), None, &mut client)?;
+    let totals = Totals {
+        born: 1,
+        entries: 1,
+        backs: 1,
+        forgotten: 0,
+    };
+    assert_eq!(rt; over.end, SessionEnd::LinkBroken);
+    assert!(rt; are_taken(alloc, &client.taken, &[])?);
+    assert_eq!(rt; over.totals, totals);
+    Ok(())
+}

@@ -1,12 +1,13 @@
 -- A run of calls of a known tree.
-use Rattle.std.proofs.Common.{ℕ, ◌≡◌, List, [], ◌∷◌, sym, ap, ◌∙◌, inl, inr}
+use Rattle.std.proofs.Common.{ℕ, ◌≡◌, List, [], ◌∷◌, ◌++◌, sym, ap, ◌∙◌, inl, inr}
 use Rattle.backing.specs.Calls.{Asked}
 use Rattle.backing.specs.Device.{Device, Counted, counted, faulty}
 use Rattle.backing.specs.Known.{counted_none, counted_on}
 use Rattle.backing.specs.Tree.{Tree}
 use Rattle.backing.specs.declared.call.Answer.{Answer}
 use Rattle.engine.specs.Links.{Heard}
-use Rattle.engine.specs.Serving.{Makes, made_of, turns_of}
+use Rattle.engine.specs.Serving.{Gives, Makes, made_of, turns_of}
+use Rattle.engine.proofs.Runs.{chain_append}
 use Rattle.engine.specs.declared.ends.SessionEnd.{SessionEnd}
 use Rattle.engine.specs.declared.links.Sent.{Sent}
 use Rattle.ops.specs.Scripts.{Made}
@@ -40,6 +41,6 @@ pub known_served : {L C : Type 0} (settings : Settings) (receives : L → Heard 
     → ((old new : C) (call : Asked) (answer : Answer) → gives old call answer new → Counted (tree_of old) (faults old) call answer (tree_of new) (faults new))
     → (tree : C) (old : L) (over : SessionEnd) (new : L) → ServesLink settings receives sends gives tree old over new → ServesKnown settings receives sends gives tree_of faults tree old over new
 known_served settings receives sends gives tree_of faults knows tree old over new (inl served) =
-    let run = known_run gives tree_of faults knows tree served.left (made_of (turns_of served.run.steps)) served.run.makes in
+    let run = known_run gives tree_of faults knows tree served.left (made_of (turns_of served.run.client.steps) ++ served.run.removal.removals) (chain_append (Gives gives) tree served.run.left served.left (made_of (turns_of served.run.client.steps)) served.run.removal.removals served.run.client.makes served.run.removal.makes) in
     inl (record { served = served; devices = run.devices; on_tree = run.on_tree; counts = run.counts })
 known_served settings receives sends gives tree_of faults knows tree old over new (inr none) = inr none

@@ -12,8 +12,8 @@ use Rattle.streams.specs.Streams.{Streaming, Receives, Sends, unused}
 pub stream_served : (settings : Settings) (old : Streaming) (over : SessionEnd) (new : Streaming) → ServesLink settings Receives Sends Tells 0 old over new → ServesStream settings old over new
 stream_served settings old over new (inl served) = inl (record {
   served = served;
-  heard = heard_first old new served.run.steps served.run.passes;
-  written = written old new (events_of served.run.steps) served.run.passes;
+  heard = heard_first old new served.run.client.steps served.run.client.passes;
+  written = written old new (events_of served.run.client.steps) served.run.client.passes;
 })
 stream_served settings old over new (inr none) = inr none
 

@@ -16,8 +16,8 @@ use Rattle.server.specs.declared.folder.Unserved.TheVariants.{NoSocket}
 -- replies that were taken, one after another, unless a reply broke the link.
 pub record IsStreamServed (settings : Settings) (old : Streaming) (over : SessionEnd) (new : Streaming) : Type 0 where
   pub served : IsServed settings Receives Sends Tells 0 old over new
-  pub heard : Consumes old.input new.input (heard_of served.run.steps)
-  pub written : has_broken (events_of served.run.steps) ≡ false → Appends old.output new.output (taken_in (events_of served.run.steps))
+  pub heard : Consumes old.input new.input (heard_of served.run.client.steps)
+  pub written : has_broken (events_of served.run.client.steps) ≡ false → Appends old.output new.output (taken_in (events_of served.run.client.steps))
 
 -- the same, unless there is no memory for a table
 abbrev pub ServesStream : Settings → Streaming → SessionEnd → Streaming → Type 0

@@ -1,5 +1,5 @@
 -- Sessions from a tree that is known.
-use Rattle.std.specs.Prelude.{ℕ, ◌≡◌, ◌⊎◌, ◌+◌, List, [], ◌∷◌}
+use Rattle.std.specs.Prelude.{ℕ, ◌≡◌, ◌⊎◌, ◌+◌, List, [], ◌∷◌, ◌++◌}
 use Rattle.backing.specs.Calls.{Asked}
 use Rattle.backing.specs.Device.{Device, Performs, counted, faulty}
 use Rattle.backing.specs.Tree.{Tree}
@@ -29,7 +29,7 @@ OnTree old (device ∷ devices) (made ∷ more) new = (mid : Tree) × Performs o
 pub record IsKnownServed {L C : Type 0} (settings : Settings) (receives : L → Heard → L → Type 0) (sends : L → List ℕ → Sent → L → Type 0) (gives : C → Asked → Answer → C → Type 0) (tree_of : C → Tree) (faults : C → ℕ) (tree : C) (old : L) (over : SessionEnd) (new : L) : Type 0 where
   pub served : IsServed settings receives sends gives tree old over new
   pub devices : List Device
-  pub on_tree : OnTree (tree_of tree) devices (made_of (turns_of served.run.steps)) (tree_of served.left)
+  pub on_tree : OnTree (tree_of tree) devices (made_of (turns_of served.run.client.steps) ++ served.run.removal.removals) (tree_of served.left)
   pub counts : faults served.left ≡ counted (faults tree) (faults_in devices)
 
 -- the same, unless there is no memory for a table

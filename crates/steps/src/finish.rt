@@ -57,6 +57,7 @@ impl State {
     {
         let Work {
             want,
+            case,
             copy,
             copies,
             held,
@@ -67,7 +68,7 @@ impl State {
             entries,
             change,
             opens,
-        } = acts_of(want, copy, copies);
+        } = acts_of(want, case, copy, copies);
         match outcome {
             Outcome::Failed => give_none(id, &entries, answer, None),
             Outcome::Done => {

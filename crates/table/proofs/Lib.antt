@@ -3,3 +3,4 @@ pub mod Longer
 pub mod Holders
 pub mod Exporting
 pub mod Gaining
+pub mod Leaving

@@ -5,3 +5,4 @@ pub use Rattle.steps.specs.Kept
 pub mod Gains
 pub mod Exports
 pub mod Copies
+pub mod Leftovers

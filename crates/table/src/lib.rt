@@ -4,6 +4,7 @@
 #![tactic(auto)]
 
 mod export;
+mod leftover;
 mod table;
 
 pub use files::{Access, Need, OpenFile};

@@ -6,13 +6,16 @@ ghost use Rattle.ledger.specs.Shares.{nothing, plus, sum_of};
 ghost use Rattle.ledger.specs.Sums.{totals_of};
 ghost use Rattle.image.specs.Law.{IsLawfulImage};
 ghost use Rattle.table.specs.Exports.{Exports};
+ghost use Rattle.table.specs.Leftovers.{AreLeftovers};
 ghost use Rattle.steps.specs.Kept.{world_of};
 ghost use Rattle.steps.specs.Steps.{Begins, Finishes, Forgets, Settles, gained};
 ghost use Rattle.steps.specs.World.{IsLawfulWorld, opened_world};
 
 use crate::export::export;
+use crate::leftover::leftover;
 use files::OpenFile;
 use flights::Want;
+use holds::Paths;
 use image::Image;
 use ledger::{Blanks, Book, Gather, Ledger, Ledgers, Share, Totals};
 use std::alloc::{AllocError, Global};
@@ -145,6 +148,13 @@ impl<L: Ledgers> Table<L> {
         ensures { result ≡ (world_of self.now).files handle }
     {
         self.state.files.get(handle)
+    }
+
+    /// The paths of all nodes with a hidden mark, by rising number: of files that were hidden and are still there.
+    pub fn leftover(&self) -> Result<Paths, AllocError>
+        ensures { IfOk result (AreLeftovers (world_of self.now).at) }
+    {
+        leftover(&self.state)
     }
 
     /// All that the table keeps, as plain data. It is lawful.

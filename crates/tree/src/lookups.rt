@@ -3,12 +3,13 @@
 ghost use Rattle.std.specs.Prelude.{true, false, ◌≡◌, ◌≢◌, ◌<◌, ◌≤◌, ◌+◌, ◌^◌, ◌↔◌, ℕ, List, [], ◌∷◌, ◌++◌, None, IfNone, IfSome, IfOk, IfErr, OnOk, IsTrue, length, slice_get, vec_len};
 ghost use Rattle.paths.specs.Prefixes.{Names, path_bytes};
 ghost use Rattle.tree.specs.declared.nodes.Place.TheVariants as Place;
-ghost use Rattle.tree.specs.Places.{IsAlive, IsNextAlive, IsNamed, Reaches, IsBelow, Leads, HasChild, IsFree};
+ghost use Rattle.tree.specs.Places.{IsAlive, IsNextAlive, IsNamed, IsPathOf, Reaches, IsBelow, Leads, HasChild, IsFree};
 ghost use Rattle.tree.specs.Listed.{node_at, IsDistinct, IsGrown, IsLeastFree, IsClimbed, IsClimbFault, IsNameTooLong};
 ghost use Rattle.tree.specs.Moves.{IsFault};
 
 use crate::nodes::{Key, Node, Place, TreeFault};
 use paths::Name;
+use std::alloc::{AllocError, Global};
 
 /// No path has more bytes.
 const PATH_BYTES: usize = 4096;
@@ -188,6 +189,33 @@ pub(crate) fn climb(
             unreachable!();
         };
         bytes = add_name(&mut names, bytes, &key.name)?;
+        current = key.parent;
+    }
+    unreachable!()
+}
+
+/// The names from the root down to the node, however many bytes they have.
+pub(crate) fn way_to(alloc: Global, nodes: &[Node], number: u64) -> Result<Vec<Name>, AllocError>
+    requires grown { IsGrown nodes.now }
+    requires leads { Leads (node_at nodes.now) number }
+    ensures { IfOk result (λ v. IsPathOf (node_at nodes.now) number v.items) }
+{
+    let mut names = Vec::new(alloc);
+    let mut current = number;
+    for _step in 0..nodes.len() {
+        if current == 1 {
+            names.reverse();
+            return Ok(names);
+        }
+        let Some(i) = index_of(nodes, current) else {
+            unreachable!();
+        };
+        let node = &nodes[i];
+        let Place::Named(key) = &node.place else {
+            unreachable!();
+        };
+        let name = key.name.copy()?;
+        names.push(name)?;
         current = key.parent;
     }
     unreachable!()

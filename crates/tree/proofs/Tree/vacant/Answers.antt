@@ -1,6 +1,6 @@
-use Rattle.std.proofs.Common.{◌≡◌, ◌<◌, ℕ, None, sym, ap, ◌∙◌, subst}
+use Rattle.std.proofs.Common.{◌≡◌, ◌<◌, ℕ, sym, ap, ◌∙◌, subst}
 use Rattle.tree.specs.Places.{Lookup, Nodes, at_in}
-use Rattle.tree.specs.Listed.{node_at, IsLeastFree}
+use Rattle.tree.specs.Listed.{node_at}
 use Rattle.tree.proofs.Counting.{look}
 use Rattle.tree.proofs.Walking.{next_is}
 use Rattle.tree.proofs.Tree.vacant.Goals as goal

@@ -1,5 +1,4 @@
 use Rattle.std.proofs.Common.{arith}
-use Rattle.tree.specs.Listed.{IsLeastFree}
 use Rattle.tree.specs.Places.{born_node}
 use Rattle.tree.proofs.LookupLemmas.{node_at-push}
 use Rattle.tree.proofs.Counting.{counts_push}

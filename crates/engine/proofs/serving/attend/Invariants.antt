@@ -4,7 +4,7 @@ use Rattle.wire.specs.Stream.{IsPartial}
 use Rattle.table.specs.Gains.{Gains}
 use Rattle.engine.specs.Tables.{worlds, IsIdle}
 use Rattle.engine.specs.Walks.{side, stand, Walks}
-use Rattle.engine.proofs.serving.serve.Given as goal
+use Rattle.engine.proofs.serving.attend.Given as goal
 
 -- no whole frame and no bad length is left between two pieces
 abbrev pub invariant-loop : goal.invariant-loop

@@ -6,7 +6,7 @@ use Rattle.engine.specs.Tables.{worlds}
 use Rattle.engine.specs.Walks.{side, stand}
 use Rattle.engine.proofs.Closing.{at_break, at_end, drained_end, drained_on, unfed}
 use Rattle.engine.proofs.Walking.{piece_on, walks_from}
-use Rattle.engine.proofs.serving.serve.Goals as goal
+use Rattle.engine.proofs.serving.attend.Goals as goal
 
 pub loop-init : goal.loop-init
 loop-init g c =

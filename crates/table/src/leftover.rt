@@ -1,0 +1,51 @@
+//! What is left of files that were hidden.
+
+ghost use Rattle.std.specs.Prelude.{◌+◌, IfOk, OnOk};
+ghost use Rattle.image.specs.Law.{AreMarksNamed};
+ghost use Rattle.steps.specs.Kept.{IsKept, world_of};
+ghost use Rattle.table.specs.Leftovers.{AreLeftBelow, AreLeftovers};
+ghost use Rattle.tree.specs.Places.{at_in};
+
+use holds::Paths;
+use paths::Path;
+use std::alloc::{AllocError, Global};
+use steps::State;
+use tree::Tree;
+
+/// Adds the path of the node, if it has a hidden mark.
+fn add_leftover(
+    alloc: Global,
+    paths: &mut Vec<Path>,
+    tree: &Tree,
+    number: u64,
+) -> Result<(), AllocError>
+    requires marks { AreMarksNamed (at_in tree.now) }
+    requires below { AreLeftBelow (at_in tree.now) number paths.old.items }
+    ensures { OnOk result (AreLeftBelow (at_in tree.now) (number + 1) paths.new.items) }
+{
+    let Some(node) = tree.at(number) else {
+        return Ok(());
+    };
+    if !node.hidden {
+        return Ok(());
+    }
+    let Some(path) = tree.whole_path(alloc, number)? else {
+        unreachable!();
+    };
+    paths.push(path)?;
+    Ok(())
+}
+
+/// The paths of all nodes with a hidden mark, by rising number.
+pub fn leftover(state: &State) -> Result<Paths, AllocError>
+    requires { IsKept state.now }
+    ensures { IfOk result (AreLeftovers (world_of state.now).at) }
+{
+    let mut paths = Vec::new(state.alloc);
+    let mut number = 0;
+    while let Some(next) = state.tree.after(number) {
+        add_leftover(state.alloc, &mut paths, &state.tree, next)?;
+        number = next;
+    }
+    Ok(Paths::from_vec(paths))
+}
