@@ -11,6 +11,7 @@ mod judging;
 mod opening;
 mod replies;
 mod script;
+mod telling;
 mod wanted;
 
 pub use findings::{Finding, Found};
