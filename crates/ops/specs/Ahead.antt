@@ -10,8 +10,8 @@ use Rattle.ops.specs.declared.findings.Finding.TheVariants.{Error, Nothing, NewE
 use Rattle.ops.specs.declared.script.Ending.{Ending}
 use Rattle.ops.specs.declared.script.Ending.TheVariants as ending
 use Rattle.ops.specs.declared.script.Script.{Script}
-use Rattle.ops.specs.declared.script.Telling.{Telling}
-use Rattle.ops.specs.declared.script.Telling.TheVariants as telling
+use Rattle.ops.specs.declared.telling.Telling.{Telling}
+use Rattle.ops.specs.declared.telling.Telling.TheVariants as telling
 use Rattle.wire.specs.declared.request.Operation.{Operation}
 use Rattle.wire.specs.declared.request.Operation.TheVariants as ops
 use Rattle.ops.specs.Looking.{plan_looking}

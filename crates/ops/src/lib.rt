@@ -13,6 +13,7 @@ mod looks;
 mod opening;
 mod replies;
 mod script;
+mod telling;
 mod wanted;
 
 pub use entries::{Paged, entries_reply};

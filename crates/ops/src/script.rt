@@ -2,34 +2,21 @@
 //! of a page.
 
 ghost use Rattle.std.specs.Prelude.{◌≡◌, ◌<◌, IfOk, OnErr};
-ghost use Rattle.backing.specs.Calls.{AskWrite};
 ghost use Rattle.ops.specs.Ahead.{calls_left, end_of, plan_ahead, plan_ending, plan_from, told_of, unless, LooksAtEach};
 ghost use Rattle.ops.specs.Intents.{sets_size};
-ghost use Rattle.ops.specs.Judged.{judged};
-ghost use Rattle.ops.specs.Scripts.{after, at_names, at_paths, if_done, if_found, if_listed, if_read, if_written, look, next_of, open_end, plan_of, rename, set_size, AsksNext, End, Over, Plan};
+ghost use Rattle.ops.specs.Scripts.{after, at_names, at_paths, if_done, look, next_of, plan_of, rename, set_size, AsksNext, End, Over, Plan};
 
-use crate::findings::{Finding, Found};
+use crate::findings::Finding;
 use crate::intents::sets_size;
 use crate::judging::{errno_in, judge};
 use crate::looks::Looks;
-use backing::{Answer, Call, Kind};
-use errno::{EIO, EISDIR};
+use crate::telling::{Telling, bytes_of, listed, looked, written};
+use backing::{Answer, Call};
+use errno::EIO;
 use paths::Path;
 use std::alloc::{AllocError, Global};
 use table::Ticket;
 use wire::Operation;
-
-/// What is told of what stands at a path.
-#[derive(Clone, Copy, Debug, PartialEq, Eq)]
-pub enum Telling {
-    Nothing,
-    Entry,
-    /// A file that was made is given and opened.
-    NewFile,
-    Attributes,
-    /// A file is opened; a folder is EISDIR.
-    Opening,
-}
 
 /// How a script ends.
 #[derive(Drop)]
@@ -74,87 +61,6 @@ const DONE: Ending<'static> = Ending::Over(Finding::Nothing);
 
 /// A ticket that has not the paths of its request, or a request that has no script.
 const UNFIT: Ending<'static> = Ending::Over(Finding::Error { errno: EIO });
-
-/// How an OPEN ends that found this.
-fn opening(kind: Kind) -> Finding
-    ensures { end_of result ≡ open_end kind }
-{
-    match kind {
-        Kind::Folder => Finding::Error { errno: EISDIR },
-        Kind::File => Finding::Opening,
-    }
-}
-
-impl Telling {
-    /// What is told of what was found.
-    fn of(self, found: Found) -> Finding
-        ensures { end_of result ≡ told_of self found }
-    {
-        match self {
-            Telling::Nothing => Finding::Nothing,
-            Telling::Entry => Finding::NewEntry(found),
-            Telling::NewFile => Finding::NewFile(found),
-            Telling::Attributes => Finding::Attributes(found),
-            Telling::Opening => opening(found.kind),
-        }
-    }
-}
-
-/// What is told of an answer to a look.
-fn looked(tells: Telling, answer: &Answer) -> Finding
-    ensures { Over (end_of result) ≡ if_found (λ found. Over (told_of tells found)) answer.now }
-{
-    match answer {
-        Answer::Stat { kind, size } => tells.of(Found {
-            kind: *kind,
-            size: *size,
-        }),
-        other => Finding::Error {
-            errno: errno_in(other),
-        },
-    }
-}
-
-/// What is told of an answer to a list.
-fn listed(answer: Answer) -> Finding
-    ensures { Over (end_of result) ≡ if_listed answer }
-{
-    match answer {
-        Answer::Names(children) => Finding::Listed(children),
-        other => Finding::Error {
-            errno: errno_in(&other),
-        },
-    }
-}
-
-/// What is told of an answer to a read.
-fn bytes_of(answer: Answer) -> Finding
-    ensures { Over (end_of result) ≡ if_read answer }
-{
-    match answer {
-        Answer::Bytes(bytes) => Finding::Bytes(bytes),
-        other => Finding::Error {
-            errno: errno_in(&other),
-        },
-    }
-}
-
-/// What is told of an answer to a write.
-fn written(path: &Path, offset: u64, piece: &[u8], answer: Answer) -> Finding
-    ensures { Over (end_of result) ≡ if_written (judged (AskWrite path.now offset piece.now) answer) }
-{
-    let call = Call::Write {
-        path,
-        offset,
-        data: piece,
-    };
-    match judge(call, answer) {
-        Answer::Wrote(count) => Finding::Written { size: count as u32 },
-        other => Finding::Error {
-            errno: errno_in(&other),
-        },
-    }
-}
 
 /// The error with which a script ends after the answer to its change, if it does.
 fn refused(answer: &Answer) -> Option<i32>

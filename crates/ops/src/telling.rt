@@ -1,0 +1,106 @@
+//! What is told of the answer with which a script ends.
+
+ghost use Rattle.std.specs.Prelude.{◌≡◌};
+ghost use Rattle.backing.specs.Calls.{AskWrite};
+ghost use Rattle.ops.specs.Ahead.{end_of, told_of};
+ghost use Rattle.ops.specs.Judged.{judged};
+ghost use Rattle.ops.specs.Scripts.{if_found, if_listed, if_read, if_written, open_end, Over};
+
+use crate::findings::{Finding, Found};
+use crate::judging::{errno_in, judge};
+use backing::{Answer, Call, Kind};
+use errno::EISDIR;
+use paths::Path;
+
+/// What is told of what stands at a path.
+#[derive(Clone, Copy, Debug, PartialEq, Eq)]
+pub enum Telling {
+    Nothing,
+    Entry,
+    /// A file that was made is given and opened.
+    NewFile,
+    Attributes,
+    /// A file is opened; a folder is EISDIR.
+    Opening,
+}
+
+/// How an OPEN ends that found this.
+fn opening(kind: Kind) -> Finding
+    ensures { end_of result ≡ open_end kind }
+{
+    match kind {
+        Kind::Folder => Finding::Error { errno: EISDIR },
+        Kind::File => Finding::Opening,
+    }
+}
+
+impl Telling {
+    /// What is told of what was found.
+    fn of(self, found: Found) -> Finding
+        ensures { end_of result ≡ told_of self found }
+    {
+        match self {
+            Telling::Nothing => Finding::Nothing,
+            Telling::Entry => Finding::NewEntry(found),
+            Telling::NewFile => Finding::NewFile(found),
+            Telling::Attributes => Finding::Attributes(found),
+            Telling::Opening => opening(found.kind),
+        }
+    }
+}
+
+/// What is told of an answer to a look.
+pub(crate) fn looked(tells: Telling, answer: &Answer) -> Finding
+    ensures { Over (end_of result) ≡ if_found (λ found. Over (told_of tells found)) answer.now }
+{
+    match answer {
+        Answer::Stat { kind, size } => tells.of(Found {
+            kind: *kind,
+            size: *size,
+        }),
+        other => Finding::Error {
+            errno: errno_in(other),
+        },
+    }
+}
+
+/// What is told of an answer to a list.
+pub(crate) fn listed(answer: Answer) -> Finding
+    ensures { Over (end_of result) ≡ if_listed answer }
+{
+    match answer {
+        Answer::Names(children) => Finding::Listed(children),
+        other => Finding::Error {
+            errno: errno_in(&other),
+        },
+    }
+}
+
+/// What is told of an answer to a read.
+pub(crate) fn bytes_of(answer: Answer) -> Finding
+    ensures { Over (end_of result) ≡ if_read answer }
+{
+    match answer {
+        Answer::Bytes(bytes) => Finding::Bytes(bytes),
+        other => Finding::Error {
+            errno: errno_in(&other),
+        },
+    }
+}
+
+/// What is told of an answer to a write.
+pub(crate) fn written(path: &Path, offset: u64, piece: &[u8], answer: Answer) -> Finding
+    ensures { Over (end_of result) ≡ if_written (judged (AskWrite path.now offset piece.now) answer) }
+{
+    let call = Call::Write {
+        path,
+        offset,
+        data: piece,
+    };
+    match judge(call, answer) {
+        Answer::Wrote(count) => Finding::Written { size: count as u32 },
+        other => Finding::Error {
+            errno: errno_in(&other),
+        },
+    }
+}
