@@ -100,7 +100,7 @@ module _ {W L C : Type 0} (table : Table W) (settings : Settings) (sends : L →
         turn = turn;
         frame_is = refl;
         end_is = ends;
-        meets = met_as Misplaced frame turn s s refl is ((Failed EIO, refl, record { offers = refl; no_call = refl; no_folder = refl; same = refl }), record { lives = refl; agreed = refl });
+        meets = met_as Misplaced frame turn s s refl is ((Failed EIO, refl, record { offers = refl; no_call = refl; folders_are = refl; same = refl }), record { lives = refl; agreed = refl });
         makes = refl;
         passes = offer;
       }
@@ -115,7 +115,7 @@ module _ {W L C : Type 0} (table : Table W) (settings : Settings) (sends : L →
         turn = turn;
         frame_is = refl;
         end_is = ends;
-        meets = met_as Greeting frame turn old new refl is (refl, inl (q, request, rw (← by) ((w.told.said, w.told.said_is, record { offers = refl; no_call = refl; no_folder = refl; same = same }), w.agreed)));
+        meets = met_as Greeting frame turn old new refl is (refl, inl (q, request, rw (← by) ((w.told.said, w.told.said_is, record { offers = refl; no_call = refl; folders_are = refl; same = same }), w.agreed)));
         makes = refl;
         passes = w.told.offer;
       }
@@ -129,7 +129,7 @@ module _ {W L C : Type 0} (table : Table W) (settings : Settings) (sends : L →
         turn = turn;
         frame_is = refl;
         end_is = ends;
-        meets = met_as Greeting frame turn old new refl is (refl, inr (f.fault, f.first, (Failed (errno_of f.fault), refl, record { offers = refl; no_call = refl; no_folder = refl; same = same }), keeps));
+        meets = met_as Greeting frame turn old new refl is (refl, inr (f.fault, f.first, (Failed (errno_of f.fault), refl, record { offers = refl; no_call = refl; folders_are = refl; same = same }), keeps));
         makes = refl;
         passes = f.offer;
       }
@@ -142,7 +142,7 @@ module _ {W L C : Type 0} (table : Table W) (settings : Settings) (sends : L →
         turn = turn;
         frame_is = refl;
         end_is = ends ∙ ap (λ d. ending (Some sent) d) w.3;
-        meets = met_as Farewell frame turn s s refl is (refl, inl (w.0, w.1, (Done, refl, record { offers = refl; no_call = refl; no_folder = refl; same = refl }), refl));
+        meets = met_as Farewell frame turn s s refl is (refl, inl (w.0, w.1, (Done, refl, record { offers = refl; no_call = refl; folders_are = refl; same = refl }), refl));
         makes = refl;
         passes = w.2;
       }
@@ -152,7 +152,7 @@ module _ {W L C : Type 0} (table : Table W) (settings : Settings) (sends : L →
         turn = turn;
         frame_is = refl;
         end_is = ends ∙ ap (λ d. ending (Some sent) d) on;
-        meets = met_as Farewell frame turn s s refl is (refl, inr (f.fault, f.first, (Failed (errno_of f.fault), refl, record { offers = refl; no_call = refl; no_folder = refl; same = refl }), refl));
+        meets = met_as Farewell frame turn s s refl is (refl, inr (f.fault, f.first, (Failed (errno_of f.fault), refl, record { offers = refl; no_call = refl; folders_are = refl; same = refl }), refl));
         makes = refl;
         passes = f.offer;
       }

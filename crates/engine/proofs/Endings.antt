@@ -1,43 +1,49 @@
 -- How a request is concluded.
-use Rattle.std.proofs.Common.{ℕ, ◌≡◌, Bool, true, false, List, [], ◌∷◌, Option, Some, None, Ok, Err, refl, subst}
+use Rattle.std.proofs.Common.{ℕ, ◌≡◌, Bool, true, false, List, [], ◌∷◌, Option, Some, None, Ok, Err, refl, sym, subst}
 use Rattle.errno.specs.declared.TheConstants.{ENOMEM}
 use Rattle.backing.specs.declared.call.Child.{Child}
 use Rattle.handles.specs.Listings.{IsMade, OpenFolder}
 use Rattle.handles.specs.declared.listing.ListingFault.TheVariants.{Memory}
-use Rattle.ops.specs.Ahead.{end_of, outcome_of}
+use Rattle.ops.specs.Ahead.{end_of, outcome_of, LooksAtEach}
+use Rattle.ops.specs.Pages.{Paged}
 use Rattle.ops.specs.Replies.{opened_reply, reply_to}
-use Rattle.ops.specs.Scripts.{End}
+use Rattle.ops.specs.Scripts.{plan_of, End, Follows, Made}
 use Rattle.ops.specs.declared.findings.Finding.{Finding}
+use Rattle.ops.specs.declared.findings.Found.{Found}
 use Rattle.ops.specs.declared.findings.Finding.TheVariants as findings
 use Rattle.ops.specs.declared.replies.Settings.{Settings}
-use Rattle.steps.specs.Answers.{Answer}
+use Rattle.steps.specs.Answers.{Answer, Claim}
 use Rattle.steps.specs.declared.data.Outcome.{Outcome}
 use Rattle.steps.specs.declared.data.Outcome.TheVariants.{Done}
 use Rattle.wire.specs.Written.{reply_bytes}
 use Rattle.wire.specs.declared.reply.ReplyBody.{ReplyBody}
 use Rattle.wire.specs.declared.reply.ReplyBody.TheVariants.{Failed}
+use Rattle.wire.specs.declared.request.Operation.{Operation}
 use Rattle.wire.specs.declared.request.Request.{Request}
 use Rattle.engine.specs.declared.links.Sent.{Sent}
 use Rattle.engine.specs.Folders.{FolderCall, Put, GivesUp, PutsListing}
-use Rattle.engine.specs.Reference.{Place, AtBegin, AtListing, AtReply, IsSaid, IsTold, Stores}
+use Rattle.engine.specs.Reference.{Place, AtBegin, AtScript, AtListing, AtReply, IsSaid, IsTold, Plays, Stores}
 use Rattle.engine.specs.Replies.{refusal, TakesMemory}
 use Rattle.engine.specs.Tables.{Table}
-use Rattle.engine.specs.Walks.{listing_found, Concludes, IsPlain, Settled}
+use Rattle.engine.specs.Walks.{entries_found, listing_found, no_memory, Concludes, IsPlain, Settled}
 
 told : (refused : Option Place) (meant said : ReplyBody) → IsSaid refused meant said → IsTold refused meant said
 told None meant said is = is
 told (Some AtBegin) meant said is = absurd is
+told (Some AtScript) meant said is = absurd is
 told (Some AtListing) meant said is = absurd is
 told (Some AtReply) meant said is = is
 
 stored : (refused : Option Place) (meant said : ReplyBody) (node : ℕ) (finding : Finding) (first : List FolderCall) (put : Option ℕ) → IsSaid refused meant said → PutsListing node finding first put → Stores refused node finding first put
 stored None meant said node finding first put is p = p
 stored (Some AtBegin) meant said node finding first put is p = absurd is
+stored (Some AtScript) meant said node finding first put is p = absurd is
 stored (Some AtListing) meant said node finding first put is p = absurd is
 stored (Some AtReply) meant said node finding first put is p = p
 
 plain : (node : ℕ) (finding : Finding) → IsPlain finding → PutsListing node finding [] None
 plain node (findings.Listed children) h = absurd h
+plain node (findings.Looked founds) h = absurd h
 plain node (findings.Error errno) h = (refl, refl)
 plain node findings.Nothing h = (refl, refl)
 plain node (findings.NewEntry found) h = (refl, refl)
@@ -52,6 +58,7 @@ ended finding = record { outcome = outcome_of finding; findings = finding }
 
 plain_end : (finding : Finding) → IsPlain finding → ended finding ≡ end_of finding
 plain_end (findings.Listed children) h = absurd h
+plain_end (findings.Looked founds) h = absurd h
 plain_end (findings.Error errno) h = refl
 plain_end findings.Nothing h = refl
 plain_end (findings.NewEntry found) h = refl
@@ -65,16 +72,24 @@ none_given_up : (taken : Bool) → GivesUp taken None []
 none_given_up true = refl
 none_given_up false = refl
 
-pub is_plain : (finding : Finding) → ((children : List Child) → finding ≡ findings.Listed children → ⊥) → IsPlain finding
-is_plain (findings.Listed children) h = h children refl
-is_plain (findings.Error errno) h = tt
-is_plain findings.Nothing h = tt
-is_plain (findings.NewEntry found) h = tt
-is_plain (findings.Attributes found) h = tt
-is_plain (findings.NewFile found) h = tt
-is_plain findings.Opening h = tt
-is_plain (findings.Bytes bytes) h = tt
-is_plain (findings.Written size) h = tt
+pub is_plain : (finding : Finding) → ((children : List Child) → finding ≡ findings.Listed children → ⊥) → ((founds : List (Option Found)) → finding ≡ findings.Looked founds → ⊥) → IsPlain finding
+is_plain (findings.Listed children) h k = h children refl
+is_plain (findings.Looked founds) h k = k founds refl
+is_plain (findings.Error errno) h k = tt
+is_plain findings.Nothing h k = tt
+is_plain (findings.NewEntry found) h k = tt
+is_plain (findings.Attributes found) h k = tt
+is_plain (findings.NewFile found) h k = tt
+is_plain findings.Opening h k = tt
+is_plain (findings.Bytes bytes) h k = tt
+is_plain (findings.Written size) h k = tt
+
+played : (refused : Option Place) (meant said : ReplyBody) (operation : Operation) (ticket : Claim) (made : List Made) (end : End) → IsSaid refused meant said → Follows (plan_of operation ticket) made end → Plays refused operation ticket made end
+played None meant said operation ticket made end is f = f
+played (Some AtBegin) meant said operation ticket made end is f = absurd is
+played (Some AtScript) meant said operation ticket made end is f = absurd is
+played (Some AtListing) meant said operation ticket made end is f = absurd is
+played (Some AtReply) meant said operation ticket made end is f = f
 
 module _ {W L : Type 0} (table : Table W) (settings : Settings) (sends : L → List ℕ → Sent → L → Type 0) where
   -- a reply that found no memory
@@ -89,13 +104,16 @@ module _ {W L : Type 0} (table : Table W) (settings : Settings) (sends : L → L
     settles = settles;
   }
 
-  pub concluded : (q : Request) (id : ℕ) (finding : Finding) (outcome : Outcome) (put : Option ℕ) (first last : List FolderCall) (meant : ReplyBody) (answer : Answer) (link link' : L) (begun finished world' : W) (sent : Sent) (taken : Bool)
-      → table.finishes begun id outcome answer finished → meant ≡ reply_to settings q.node finding put answer
+  -- the script has made these calls and come to that finding
+  pub concluded : (q : Request) (page : Paged) (ticket : Claim) (made : List Made) (finding : Finding) (outcome : Outcome) (put : Option ℕ) (first last : List FolderCall) (meant : ReplyBody) (answer : Answer) (link link' : L) (begun finished world' : W) (sent : Sent) (taken : Bool)
+      → Follows (plan_of q.operation ticket) made (record { outcome = outcome; findings = finding })
+      → table.finishes begun ticket.id outcome answer finished → meant ≡ reply_to settings q.node page finding put answer
       → PutsListing q.node finding first put → GivesUp taken put last
       → Settled table sends q.unique meant answer link finished sent taken link' world'
-      → Concludes table settings sends q id (record { outcome = outcome; findings = finding }) link begun sent link' world'
-  concluded q id finding outcome put first last meant answer link link' begun finished world' sent taken finishes is puts gives s = record {
+      → Concludes table settings sends q page ticket made (record { outcome = outcome; findings = finding }) link begun sent link' world'
+  concluded q page ticket made finding outcome put first last meant answer link link' begun finished world' sent taken follows finishes is puts gives s = record {
     refused = s.refused;
+    script = played s.refused meant s.said q.operation ticket made (record { outcome = outcome; findings = finding }) s.said_is follows;
     answer = answer;
     finished = finished;
     finishes = finishes;
@@ -110,33 +128,68 @@ module _ {W L : Type 0} (table : Table W) (settings : Settings) (sends : L → L
     gives_up = subst (λ (t : Bool). GivesUp t put last) s.taken_is gives;
   }
 
-  pub concluded_plain : (q : Request) (id : ℕ) (finding : Finding) (meant : ReplyBody) (answer : Answer) (link link' : L) (begun finished world' : W) (sent : Sent) (taken : Bool) → IsPlain finding
-      → table.finishes begun id (outcome_of finding) answer finished → meant ≡ reply_to settings q.node finding None answer
+  pub concluded_plain : (q : Request) (page : Paged) (ticket : Claim) (made : List Made) (finding : Finding) (meant : ReplyBody) (answer : Answer) (link link' : L) (begun finished world' : W) (sent : Sent) (taken : Bool) → IsPlain finding
+      → Follows (plan_of q.operation ticket) made (end_of finding)
+      → table.finishes begun ticket.id (outcome_of finding) answer finished → meant ≡ reply_to settings q.node page finding None answer
       → Settled table sends q.unique meant answer link finished sent taken link' world'
-      → Concludes table settings sends q id (end_of finding) link begun sent link' world'
-  concluded_plain q id finding meant answer link link' begun finished world' sent taken h finishes is s =
-      subst (λ (e : End). Concludes table settings sends q id e link begun sent link' world') (plain_end finding h)
-      (concluded q id finding (outcome_of finding) None [] [] meant answer link link' begun finished world' sent taken finishes is (plain q.node finding h) (none_given_up taken) s)
+      → Concludes table settings sends q page ticket made (end_of finding) link begun sent link' world'
+  concluded_plain q page ticket made finding meant answer link link' begun finished world' sent taken h follows finishes is s =
+      subst (λ (e : End). Concludes table settings sends q page ticket made e link begun sent link' world') (plain_end finding h)
+      (concluded q page ticket made finding (outcome_of finding) None [] [] meant answer link link' begun finished world' sent taken
+      (subst (λ (e : End). Follows (plan_of q.operation ticket) made e) (sym (plain_end finding h)) follows) finishes is (plain q.node finding h) (none_given_up taken) s)
 
-  pub concluded_open : (q : Request) (id : ℕ) (children : List Child) (folder : OpenFolder) (put : Option ℕ) (last : List FolderCall) (meant : ReplyBody) (answer : Answer) (link link' : L) (begun finished world' : W) (sent : Sent) (taken : Bool)
-      → IsMade q.node children (Ok folder) → table.finishes begun id Done answer finished → meant ≡ opened_reply put → GivesUp taken put last
+  -- ---- OPENDIR
+
+  pub concluded_open : (q : Request) (page : Paged) (ticket : Claim) (made : List Made) (children : List Child) (folder : OpenFolder) (put : Option ℕ) (last : List FolderCall) (meant : ReplyBody) (answer : Answer) (link link' : L) (begun finished world' : W) (sent : Sent) (taken : Bool)
+      → IsMade q.node children (Ok folder) → Follows (plan_of q.operation ticket) made (listing_found children) → table.finishes begun ticket.id Done answer finished → meant ≡ opened_reply put → GivesUp taken put last
       → Settled table sends q.unique meant answer link finished sent taken link' world'
-      → Concludes table settings sends q id (listing_found children) link begun sent link' world'
-  concluded_open q id children folder put last meant answer link link' begun finished world' sent taken made finishes is gives s =
-      concluded q id (findings.Listed children) Done put (Put folder put ∷ []) last meant answer link link' begun finished world' sent taken finishes is (folder, made, refl) gives s
+      → Concludes table settings sends q page ticket made (listing_found children) link begun sent link' world'
+  concluded_open q page ticket made children folder put last meant answer link link' begun finished world' sent taken is_made follows finishes is gives s =
+      concluded q page ticket made (findings.Listed children) Done put (Put folder put ∷ []) last meant answer link link' begun finished world' sent taken follows finishes is (folder, is_made, refl) gives s
 
   -- a listing that found no memory
-  pub concluded_starved : (q : Request) (id : ℕ) (children : List Child) (answer : Answer) (link link' : L) (begun finished world' : W) (sent : Sent)
-      → IsMade q.node children (Err Memory) → table.finishes begun id Done answer finished → sends link (reply_bytes (refusal q.unique ENOMEM)) sent link' → table.settles finished answer false world'
-      → Concludes table settings sends q id (listing_found children) link begun sent link' world'
-  concluded_starved q id children answer link link' begun finished world' sent lawful finishes s settles = record {
+  pub concluded_starved : (q : Request) (page : Paged) (ticket : Claim) (made : List Made) (children : List Child) (answer : Answer) (link link' : L) (begun finished world' : W) (sent : Sent)
+      → IsMade q.node children (Err Memory) → Follows (plan_of q.operation ticket) made (listing_found children) → table.finishes begun ticket.id Done answer finished → sends link (reply_bytes (refusal q.unique ENOMEM)) sent link' → table.settles finished answer false world'
+      → Concludes table settings sends q page ticket made (listing_found children) link begun sent link' world'
+  concluded_starved q page ticket made children answer link link' begun finished world' sent lawful follows finishes s settles = record {
     refused = Some AtListing;
+    script = follows;
     answer = answer;
     finished = finished;
     finishes = finishes;
     put = None;
     first = [];
     stores = (lawful, refl, refl);
+    said = Failed ENOMEM;
+    said_is = refl;
+    offer = s;
+    settles = settles;
+    last = [];
+    gives_up = refl;
+  }
+
+  -- ---- READDIRPLUS
+
+  pub concluded_entries : (q : Request) (page : Paged) (ticket : Claim) (made : List Made) (founds : List (Option Found)) (meant : ReplyBody) (answer : Answer) (link link' : L) (begun finished world' : W) (sent : Sent) (taken : Bool)
+      → Follows (plan_of q.operation ticket) made (entries_found founds) → table.finishes begun ticket.id (entries_found founds).outcome answer finished → meant ≡ reply_to settings q.node page (findings.Looked founds) None answer
+      → Settled table sends q.unique meant answer link finished sent taken link' world'
+      → Concludes table settings sends q page ticket made (entries_found founds) link begun sent link' world'
+  concluded_entries q page ticket made founds meant answer link link' begun finished world' sent taken follows finishes is s =
+      concluded q page ticket made (findings.Looked founds) (entries_found founds).outcome None [] [] meant answer link link' begun finished world' sent taken follows finishes is (refl, refl) (none_given_up taken) s
+
+  -- a script that found no memory
+  pub concluded_short : (q : Request) (page : Paged) (ticket : Claim) (answer : Answer) (link link' : L) (begun finished world' : W) (sent : Sent)
+      → LooksAtEach q.operation → table.finishes begun ticket.id no_memory.outcome answer finished → sends link (reply_bytes (refusal q.unique ENOMEM)) sent link' → table.settles finished answer false world'
+      → Concludes table settings sends q page ticket [] no_memory link begun sent link' world'
+  concluded_short q page ticket answer link link' begun finished world' sent looks finishes s settles = record {
+    refused = Some AtScript;
+    script = (looks, refl, refl);
+    answer = answer;
+    finished = finished;
+    finishes = finishes;
+    put = None;
+    first = [];
+    stores = (refl, refl);
     said = Failed ENOMEM;
     said_is = refl;
     offer = s;

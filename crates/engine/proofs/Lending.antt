@@ -1,12 +1,18 @@
 -- What requests make of the open folders.
-use Rattle.std.proofs.Common.{ℕ, ◌≡◌, ◌≢◌, Bool, List, [], ◌∷◌, Option, Some, None, refl, sym, ap, subst, if◌then◌else◌}
+use Rattle.std.proofs.Common.{ℕ, ◌≡◌, ◌≢◌, Bool, true, List, [], ◌∷◌, Option, Some, None, Result, Ok, Err, refl, sym, ap, subst, if◌then◌else◌}
+use Rattle.std.specs.Prelude.{IfOk, OnErr}
 use Rattle.std.proofs.lemmas.Bool.{eq-eqb, ne_eqb}
 use Rattle.errno.specs.declared.TheConstants.{EBADF}
 use Rattle.handles.specs.Listings.{IsLent, OpenFolder}
 use Rattle.ops.specs.declared.intents.FolderUse.{FolderUse}
 use Rattle.wire.specs.declared.reply.ReplyBody.{ReplyBody}
 use Rattle.wire.specs.declared.reply.ReplyBody.TheVariants.{Failed}
-use Rattle.engine.specs.Folders.{FolderCall, Lend, IsUsed, Uses, on_node}
+use Rattle.ops.specs.Folders.{IsPaged}
+use Rattle.ops.specs.Pages.{Paged}
+use Rattle.ops.specs.declared.intents.FolderUse.TheVariants.{ReadEntries}
+use Rattle.engine.specs.declared.entries.Lends.{Lends}
+use Rattle.engine.specs.declared.entries.Lends.TheVariants as lends
+use Rattle.engine.specs.Folders.{FolderCall, Lend, IsLentPage, IsUsed, LendsPage, PagesOf, Uses, on_node}
 
 on : (node : ℕ) (folder : OpenFolder) → folder.number ≡ node → on_node node (Some folder) ≡ Some folder
 on node folder e = ap (λ (b : Bool). if b then Some folder else None) (eq-eqb folder.number node e)
@@ -43,3 +49,30 @@ here node fh usage folder more meant lent same uses = (
     uses = subst (λ (f : Option OpenFolder). Uses f usage more meant) (sym (on node folder same)) uses;
   },
 )
+
+-- ---- a page of the folder of the node
+
+pub page_lent : (node fh offset size : ℕ) (folder : OpenFolder) (page : Paged) → IsLent fh folder → folder.number ≡ node → IsPaged true folder.entries offset size (Some page.entries) → page.from ≡ offset
+    → (folders : List FolderCall) × LendsPage node fh offset size folders page
+page_lent node fh offset size folder page lent same paged from = (
+  Lend fh (Some folder) ∷ [],
+  record { folder = folder; is_lent = lent; on_node = same; paged = paged; from = from; folders_are = refl },
+)
+
+pub pages_lent : (node fh offset size : ℕ) (folder : OpenFolder) (what : Lends) → IsLent fh folder → folder.number ≡ node → PagesOf folder.entries offset size what → IsLentPage node fh offset size what
+pages_lent node fh offset size folder (lends.Page page) lent same (paged, from) = page_lent node fh offset size folder page lent same paged from
+pages_lent node fh offset size folder (lends.Nothing meant) lent same (small, is) = here node fh (ReadEntries offset size) folder [] meant lent same (refl, small, is)
+
+-- ---- results
+
+pub ok_map : {A E : Type 0} (r : Result A E) (P Q : A → Type 0) → ((a : A) → P a → Q a) → IfOk r P → IfOk r Q
+ok_map (Ok a) P Q f h = f a h
+ok_map (Err e) P Q f h = tt
+
+pub err_map : {A E : Type 0} (r : Result A E) (P Q : Type 0) → (P → Q) → OnErr r P → OnErr r Q
+err_map (Ok a) P Q f h = tt
+err_map (Err e) P Q f h = f h
+
+pub on_err : {A E : Type 0} (r : Result A E) (P : Type 0) → P → OnErr r P
+on_err (Ok a) P h = tt
+on_err (Err e) P h = h

@@ -19,15 +19,17 @@ use Rattle.ops.specs.declared.replies.Settings.{Settings}
 use Rattle.ops.specs.Intents.{Intent, intent}
 use Rattle.ops.specs.Intents as intents
 use Rattle.engine.specs.Folders.{FolderCall}
-use Rattle.engine.specs.Reference.{Place, AtBegin, AtListing, AtReply, Turn, ForgetsAll, IsSaid, IsTold, Says, Serves, Carries, WorksOff}
+use Rattle.engine.specs.Reference.{Place, AtBegin, AtScript, AtListing, AtReply, Turn, ForgetsAll, IsSaid, IsTold, Says, Serves, Carries, WorksOff}
 use Rattle.wire.specs.declared.pairs.Forgotten.{Forgotten}
 use Rattle.ops.specs.declared.intents.FolderUse.{FolderUse}
+use Rattle.ops.specs.declared.intents.FolderUse.TheVariants as uses
+use Rattle.ops.specs.Pages.{Paged, no_page}
 use Rattle.engine.specs.Classes.{is_unanswered}
 use Rattle.engine.specs.Replies.{refusal, TakesMemory}
 use Rattle.ops.specs.Replies.{file_reply}
 use Rattle.ops.specs.Scripts.{Made}
 use Rattle.engine.specs.Tables.{Table}
-use Rattle.engine.specs.Walks.{IsAnswered, IsUsedBy, WorkedOff, Performs, CarriesOut}
+use Rattle.engine.specs.Walks.{IsAnswered, WorkedOff, Performs, CarriesOut, TellsOut, UsesOut}
 
 -- a frame with its reply
 abbrev pub acting : List ℕ → Option Place → List Made → List FolderCall → ℕ → ReplyBody → Sent → Turn
@@ -71,7 +73,7 @@ module _ {W L C : Type 0} (table : Table W) (settings : Settings) (sends : L →
         frame_is = refl;
         sent_is = refl;
         lives = refl;
-        asks = inr (fault, is, rw some.0 (Failed (errno_of fault), refl, record { offers = refl; no_call = refl; no_folder = refl; same = refl }));
+        asks = inr (fault, is, rw some.0 (Failed (errno_of fault), refl, record { offers = refl; no_call = refl; folders_are = refl; same = refl }));
         makes = refl;
         passes = some.1;
       }
@@ -96,7 +98,7 @@ module _ {W L C : Type 0} (table : Table W) (settings : Settings) (sends : L →
         frame_is = refl;
         sent_is = refl;
         lives = refl;
-        asks = inl (q, is, subst (λ (x : Intent). Serves table settings q x world turn world) i (a.said, a.said_is, record { offers = refl; no_call = refl; no_folder = refl; same = refl }));
+        asks = inl (q, is, subst (λ (x : Intent). Serves table settings q x world turn world) i (a.said, a.said_is, record { offers = refl; no_call = refl; folders_are = refl; same = refl }));
         makes = refl;
         passes = a.offer;
       }
@@ -112,7 +114,7 @@ module _ {W L C : Type 0} (table : Table W) (settings : Settings) (sends : L →
         frame_is = refl;
         sent_is = refl;
         lives = refl;
-        asks = inl (q, is, subst (λ (x : Intent). Serves table settings q x world turn world) i (a.said, subst (λ (body : ReplyBody). IsSaid a.refused body a.said) e a.said_is, record { offers = refl; no_call = refl; no_folder = refl; same = refl }));
+        asks = inl (q, is, subst (λ (x : Intent). Serves table settings q x world turn world) i (a.said, subst (λ (body : ReplyBody). IsSaid a.refused body a.said) e a.said_is, record { offers = refl; no_call = refl; folders_are = refl; same = refl }));
         makes = refl;
         passes = a.offer;
       }
@@ -130,11 +132,31 @@ module _ {W L C : Type 0} (table : Table W) (settings : Settings) (sends : L →
     passes = refl;
   }
 
+  -- entries of an open folder are told by a request that begins
+  begun_with : (frame : List ℕ) (q : Request) (fh : ℕ) (usage : FolderUse) (link link' : L) (calls calls' : C) (world world' : W) (sent : Sent) → IsRequest frame q → intents.Folder fh usage ≡ intent q
+      → TellsOut table settings sends gives q fh usage link calls world sent link' calls' world'
+      → WorkedOff table settings sends gives frame link calls world (Some sent) link' calls' world'
+  begun_with frame q fh (uses.ReadNames offset size) link link' calls calls' world world' sent is i t = absurd t
+  begun_with frame q fh uses.GiveUp link link' calls calls' world world' sent is i t = absurd t
+  begun_with frame q fh uses.Sync link link' calls calls' world world' sent is i t = absurd t
+  begun_with frame q fh (uses.ReadEntries offset size) link link' calls calls' world world' sent is i (lends, page, lent, a) =
+      let turn = acting frame a.refused a.made a.folders q.unique a.said sent in
+      record {
+        turn = turn;
+        frame_is = refl;
+        sent_is = refl;
+        lives = refl;
+        asks = inl (q, is, subst (λ (x : Intent). Serves table settings q x world turn world') i (inr (lends, page, lent, a.works frame)));
+        makes = a.makes;
+        passes = a.offer;
+      }
+
   -- a request that uses an open folder
-  pub used : (frame : List ℕ) (q : Request) (fh : ℕ) (usage : FolderUse) (link link' : L) (calls : C) (world : W) (sent : Sent) → IsRequest frame q → intents.Folder fh usage ≡ intent q
-      → IsUsedBy sends q fh usage link sent link'
-      → WorkedOff table settings sends gives frame link calls world (Some sent) link' calls world
-  used frame q fh usage link link' calls world sent is i u =
+  pub used : (frame : List ℕ) (q : Request) (fh : ℕ) (usage : FolderUse) (link link' : L) (calls calls' : C) (world world' : W) (sent : Sent) → IsRequest frame q → intents.Folder fh usage ≡ intent q
+      → UsesOut table settings sends gives q fh usage link calls world sent link' calls' world'
+      → WorkedOff table settings sends gives frame link calls world (Some sent) link' calls' world'
+  used frame q fh usage link link' calls calls' world world' sent is i (inr t) = begun_with frame q fh usage link link' calls calls' world world' sent is i t
+  used frame q fh usage link link' calls calls' world world' sent is i (inl (u, same_calls, same)) =
       let turn = acting frame u.told.refused [] u.folders q.unique u.told.said sent in
       record {
         turn = turn;
@@ -144,17 +166,17 @@ module _ {W L C : Type 0} (table : Table W) (settings : Settings) (sends : L →
         asks = inl (
           q,
           is,
-          subst (λ (x : Intent). Serves table settings q x world turn world) i (record {
+          subst (λ (x : Intent). Serves table settings q x world turn world') i (inl (record {
             meant = u.meant;
             used = u.used;
             said = u.told.said;
             said_is = u.told.said_is;
             offers = refl;
             no_call = refl;
-            same = refl;
-          }),
+            same = same;
+          })),
         );
-        makes = refl;
+        makes = same_calls;
         passes = u.told.offer;
       }
 
@@ -172,7 +194,7 @@ module _ {W L C : Type 0} (table : Table W) (settings : Settings) (sends : L →
 
   -- a request that is begun
   pub carried : (frame : List ℕ) (q : Request) (want : Want) (link link' : L) (calls calls' : C) (world world' : W) (sent : Sent) → IsRequest frame q → intents.Begin want ≡ intent q
-      → CarriesOut table settings sends gives q want link calls world sent link' calls' world'
+      → CarriesOut table settings sends gives q want [] no_page link calls world sent link' calls' world'
       → WorkedOff table settings sends gives frame link calls world (Some sent) link' calls' world'
   carried frame q want link link' calls calls' world world' sent is i a =
       let turn = acting frame a.refused a.made a.folders q.unique a.said sent in
@@ -197,25 +219,27 @@ module _ {W L C : Type 0} (table : Table W) (settings : Settings) (sends : L →
         frame_is = refl;
         sent_is = refl;
         lives = refl;
-        asks = inl (q, is, subst (λ (x : Intent). Serves table settings q x world turn world) i (record { offers = refl; no_call = refl; no_folder = refl; same = refl }));
+        asks = inl (q, is, subst (λ (x : Intent). Serves table settings q x world turn world) i (record { offers = refl; no_call = refl; folders_are = refl; same = refl }));
         makes = refl;
         passes = s;
       }
 
   -- ---- a request from begin to settle
 
-  works_by : (refused : Option Place) (q : Request) (want : Want) (old : W) (turn : Turn) (new : W) (meant said : ReplyBody) → IsTold refused meant said → Carries table settings q want old turn new → WorksOff table settings refused q want old turn new
-  works_by None q want old turn new meant said is c = inr c
-  works_by (Some AtBegin) q want old turn new meant said is c = absurd is
-  works_by (Some AtListing) q want old turn new meant said is c = c
-  works_by (Some AtReply) q want old turn new meant said is c = c
+  works_by : (refused : Option Place) (q : Request) (want : Want) (lends : List FolderCall) (page : Paged) (old : W) (turn : Turn) (new : W) (meant said : ReplyBody) → IsTold refused meant said → Carries table settings q want lends page old turn new
+      → WorksOff table settings refused q want lends page old turn new
+  works_by None q want lends page old turn new meant said is c = inr c
+  works_by (Some AtBegin) q want lends page old turn new meant said is c = absurd is
+  works_by (Some AtScript) q want lends page old turn new meant said is c = c
+  works_by (Some AtListing) q want lends page old turn new meant said is c = c
+  works_by (Some AtReply) q want lends page old turn new meant said is c = c
 
-  pub goes_on : (q : Request) (want : Want) (ticket : Claim) (link link' : L) (calls calls' : C) (world begun world' : W) (sent : Sent) → table.begins world q.unique want (Go ticket) begun
-      → (p : Performs table settings sends gives q ticket link calls begun sent link' calls' world') → p.concludes.answer.lost ≡ false
-      → CarriesOut table settings sends gives q want link calls world sent link' calls' world'
-  goes_on q want ticket link link' calls calls' world begun world' sent b p kept =
+  pub goes_on : (q : Request) (want : Want) (lends : List FolderCall) (page : Paged) (ticket : Claim) (link link' : L) (calls calls' : C) (world begun world' : W) (sent : Sent) → table.begins world q.unique want (Go ticket) begun
+      → (p : Performs table settings sends gives q page ticket link calls begun sent link' calls' world') → p.concludes.answer.lost ≡ false
+      → CarriesOut table settings sends gives q want lends page link calls world sent link' calls' world'
+  goes_on q want lends page ticket link link' calls calls' world begun world' sent b p kept =
       let e = p.concludes in
-      let folders = e.first ++ e.last in
+      let folders = lends ++ e.first ++ e.last in
       record {
         refused = e.refused;
         made = p.made;
@@ -223,12 +247,12 @@ module _ {W L C : Type 0} (table : Table W) (settings : Settings) (sends : L →
         said = e.said;
         makes = p.makes;
         offer = e.offer;
-        works = λ frame. works_by e.refused q want world (acting frame e.refused p.made folders q.unique e.said sent) world' _ e.said e.said_is (record {
+        works = λ frame. works_by e.refused q want lends page world (acting frame e.refused p.made folders q.unique e.said sent) world' _ e.said e.said_is (record {
           ticket = ticket;
           begun = begun;
           begins = b;
           end = p.end;
-          script = p.script;
+          script = e.script;
           answer = e.answer;
           finished = e.finished;
           finishes = e.finishes;
@@ -246,22 +270,37 @@ module _ {W L C : Type 0} (table : Table W) (settings : Settings) (sends : L →
         });
       }
 
-  by_refusal : (refused : Option Place) (q : Request) (want : Want) (errno : ℤ) (said : ReplyBody) (world world' : W) (turn : Turn) → IsSaid refused (Failed errno) said → table.begins world q.unique want (Refused errno) world' → Says q.unique said world turn world' → WorksOff table settings refused q want world turn world'
-  by_refusal None q want errno said world world' turn is b says = inl (record { errno = errno; begins = b; says = subst (λ (body : ReplyBody). Says q.unique body world turn world') is says })
-  by_refusal (Some AtBegin) q want errno said world world' turn is b says = absurd is
-  by_refusal (Some AtListing) q want errno said world world' turn is b says = absurd is
-  by_refusal (Some AtReply) q want errno said world world' turn is b says = absurd is.0
+  by_refusal : (refused : Option Place) (q : Request) (want : Want) (lends : List FolderCall) (page : Paged) (errno : ℤ) (said : ReplyBody) (world world' : W) (turn : Turn) → IsSaid refused (Failed errno) said → table.begins world q.unique want (Refused errno) world' → Says lends q.unique said world turn world'
+      → WorksOff table settings refused q want lends page world turn world'
+  by_refusal None q want lends page errno said world world' turn is b says = inl (record { errno = errno; begins = b; says = subst (λ (body : ReplyBody). Says lends q.unique body world turn world') is says })
+  by_refusal (Some AtBegin) q want lends page errno said world world' turn is b says = absurd is
+  by_refusal (Some AtScript) q want lends page errno said world world' turn is b says = absurd is
+  by_refusal (Some AtListing) q want lends page errno said world world' turn is b says = absurd is
+  by_refusal (Some AtReply) q want lends page errno said world world' turn is b says = absurd is.0
 
   -- the table refuses it
-  pub table_refused : (q : Request) (want : Want) (errno : ℤ) (link link' : L) (calls : C) (world world' : W) (sent : Sent) → table.begins world q.unique want (Refused errno) world' → world' ≡ world
+  pub table_refused : (q : Request) (want : Want) (lends : List FolderCall) (page : Paged) (errno : ℤ) (link link' : L) (calls : C) (world world' : W) (sent : Sent) → table.begins world q.unique want (Refused errno) world' → world' ≡ world
       → IsAnswered sends (refusal q.unique errno) link sent link'
-      → CarriesOut table settings sends gives q want link calls world sent link' calls world'
-  table_refused q want errno link link' calls world world' sent b same a = record {
+      → CarriesOut table settings sends gives q want lends page link calls world sent link' calls world'
+  table_refused q want lends page errno link link' calls world world' sent b same a = record {
     refused = a.refused;
     made = [];
-    folders = [];
+    folders = lends;
     said = a.said;
     makes = refl;
     offer = a.offer;
-    works = λ frame. by_refusal a.refused q want errno a.said world world' (answering frame a.refused [] q.unique a.said sent) a.said_is b (record { offers = refl; no_call = refl; no_folder = refl; same = same });
+    works = λ frame. by_refusal a.refused q want lends page errno a.said world world' (acting frame a.refused [] lends q.unique a.said sent) a.said_is b (record { offers = refl; no_call = refl; folders_are = refl; same = same });
+  }
+
+  -- a page is lent, and there is no memory to begin
+  pub page_unbegun : (q : Request) (want : Want) (lends : List FolderCall) (page : Paged) (link link' : L) (calls : C) (world : W) (sent : Sent) → sends link (reply_bytes (refusal q.unique ENOMEM)) sent link'
+      → CarriesOut table settings sends gives q want lends page link calls world sent link' calls world
+  page_unbegun q want lends page link link' calls world sent s = record {
+    refused = Some AtBegin;
+    made = [];
+    folders = lends;
+    said = Failed ENOMEM;
+    makes = refl;
+    offer = s;
+    works = λ frame. record { offers = refl; no_call = refl; folders_are = refl; same = refl };
   }

@@ -1,14 +1,17 @@
 -- The open folders of a session: their calls with their answers, and what requests make of them.
 use Rattle.std.specs.Prelude.{ℕ, ◌≡◌, ◌==◌, Bool, true, false, if◌then◌else◌, List, [], ◌∷◌, Option, Some, None, Ok, Err}
-use Rattle.errno.specs.declared.TheConstants.{EBADF}
+use Rattle.errno.specs.declared.TheConstants.{EBADF, EINVAL}
 use Rattle.backing.specs.declared.call.Child.{Child}
 use Rattle.handles.specs.Listings.{IsLent, IsMade, OpenFolder}
 use Rattle.handles.specs.declared.listing.ListingFault.TheVariants.{Memory}
 use Rattle.ops.specs.Folders.{IsPaged, names_reply}
+use Rattle.ops.specs.Pages.{Paged}
 use Rattle.ops.specs.declared.findings.Finding.{Finding}
 use Rattle.ops.specs.declared.findings.Finding.TheVariants as findings
 use Rattle.ops.specs.declared.intents.FolderUse.{FolderUse}
-use Rattle.ops.specs.declared.intents.FolderUse.TheVariants.{ReadNames, GiveUp, Sync}
+use Rattle.ops.specs.declared.intents.FolderUse.TheVariants.{ReadNames, ReadEntries, GiveUp, Sync}
+use Rattle.engine.specs.declared.entries.Lends.{Lends}
+use Rattle.engine.specs.declared.entries.Lends.TheVariants as lends
 use Rattle.wire.specs.declared.reply.ReplyBody.{ReplyBody}
 use Rattle.wire.specs.declared.reply.ReplyBody.TheVariants.{Failed, Done}
 
@@ -21,7 +24,7 @@ pub data FolderCall : Type 0 where
   -- a handle is given up, if it was there
   Retire : (fh : ℕ) → (gone : Bool) → FolderCall
 
--- ---- requests that use an open folder, and need no table
+-- ---- requests that use an open folder
 
 -- what is lent bears the handle, and is a listing
 abbrev pub IsLentFor : ℕ → Option OpenFolder → Type 0
@@ -37,11 +40,12 @@ abbrev pub given_up : Bool → ReplyBody
 given_up true = Done
 given_up false = Failed EBADF
 
--- what is answered, with the calls that are still made
+-- What is answered at once, with the calls that are still made. Entries of a page that has room for one are told by a request that begins.
 abbrev pub Uses : Option OpenFolder → FolderUse → List FolderCall → (meant : ReplyBody) → Type 0
 Uses None usage more meant = (more ≡ []) × (meant ≡ Failed EBADF)
 Uses (Some folder) (ReadNames offset size) more meant =
     (more ≡ []) × (page : Option (List Child)) × IsPaged false folder.entries offset size page × (meant ≡ names_reply offset page)
+Uses (Some folder) (ReadEntries offset size) more meant = (more ≡ []) × IsPaged true folder.entries offset size None × (meant ≡ Failed EINVAL)
 Uses (Some folder) GiveUp more meant = (gone : Bool) × (more ≡ Retire folder.fh gone ∷ []) × (meant ≡ given_up gone)
 Uses (Some folder) Sync more meant = (more ≡ []) × (meant ≡ Done)
 
@@ -52,6 +56,29 @@ pub record IsUsed (node fh : ℕ) (usage : FolderUse) (folders : List FolderCall
   pub more : List FolderCall
   pub folders_are : folders ≡ Lend fh lent ∷ more
   pub uses : Uses (on_node node lent) usage more meant
+
+-- the folder of the handle is lent and is one of the node, and these entries of it are told
+pub record LendsPage (node fh offset size : ℕ) (folders : List FolderCall) (page : Paged) : Type 0 where
+  pub folder : OpenFolder
+  pub is_lent : IsLent fh folder
+  pub on_node : folder.number ≡ node
+  pub paged : IsPaged true folder.entries offset size (Some page.entries)
+  pub from : page.from ≡ offset
+  pub folders_are : folders ≡ Lend fh (Some folder) ∷ []
+
+-- all that is not told by a request that begins
+abbrev pub IsAtOnce : FolderUse → Type 0
+IsAtOnce (ReadEntries offset size) = ⊥
+IsAtOnce usage = Unit {0}
+
+-- in its code: a page of these entries, or what is answered where there is none
+abbrev pub PagesOf : List Child → (offset size : ℕ) → Lends → Type 0
+PagesOf entries offset size (lends.Page page) = IsPaged true entries offset size (Some page.entries) × (page.from ≡ offset)
+PagesOf entries offset size (lends.Nothing meant) = IsPaged true entries offset size None × (meant ≡ Failed EINVAL)
+
+abbrev pub IsLentPage : (node fh offset size : ℕ) → Lends → Type 0
+IsLentPage node fh offset size (lends.Page page) = (folders : List FolderCall) × LendsPage node fh offset size folders page
+IsLentPage node fh offset size (lends.Nothing meant) = (folders : List FolderCall) × IsUsed node fh (ReadEntries offset size) folders meant
 
 -- ---- OPENDIR
 

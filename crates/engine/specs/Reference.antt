@@ -5,6 +5,7 @@ use Rattle.errno.specs.declared.TheConstants.{EIO, ENOMEM, EPROTO}
 use Rattle.flights.specs.declared.data.Want.{Want}
 use Rattle.steps.specs.Answers.{Claim, Answer}
 use Rattle.steps.specs.declared.data.Begin.TheVariants.{Go, Refused}
+use Rattle.steps.specs.declared.data.Outcome.TheVariants as outcomes
 use Rattle.wire.specs.Faults.{IsFirstFault, errno_of}
 use Rattle.wire.specs.Greeting.{negotiated}
 use Rattle.wire.specs.Requests.{IsRequest, opcode_in, unique_in}
@@ -28,9 +29,13 @@ use Rattle.engine.specs.declared.ends.SessionEnd.{SessionEnd}
 use Rattle.engine.specs.declared.ends.SessionEnd.TheVariants as ends
 use Rattle.engine.specs.Chain.{Chain}
 use Rattle.engine.specs.Classes.{class, is_unanswered}
-use Rattle.engine.specs.Folders.{FolderCall, IsUsed, GivesUp, LacksListing, PutsListing}
+use Rattle.engine.specs.Folders.{FolderCall, IsUsed, GivesUp, LacksListing, LendsPage, PutsListing}
 use Rattle.ops.specs.declared.findings.Finding.{Finding}
+use Rattle.ops.specs.declared.findings.Finding.TheVariants as findings
 use Rattle.ops.specs.declared.intents.FolderUse.{FolderUse}
+use Rattle.ops.specs.declared.intents.FolderUse.TheVariants.{ReadEntries}
+use Rattle.ops.specs.Ahead.{LooksAtEach}
+use Rattle.ops.specs.Pages.{Paged, no_page, page_want}
 use Rattle.ops.specs.Intents.{Intent, intent}
 use Rattle.ops.specs.Intents as intents
 use Rattle.engine.specs.Replies.{TakesMemory}
@@ -43,6 +48,7 @@ use Rattle.engine.specs.Tables.{Table}
 -- where memory was refused first
 pub data Place : Type 0 where
   AtBegin : Place  -- at begin at the latest
+  AtScript : Place
   AtListing : Place
   AtReply : Place
 
@@ -91,24 +97,26 @@ Offers (Some offer) unique said = offer.reply ≡ record { unique = unique; body
 abbrev pub IsSaid : Option Place → (meant said : ReplyBody) → Type 0
 IsSaid None meant said = said ≡ meant
 IsSaid (Some AtBegin) meant said = ⊥
+IsSaid (Some AtScript) meant said = ⊥
 IsSaid (Some AtListing) meant said = ⊥
 IsSaid (Some AtReply) meant said = TakesMemory meant × (said ≡ Failed ENOMEM)
 
--- the same of a request that has begun; where its listing found no memory, it is ENOMEM
+-- the same of a request that has begun; where its script or its listing found no memory, it is ENOMEM
 abbrev pub IsTold : Option Place → (meant said : ReplyBody) → Type 0
+IsTold (Some AtScript) meant said = said ≡ Failed ENOMEM
 IsTold (Some AtListing) meant said = said ≡ Failed ENOMEM
 IsTold refused meant said = IsSaid refused meant said
 
--- a frame that makes no call and changes nothing
-pub record Says {W : Type 0} (unique : ℕ) (said : ReplyBody) (old : W) (turn : Turn) (new : W) : Type 0 where
+-- a frame that makes no call of the directory, these of the open folders, and changes nothing
+pub record Says {W : Type 0} (folders : List FolderCall) (unique : ℕ) (said : ReplyBody) (old : W) (turn : Turn) (new : W) : Type 0 where
   pub offers : Offers turn.offer unique said
   pub no_call : turn.made ≡ []
-  pub no_folder : turn.folders ≡ []
+  pub folders_are : turn.folders ≡ folders
   pub same : new ≡ old
 
 -- it is answered at once
 abbrev pub Answers : {W : Type 0} → ℕ → ReplyBody → W → Turn → W → Type 0
-Answers unique meant old turn new = (said : ReplyBody) × IsSaid turn.refused meant said × Says unique said old turn new
+Answers unique meant old turn new = (said : ReplyBody) × IsSaid turn.refused meant said × Says [] unique said old turn new
 
 -- a frame that gets no reply
 pub record IsSilent (turn : Turn) : Type 0 where
@@ -117,7 +125,7 @@ pub record IsSilent (turn : Turn) : Type 0 where
   pub no_folder : turn.folders ≡ []
   pub no_place : turn.refused ≡ None
 
--- a request that uses an open folder, and changes nothing in the table
+-- a request that uses an open folder, is answered at once and changes nothing in the table
 pub record UsesFolder {W : Type 0} (q : Request) (fh : ℕ) (usage : FolderUse) (old : W) (turn : Turn) (new : W) : Type 0 where
   pub meant : ReplyBody
   pub used : IsUsed q.node fh usage turn.folders meant
@@ -136,6 +144,11 @@ Stores refused node finding folders put = PutsListing node finding folders put
 abbrev pub taken_of : Option Place → Option Offer → Bool
 taken_of None offer = was_taken (sent_in offer)
 taken_of (Some place) offer = false
+
+-- The calls of a request that has begun, and what they come to. Without memory for its script it makes none, and fails.
+abbrev pub Plays : Option Place → Operation → Claim → List Made → End → Type 0
+Plays (Some AtScript) operation ticket made end = LooksAtEach operation × (made ≡ []) × (end ≡ record { outcome = outcomes.Failed; findings = findings.Error ENOMEM })
+Plays refused operation ticket made end = Follows (plan_of operation ticket) made end
 
 -- ---- where a session stands: the table, whether a version is agreed on, and how it has ended if it has
 
@@ -185,13 +198,13 @@ abbrev pub ForgetsAll : {W : Type 0} → Table W → W → List Forgotten → W 
 ForgetsAll {W = W} table = Chain (λ (old : W) (lookups : Forgotten) (new : W). table.forgets old lookups.node lookups.nlookup new)
 
 module _ {W : Type 0} (table : Table W) (settings : Settings) where
-  -- a request from begin to settle
-  pub record Carries (q : Request) (want : Want) (old : W) (turn : Turn) (new : W) : Type 0 where
+  -- a request from begin to settle, for which these calls of the open folders were made before, and which tells this page
+  pub record Carries (q : Request) (want : Want) (lends : List FolderCall) (page : Paged) (old : W) (turn : Turn) (new : W) : Type 0 where
     pub ticket : Claim
     pub begun : W
     pub begins : table.begins old q.unique want (Go ticket) begun
     pub end : End
-    pub script : Follows (plan_of q.operation ticket) turn.made end
+    pub script : Plays turn.refused q.operation ticket turn.made end
     pub answer : Answer
     pub finished : W
     pub finishes : table.finishes begun ticket.id end.outcome answer finished
@@ -200,31 +213,38 @@ module _ {W : Type 0} (table : Table W) (settings : Settings) where
     pub first : List FolderCall
     pub stores : Stores turn.refused q.node end.findings first put
     pub said : ReplyBody
-    pub said_is : IsTold turn.refused (reply_to settings q.node end.findings put answer) said
+    pub said_is : IsTold turn.refused (reply_to settings q.node page end.findings put answer) said
     pub offers : Offers turn.offer q.unique said
     pub settles : table.settles finished answer (taken_of turn.refused turn.offer) new
     pub last : List FolderCall
     pub gives_up : GivesUp (taken_of turn.refused turn.offer) put last
-    pub folders_are : turn.folders ≡ first ++ last
+    pub folders_are : turn.folders ≡ lends ++ first ++ last
 
   -- the table refuses it
-  pub record IsRefused (q : Request) (want : Want) (old : W) (turn : Turn) (new : W) : Type 0 where
+  pub record IsRefused (q : Request) (want : Want) (lends : List FolderCall) (old : W) (turn : Turn) (new : W) : Type 0 where
     pub errno : ℤ
     pub begins : table.begins old q.unique want (Refused errno) new
-    pub says : Says q.unique (Failed errno) old turn new
+    pub says : Says lends q.unique (Failed errno) old turn new
 
   -- No other request is in flight, so none is in its way.
-  abbrev pub WorksOff : Option Place → Request → Want → W → Turn → W → Type 0
-  WorksOff None q want old turn new = IsRefused q want old turn new ⊎ Carries q want old turn new
-  WorksOff (Some AtBegin) q want old turn new = Says q.unique (Failed ENOMEM) old turn new
-  WorksOff (Some AtListing) q want old turn new = Carries q want old turn new
-  WorksOff (Some AtReply) q want old turn new = Carries q want old turn new
+  abbrev pub WorksOff : Option Place → Request → Want → (lends : List FolderCall) → (page : Paged) → W → Turn → W → Type 0
+  WorksOff None q want lends page old turn new = IsRefused q want lends old turn new ⊎ Carries q want lends page old turn new
+  WorksOff (Some AtBegin) q want lends page old turn new = Says lends q.unique (Failed ENOMEM) old turn new
+  WorksOff (Some AtScript) q want lends page old turn new = Carries q want lends page old turn new
+  WorksOff (Some AtListing) q want lends page old turn new = Carries q want lends page old turn new
+  WorksOff (Some AtReply) q want lends page old turn new = Carries q want lends page old turn new
+
+  -- a request that tells entries of an open folder, and begins
+  abbrev pub TellsEntries : Request → (fh : ℕ) → FolderUse → W → Turn → W → Type 0
+  TellsEntries q fh (ReadEntries offset size) old turn new =
+      (lends : List FolderCall) × (page : Paged) × LendsPage q.node fh offset size lends page × WorksOff turn.refused q (page_want q.node page.entries) lends page old turn new
+  TellsEntries q fh usage old turn new = ⊥
 
   abbrev pub Serves : Request → Intent → W → Turn → W → Type 0
   Serves q (intents.Reply meant) old turn new = Answers q.unique meant old turn new
-  Serves q (intents.Begin want) old turn new = WorksOff turn.refused q want old turn new
+  Serves q (intents.Begin want) old turn new = WorksOff turn.refused q want [] no_page old turn new
   Serves q (intents.File fh) old turn new = Answers q.unique (file_reply q.node (table.file old fh)) old turn new
-  Serves q (intents.Folder fh usage) old turn new = UsesFolder q fh usage old turn new
+  Serves q (intents.Folder fh usage) old turn new = UsesFolder q fh usage old turn new ⊎ TellsEntries q fh usage old turn new
   Serves q (intents.Forget lookups) old turn new = IsSilent turn × ForgetsAll table old lookups new
   Serves q intents.Nothing old turn new = IsSilent turn × (new ≡ old)
 

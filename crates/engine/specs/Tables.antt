@@ -1,6 +1,6 @@
 -- A table by its steps, and what a session knows of its insides: how it stands between two requests.
-use Rattle.std.specs.Prelude.{ℕ, ◌≡◌, Bool, List, Option, None}
 use Rattle.paths.specs.Prefixes.{Names}
+use Rattle.std.specs.Prelude.{ℕ, ◌≡◌, Bool, List, Option, None}
 use Rattle.files.specs.declared.data.OpenFile.{OpenFile}
 use Rattle.flights.specs.declared.data.Want.{Want}
 use Rattle.steps.specs.Answers.{Answer, Settlement}
@@ -16,10 +16,10 @@ pub record Table (W : Type 0) : Type 1 where
   pub finishes : W → (id : ℕ) → Outcome → Answer → W → Type 0
   pub settles : W → Answer → (taken : Bool) → W → Type 0
   pub forgets : W → (number n : ℕ) → W → Type 0
-  -- the open file under a handle
-  pub file : W → (fh : ℕ) → Option OpenFile
   -- these are the paths of all hidden files
   pub leftovers : W → List Names → Type 0
+  -- the open file under a handle
+  pub file : W → (fh : ℕ) → Option OpenFile
   -- no request is in flight
   pub is_idle : W → Type 0
 
@@ -33,7 +33,7 @@ worlds = record {
   finishes = Finishes;
   settles = λ old answer taken new. (settled : Settlement) × Settles old answer taken settled new;
   forgets = λ old number n new. (amount : ℕ) × Forgets old number n amount new;
-  file = λ w fh. w.files fh;
   leftovers = λ world paths. AreLeftovers world.at paths;
+  file = λ w fh. w.files fh;
   is_idle = IsIdle;
 }

@@ -1,9 +1,12 @@
 -- Where the code of a session stands, and what it has done.
-use Rattle.std.specs.Prelude.{ℕ, ◌≡◌, ◌⊎◌, Bool, true, false, List, ◌++◌, Option, Some, None}
+use Rattle.std.specs.Prelude.{ℕ, ◌≡◌, ◌⊎◌, Bool, true, false, is_some, map, List, ◌++◌, Option, Some, None}
 use Rattle.backing.specs.Calls.{Asked}
 use Rattle.backing.specs.declared.call.Answer.{Answer}
 use Rattle.backing.specs.declared.call.Child.{Child}
+use Rattle.errno.specs.declared.TheConstants.{ENOMEM}
 use Rattle.steps.specs.declared.data.Outcome.TheVariants.{Done}
+use Rattle.steps.specs.declared.data.Outcome.TheVariants as outcomes
+use Rattle.ops.specs.declared.findings.Found.{Found}
 use Rattle.ops.specs.declared.findings.Finding.{Finding}
 use Rattle.ops.specs.declared.findings.Finding.TheVariants as findings
 use Rattle.flights.specs.declared.data.Want.{Want}
@@ -23,13 +26,15 @@ use Rattle.engine.specs.declared.links.Sent.{Sent}
 use Rattle.ops.specs.declared.replies.Settings.{Settings}
 use Rattle.engine.specs.Chain.{Chain}
 use Rattle.engine.specs.Classes.{class}
-use Rattle.engine.specs.Folders.{FolderCall, GivesUp, IsUsed}
+use Rattle.engine.specs.Folders.{FolderCall, GivesUp, IsUsed, LendsPage}
 use Rattle.ops.specs.declared.intents.FolderUse.{FolderUse}
+use Rattle.ops.specs.declared.intents.FolderUse.TheVariants.{ReadEntries}
+use Rattle.ops.specs.Pages.{Paged, page_want}
 use Rattle.engine.specs.Links.{Heard, Piece, Ended, Broke}
-use Rattle.engine.specs.Reference.{At, Place, Turn, Offer, IsSaid, IsTold, IsTurn, Asks, Meets, Stores, WorksOff, agrees, ending, greeting_of, negotiated_by, sent_in, taken_of}
+use Rattle.engine.specs.Reference.{At, Place, Turn, Offer, IsSaid, IsTold, IsTurn, Asks, Meets, Plays, Stores, WorksOff, agrees, ending, greeting_of, negotiated_by, sent_in, taken_of}
 use Rattle.engine.specs.Replies.{confirmation, refusal}
 use Rattle.ops.specs.Replies.{reply_to}
-use Rattle.ops.specs.Scripts.{plan_of, End, Made, Follows}
+use Rattle.ops.specs.Scripts.{End, Made}
 use Rattle.engine.specs.Serving.{Step, Hears, Works, Makes}
 use Rattle.engine.specs.Tables.{Table}
 
@@ -105,9 +110,18 @@ pub record Drains {W L C : Type 0} (table : Table W) (settings : Settings) (rece
 abbrev pub listing_found : List Child → End
 listing_found children = record { outcome = Done; findings = findings.Listed children }
 
--- no listing is to be made of what a script has found
+-- a READDIRPLUS that found these at the names of its page
+abbrev pub entries_found : List (Option Found) → End
+entries_found founds = record { outcome = outcomes.Entries (map (λ found. is_some found) founds); findings = findings.Looked founds }
+
+-- a request whose script found no memory
+abbrev pub no_memory : End
+no_memory = record { outcome = outcomes.Failed; findings = findings.Error ENOMEM }
+
+-- no listing and no page is to be made of what a script has found
 abbrev pub IsPlain : Finding → Type 0
 IsPlain (findings.Listed children) = ⊥
+IsPlain (findings.Looked founds) = ⊥
 IsPlain finding = Unit {0}
 
 -- a reply that is given at once
@@ -160,17 +174,18 @@ pub record Settled {W L : Type 0} (table : Table W) (sends : L → List ℕ → 
   pub taken_is : taken ≡ taken_of refused (Some (record { reply = record { unique = unique; body = said }; sent = sent }))
   pub settles : table.settles finished answer taken world'
 
--- a request whose script has come to an end is finished, answered and settled
-pub record Concludes {W L : Type 0} (table : Table W) (settings : Settings) (sends : L → List ℕ → Sent → L → Type 0) (q : Request) (id : ℕ) (end : End) (link : L) (begun : W) (sent : Sent) (link' : L) (world' : W) : Type 0 where
+-- a request whose script has made these calls and come to an end is finished, answered and settled
+pub record Concludes {W L : Type 0} (table : Table W) (settings : Settings) (sends : L → List ℕ → Sent → L → Type 0) (q : Request) (page : Paged) (ticket : Claim) (made : List Made) (end : End) (link : L) (begun : W) (sent : Sent) (link' : L) (world' : W) : Type 0 where
   pub refused : Option Place
+  pub script : Plays refused q.operation ticket made end
   pub answer : Given
   pub finished : W
-  pub finishes : table.finishes begun id end.outcome answer finished
+  pub finishes : table.finishes begun ticket.id end.outcome answer finished
   pub put : Option ℕ
   pub first : List FolderCall
   pub stores : Stores refused q.node end.findings first put
   pub said : ReplyBody
-  pub said_is : IsTold refused (reply_to settings q.node end.findings put answer) said
+  pub said_is : IsTold refused (reply_to settings q.node page end.findings put answer) said
   pub offer : sends link (reply_bytes (record { unique = q.unique; body = said })) sent link'
   pub settles : table.settles finished answer (taken_of refused (Some (record { reply = record { unique = q.unique; body = said }; sent = sent }))) world'
   pub last : List FolderCall
@@ -197,19 +212,29 @@ module _ {W L C : Type 0} (table : Table W) (settings : Settings) (sends : L →
     pub passes : Passes sends link turn.offer link'
 
   -- a request that has begun is played, and concluded
-  pub record Performs (q : Request) (ticket : Claim) (link : L) (calls : C) (begun : W) (sent : Sent) (link' : L) (calls' : C) (world' : W) : Type 0 where
+  pub record Performs (q : Request) (page : Paged) (ticket : Claim) (link : L) (calls : C) (begun : W) (sent : Sent) (link' : L) (calls' : C) (world' : W) : Type 0 where
     pub made : List Made
     pub end : End
-    pub script : Follows (plan_of q.operation ticket) made end
     pub makes : Makes gives calls made calls'
-    pub concludes : Concludes table settings sends q ticket.id end link begun sent link' world'
+    pub concludes : Concludes table settings sends q page ticket made end link begun sent link' world'
 
-  -- a request that is begun, whatever frame it stands in
-  pub record CarriesOut (q : Request) (want : Want) (link : L) (calls : C) (world : W) (sent : Sent) (link' : L) (calls' : C) (world' : W) : Type 0 where
+  -- a request that is begun, whatever frame it stands in, after these calls of the open folders
+  pub record CarriesOut (q : Request) (want : Want) (lends : List FolderCall) (page : Paged) (link : L) (calls : C) (world : W) (sent : Sent) (link' : L) (calls' : C) (world' : W) : Type 0 where
     pub refused : Option Place
     pub made : List Made
     pub folders : List FolderCall
     pub said : ReplyBody
     pub makes : Makes gives calls made calls'
     pub offer : sends link (reply_bytes (record { unique = q.unique; body = said })) sent link'
-    pub works : (frame : List ℕ) → WorksOff table settings refused q want world (record { frame = frame; refused = refused; made = made; folders = folders; offer = Some (record { reply = record { unique = q.unique; body = said }; sent = sent }); destroyed = false }) world'
+    pub works : (frame : List ℕ) → WorksOff table settings refused q want lends page world (record { frame = frame; refused = refused; made = made; folders = folders; offer = Some (record { reply = record { unique = q.unique; body = said }; sent = sent }); destroyed = false }) world'
+
+  -- entries of an open folder are told by a request that begins
+  abbrev pub TellsOut : Request → (fh : ℕ) → FolderUse → L → C → W → Sent → L → C → W → Type 0
+  TellsOut q fh (ReadEntries offset size) link calls world sent link' calls' world' =
+      (lends : List FolderCall) × (page : Paged) × LendsPage q.node fh offset size lends page × CarriesOut q (page_want q.node page.entries) lends page link calls world sent link' calls' world'
+  TellsOut q fh usage link calls world sent link' calls' world' = ⊥
+
+  -- an open folder is used, whatever frame the request stands in
+  abbrev pub UsesOut : Request → (fh : ℕ) → FolderUse → L → C → W → Sent → L → C → W → Type 0
+  UsesOut q fh usage link calls world sent link' calls' world' =
+      (IsUsedBy sends q fh usage link sent link' × (calls' ≡ calls) × (world' ≡ world)) ⊎ TellsOut q fh usage link calls world sent link' calls' world'

@@ -5,6 +5,8 @@ ghost use Rattle.backing.specs.declared.call.Child.{Child};
 ghost use Rattle.handles.specs.Listings.{IsMade};
 ghost use Rattle.handles.specs.declared.listing.ListingFault.TheVariants.{Memory};
 ghost use Rattle.ops.specs.Ahead.{end_of};
+ghost use Rattle.ops.specs.Pages.{Paged};
+ghost use Rattle.ops.specs.Scripts.{listed_end, plan_of, Follows, Made};
 ghost use Rattle.steps.specs.Kept.{world_of};
 ghost use Rattle.table.specs.Gains.{Gains};
 ghost use Rattle.engine.specs.Folders.{FolderCall, GivesUp};
@@ -13,8 +15,9 @@ ghost use Rattle.engine.specs.Walks.{listing_found, Concludes, IsPlain, Settled}
 
 use crate::links::{LinkOut, Sent};
 use crate::session::{Desk, is_taken, refuse};
-use errno::ENOMEM;
-use handles::{Dirs, Listing};
+use backing::Children;
+use errno::{EIO, ENOMEM};
+use handles::{Dirs, Listing, ListingFault};
 use ledger::{Ledgers, Share};
 use ops::{Finding, opened_reply, reply_to};
 use std::sync::Wait;
@@ -38,7 +41,7 @@ fn give_up<H: Wait>(rt: &H, dirs: &Dirs, put: Option<u64>, taken: bool)
 
 impl Desk {
     /// Answers a request that was finished, and settles it. Tells whether it counts as taken.
-    fn settle<T: Ledgers, L: LinkOut>(
+    pub fn settle<T: Ledgers, L: LinkOut>(
         &mut self,
         link: &mut L,
         table: &mut Table<T>,
@@ -75,7 +78,8 @@ impl Desk {
         ticket: Ticket,
         found: Finding,
     ) -> Sent
-        ensures concludes { IsPlain found → Concludes worlds self.old.settings L.sends request.entry ticket.id (end_of found)
+        requires { IsPlain found }
+        ensures concludes { (page : Paged) (made : List Made) → Follows (plan_of request.entry.operation ticket) made (end_of found) → Concludes worlds self.old.settings L.sends request.entry page ticket made (end_of found)
             link.old (world_of table.old) result link.new (world_of table.new) }
         ensures gains { Gains (world_of table.old) share.old (world_of table.new) share.new }
         ensures settings { self.new.settings ≡ self.old.settings }
@@ -89,7 +93,7 @@ impl Desk {
     }
 
     /// Finishes an OPENDIR that found this listing: it is stored, and given up again where the reply was not taken.
-    pub fn open<H: Wait, T: Ledgers, L: LinkOut>(
+    fn open<H: Wait, T: Ledgers, L: LinkOut>(
         &mut self,
         rt: &H,
         dirs: &Dirs,
@@ -100,7 +104,8 @@ impl Desk {
         ticket: Ticket,
         listing: Listing,
     ) -> Sent
-        ensures concludes { (children : List Child) → IsMade request.entry.node children (Ok listing) → Concludes worlds self.old.settings L.sends request.entry ticket.id (listing_found children)
+        ensures concludes { (page : Paged) (made : List Made) (children : List Child) → IsMade request.entry.node children (Ok listing) → Follows (plan_of request.entry.operation ticket) made (listing_found children)
+            → Concludes worlds self.old.settings L.sends request.entry page ticket made (listing_found children)
             link.old (world_of table.old) result link.new (world_of table.new) }
         ensures gains { Gains (world_of table.old) share.old (world_of table.new) share.new }
         ensures settings { self.new.settings ≡ self.old.settings }
@@ -118,7 +123,7 @@ impl Desk {
     }
 
     /// Finishes an OPENDIR whose listing found no memory.
-    pub fn starve<T: Ledgers, L: LinkOut>(
+    fn starve<T: Ledgers, L: LinkOut>(
         &mut self,
         link: &mut L,
         table: &mut Table<T>,
@@ -126,7 +131,8 @@ impl Desk {
         request: Request<'_>,
         ticket: Ticket,
     ) -> Sent
-        ensures concludes { (children : List Child) → IsMade request.entry.node children (Err Memory) → Concludes worlds self.old.settings L.sends request.entry ticket.id (listing_found children)
+        ensures concludes { (page : Paged) (made : List Made) (children : List Child) → IsMade request.entry.node children (Err Memory) → Follows (plan_of request.entry.operation ticket) made (listing_found children)
+            → Concludes worlds self.old.settings L.sends request.entry page ticket made (listing_found children)
             link.old (world_of table.old) result link.new (world_of table.new) }
         ensures gains { Gains (world_of table.old) share.old (world_of table.new) share.new }
         ensures settings { self.new.settings ≡ self.old.settings }
@@ -135,5 +141,32 @@ impl Desk {
         let answered = table.finish(share, ticket, Outcome::Done);
         table.settle(share, answered, false);
         refuse(link, request.unique, ENOMEM)
+    }
+    /// Finishes an OPENDIR that found these names.
+    pub fn list<H: Wait, T: Ledgers, L: LinkOut>(
+        &mut self,
+        rt: &H,
+        dirs: &Dirs,
+        link: &mut L,
+        table: &mut Table<T>,
+        share: &mut Share<T>,
+        request: Request<'_>,
+        ticket: Ticket,
+        children: Children,
+    ) -> Sent
+        ensures concludes { (page : Paged) (made : List Made) → Follows (plan_of request.entry.operation ticket) made (listed_end children) → Concludes worlds self.old.settings L.sends request.entry page ticket made (listed_end children)
+            link.old (world_of table.old) result link.new (world_of table.new) }
+        ensures gains { Gains (world_of table.old) share.old (world_of table.new) share.new }
+        ensures settings { self.new.settings ≡ self.old.settings }
+        ensures agreed { self.new.agreed ≡ self.old.agreed }
+    {
+        match Listing::new(self.alloc, request.node, children) {
+            Ok(listing) => self.open(rt, dirs, link, table, share, request, ticket, listing),
+            Err(ListingFault::Lawless) => {
+                let found = Finding::Error { errno: EIO };
+                self.tell(link, table, share, request, ticket, found)
+            }
+            Err(ListingFault::Memory) => self.starve(link, table, share, request, ticket),
+        }
     }
 }

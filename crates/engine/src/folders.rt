@@ -1,10 +1,10 @@
-//! Requests that use an open folder, and need no table.
+//! What requests make of the open folders.
 
 ghost use Rattle.std.specs.Prelude.{◌≡◌, List, Some, IfOk, OnErr};
 ghost use Rattle.backing.specs.declared.call.Child.{Child};
 ghost use Rattle.handles.specs.Listings.{OpenFolder};
 ghost use Rattle.ops.specs.Folders.{IsPaged, names_reply};
-ghost use Rattle.engine.specs.Folders.{given_up, IsUsed, Uses, FolderCall};
+ghost use Rattle.engine.specs.Folders.{given_up, FolderCall, IsAtOnce, IsUsed, Uses};
 ghost use Rattle.engine.specs.Replies.{TakesMemory};
 ghost use Rattle.wire.specs.declared.reply.ReplyBody.{ReplyBody};
 
@@ -26,8 +26,8 @@ fn given_up(gone: bool) -> ReplyBody
     }
 }
 
-/// What a request is answered that uses the folder under a handle, if it is one of the node. An error says that there was no memory
-/// for the reply.
+/// What a request is answered at once that uses the folder under a handle, if it is one of the node. An error says that there was no
+/// memory for the reply.
 pub(crate) fn use_folder<H: Wait>(
     rt: &H,
     alloc: Global,
@@ -36,6 +36,7 @@ pub(crate) fn use_folder<H: Wait>(
     fh: u64,
     usage: FolderUse,
 ) -> Result<ReplyBody, AllocError>
+    requires { IsAtOnce usage }
     ensures ok { IfOk result (λ body. (folders : List FolderCall) × IsUsed node fh usage folders body) }
     ensures err { OnErr result ((folders : List FolderCall) × (meant : ReplyBody) × IsUsed node fh usage folders meant × TakesMemory meant) }
 {
@@ -47,6 +48,7 @@ pub(crate) fn use_folder<H: Wait>(
     }
     match usage {
         FolderUse::ReadNames { offset, size } => names_reply(alloc, lent.listing(), offset, size),
+        FolderUse::ReadEntries { .. } => unreachable!(),
         FolderUse::GiveUp => Ok(given_up(dirs.retire(rt, fh))),
         FolderUse::Sync => Ok(ReplyBody::Done),
     }

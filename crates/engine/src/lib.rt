@@ -4,12 +4,14 @@
 mod classes;
 mod concluding;
 mod ends;
+mod entries;
 mod folders;
 mod links;
 mod meeting;
 mod playing;
 mod serving;
 mod session;
+mod using;
 
 pub use ends::SessionEnd;
 pub use links::{Link, LinkIn, LinkOut, Received, Sent};

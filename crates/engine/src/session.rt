@@ -1,27 +1,27 @@
 //! One frame of a session.
 
-ghost use Rattle.std.specs.Prelude.{◌≡◌, ◌≤◌, true, false, length, IfNone, IfSome};
+ghost use Rattle.std.specs.Prelude.{◌≡◌, ◌≤◌, true, false, length, List, IfNone, IfSome};
 ghost use Rattle.steps.specs.Kept.{world_of};
 ghost use Rattle.table.specs.Gains.{Gains};
 ghost use Rattle.wire.specs.Faults.{errno_of};
 ghost use Rattle.wire.specs.Requests.{opcode_in, unique_in, IsFramed};
 ghost use Rattle.wire.specs.Written.{reply_bytes};
 ghost use Rattle.engine.specs.Classes.{is_unanswered};
+ghost use Rattle.engine.specs.Folders.{FolderCall};
 ghost use Rattle.engine.specs.Reference.{is_taken, ForgetsAll};
 ghost use Rattle.wire.specs.Pairs.{pairs_in};
 ghost use Rattle.engine.specs.Replies.{confirmation, refusal, TakesMemory};
 ghost use Rattle.engine.specs.Tables.{worlds, IsIdle};
-ghost use Rattle.engine.specs.Walks.{CarriesOut, IsAnswered, IsUsedBy, Performs, WorkedOff};
+ghost use Rattle.engine.specs.Walks.{CarriesOut, IsAnswered, Performs, WorkedOff};
 
-use crate::folders::use_folder;
 use crate::links::{LinkOut, Sent};
 use crate::playing::play;
 use backing::Calls;
-use errno::{EIO, ENOMEM};
+use errno::ENOMEM;
 use flights::Want;
-use handles::{Dirs, Listing, ListingFault};
+use handles::Dirs;
 use ledger::{Ledgers, Share};
-use ops::{Finding, FolderUse, Intent, Script, Settings, file_reply, intent_of};
+use ops::{Finding, Intent, Paged, Script, Settings, file_reply, intent_of};
 use std::alloc::Global;
 use std::sync::Wait;
 use table::{Begin, Table, Ticket};
@@ -116,7 +116,7 @@ impl Desk {
     }
 
     /// Answers a request at once: with the reply, or with ENOMEM where there is no memory for it.
-    fn answer<L: LinkOut>(&mut self, link: &mut L, reply: Reply) -> Sent
+    pub fn answer<L: LinkOut>(&mut self, link: &mut L, reply: Reply) -> Sent
         ensures said { IsAnswered L.sends reply link.old result link.new }
         ensures settings { self.new.settings ≡ self.old.settings }
         ensures agreed { self.new.agreed ≡ self.old.agreed }
@@ -128,28 +128,7 @@ impl Desk {
         }
     }
 
-    /// Answers a request that uses an open folder.
-    fn use_folder<H: Wait, L: LinkOut>(
-        &mut self,
-        rt: &H,
-        dirs: &Dirs,
-        link: &mut L,
-        request: &Request<'_>,
-        fh: u64,
-        usage: FolderUse,
-    ) -> Sent
-        ensures used { IsUsedBy L.sends request.now fh usage link.old result link.new }
-        ensures settings { self.new.settings ≡ self.old.settings }
-        ensures agreed { self.new.agreed ≡ self.old.agreed }
-    {
-        let unique = request.unique;
-        match use_folder(rt, self.alloc, dirs, request.node, fh, usage) {
-            Ok(body) => self.answer(link, Reply { unique, body }),
-            Err(_) => refuse(link, unique, ENOMEM),
-        }
-    }
-
-    /// Plays the script of a request that has begun, and concludes it.
+    /// Plays the script of a request that has begun, and concludes it. The page is that of a READDIRPLUS.
     fn perform<H: Wait, T: Ledgers, L: LinkOut, C: Calls>(
         &mut self,
         rt: &H,
@@ -160,30 +139,31 @@ impl Desk {
         share: &mut Share<T>,
         request: Request<'_>,
         ticket: Ticket,
+        page: &Paged,
     ) -> Sent
-        ensures performs { Performs worlds self.old.settings L.sends C.gives request.entry ticket
+        ensures performs { Performs worlds self.old.settings L.sends C.gives request.entry page.now ticket
             link.old calls.old (world_of table.old) result link.new calls.new (world_of table.new) }
         ensures gains { Gains (world_of table.old) share.old (world_of table.new) share.new }
         ensures settings { self.new.settings ≡ self.old.settings }
         ensures agreed { self.new.agreed ≡ self.old.agreed }
     {
-        let script = Script::start(request.operation, &ticket);
-        let children = match play(calls, script) {
-            Finding::Listed(children) => children,
-            found => return self.tell(link, table, share, request, ticket, found),
+        let script = match Script::start(self.alloc, request.operation, &ticket) {
+            Ok(script) => script,
+            Err(_) => return self.cut_short(link, table, share, request, ticket),
         };
-        match Listing::new(self.alloc, request.node, children) {
-            Ok(listing) => self.open(rt, dirs, link, table, share, request, ticket, listing),
-            Err(ListingFault::Lawless) => {
-                let found = Finding::Error { errno: EIO };
-                self.tell(link, table, share, request, ticket, found)
+        match play(calls, script) {
+            Finding::Listed(children) => {
+                self.list(rt, dirs, link, table, share, request, ticket, children)
             }
-            Err(ListingFault::Memory) => self.starve(link, table, share, request, ticket),
+            Finding::Looked(looked) => {
+                self.tell_entries(link, table, share, request, ticket, page, looked)
+            }
+            found => self.tell(link, table, share, request, ticket, found),
         }
     }
 
-    /// Carries a request from begin to settle. No other is in flight.
-    fn carry<H: Wait, T: Ledgers, L: LinkOut, C: Calls>(
+    /// Carries a request from begin to settle. No other is in flight. The page is that of a READDIRPLUS.
+    pub fn carry<H: Wait, T: Ledgers, L: LinkOut, C: Calls>(
         &mut self,
         rt: &H,
         dirs: &Dirs,
@@ -193,9 +173,10 @@ impl Desk {
         share: &mut Share<T>,
         request: Request<'_>,
         want: Want,
+        page: &Paged,
     ) -> Sent
         requires idle { IsIdle (world_of table.old) }
-        ensures carries { CarriesOut worlds self.old.settings L.sends C.gives request.entry want
+        ensures carries { (lends : List FolderCall) → CarriesOut worlds self.old.settings L.sends C.gives request.entry want lends page.now
             link.old calls.old (world_of table.old) result link.new calls.new (world_of table.new) }
         ensures gains { Gains (world_of table.old) share.old (world_of table.new) share.new }
         ensures idle { IsIdle (world_of table.new) }
@@ -203,7 +184,9 @@ impl Desk {
         ensures agreed { self.new.agreed ≡ self.old.agreed }
     {
         match table.begin(request.unique, want) {
-            Begin::Go(ticket) => self.perform(rt, dirs, link, calls, table, share, request, ticket),
+            Begin::Go(ticket) => self.perform(
+                rt, dirs, link, calls, table, share, request, ticket, page,
+            ),
             Begin::Refused(errno) => {
                 let unique = request.unique;
                 let body = ReplyBody::Failed { errno };
@@ -244,7 +227,10 @@ impl Desk {
                 Some(self.answer(link, Reply { unique, body }))
             }
             Intent::Want(wanted) => match wanted.own(self.alloc) {
-                Ok(want) => Some(self.carry(rt, dirs, link, calls, table, share, request, want)),
+                Ok(want) => {
+                    let none = Paged::none(self.alloc);
+                    Some(self.carry(rt, dirs, link, calls, table, share, request, want, &none))
+                }
                 Err(_) => Some(refuse(link, request.unique, ENOMEM)),
             },
             Intent::File { fh } => {
@@ -253,7 +239,7 @@ impl Desk {
                 Some(self.answer(link, Reply { unique, body }))
             }
             Intent::Folder { fh, usage } => {
-                Some(self.use_folder(rt, dirs, link, &request, fh, usage))
+                Some(self.use_folder(rt, dirs, link, calls, table, share, request, fh, usage))
             }
             Intent::Forget(lookups) => {
                 table.forget(share, lookups.node, lookups.nlookup);

@@ -58,6 +58,11 @@ pub enum Want {
         name: Name,
         access: Access,
     },
+    /// An open file of a node to be closed (RELEASE).
+    Release {
+        number: u64,
+        fh: u64,
+    },
 }
 
 /// What a request's row takes from the table besides its want, as the table stood when the request began.
@@ -67,6 +72,8 @@ pub enum Case {
     Plain,
     /// No node stands at that name.
     Absent,
+    /// The node whose file is closed has no path, or one that is longer than 4,096 bytes.
+    Pathless,
 }
 
 /// What a request may still add, kept free for it from its begin to its finish.

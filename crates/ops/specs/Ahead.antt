@@ -1,17 +1,20 @@
 -- What a script in its code still asks.
-use Rattle.std.specs.Prelude.{ℕ, ℤ, ◌+◌, Option, Some, None}
+use Rattle.std.specs.Prelude.{ℕ, ℤ, ◌+◌, is_some, length, map, Option, Some, None}
 use Rattle.backing.specs.Calls.{asked}
 use Rattle.backing.specs.declared.call.Call.{Call}
 use Rattle.steps.specs.declared.data.Outcome.{Outcome}
-use Rattle.steps.specs.declared.data.Outcome.TheVariants.{Failed, Done, Entry}
+use Rattle.steps.specs.declared.data.Outcome.TheVariants.{Failed, Done, Entry, Entries}
 use Rattle.ops.specs.declared.findings.Found.{Found}
 use Rattle.ops.specs.declared.findings.Finding.{Finding}
-use Rattle.ops.specs.declared.findings.Finding.TheVariants.{Error, Nothing, NewEntry, NewFile, Attributes, Opening, Bytes, Written, Listed}
+use Rattle.ops.specs.declared.findings.Finding.TheVariants.{Error, Nothing, NewEntry, NewFile, Attributes, Opening, Bytes, Written, Listed, Looked}
 use Rattle.ops.specs.declared.script.Ending.{Ending}
 use Rattle.ops.specs.declared.script.Ending.TheVariants as ending
 use Rattle.ops.specs.declared.script.Script.{Script}
 use Rattle.ops.specs.declared.telling.Telling.{Telling}
 use Rattle.ops.specs.declared.telling.Telling.TheVariants as telling
+use Rattle.wire.specs.declared.request.Operation.{Operation}
+use Rattle.wire.specs.declared.request.Operation.TheVariants as ops
+use Rattle.ops.specs.Looking.{plan_looking}
 use Rattle.ops.specs.Scripts.{Plan, Over, End, failed, list, listed_end, make, look, open_end, read, write}
 
 abbrev pub outcome_of : Finding → Outcome
@@ -24,11 +27,22 @@ outcome_of Opening = Done
 outcome_of (Bytes bytes) = Done
 outcome_of (Written count) = Done
 outcome_of (Listed children) = Done
+outcome_of (Looked founds) = Entries (map (λ found. is_some found) founds)
 
 -- names that are lawless are an error
 abbrev pub end_of : Finding → End
 end_of (Listed children) = listed_end children
 end_of finding = record { outcome = outcome_of finding; findings = finding }
+
+-- it is of one path alone, or of none
+abbrev pub IsOfNoPage : Finding → Type 0
+IsOfNoPage (Looked founds) = ⊥
+IsOfNoPage finding = Unit {0}
+
+-- its script takes memory
+abbrev pub LooksAtEach : Operation → Type 0
+LooksAtEach (ops.ReadDirPlus fh offset size) = Unit {0}
+LooksAtEach operation = ⊥
 
 -- what is told of what was found
 abbrev pub told_of : Telling → Found → End
@@ -43,6 +57,7 @@ plan_ending (ending.Look p tells) = look p.now (λ found. Over (told_of tells fo
 plan_ending (ending.List p) = list p.now
 plan_ending (ending.Read p offset size) = read p.now offset size
 plan_ending (ending.Write p offset piece) = write p.now offset piece.now
+plan_ending (ending.Each looks) = plan_looking looks
 plan_ending (ending.Over finding) = Over (end_of finding)
 
 abbrev pub plan_from : Option Call → Plan → Plan
@@ -64,6 +79,7 @@ calls_ending (ending.Look p tells) = 1
 calls_ending (ending.List p) = 1
 calls_ending (ending.Read p offset size) = 1
 calls_ending (ending.Write p offset piece) = 1
+calls_ending (ending.Each looks) = length looks.left
 calls_ending (ending.Over finding) = 0
 
 abbrev pub calls_from : Option Call → ℕ

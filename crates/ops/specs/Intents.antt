@@ -117,7 +117,7 @@ intended node (ops.SyncDir fh) = Folder fh uses.Sync
 intended node ops.Interrupt = Nothing
 intended node ops.Destroy = Nothing
 intended node (ops.BatchForget pairs) = Forget (pairs_in pairs.now)
-intended node (ops.ReadDirPlus fh offset size) = refused ENOSYS
+intended node (ops.ReadDirPlus fh offset size) = Folder fh (uses.ReadEntries offset size)
 
 -- Names are sound by the time a request was read; reserved ones are refused before all else.
 abbrev pub intent : Request → Intent

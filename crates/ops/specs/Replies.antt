@@ -1,11 +1,15 @@
 -- What a request is answered, by what its script found and what its table gave.
-use Rattle.std.specs.Prelude.{ℕ, ℤ, ◌==◌, if◌then◌else◌, List, slice_get, Option, Some, None, option_and_then}
+use Rattle.std.specs.Prelude.{ℕ, ℤ, ◌+◌, ◌==◌, if◌then◌else◌, List, [], ◌∷◌, drop, slice_get, Option, Some, None, option_and_then}
+use Rattle.std.specs.List.{flat_map}
 use Rattle.errno.specs.declared.TheConstants.{EBADF, EIO, ENFILE}
+use Rattle.backing.specs.declared.call.Child.{Child}
 use Rattle.backing.specs.declared.call.Kind.{Kind as Told}
 use Rattle.backing.specs.declared.call.Kind.TheVariants as kinds
 use Rattle.files.specs.declared.data.OpenFile.{OpenFile}
 use Rattle.flights.specs.declared.data.Given.{Given}
+use Rattle.handles.specs.Names.{is_dot}
 use Rattle.steps.specs.Answers.{Answer}
+use Rattle.wire.specs.Dirents.{PlusDirent, plus_bytes}
 use Rattle.wire.specs.declared.reply.Attributes.{Attributes}
 use Rattle.wire.specs.declared.reply.Entry.{Entry}
 use Rattle.wire.specs.declared.reply.Kind.{Kind}
@@ -16,6 +20,7 @@ use Rattle.ops.specs.declared.findings.Found.{Found}
 use Rattle.ops.specs.declared.findings.Finding.{Finding}
 use Rattle.ops.specs.declared.findings.Finding.TheVariants as findings
 use Rattle.ops.specs.declared.replies.Settings.{Settings}
+use Rattle.ops.specs.Pages.{Paged}
 
 abbrev pub kind_of : Told → Kind
 kind_of kinds.Folder = Folder
@@ -54,15 +59,33 @@ abbrev pub file_reply : ℕ → Option OpenFile → ReplyBody
 file_reply node None = body.Failed EBADF
 file_reply node (Some file) = if file.number == node then body.Done else body.Failed EBADF
 
--- ---- replies to a request about that node; a listing was put under a handle, or not
+-- ---- entries of a page, from an index on
 
-abbrev pub reply_to : Settings → ℕ → Finding → (put : Option ℕ) → Answer → ReplyBody
-reply_to s node (findings.Error errno) put answer = body.Failed errno
-reply_to s node findings.Nothing put answer = body.Done
-reply_to s node (findings.NewEntry found) put answer = entry_reply s found (first answer.given)
-reply_to s node (findings.NewFile found) put answer = created_reply s found (first answer.given) answer.opened
-reply_to s node (findings.Attributes found) put answer = body.Attributes node (attributes_of s found)
-reply_to s node findings.Opening put answer = handle_reply EIO answer.opened
-reply_to s node (findings.Bytes bytes) put answer = body.Data bytes
-reply_to s node (findings.Written size) put answer = body.Wrote size
-reply_to s node (findings.Listed children) put answer = opened_reply put
+-- an entry where something was found and given, else one of zeros, with the listing's kind
+abbrev pub plus_entry : Settings → (next : ℕ) → Child → Option Found → Option Given → PlusDirent
+plus_entry s next child (Some found) (Some given) = record { entry = Some (entry_of s found given); next = next; kind = kind_of found.kind; name = child.name }
+plus_entry s next child found given = record { entry = None; next = next; kind = kind_of child.kind; name = child.name }
+
+-- `.` and `..` have entries of zeros, and nothing was looked up or given for them
+abbrev pub plus_from : Settings → ℕ → List Child → List (Option Found) → List (Option Given) → List PlusDirent
+plus_from s at [] founds givens = []
+plus_from s at (child ∷ children) founds givens =
+    if is_dot child.name then plus_entry s (at + 1) child None None ∷ plus_from s (at + 1) children founds givens
+    else plus_entry s (at + 1) child (first founds) (first givens) ∷ plus_from s (at + 1) children (drop 1 founds) (drop 1 givens)
+
+abbrev pub entries_bytes : Settings → ℕ → List Child → List (Option Found) → List (Option Given) → List ℕ
+entries_bytes s at children founds givens = flat_map plus_bytes (plus_from s at children founds givens)
+
+-- ---- replies to a request about that node, which may tell a page; a listing was put under a handle, or not
+
+abbrev pub reply_to : Settings → ℕ → Paged → Finding → (put : Option ℕ) → Answer → ReplyBody
+reply_to s node page (findings.Error errno) put answer = body.Failed errno
+reply_to s node page findings.Nothing put answer = body.Done
+reply_to s node page (findings.NewEntry found) put answer = entry_reply s found (first answer.given)
+reply_to s node page (findings.NewFile found) put answer = created_reply s found (first answer.given) answer.opened
+reply_to s node page (findings.Attributes found) put answer = body.Attributes node (attributes_of s found)
+reply_to s node page findings.Opening put answer = handle_reply EIO answer.opened
+reply_to s node page (findings.Bytes bytes) put answer = body.Data bytes
+reply_to s node page (findings.Written size) put answer = body.Wrote size
+reply_to s node page (findings.Listed children) put answer = opened_reply put
+reply_to s node page (findings.Looked founds) put answer = body.Data (entries_bytes s page.from page.entries founds answer.given)

@@ -1,5 +1,5 @@
 -- What each request asks of the directory, and what it comes to.
-use Rattle.std.specs.Prelude.{ℕ, ℤ, ◌≡◌, Bool, true, false, if◌then◌else◌, List, [], ◌∷◌, Option, Some, None}
+use Rattle.std.specs.Prelude.{ℕ, ℤ, ◌≡◌, Bool, true, false, if◌then◌else◌, is_some, List, [], ◌∷◌, map, Option, Some, None}
 use Rattle.errno.specs.declared.TheConstants.{EIO, EISDIR}
 use Rattle.paths.specs.Prefixes.{Names}
 use Rattle.backing.specs.declared.call.Kind.{Kind}
@@ -12,12 +12,12 @@ use Rattle.handles.specs.Listings.{are_lawful}
 use Rattle.backing.specs.Calls.{Asked, asked, AskStat, AskList, AskMake, AskMakeDir, AskRemove, AskRemoveDir, AskRename, AskRead, AskWrite, AskSetLen, AskSync}
 use Rattle.steps.specs.Answers.{Claim}
 use Rattle.steps.specs.declared.data.Outcome.{Outcome}
-use Rattle.steps.specs.declared.data.Outcome.TheVariants.{Failed, Done, Entry}
+use Rattle.steps.specs.declared.data.Outcome.TheVariants.{Failed, Done, Entry, Entries}
 use Rattle.wire.specs.declared.request.Operation.{Operation}
 use Rattle.wire.specs.declared.request.Operation.TheVariants as ops
 use Rattle.ops.specs.declared.findings.Found.{Found}
 use Rattle.ops.specs.declared.findings.Finding.{Finding}
-use Rattle.ops.specs.declared.findings.Finding.TheVariants.{Error, Nothing, NewEntry, NewFile, Attributes, Opening, Bytes, Written, Listed}
+use Rattle.ops.specs.declared.findings.Finding.TheVariants.{Error, Nothing, NewEntry, NewFile, Attributes, Opening, Bytes, Written, Listed, Looked}
 use Rattle.ops.specs.Intents.{sets_size}
 use Rattle.ops.specs.Judged.{errno_in, judged}
 
@@ -125,6 +125,25 @@ abbrev pub rename : (same : Bool) → Names → Names → Plan
 rename true s t = look s (λ found. done)
 rename false s t = make (AskRename s t) done
 
+-- ---- what stands at each of some paths: a fault is nothing, and does not end the script
+
+abbrev pub found_in : Answer → Option Found
+found_in (told.Stat kind size) = Some (record { kind = kind; size = size })
+found_in answer = None
+
+abbrev pub look_at_each : List Names → (List (Option Found) → Plan) → Plan
+look_at_each [] rest = rest []
+look_at_each (p ∷ ps) rest = Ask (AskStat p) (λ answer. look_at_each ps (λ founds. rest (found_in answer ∷ founds)))
+
+-- an entry is given where something stands
+abbrev pub give_found : List (Option Found) → Plan
+give_found founds = over (Entries (map (λ found. is_some found) founds)) (Looked founds)
+
+-- the path of the folder stands before those of its names
+abbrev pub at_names : List Names → Plan
+at_names [] = failed EIO
+at_names (folder ∷ ps) = look_at_each ps give_found
+
 -- ---- the table of scripts
 
 abbrev pub plan_of : Operation → Claim → Plan
@@ -141,6 +160,7 @@ plan_of (ops.Write fh offset piece) ticket = at_path ticket.paths (λ p. write p
 plan_of (ops.Sync fh) ticket = at_path ticket.paths (λ p. make (AskSync p) done)
 plan_of (ops.Create name flags) ticket = at_path ticket.paths (λ p. make (AskMake p) (give_file p))
 plan_of ops.OpenDir ticket = at_path ticket.paths (λ p. list p)
+plan_of (ops.ReadDirPlus fh offset size) ticket = at_names ticket.paths
 -- The others make no call.
 plan_of (ops.Forget n) ticket = failed EIO
 plan_of ops.StatFs ticket = failed EIO
@@ -153,7 +173,6 @@ plan_of (ops.SyncDir fh) ticket = failed EIO
 plan_of ops.Interrupt ticket = failed EIO
 plan_of ops.Destroy ticket = failed EIO
 plan_of (ops.BatchForget pairs) ticket = failed EIO
-plan_of (ops.ReadDirPlus fh offset size) ticket = failed EIO
 
 -- ---- what is made of a plan
 

@@ -1,8 +1,9 @@
 //! What scripts come to.
 
 ghost use Rattle.std.specs.Prelude.{◌≡◌};
-ghost use Rattle.ops.specs.Ahead.{outcome_of};
+ghost use Rattle.ops.specs.Ahead.{outcome_of, IsOfNoPage};
 
+use crate::looks::Looked;
 use backing::{Bytes, Children, Kind};
 use table::Outcome;
 
@@ -35,11 +36,14 @@ pub enum Finding {
     Written { size: u32 },
     /// A folder has these names. A listing is made of them yet; where they are lawless, that is an error, EIO (own).
     Listed(Children),
+    /// What stands at each name of a page. Entries of those that stand there are to be given.
+    Looked(Looked),
 }
 
 impl Finding {
-    /// The outcome that the table is told, where a listing is lawful.
+    /// The outcome that the table is told, where a listing is lawful. That of a page is made by `Looked::into_parts`.
     pub fn outcome(&self) -> Outcome
+        requires { IsOfNoPage self.now }
         ensures { result ≡ outcome_of self.now }
     {
         match self {
@@ -51,6 +55,7 @@ impl Finding {
             | Finding::Written { .. }
             | Finding::Listed(_) => Outcome::Done,
             Finding::NewEntry(_) | Finding::NewFile(_) => Outcome::Entry,
+            Finding::Looked(_) => unreachable!(),
         }
     }
 }

@@ -21,7 +21,7 @@ pub enum Intent<'a> {
     Want(Wanted<'a>),
     /// It asks whether a file is open under a handle on its node, and needs no script.
     File { fh: u64 },
-    /// It uses the folder that is open under a handle, and needs no table.
+    /// It uses the folder that is open under a handle.
     Folder { fh: u64, usage: FolderUse },
     /// It gives lookups of a node back, and is not answered.
     Forget(Forgotten),
@@ -36,6 +36,8 @@ pub enum Intent<'a> {
 pub enum FolderUse {
     /// Its names are told, from the entry at `offset` (an index) on, in at most `size` bytes.
     ReadNames { offset: u64, size: u32 },
+    /// The same with the node and the attributes of each name, for which the table and the directory are asked.
+    ReadEntries { offset: u64, size: u32 },
     /// Its handle is given up.
     GiveUp,
     /// It is brought to the disk.
@@ -178,6 +180,10 @@ fn intended<'a>(node: u64, operation: Operation<'a>) -> Intent<'a>
             fh,
             usage: FolderUse::ReadNames { offset, size },
         },
+        Operation::ReadDirPlus { fh, offset, size } => Intent::Folder {
+            fh,
+            usage: FolderUse::ReadEntries { offset, size },
+        },
         Operation::ReleaseDir { fh } => Intent::Folder {
             fh,
             usage: FolderUse::GiveUp,
@@ -186,7 +192,7 @@ fn intended<'a>(node: u64, operation: Operation<'a>) -> Intent<'a>
             fh,
             usage: FolderUse::Sync,
         },
-        Operation::Release { .. } | Operation::ReadDirPlus { .. } => refused(ENOSYS),
+        Operation::Release { .. } => refused(ENOSYS),
         Operation::Init { .. } | Operation::Interrupt | Operation::Destroy => Intent::Nothing,
     }
 }

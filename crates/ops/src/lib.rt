@@ -4,19 +4,23 @@
 //! the calls of the directory in turn, which end with an outcome for the table and with what the reply tells.
 #![tactic(auto)]
 
+mod entries;
 mod findings;
 mod folders;
 mod intents;
 mod judging;
+mod looks;
 mod opening;
 mod replies;
 mod script;
 mod telling;
 mod wanted;
 
+pub use entries::{Paged, entries_reply};
 pub use findings::{Finding, Found};
-pub use folders::{entries_reply, names_reply};
+pub use folders::names_reply;
 pub use intents::{FolderUse, Intent, intent_of};
+pub use looks::{Looked, Looks};
 pub use replies::{Settings, file_reply, opened_reply, reply_to};
 pub use script::Script;
 pub use wanted::Wanted;

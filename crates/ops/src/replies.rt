@@ -1,6 +1,8 @@
 //! Replies to requests.
 
 ghost use Rattle.std.specs.Prelude.{◌≡◌};
+ghost use Rattle.ops.specs.Ahead.{IsOfNoPage};
+ghost use Rattle.ops.specs.Pages.{Paged};
 ghost use Rattle.ops.specs.Replies.{attributes_of, created_reply, entry_of, entry_reply, file_reply, first, handle_reply, kind_of, opened_reply, reply_to};
 
 use crate::findings::{Finding, Found};
@@ -119,7 +121,7 @@ pub fn file_reply(node: u64, file: Option<OpenFile>) -> ReplyBody
 /// what its table gave.
 ///
 /// An error that its script found is told as it is. An entry or a handle that the table did not give is EIO (own), and a listing that
-/// was not stored ENFILE (own). It takes no memory: bytes that were read become the reply.
+/// was not stored ENFILE (own). It takes no memory: bytes that were read become the reply. A page is told by `entries_reply`.
 pub fn reply_to(
     settings: Settings,
     node: u64,
@@ -127,7 +129,8 @@ pub fn reply_to(
     put: Option<u64>,
     answered: &Answered,
 ) -> ReplyBody
-    ensures { result ≡ reply_to settings node finding put answered.now }
+    requires { IsOfNoPage finding }
+    ensures { (page : Paged) → result ≡ reply_to settings node page finding put answered.now }
 {
     match finding {
         Finding::Error { errno } => ReplyBody::Failed { errno },
@@ -144,5 +147,6 @@ pub fn reply_to(
         Finding::Bytes(bytes) => ReplyBody::Data(Data::new(bytes.into_vec())),
         Finding::Written { size } => ReplyBody::Wrote { size },
         Finding::Listed(_) => opened_reply(put),
+        Finding::Looked(_) => unreachable!(),
     }
 }

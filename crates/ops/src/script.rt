@@ -1,17 +1,20 @@
-//! The calls of one request: at most one that changes something, and then at most one whose answer the reply tells.
+//! The calls of one request: at most one that changes something, and then at most one whose answer the reply tells, or one at each name
+//! of a page.
 
-ghost use Rattle.std.specs.Prelude.{◌≡◌, ◌<◌};
-ghost use Rattle.ops.specs.Ahead.{calls_left, end_of, plan_ahead, plan_ending, plan_from, told_of, unless};
+ghost use Rattle.std.specs.Prelude.{◌≡◌, ◌<◌, IfOk, OnErr};
+ghost use Rattle.ops.specs.Ahead.{calls_left, end_of, plan_ahead, plan_ending, plan_from, told_of, unless, LooksAtEach};
 ghost use Rattle.ops.specs.Intents.{sets_size};
-ghost use Rattle.ops.specs.Scripts.{after, at_paths, if_done, look, next_of, plan_of, rename, set_size, AsksNext, End, Over, Plan};
+ghost use Rattle.ops.specs.Scripts.{after, at_names, at_paths, if_done, look, next_of, plan_of, rename, set_size, AsksNext, End, Over, Plan};
 
 use crate::findings::Finding;
 use crate::intents::sets_size;
 use crate::judging::{errno_in, judge};
+use crate::looks::Looks;
 use crate::telling::{Telling, bytes_of, listed, looked, written};
 use backing::{Answer, Call};
 use errno::EIO;
 use paths::Path;
+use std::alloc::{AllocError, Global};
 use table::Ticket;
 use wire::Operation;
 
@@ -39,6 +42,8 @@ pub enum Ending<'a> {
         offset: u64,
         data: &'a [u8],
     },
+    /// It asks what stands at each of some paths, and tells that.
+    Each(Looks<'a>),
     /// It has nothing more to ask.
     Over(Finding),
 }
@@ -103,18 +108,33 @@ fn start_rename(ticket: &Ticket) -> Script<'_>
     Script { change, ending }
 }
 
+/// How the script of a READDIRPLUS ends, whose ticket has the path of its folder and then that of each name.
+fn end_with_looks(alloc: Global, ticket: &Ticket) -> Result<Ending<'_>, AllocError>
+    ensures { IfOk result (λ ending. plan_ending ending ≡ at_names ticket.now.paths) }
+{
+    match ticket.paths() {
+        [_, paths @ ..] => Ok(Ending::Each(Looks::new(alloc, paths)?)),
+        [] => Ok(UNFIT),
+    }
+}
+
 impl<'a> Script<'a> {
-    /// The script of a request that began with this ticket.
+    /// The script of a request that began with this ticket. Only that of a READDIRPLUS takes memory.
     ///
     /// A ticket that has not the paths of its request, and a request that makes no call, has a script that is over with EIO (own).
-    pub fn start(operation: Operation<'a>, ticket: &'a Ticket) -> Script<'a>
-        ensures { plan_ahead result ≡ plan_of operation.entry ticket.now }
+    pub fn start(
+        alloc: Global,
+        operation: Operation<'a>,
+        ticket: &'a Ticket,
+    ) -> Result<Script<'a>, AllocError>
+        ensures ok { IfOk result (λ script. plan_ahead script ≡ plan_of operation.entry ticket.now) }
+        ensures err { OnErr result (LooksAtEach operation.entry) }
     {
         let Some(path) = ticket.paths().first() else {
-            return Script {
+            return Ok(Script {
                 change: None,
                 ending: UNFIT,
-            };
+            });
         };
         let (change, ending) = match operation {
             Operation::Lookup { .. } => (None, look(path, Telling::Entry)),
@@ -132,7 +152,8 @@ impl<'a> Script<'a> {
             Operation::OpenDir => (None, Ending::List { path }),
             Operation::Unlink { .. } => (Some(Call::Remove(path)), DONE),
             Operation::RemoveDir { .. } => (Some(Call::RemoveDir(path)), DONE),
-            Operation::Rename { .. } => return start_rename(ticket),
+            Operation::Rename { .. } => return Ok(start_rename(ticket)),
+            Operation::ReadDirPlus { .. } => (None, end_with_looks(alloc, ticket)?),
             Operation::Forget { .. }
             | Operation::StatFs
             | Operation::Init { .. }
@@ -143,10 +164,9 @@ impl<'a> Script<'a> {
             | Operation::SyncDir { .. }
             | Operation::Interrupt
             | Operation::Destroy
-            | Operation::BatchForget { .. }
-            | Operation::ReadDirPlus { .. } => (None, UNFIT),
+            | Operation::BatchForget { .. } => (None, UNFIT),
         };
-        Script { change, ending }
+        Ok(Script { change, ending })
     }
 
     /// The next call, or none where the script is over.
@@ -167,13 +187,15 @@ impl<'a> Script<'a> {
                 offset: *offset,
                 data,
             }),
+            (None, Ending::Each(looks)) => looks.next(),
             (None, Ending::Over(_)) => None,
         }
     }
 
     /// Takes the answer to the next call.
     ///
-    /// A fault ends the script with its error number, the directory's own; an answer that is not right for its call ends it with EIO (own).
+    /// A fault ends the script with its error number, the directory's own; an answer that is not right for its call ends it with EIO (own). Of a
+    /// page either is a name where nothing stands, and the script goes on.
     pub fn feed(&mut self, answer: Answer)
         ensures plan { plan_ahead self.new ≡ after (plan_ahead self.old) answer }
         ensures fewer { 0 < calls_left self.old → calls_left self.new < calls_left self.old }
@@ -185,13 +207,19 @@ impl<'a> Script<'a> {
             }
             return;
         }
-        let finding = match self.ending {
-            Ending::Look { path, tells } => looked(tells, &judge(Call::Stat(path), answer)),
+        let finding = match &mut self.ending {
+            Ending::Look { path, tells } => looked(*tells, &judge(Call::Stat(path), answer)),
             Ending::List { path } => listed(judge(Call::List(path), answer)),
             Ending::Read { path, offset, size } => {
-                bytes_of(judge(Call::Read { path, offset, size }, answer))
+                let call = Call::Read {
+                    path,
+                    offset: *offset,
+                    size: *size,
+                };
+                bytes_of(judge(call, answer))
             }
-            Ending::Write { path, offset, data } => written(path, offset, data, answer),
+            Ending::Write { path, offset, data } => written(path, *offset, data, answer),
+            Ending::Each(looks) => return looks.feed(answer),
             Ending::Over(_) => return,
         };
         self.ending = Ending::Over(finding);
@@ -204,6 +232,7 @@ impl<'a> Script<'a> {
         let Self { ending, .. } = self;
         match ending {
             Ending::Over(finding) => finding,
+            Ending::Each(looks) => looks.into_finding(),
             Ending::Look { .. }
             | Ending::List { .. }
             | Ending::Read { .. }

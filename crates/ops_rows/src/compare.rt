@@ -3,14 +3,15 @@
 ghost use Rattle.std.specs.Prelude.{◌≡◌};
 
 use crate::slow::{Stands, ask_of, ends_of, stands_after};
-use backing::{Answer, Bytes, Children, Kind};
+use backing::{Answer, Bytes, Child, Children, Kind};
 use files::Access;
-use flights::Want;
+use handles::Page;
 use ledger::{Blanks, Ledgers, Share};
-use ops::{Intent, Script, intent_of};
+use ops::{FolderUse, Intent, Paged, Script, intent_of};
+use paths::Name;
 use std::alloc::{AllocError, Global};
 use std::test::Fail;
-use table::{Begin, Limits, Outcome, Table, Ticket};
+use table::{Begin, Limits, Outcome, Table, Ticket, Want};
 use wire::{Operation, Request};
 
 /// How many answers are tried for each call.
@@ -63,16 +64,21 @@ fn answers_of(alloc: Global, number: u32) -> Result<Vec<Answer>, AllocError> {
 }
 
 /// Where the script stands after these answers.
-fn script_after(operation: Operation<'_>, ticket: &Ticket, answers: Vec<Answer>) -> Stands {
-    let mut script = Script::start(operation, ticket);
+fn script_after(
+    alloc: Global,
+    operation: Operation<'_>,
+    ticket: &Ticket,
+    answers: Vec<Answer>,
+) -> Result<Stands, AllocError> {
+    let mut script = Script::start(alloc, operation, ticket)?;
     for answer in answers {
         script.feed(answer);
     }
     let next = script.next().map(|call| ask_of(call, ticket.paths()));
-    match next {
+    Ok(match next {
         Some(ask) => Stands::Asks(ask),
-        None => Stands::Over(ends_of(&script.into_finding())),
-    }
+        None => Stands::Over(ends_of(script.into_finding())),
+    })
 }
 
 /// The first list of answers after which the script stands elsewhere than the slow program.
@@ -83,7 +89,7 @@ fn first_other(
 ) -> Result<Option<u32>, AllocError> {
     for number in 0..LISTS {
         let slow = stands_after(operation, ticket.same(), &answers_of(alloc, number)?);
-        if script_after(operation, ticket, answers_of(alloc, number)?) != slow {
+        if script_after(alloc, operation, ticket, answers_of(alloc, number)?)? != slow {
             return Ok(Some(number));
         }
     }
@@ -107,6 +113,35 @@ fn open_root<L: Ledgers>(table: &mut Table<L>, share: &mut Share<L>) -> bool {
     }
 }
 
+/// A page of the root, with `.` and two names.
+fn page_of(alloc: Global) -> Result<Paged, AllocError> {
+    let mut entries = Vec::new(alloc);
+    for name in [".", "a", "b"] {
+        let name = Name::copy_of(alloc, name)?;
+        entries.push(Child {
+            name,
+            kind: Kind::File,
+        })?;
+    }
+    let page = Page {
+        from: 0,
+        entries: &entries,
+    };
+    Paged::copy_of(alloc, page)
+}
+
+/// What the request is begun with, if it is begun. Of an open folder that page is told.
+fn want_of(alloc: Global, request: &Request<'_>) -> Result<Option<Want>, AllocError> {
+    match intent_of(request) {
+        Intent::Want(wanted) => Ok(Some(wanted.own(alloc)?)),
+        Intent::Folder {
+            usage: FolderUse::ReadEntries { .. },
+            ..
+        } => Ok(Some(page_of(alloc)?.want(alloc, request.node)?)),
+        _ => Ok(None),
+    }
+}
+
 /// Compares the script of a request with the slow program's, on a table of its own. Fails with the number of the first list of answers after
 /// which they differ.
 pub fn compare<L: Ledgers>(
@@ -122,10 +157,9 @@ pub fn compare<L: Ledgers>(
         node: 1,
         operation,
     };
-    let Intent::Want(wanted) = intent_of(&request) else {
+    let Some(want) = want_of(alloc, &request)? else {
         return Err(Fail::from(("no want", request.unique)));
     };
-    let want = wanted.own(alloc)?;
     let (mut table, mut shares) = Table::<L>::open(alloc, Limits::default(), blanks, 1)?;
     let mut share = shares.pop().unwrap();
     shares.destroy_empty();

@@ -5,8 +5,8 @@ use ledger::Blanks;
 use std::marker::Brand;
 use std::test::Fail;
 use wire::Operation::{
-    self, Create, GetAttr, Lookup, MakeDir, Open, OpenDir, Read, RemoveDir, Rename, SetAttr, Sync,
-    Unlink, Write,
+    self, Create, GetAttr, Lookup, MakeDir, Open, OpenDir, Read, ReadDirPlus, RemoveDir, Rename,
+    SetAttr, Sync, Unlink, Write,
 };
 
 /// About the root, which is open as file 1, or a name in it. Some have several scripts.
@@ -57,6 +57,11 @@ const OPERATIONS: &[Operation] = &[
     },
     Sync { fh: 1 },
     OpenDir,
+    ReadDirPlus {
+        fh: 1,
+        offset: 0,
+        size: 4096,
+    },
     MakeDir { name: "a" },
     Unlink { name: "a" },
     RemoveDir { name: "a" },

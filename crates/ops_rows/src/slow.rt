@@ -10,6 +10,8 @@ use wire::Operation;
 #[derive(Clone, Copy, Debug, PartialEq, Eq)]
 pub enum Ask {
     Stat,
+    /// Of the path of a page's name, counted from 1.
+    StatOf(usize),
     List,
     Make,
     MakeDir,
@@ -49,6 +51,8 @@ pub enum Ends {
     Written(u32),
     /// So many names are listed.
     Listed(usize),
+    /// What stands at the two names of a page, and whether something does.
+    Looked([Option<Found>; 2], [bool; 2]),
 }
 
 /// What an answer counts as. Of names and bytes it says how many.
@@ -63,17 +67,24 @@ enum Counts {
 }
 
 /// What a finding is.
-pub fn ends_of(finding: &Finding) -> Ends {
+pub fn ends_of(finding: Finding) -> Ends {
     match finding {
-        Finding::Error { errno } => Ends::Error(*errno),
+        Finding::Error { errno } => Ends::Error(errno),
         Finding::Nothing => Ends::Nothing,
-        Finding::NewEntry(found) => Ends::NewEntry(*found),
-        Finding::NewFile(found) => Ends::NewFile(*found),
-        Finding::Attributes(found) => Ends::Attributes(*found),
+        Finding::NewEntry(found) => Ends::NewEntry(found),
+        Finding::NewFile(found) => Ends::NewFile(found),
+        Finding::Attributes(found) => Ends::Attributes(found),
         Finding::Opening => Ends::Opening,
         Finding::Bytes(bytes) => Ends::Bytes(bytes.len()),
-        Finding::Written { size } => Ends::Written(*size),
+        Finding::Written { size } => Ends::Written(size),
         Finding::Listed(names) => Ends::Listed(names.as_slice().len()),
+        Finding::Looked(looked) => {
+            let (there, founds) = looked.into_parts();
+            match (founds.as_slice(), there.as_slice()) {
+                ([a, b], [at_a, at_b]) => Ends::Looked([*a, *b], [*at_a, *at_b]),
+                _ => Ends::Nothing,
+            }
+        }
     }
 }
 
@@ -84,6 +95,8 @@ pub fn ask_of(call: Call<'_>, paths: &[Path]) -> Ask {
     };
     match call {
         Call::Stat(path) if path.is(first) => Ask::Stat,
+        Call::Stat(path) if paths.get(1).is_some_and(|p| p.is(path)) => Ask::StatOf(1),
+        Call::Stat(path) if paths.get(2).is_some_and(|p| p.is(path)) => Ask::StatOf(2),
         Call::List(path) if path.is(first) => Ask::List,
         Call::Make(path) if path.is(first) => Ask::Make,
         Call::MakeDir(path) if path.is(first) => Ask::MakeDir,
@@ -188,8 +201,26 @@ fn ends_with(operation: Operation<'_>, last: Counts) -> Ends {
     }
 }
 
+/// Where that of a page with two names stands: what is not found is nothing, and does not end it.
+fn page_after(answers: &[Answer]) -> Stands {
+    let mut founds = [None, None];
+    for name in 0..2usize {
+        let Some(answer) = answers.get(name) else {
+            return Stands::Asks(Ask::StatOf(name + 1));
+        };
+        if let Counts::Found(found) = counts_as(Ask::Stat, answer) {
+            founds[name] = Some(found);
+        }
+    }
+    let there = [founds[0].is_some(), founds[1].is_some()];
+    Stands::Over(Ends::Looked(founds, there))
+}
+
 /// Where the script of a request stands after these answers. Answers after its end are not looked at.
 pub fn stands_after(operation: Operation<'_>, same: bool, answers: &[Answer]) -> Stands {
+    if let Operation::ReadDirPlus { .. } = operation {
+        return page_after(answers);
+    }
     let mut last = Counts::Done;
     let (first, second) = asks_of(operation, same);
     let mut answers = answers.iter();

@@ -6,6 +6,12 @@ mod attributes;
 #[cfg(test)]
 mod client;
 #[cfg(test)]
+mod entries;
+#[cfg(test)]
+mod entry_counts;
+#[cfg(test)]
+mod entry_lines;
+#[cfg(test)]
 mod file_frames;
 #[cfg(test)]
 mod folders;

@@ -13,7 +13,7 @@ use std::test::Fail;
 use table::Limits;
 use wire::{
     Attributes, Data, Entry, InitOut, NO_INO, Operation, Reply, ReplyBody, Request, encode_dirent,
-    encode_reply, encode_request,
+    encode_plus_dirent, encode_reply, encode_request,
 };
 
 /// A session over the sample names.
@@ -86,6 +86,8 @@ pub enum Says<'a> {
     Wrote(u32),
     /// Names of a folder from that index on, and what they are.
     Names(u64, &'a [(&'a str, Stands)]),
+    /// The same, each with the node that was given for it, which was born once, or 0.
+    Entries(u64, &'a [(&'a str, Stands, u64)]),
     /// It gets no reply.
     NoReply,
 }
@@ -128,6 +130,33 @@ fn names_of(alloc: Global, from: u64, names: &[(&str, Stands)]) -> Result<ReplyB
     Ok(ReplyBody::Data(Data::new(bytes)))
 }
 
+fn entry_of(node: u64, stands: Stands) -> Entry {
+    Entry {
+        node,
+        generation: 0,
+        attributes: attributes_of(stands),
+    }
+}
+
+fn entries_of(
+    alloc: Global,
+    from: u64,
+    entries: &[(&str, Stands, u64)],
+) -> Result<ReplyBody, AllocError> {
+    let mut bytes = Vec::new(alloc);
+    let mut next = from;
+    for (name, stands, node) in entries {
+        next = next.saturating_add(1);
+        let entry = if *node == 0 {
+            None
+        } else {
+            Some(entry_of(*node, *stands))
+        };
+        encode_plus_dirent(&mut bytes, entry, next, kind_of(*stands), name)?;
+    }
+    Ok(ReplyBody::Data(Data::new(bytes)))
+}
+
 /// Nothing, where it gets no reply.
 fn body_of(alloc: Global, says: Says) -> Result<Option<ReplyBody>, AllocError> {
     Ok(Some(match says {
@@ -147,6 +176,7 @@ fn body_of(alloc: Global, says: Says) -> Result<Option<ReplyBody>, AllocError> {
         Says::Bytes(bytes) => ReplyBody::Data(Data::new(Vec::from_slice(alloc, bytes)?)),
         Says::Wrote(size) => ReplyBody::Wrote { size },
         Says::Names(from, names) => names_of(alloc, from, names)?,
+        Says::Entries(from, entries) => entries_of(alloc, from, entries)?,
         Says::NoReply => return Ok(None),
     }))
 }

@@ -132,6 +132,30 @@ fn untaken_open(rt: HostRuntime) -> Result<(), Fail> {
     Ok(())
 }
 
+// The entries of a READDIRPLUS whose reply is not taken come back, each once, and their nodes are gone.
+#[test]
+fn untaken_entries(rt: HostRuntime) -> Result<(), Fail> {
+    let alloc = rt.alloc();
+    let open =
+        "30000000 1b000000 0300000000000000 0100000000000000 00000000 00000000 00000000 00000000 00000000 00000000";
+    let opened = "20000000 00000000 0300000000000000 0100000000000000 00000000 00000000";
+    let entries =
+        "50000000 2c000000 0400000000000000 0100000000000000 00000000 00000000 00000000 00000000 \
+        0100000000000000 0000000000000000 00100000 00000000 0000000000000000 00000000 00000000";
+    let mut client = client_of(alloc, &[open, entries, LOOKUP_E], 3)?;
+    let over = serve_samples::<HostRuntime, Brand>(&rt, alloc, Blanks::new(1), None, &mut client)?;
+    let totals = Totals {
+        born: 4,
+        entries: 4,
+        backs: 3,
+        forgotten: 0,
+    };
+    assert_eq!(rt; over.end, SessionEnd::Closed { rest: 0 });
+    assert!(rt; are_taken(alloc, &client.taken, &[opened, ENTRY_E_REBORN])?);
+    assert_eq!(rt; over.totals, totals);
+    Ok(())
+}
+
 // The directory names no error number, so the reply is EIO.
 #[test]
 fn strange_errors(rt: HostRuntime) -> Result<(), Fail> {

@@ -156,12 +156,14 @@ current_begin old hand unique want new hand' was is puts current =
     ap (λ (w : World). w.flights k) goes.new_is ∙ (entry_other old.flights id _ k ne ∙ it.here) in
     let work : Work = record { want = want; row = puts.begins.demand; held = goes.held } in
     let flight : Flight = record { unique = unique; stage = Working work; pins = goes.pins } in
+    let here : IsAtWork new.flights id flight work = record { here = ap (λ (w : World). w.flights id) goes.new_is ∙ entry_same old.flights id (Some flight); working = refl } in
+    let row : IsRow work.row = subst (λ (d : Demand). IsRow d) (sym puts.begins.demanded.row) (are_rows want puts.begins.demanded.case) in
     let one : IsCurrent new s = record {
       flight = flight;
       work = work;
-      here = record { here = ap (λ (w : World). w.flights id) goes.new_is ∙ entry_same old.flights id (Some flight); working = refl };
+      here = here;
       want_is = refl;
-      paths = subst (λ at. ArePaths at puts.begins.demand.paths puts.ticket.paths) (sym (ap (λ (w : World). w.at) goes.new_is)) goes.ticket_is.paths;
+      paths = paths_kept old.at new.at was.law.tree work.row goes.held goes.holds (is.ready id flight work here).holds work.row.paths row.paths puts.ticket.paths goes.ticket_is.paths;
     } in
     let apart : (k : ℕ) (d : Started) → k < length hand.tickets → (get_or hand.tickets k d).ticket.id ≢ id = λ k d within same.
     let c = All-get_or (IsCurrent old) hand.tickets k d within current.current in

@@ -120,5 +120,9 @@ pub(crate) fn copy_of(want: &Want) -> Result<Want, AllocError>
             name: name.copy()?,
             access: *access,
         }),
+        Want::Release { number, fh } => Ok(Want::Release {
+            number: *number,
+            fh: *fh,
+        }),
     }
 }

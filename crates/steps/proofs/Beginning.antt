@@ -1,5 +1,5 @@
 -- A request that goes on has what it will rely on, whatever its want.
-use Rattle.std.proofs.Common.{ℕ, ◌≡◌, ◌⊎◌, [], All, Contains, length, refl, sym, subst, inl, inr, arith}
+use Rattle.std.proofs.Common.{ℕ, ◌≡◌, ◌⊎◌, ◌↔◌, List, [], All, Contains, length, refl, sym, subst, inl, inr, arith}
 use Rattle.std.proofs.lemmas.List.{length-map}
 use Rattle.std.proofs.lemmas.List.Elements.{All-cons}
 use Rattle.paths.specs.Prefixes.{Name}
@@ -8,9 +8,10 @@ use Rattle.tree.specs.Places.{Lookup}
 use Rattle.flights.specs.declared.data.Case.{Case}
 use Rattle.flights.specs.declared.data.Case.TheVariants as cases
 use Rattle.flights.specs.declared.data.Want.{Want}
-use Rattle.flights.specs.declared.data.Want.TheVariants.{Node, Name as AName, Remove, Move, Page, Open, Create}
+use Rattle.flights.specs.declared.data.Want.TheVariants.{Node, Name as AName, Remove, Move, Page, Open, Create, Release}
 use Rattle.steps.specs.Answers.{Claim}
-use Rattle.wants.specs.Asked.{IsPin, IsThere}
+use Rattle.holds.specs.declared.held.Held.{Held}
+use Rattle.wants.specs.Asked.{Holds, IsPin, IsThere}
 use Rattle.wants.specs.Cases.{IsCase, IsDemand, IsEntryCase, Seen}
 use Rattle.wants.specs.Rows.{AtName, Demand, name_row, row_of}
 use Rattle.steps.specs.Steps.{GoesOn, MayBegin}
@@ -25,6 +26,7 @@ module _ (at : Lookup) (f : Flight) where
       let stands : IsStanding at f key = record { number = fits.0; named = fits.1; pin = pins fits.0 (inr (any_first (λ l. IsThere at l fits.0) (AtName parent name) [] fits.1)) } in
       inr (All-cons (IsStanding at f) key [] stands (λ k d within. absurd (omega (arith, within))))
   entry_known parent name cases.Absent fits pins = inl refl
+  entry_known parent name cases.Pathless fits pins = absurd fits
 
 names_known : (seen : Seen) (f : Flight) (want : Want) (c : Case) → IsCase seen want c → ((n : ℕ) → IsPin seen.at (row_of want c) n → Contains f.pins n)
     → ((row_of want c).births ≡ length (row_of want c).entries) ⊎ All (IsStanding seen.at f) (row_of want c).entries
@@ -35,18 +37,23 @@ names_known seen f (Move parent name new_parent new_name) c fits pins = inl refl
 names_known seen f (Page folder names) c fits pins = inl (sym (length-map names (λ (name : Name). let key : Key = record { parent = folder; name = name } in key)))
 names_known seen f (Open number access) c fits pins = inl refl
 names_known seen f (Create parent name access) c fits pins = entry_known seen.at f parent name c fits pins
+names_known seen f (Release number fh) c fits pins = inl refl
 
-pub begun_ready : (old new : World) (unique : ℕ) (want : Want) (d : Demand) (ticket : Claim) → IsDemand (seen_in old) want d → MayBegin old d → (goes : GoesOn old unique want d ticket new)
-    → IsReady old.at (record { unique = unique; stage = Working (record { want = want; row = d; held = goes.held }); pins = goes.pins }) (record { want = want; row = d; held = goes.held })
-begun_ready old new unique want d ticket asked may goes =
-    let f : Flight = record { unique = unique; stage = Working (record { want = want; row = d; held = goes.held }); pins = goes.pins } in
-    let P : Demand → Type 0 = λ e. ((n : ℕ) → IsPin old.at e n → Contains goes.pins n) → (e.births ≡ length e.entries) ⊎ All (IsStanding old.at f) e.entries in
+pub ready_begun : (old : World) (unique : ℕ) (want : Want) (d : Demand) → IsDemand (seen_in old) want d → MayBegin old d → (held : Held) → Holds old.at d held → (pins : List ℕ) → ((n : ℕ) → Contains pins n ↔ IsPin old.at d n)
+    → IsReady old.at (record { unique = unique; stage = Working (record { want = want; row = d; held = held }); pins = pins }) (record { want = want; row = d; held = held })
+ready_begun old unique want d asked may held holds pins pinned =
+    let f : Flight = record { unique = unique; stage = Working (record { want = want; row = d; held = held }); pins = pins } in
+    let P : Demand → Type 0 = λ e. ((n : ℕ) → IsPin old.at e n → Contains pins n) → (e.births ≡ length e.entries) ⊎ All (IsStanding old.at f) e.entries in
     let known : P d = subst P (sym asked.row) (names_known (seen_in old) f want asked.case asked.fits) in
     record {
       case = asked.case;
       row = asked.row;
-      holds = goes.holds;
-      pinned = λ n h. (goes.pinned n).1 (inl h);
-      names = known (λ n h. (goes.pinned n).1 h);
+      holds = holds;
+      pinned = λ n h. (pinned n).1 (inl h);
+      names = known (λ n h. (pinned n).1 h);
       placed = may.sound.not_misplaced;
     }
+
+pub begun_ready : (old new : World) (unique : ℕ) (want : Want) (d : Demand) (ticket : Claim) → IsDemand (seen_in old) want d → MayBegin old d → (goes : GoesOn old unique want d ticket new)
+    → IsReady old.at (record { unique = unique; stage = Working (record { want = want; row = d; held = goes.held }); pins = goes.pins }) (record { want = want; row = d; held = goes.held })
+begun_ready old new unique want d ticket asked may goes = ready_begun old unique want d asked may goes.held goes.holds goes.pins goes.pinned

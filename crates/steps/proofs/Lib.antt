@@ -21,6 +21,7 @@ pub mod Testing
 pub mod Starting
 pub mod Refusing
 mod Using
+mod OneClosed
 mod OneFile
 mod Offering
 pub mod Reserving

@@ -47,6 +47,7 @@ entries_under (wants.Page folder names) c key h =
     subst (λ (k : Key). Contains (folder ∷ []) k.parent) it.2 (first_in folder [])
 entries_under (wants.Open number access) c key h = absurd (none_in key h)
 entries_under (wants.Create parent name access) c key h = subst (λ (k : Key). Contains (parent ∷ []) k.parent) (only_in (record { parent = parent; name = name }) key h) (first_in parent [])
+entries_under (wants.Release number fh) c key h = absurd (none_in key h)
 
 -- and is shared, but for those of a page
 entries_shared : (want : Want) (c : Case) → (row_of want c).page ≡ false → (key : Key) → Contains (row_of want c).entries key → Contains (row_of want c).shared (name_at key)
@@ -57,6 +58,7 @@ entries_shared (wants.Move parent name new_parent new_name) c one key h = absurd
 entries_shared (wants.Page folder names) c one key h = absurd (true≢false one)
 entries_shared (wants.Open number access) c one key h = absurd (none_in key h)
 entries_shared (wants.Create parent name access) c one key h = subst (λ (k : Key). Contains (AtName parent name ∷ []) (name_at k)) (only_in (record { parent = parent; name = name }) key h) (first_in (AtName parent name) [])
+entries_shared (wants.Release number fh) c one key h = absurd (none_in key h)
 
 -- a node is promised for each name of a page
 page_births : (want : Want) (c : Case) → (row_of want c).page ≡ true → (row_of want c).births ≡ length (row_of want c).entries
@@ -67,6 +69,7 @@ page_births (wants.Move parent name new_parent new_name) c page = refl
 page_births (wants.Page folder names) c page = sym (length-map names (λ (name : Name). let k : Key = record { parent = folder; name = name } in k))
 page_births (wants.Open number access) c page = refl
 page_births (wants.Create parent name access) c page = absurd (false≢true page)
+page_births (wants.Release number fh) c page = refl
 
 name_else : (parent : ℕ) (name : Name) → AtName parent name ≡ AtNode 1 → ⊥
 name_else parent name e = cc
@@ -83,6 +86,7 @@ rows_placed (wants.Move parent name new_parent new_name) c h = elim (cases_in (A
 ]
 rows_placed (wants.Open number access) c h = none_in (AtNode 1) h
 rows_placed (wants.Create parent name access) c h = none_in (AtNode 1) h
+rows_placed (wants.Release number fh) c h = none_in (AtNode 1) h
 
 -- where no file is opened, none is opened without an entry
 pub none_alone : (b : Bool) (o : Option Opening) → o ≡ None → (if b then o else None) ≡ None
@@ -102,6 +106,7 @@ node_given (wants.Open n a) c number access e =
     let same : number ≡ n = ap base_of (ap (λ (o : Opening). o.target) (same_Some one two e)) in
     subst (λ k. Contains (n ∷ []) k) (sym same) (first_in n [])
 node_given (wants.Create parent name a) c number access e = absurd (none-some _ (sym e))
+node_given (wants.Release n fh) c number access e = absurd (none-some _ (sym e))
 
 -- ---- paths
 
@@ -148,6 +153,7 @@ lead_of at (wants.Move parent name new_parent new_name) c held holds n h = absur
 lead_of at (wants.Page folder names) c held holds n h = subst (λ k. LeadsTo at held.given k) (only_in folder n h) (lead_only at held.given folder holds.numbers holds.leads)
 lead_of at (wants.Open number access) c held holds n h = absurd (none_in n h)
 lead_of at (wants.Create parent name access) c held holds n h = absurd (none_in n h)
+lead_of at (wants.Release number fh) c held holds n h = absurd (none_in n h)
 
 -- ---- what a request that ends may do
 

@@ -29,13 +29,13 @@ use Rattle.wants.proofs.Members.{in_any}
 use Rattle.wants.proofs.RowLemmas.{are_rows}
 use Rattle.steps.specs.declared.data.Limits.{Limits}
 use Rattle.steps.specs.declared.state.State.{State}
-use Rattle.steps.specs.Beginning.{Allows, IsRoomForOne, IsSameButRoom}
+use Rattle.steps.specs.Beginning.{Allows, ClosesFile, IsRoomForOne, IsSameButRoom}
 use Rattle.steps.specs.Keeping.{kept_by}
 use Rattle.steps.specs.Kept.{AreProvided, IsKept, IsLimited, flight_of, flights_in, work_of, world_of}
-use Rattle.steps.specs.Steps.{GoesOn, HoldsUp, MayBegin}
+use Rattle.steps.specs.Steps.{GoesOn, HoldsUp, Leaves, MayBegin, files_without}
 use Rattle.steps.specs.World.{AreHeld, AreReady, Flight, Flights, IsAtWork, IsReady, Work, World, seen_in, with_entry}
 use Rattle.steps.proofs.Apart.{AreApart, at_work_more, apart_more, held_up_recorded, known_held}
-use Rattle.steps.proofs.Beginning.{begun_ready}
+use Rattle.steps.proofs.Beginning.{ready_begun}
 use Rattle.steps.proofs.Filing.{cases_kept, keeps_open, keeps_pinned, kept_more}
 use Rattle.steps.proofs.Staying.{given_path}
 use Rattle.steps.proofs.Viewed.{flights_with, in_any_of}
@@ -85,6 +85,18 @@ same_case (wants.Move parent name new_parent new_name) c = refl
 same_case (wants.Page folder names) c = refl
 same_case (wants.Open number access) c = refl
 same_case (wants.Create parent name access) c = refl
+same_case (wants.Release number fh) c = refl
+
+-- nor does the handle that is closed
+pub same_closes : (want : Want) (c : Case) → (row_of want cases.Plain).closes ≡ (row_of want c).closes
+same_closes (wants.Node number handle) c = refl
+same_closes (wants.Name parent name) c = refl
+same_closes (wants.Remove parent name) c = refl
+same_closes (wants.Move parent name new_parent new_name) c = refl
+same_closes (wants.Page folder names) c = refl
+same_closes (wants.Open number access) c = refl
+same_closes (wants.Create parent name access) c = refl
+same_closes (wants.Release number fh) c = refl
 
 same_record : (v w : RecordedWork) → recorded.Working v ≡ recorded.Working w → v ≡ w
 same_record v w e = cc
@@ -100,20 +112,28 @@ module _ (s mid : State) (unique id : ℕ) (plan : Plan) (is : IsPlan (seen_in (
   pub flights_new : flights_in (flying_of flights) ≡ with_entry (flights_in (flying_of mid.flights)) id (Some (flight_of begun))
   flights_new = flights_with (flying_of mid.flights) (flying_of flights) id begun adds.at
 
-  abbrev pub goes_on : (same_path : Bool) → (flying_of mid.flights).at id ≡ None → same_path ≡ is_same (row_of plan.work.want cases.Plain).done
-      → GoesOn (world_of s) unique plan.work.want (row_in plan.work) (record { id = id; paths = plan.paths; same = same_path }) (world_of (record mid { flights = flights }))
-  goes_on same_path fresh same_is = record {
-    fresh = ap (λ (fs : Flights). fs id) (sym flights_same) ∙ ap (λ (o : Option Recorded). option_map flight_of o) fresh;
-    ticket_is = record { paths = is.paths; same = same_is ∙ same_case plan.work.want plan.work.case };
-    held = plan.work.held;
-    holds = is.holds;
-    pins = plan.pins.numbers;
-    pinned = is.pins;
-    new_is = ap (λ (w : World). record w { flights = flights_in (flying_of flights) }) same.world
-        ∙ ap (λ (fs : Flights). record (world_of s) { flights = fs }) (flights_new ∙ ap (λ (fs : Flights). with_entry fs id (Some (flight_of begun))) flights_same);
-  }
+  pub mid_is : world_of (record mid { flights = flights }) ≡ record (world_of s) { flights = with_entry (flights_in (flying_of s.flights)) id (Some (flight_of begun)) }
+  mid_is = ap (λ (w : World). record w { flights = flights_in (flying_of flights) }) same.world
+      ∙ ap (λ (fs : Flights). record (world_of s) { flights = fs }) (flights_new ∙ ap (λ (fs : Flights). with_entry fs id (Some (flight_of begun))) flights_same)
 
-  module _ (same_path : Bool) (fresh : (flying_of mid.flights).at id ≡ None) (same_is : same_path ≡ is_same (row_of plan.work.want cases.Plain).done) (kept : IsKept mid) (all_flying : IsFlying (flying_of flights))
+  abbrev pub goes_on : (same_path : Bool) → (flying_of mid.flights).at id ≡ None → same_path ≡ is_same (row_of plan.work.want cases.Plain).done
+      → (closes : Option ℕ) → closes ≡ (row_of plan.work.want cases.Plain).closes → (new : World) → ClosesFile (world_of (record mid { flights = flights })) closes new
+      → GoesOn (world_of s) unique plan.work.want (row_in plan.work) (record { id = id; paths = plan.paths; same = same_path }) new
+  goes_on same_path fresh same_is closes closes_is new closed =
+      let shut : closes ≡ (row_in plan.work).closes = closes_is ∙ same_closes plan.work.want plan.work.case in
+      record {
+        fresh = ap (λ (fs : Flights). fs id) (sym flights_same) ∙ ap (λ (o : Option Recorded). option_map flight_of o) fresh;
+        ticket_is = record { paths = is.paths; same = same_is ∙ same_case plan.work.want plan.work.case };
+        held = plan.work.held;
+        holds = is.holds;
+        pins = plan.pins.numbers;
+        pinned = is.pins;
+        leaves = subst (λ (h : Option ℕ). Leaves (at_in s.tree) h new) shut (subst (λ (at : Lookup). Leaves at closes new) (ap (λ (w : World). w.at) mid_is) closed.leaves);
+        new_is = closed.new_is ∙ (ap (λ (w : World). record w { at = new.at; files = files_without closes w.files }) mid_is
+            ∙ ap (λ (h : Option ℕ). record (world_of s) { at = new.at; flights = with_entry (flights_in (flying_of s.flights)) id (Some (flight_of begun)); files = files_without h (files_of s.files).at }) shut);
+      }
+
+  module _ (fresh : (flying_of mid.flights).at id ≡ None) (kept : IsKept mid) (all_flying : IsFlying (flying_of flights))
       (free : flying.HoldsUp (flying_of s.flights).at plan.work.held → ⊥) (may : MayBegin (world_of s) (row_in plan.work)) (allows : Allows s plan.work.promise) (room : IsRoomForOne mid plan.work.promise) where
     at_same : at_in mid.tree ≡ at_in s.tree
     at_same = ap (λ (w : World). w.at) same.world
@@ -131,8 +151,7 @@ module _ (s mid : State) (unique id : ℕ) (plan : Plan) (is : IsPlan (seen_in (
 
     new_ready : IsReady (at_in mid.tree) (flight_of begun) (work_of plan.work)
     new_ready = subst (λ (at : Lookup). IsReady at (flight_of begun) (work_of plan.work)) (sym at_same)
-        (begun_ready (world_of s) (world_of (record mid { flights = flights })) unique plan.work.want (row_in plan.work) (record { id = id; paths = plan.paths; same = same_path })
-        (record { case = plan.work.case; fits = is.fits; row = refl }) may (goes_on same_path fresh same_is))
+        (ready_begun (world_of s) unique plan.work.want (row_in plan.work) (record { case = plan.work.case; fits = is.fits; row = refl }) may plan.work.held is.holds plan.pins.numbers is.pins)
 
     new_known : All (IsGivenPath (at_in mid.tree) plan.work.held) plan.work.held.given
     new_known = subst (λ (at : Lookup). All (IsGivenPath at plan.work.held) plan.work.held.given) (sym at_same)

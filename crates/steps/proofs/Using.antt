@@ -1,29 +1,42 @@
 -- What the test of a handle decides.
-use Rattle.std.proofs.Common.{ℕ, ◌≡◌, Option, Some, refl, sym, ap, ◌∙◌, subst}
+use Rattle.std.proofs.Common.{ℕ, ◌≡◌, Some, None, refl, sym, ◌∙◌, subst}
+use Rattle.std.proofs.lemmas.Option.{none-some, same_Some}
 use Rattle.errno.specs.declared.TheConstants.{EBADF}
-use Rattle.flights.specs.declared.data.Handle.{Handle}
+use Rattle.flights.specs.declared.data.Case.{Case}
+use Rattle.flights.specs.declared.data.Case.TheVariants as cases
 use Rattle.flights.specs.declared.data.Want.{Want}
 use Rattle.flights.specs.declared.data.Want.TheVariants as wants
 use Rattle.tree.specs.Places.{IsCensus, IsTree}
 use Rattle.wants.specs.Rows.{Used, row_of}
 use Rattle.wants.proofs.Wanting.{case_there}
-use Rattle.steps.specs.Beginning.{IsRefusedHandle}
+use Rattle.steps.specs.Beginning.{IsHandleUsable, IsRefusedHandle}
 use Rattle.steps.specs.Steps.{IsUsable}
 use Rattle.steps.specs.World.{World, seen_in}
 
-module _ (w : World) (want : Want) (number : ℕ) (handle : Option Handle) (h : Handle) (is : want ≡ wants.Node number handle) (some : handle ≡ Some h) where
-  abbrev used : Used
-  used = record { number = number; handle = h }
+-- the handle that is used does not hang on the case
+used_same : (want : Want) (c : Case) → (row_of want cases.Plain).used ≡ (row_of want c).used
+used_same (wants.Node number handle) c = refl
+used_same (wants.Name parent name) c = refl
+used_same (wants.Remove parent name) c = refl
+used_same (wants.Move parent name new_parent new_name) c = refl
+used_same (wants.Page folder names) c = refl
+used_same (wants.Open number access) c = refl
+used_same (wants.Create parent name access) c = refl
+used_same (wants.Release number fh) c = refl
 
-  want_is : want ≡ wants.Node number (Some h)
-  want_is = is ∙ ap (λ (o : Option Handle). wants.Node number o) some
+module _ (w : World) (want : Want) where
+  pub none_used : None ≡ (row_of want cases.Plain).used → IsHandleUsable w want
+  none_used none c bad = none-some bad.used (none ∙ (used_same want c ∙ bad.asked))
 
-  pub used_badly : (living counts : ℕ) → IsTree w.at → IsCensus w.at living counts → (IsUsable w.files used → ⊥) → IsRefusedHandle w want EBADF
-  used_badly living counts tree census unusable = subst (λ (v : Want). IsRefusedHandle w v EBADF) (sym want_is) (
-      let it = case_there (seen_in w) living counts tree census (wants.Node number (Some h)) in
+  pub used_well : (used : Used) → Some used ≡ (row_of want cases.Plain).used → IsUsable w.files used → IsHandleUsable w want
+  used_well used some usable c bad = bad.unusable (subst (λ (u : Used). IsUsable w.files u) (same_Some used bad.used (some ∙ (used_same want c ∙ bad.asked))) usable)
+
+  pub used_badly : (used : Used) → Some used ≡ (row_of want cases.Plain).used → (living counts : ℕ) → IsTree w.at → IsCensus w.at living counts → (IsUsable w.files used → ⊥) → IsRefusedHandle w want EBADF
+  used_badly used some living counts tree census unusable =
+      let it = case_there (seen_in w) living counts tree census want in
       record {
-        demand = row_of (wants.Node number (Some h)) it.0;
+        demand = row_of want it.0;
         demanded = record { case = it.0; fits = it.1; row = refl };
         errno = refl;
-        bad = record { used = used; asked = refl; unusable = unusable };
-      })
+        bad = record { used = used; asked = sym (used_same want it.0) ∙ sym some; unusable = unusable };
+      }

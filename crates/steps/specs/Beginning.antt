@@ -1,16 +1,17 @@
 -- The parts of a beginning, as the running totals judge them.
-use Rattle.std.specs.Prelude.{ℤ, ◌+◌, ◌^◌, ◌<◌, ◌≤◌, ◌≡◌, ◌⊎◌, length}
+use Rattle.std.specs.Prelude.{ℕ, ℤ, Option, Some, None, ◌+◌, ◌^◌, ◌<◌, ◌≤◌, ◌≡◌, ◌⊎◌, length}
 use Rattle.errno.specs.declared.TheConstants.{EAGAIN, EBADF, ENFILE}
 use Rattle.files.specs.Filed.{files_of}
 use Rattle.flights.specs.declared.data.Case.{Case}
+use Rattle.flights.specs.declared.data.Handle.{Handle}
 use Rattle.flights.specs.declared.data.Promise.{Promise}
 use Rattle.flights.specs.Listed.{flying_of}
 use Rattle.steps.specs.declared.state.State.{State}
 use Rattle.flights.specs.declared.data.Want.{Want}
 use Rattle.wants.specs.Cases.{IsDemand}
-use Rattle.wants.specs.Rows.{Demand, row_of}
+use Rattle.wants.specs.Rows.{Demand, Used, row_of}
 use Rattle.steps.specs.Kept.{world_of}
-use Rattle.steps.specs.Steps.{IsBadHandle}
+use Rattle.steps.specs.Steps.{IsBadHandle, Leaves, files_without}
 use Rattle.steps.specs.World.{World, seen_in}
 
 -- the files that may be opened keep within the limit, and handles are left for them
@@ -46,6 +47,16 @@ pub record IsRefusedHandle (w : World) (want : Want) (e : ℤ) : Type 0 where
 -- no case of the want's row has a bad handle
 abbrev pub IsHandleUsable : World → Want → Type 0
 IsHandleUsable w want = (c : Case) → IsBadHandle w (row_of want c) → ⊥
+
+-- the handle that a want uses, with the node that it is to be open on
+abbrev pub used_in : Option (ℕ × Handle) → Option Used
+used_in None = None
+used_in (Some used) = Some (record { number = used.0; handle = used.1 })
+
+-- the file under the handle is closed, if one is named, and what nothing keeps any more goes
+pub record ClosesFile (old : World) (handle : Option ℕ) (new : World) : Type 0 where
+  pub leaves : Leaves old.at handle new
+  pub new_is : new ≡ record old { at = new.at; files = files_without handle old.files }
 
 -- there is room for one request more that is promised so much
 pub record IsRoomForOne (s : State) (promise : Promise) : Type 0 where

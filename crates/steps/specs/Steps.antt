@@ -36,6 +36,11 @@ pub record Sweeps (mid : Lookup) (new : World) : Type 0 where
   pub keeps : AreKept new.flights new.files kept
   pub swept : IsSwept kept mid new.at
 
+-- the same files, but the one that is closed
+abbrev pub files_without : Option ℕ → Files → Files
+files_without None files = files
+files_without (Some handle) files = with_entry files handle None
+
 -- ---- forget
 
 -- so much is taken from the node's count
@@ -117,7 +122,12 @@ pub record IsTicket (at : Lookup) (d : Demand) (ticket : Claim) : Type 0 where
   pub paths : ArePaths at d.paths ticket.paths
   pub same : ticket.same ≡ is_same d.done
 
--- one request more is in flight, under an id that none bore
+-- where a file is closed what nothing keeps any more goes, else all nodes stay
+abbrev pub Leaves : Lookup → Option ℕ → World → Type 0
+Leaves at None new = new.at ≡ at
+Leaves at (Some handle) new = Sweeps at new
+
+-- one request more is in flight, under an id that none bore, and the handle that it closes is closed
 pub record GoesOn (old : World) (unique : ℕ) (want : Want) (d : Demand) (ticket : Claim) (new : World) : Type 0 where
   pub fresh : old.flights ticket.id ≡ None
   pub ticket_is : IsTicket old.at d ticket
@@ -125,8 +135,11 @@ pub record GoesOn (old : World) (unique : ℕ) (want : Want) (d : Demand) (ticke
   pub holds : Holds old.at d held
   pub pins : List ℕ
   pub pinned : (n : ℕ) → Contains pins n ↔ IsPin old.at d n
+  pub leaves : Leaves old.at d.closes new
   pub new_is : new ≡ record old {
+    at = new.at;
     flights = with_entry old.flights ticket.id (Some (record { unique = unique; stage = Working (record { want = want; row = d; held = held }); pins = pins }));
+    files = files_without d.closes old.files;
   }
 
 abbrev pub BeginsAs : World → ℕ → Want → Demand → Begin → World → Type 0
@@ -275,11 +288,6 @@ pub record Finishes (old : World) (id : ℕ) (outcome : Outcome) (answer : Answe
 abbrev pub untaken_file : Bool → Option ℕ → Option ℕ
 untaken_file true opened = None
 untaken_file false opened = opened
-
--- the same files, but the one that is closed
-abbrev pub files_without : Option ℕ → Files → Files
-files_without None files = files
-files_without (Some handle) files = with_entry files handle None
 
 -- the request goes with its pins; what was not taken goes back, entries in order, and the file that it opened is closed, if it still is open
 pub record EndsFor (old : World) (answer : Answer) (taken : Bool) (new : World) : Type 0 where

@@ -108,5 +108,10 @@ pub(crate) fn acts_of(want: Want, _case: Case, copy: Option<Name>, copies: Names
             change: Change::Stays,
             opens: Opens::Entry(access),
         },
+        Want::Release { .. } => Acts {
+            entries: Entries::Nothing,
+            change: Change::Stays,
+            opens: Opens::Nothing,
+        },
     }
 }

@@ -2,7 +2,7 @@
 
 ghost use Rattle.std.specs.Prelude.{◌≡◌, ◌≤◌, ◌<◌, ◌+◌, ◌↔◌, true, IfErr, IsTrue, OnOk};
 ghost use Rattle.files.specs.Filed.{files_of};
-ghost use Rattle.steps.specs.Beginning.{Allows, Forbids, HasHandles, IsHandleUsable, IsRefusedHandle, IsRoomForOne, IsSameButRoom};
+ghost use Rattle.steps.specs.Beginning.{Allows, Forbids, HasHandles, IsHandleUsable, IsRefusedHandle, IsRoomForOne, IsSameButRoom, used_in};
 ghost use Rattle.steps.specs.Kept.{IsKept, tally_of, world_of};
 ghost use Rattle.steps.specs.Steps.{Begins, IsUsable};
 ghost use Rattle.steps.specs.World.{IsTally};
@@ -13,7 +13,7 @@ ghost use Rattle.wants.specs.Rows.{is_same, row_of};
 use crate::data::{Begin, Ticket};
 use crate::state::State;
 use errno::{EAGAIN, EBADF, ENFILE, ENOMEM};
-use files::Files;
+use files::{Files, Need};
 use flights::{Case, Flight, Handle, Promise, Stage, Want};
 use std::alloc::AllocError;
 use wants::{Plan, plan};
@@ -34,7 +34,49 @@ fn is_same(want: &Want) -> bool
         | Want::Remove { .. }
         | Want::Page { .. }
         | Want::Open { .. }
-        | Want::Create { .. } => false,
+        | Want::Create { .. }
+        | Want::Release { .. } => false,
+    }
+}
+
+/// The handle that the want uses, with the node that it is to be open on.
+fn used_by(want: &Want) -> Option<(u64, Handle)>
+    ensures { used_in result ≡ (row_of want.now Case.Plain).used }
+{
+    match want {
+        Want::Node { number, handle } => match handle {
+            Some(handle) => Some((*number, *handle)),
+            None => None,
+        },
+        Want::Release { number, fh } => Some((
+            *number,
+            Handle {
+                fh: *fh,
+                need: Need::Any,
+            },
+        )),
+        Want::Name { .. }
+        | Want::Remove { .. }
+        | Want::Move { .. }
+        | Want::Page { .. }
+        | Want::Open { .. }
+        | Want::Create { .. } => None,
+    }
+}
+
+/// The handle that is closed when a request with that want begins.
+fn closed_by(want: &Want) -> Option<u64>
+    ensures { result ≡ (row_of want.now Case.Plain).closes }
+{
+    match want {
+        Want::Release { number: _, fh } => Some(*fh),
+        Want::Node { .. }
+        | Want::Name { .. }
+        | Want::Remove { .. }
+        | Want::Move { .. }
+        | Want::Page { .. }
+        | Want::Open { .. }
+        | Want::Create { .. } => None,
     }
 }
 
@@ -49,7 +91,8 @@ fn is_usable(files: &Files, number: u64, handle: &Handle) -> bool
 }
 
 impl State {
-    /// Takes up a request, if its tests allow it, and keeps free what its end may need. Busy and a refusal change nothing.
+    /// Takes up a request, if its tests allow it, and keeps free what its end may need. A handle that it closes is closed at once.
+    /// Busy and a refusal change nothing.
     pub fn begin(&mut self, unique: u64, want: Want) -> Begin
         requires { IsKept self.old }
         ensures begins { Begins (world_of self.old) unique want result (world_of self.new) }
@@ -72,18 +115,13 @@ impl State {
         ensures err { IfErr result (IsRefusedHandle (world_of self.now) want.now) }
     {
         let _nodes = self.tree.len();
-        let Want::Node { number, handle } = want else {
+        let Some((number, handle)) = used_by(want) else {
             return Ok(());
         };
-        match handle {
-            Some(handle) => {
-                if is_usable(&self.files, *number, handle) {
-                    Ok(())
-                } else {
-                    Err(EBADF)
-                }
-            }
-            None => Ok(()),
+        if is_usable(&self.files, number, &handle) {
+            Ok(())
+        } else {
+            Err(EBADF)
         }
     }
 
@@ -109,6 +147,7 @@ impl State {
             Err(_) => return Begin::Refused(ENOMEM),
         }
         let same = is_same(&work.want);
+        let closes = closed_by(&work.want);
         let id = self.flights.free_id();
         self.flights.add(Flight {
             id,
@@ -116,6 +155,7 @@ impl State {
             stage: Stage::Working(work),
             pins,
         });
+        self.close_file(closes);
         Begin::Go(Ticket { id, paths, same })
     }
 

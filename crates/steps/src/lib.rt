@@ -5,6 +5,7 @@
 
 mod acts;
 mod begin;
+mod closing;
 mod data;
 mod entries;
 mod finish;

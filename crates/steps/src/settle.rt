@@ -1,18 +1,17 @@
 //! The end of a request whose reply was sent, or was not.
 
 ghost use Rattle.std.specs.Prelude.{◌≡◌, ◌≤◌, ◌+◌, ◌⊎◌, ◌++◌};
-ghost use Rattle.files.specs.Filed.{files_of};
 ghost use Rattle.steps.specs.Entries.{TakesAllBack, TakesBack, TakesNone, untaken_of};
 ghost use Rattle.steps.specs.Keeping.{kept_by};
 ghost use Rattle.steps.specs.Steps.{Settles, numbers_of, untaken_file};
-ghost use Rattle.steps.specs.Sweeping.{IsAmong, IsClosed, IsNearly, IsPruned, IsSameRest, IsTakenBack};
-ghost use Rattle.steps.specs.Swept.{IsSwept};
+ghost use Rattle.steps.specs.Sweeping.{IsAmong, IsNearly, IsTakenBack};
 ghost use Rattle.steps.specs.Kept.{IsKept, world_of};
 ghost use Rattle.tree.specs.Places.{at_in};
 
+use crate::closing::close;
 use crate::data::{Answered, Settled};
 use crate::state::State;
-use crate::sweep::{sweep, sweep_given, sweep_pins};
+use crate::sweep::{sweep_given, sweep_pins};
 use files::Files;
 use flights::{Flights, Given, Givens};
 use ledger::{Ledger, Posting};
@@ -96,31 +95,6 @@ fn untaken_file(opened: Option<u64>, taken: bool) -> Option<u64>
     ensures { result ≡ untaken_file taken opened }
 {
     if taken { None } else { opened }
-}
-
-/// Closes the file, if it still is open, and drops its node if nothing keeps it any more, and then its parent, and so on.
-fn close(
-    tree: &mut Tree,
-    flights: &Flights,
-    files: &mut Files,
-    handle: Option<u64>,
-    given: &[Option<Given>],
-    pins: &[u64],
-)
-    requires { IsPruned (at_in tree.old) (kept_by flights.now files.old) (numbers_of given.now ++ pins.now) }
-    ensures pruned { IsPruned (at_in tree.new) (kept_by flights.now files.new) (numbers_of given.now ++ pins.now) }
-    ensures swept { IsSwept (kept_by flights.now files.new) (at_in tree.old) (at_in tree.new) }
-    ensures rest { IsSameRest tree.old tree.new }
-    ensures closed { IsClosed (files_of files.old) handle (files_of files.new) }
-{
-    let _law = files.len();
-    let Some(handle) = handle else {
-        return;
-    };
-    let Some(file) = files.close(handle) else {
-        return;
-    };
-    sweep(tree, flights, files, file.number, given, pins);
 }
 
 impl State {

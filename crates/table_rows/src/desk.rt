@@ -78,6 +78,7 @@ pub fn want_of(alloc: Global, asks: Asks) -> Result<Want, AllocError> {
             name: Name::copy_of(alloc, name)?,
             access: Access::Writing,
         },
+        Asks::Release(number, fh) => Want::Release { number, fh },
     })
 }
 

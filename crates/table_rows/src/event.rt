@@ -2,7 +2,7 @@
 
 use crate::change::Change;
 use crate::story::{Asks, Outcome, Reply, Told};
-use errno::{EAGAIN, EINVAL, ENFILE, ENOTEMPTY, ESTALE};
+use errno::{EAGAIN, EBADF, EINVAL, ENFILE, ENOTEMPTY, ESTALE};
 
 /// What a call came to.
 #[derive(Clone, Copy, PartialEq, Eq)]
@@ -41,6 +41,20 @@ pub enum Event {
     EmptyPage,
     MisfitPage,
     Node,
+    /// A file is opened.
+    Opened,
+    FailedOpen,
+    /// One file more may not be opened.
+    FullFiles,
+    BusyOpen,
+    /// A handle is closed.
+    Closed,
+    /// The same, and its node goes, which nothing else keeps.
+    ClosedLast,
+    /// The handle is not that of an open file of the node.
+    BadHandle,
+    BusyRelease,
+    Released,
     Cut,
     RemovedNothing,
     FailedRemoval,
@@ -69,8 +83,28 @@ const NONE: Change = Change {
     cut: 0,
 };
 
+/// What the begin of a release came to: no node changes, but those that nothing keeps any more go.
+fn closed(change: Change) -> Option<Event> {
+    match change {
+        NONE => Some(Event::Closed),
+        Change {
+            posted: 0,
+            born: 0,
+            moved: 0,
+            cut: 0,
+            ..
+        } => Some(Event::ClosedLast),
+        _ => None,
+    }
+}
+
 /// What a begin came to, or none where it may not come to that.
 pub fn begun(asks: Asks, told: Told, change: Change) -> Option<Event> {
+    if told == Told::Go {
+        if let Asks::Release(..) = asks {
+            return closed(change);
+        }
+    }
     if change != NONE {
         return None;
     }
@@ -81,6 +115,10 @@ pub fn begun(asks: Asks, told: Told, change: Change) -> Option<Event> {
         (Told::Busy, Asks::Remove(..)) => Some(Event::BusyRemoval),
         (Told::Busy, Asks::Move(..)) => Some(Event::BusyMove),
         (Told::Busy, Asks::Page(..)) => Some(Event::BusyPage),
+        (Told::Busy, Asks::Open(..)) => Some(Event::BusyOpen),
+        (Told::Busy, Asks::Release(..)) => Some(Event::BusyRelease),
+        (Told::Refused(EBADF), Asks::Release(..)) => Some(Event::BadHandle),
+        (Told::Refused(ENFILE), Asks::Open(..)) => Some(Event::FullFiles),
         (Told::Refused(EINVAL), Asks::Move(..)) => Some(Event::Astray),
         (Told::Refused(ENOTEMPTY), Asks::Move(..)) => Some(Event::Astray),
         (Told::Refused(ENFILE), Asks::Name(..)) => Some(Event::Full),
@@ -202,6 +240,9 @@ pub fn finished(asks: Asks, outcome: Outcome, told: Told, change: Change) -> Opt
         }
         (Asks::Page(_, names), _, _) => paged(names.len(), outcome, told, change),
         (Asks::Node(_), _, Told::Ended) if change == NONE => Some(Event::Node),
+        (Asks::Open(_), Outcome::Done, Told::Ended) if change == NONE => Some(Event::Opened),
+        (Asks::Open(_), _, Told::Ended) if change == NONE => Some(Event::FailedOpen),
+        (Asks::Release(..), _, Told::Ended) if change == NONE => Some(Event::Released),
         (Asks::Remove(..), Outcome::Done, Told::Ended) => done(false, change),
         (Asks::Remove(..), _, Told::Ended) if change == NONE => Some(Event::FailedRemoval),
         (Asks::Move(parent, name, new_parent, new_name), _, Told::Ended)

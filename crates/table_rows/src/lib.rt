@@ -16,6 +16,8 @@ mod image_rows;
 #[cfg(test)]
 mod law_rows;
 #[cfg(test)]
+mod least;
+#[cfg(test)]
 mod limit_rows;
 #[cfg(test)]
 mod long_rows;
@@ -31,6 +33,8 @@ mod opening_rows;
 mod order_rows;
 #[cfg(test)]
 mod page_rows;
+#[cfg(test)]
+mod release_rows;
 #[cfg(test)]
 mod removal_rows;
 #[cfg(test)]

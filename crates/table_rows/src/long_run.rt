@@ -5,6 +5,7 @@ use crate::change::{Change, count_of};
 use crate::desk::Desk;
 use crate::draws::Draws;
 use crate::event::{Event, begun, entries_of, finished, forgotten, settled};
+use crate::least::LEAST;
 use crate::story::{Asks, DEFAULT, Outcome, ROOT, Reply, Step, Sum, TOP, Told};
 use crate::teller::{Play, misgathered, mistold, play_new};
 use image::Image;
@@ -19,48 +20,9 @@ const STEPS: usize = 10_000;
 const LIMITS: Limits = Limits {
     nodes: 5,
     flights: 5,
+    files: 2,
     ..DEFAULT
 };
-
-/// How often each must come at least.
-const LEAST: &[(Event, u64)] = &[
-    (Event::Begun, 1_000),
-    (Event::BusyNode, 1),
-    (Event::BusyName, 21),
-    (Event::BusyRemoval, 21),
-    (Event::BusyMove, 21),
-    (Event::BusyPage, 1),
-    (Event::Astray, 21),
-    (Event::Full, 21),
-    (Event::FullPage, 21),
-    (Event::Crowded, 21),
-    (Event::StaleNode, 21),
-    (Event::StaleName, 21),
-    (Event::Entry, 21),
-    (Event::Birth, 1),
-    (Event::Rebirth, 21),
-    (Event::FailedName, 21),
-    (Event::MisfitName, 21),
-    (Event::Page, 21),
-    (Event::PageBirth, 21),
-    (Event::Withheld, 5),
-    (Event::EmptyPage, 21),
-    (Event::MisfitPage, 21),
-    (Event::Node, 21),
-    (Event::Cut, 21),
-    (Event::RemovedNothing, 21),
-    (Event::FailedRemoval, 21),
-    (Event::Moved, 21),
-    (Event::MovedNothing, 21),
-    (Event::MovedToItself, 21),
-    (Event::FailedMove, 21),
-    (Event::Settled, 21),
-    (Event::GivenBack, 21),
-    (Event::ForgottenFirst, 1),
-    (Event::Forgotten, 21),
-    (Event::Partly, 21),
-    (Event::NothingForgotten, 21),
-];
 
 /// What the table shows when all requests have ended and all lookups were given back.
 const NOTHING_LEFT: &[Step] = &[Step::Nodes(&[TOP]), Step::Requests(&[]), Step::Holds(&[])];
@@ -73,12 +35,14 @@ struct Count {
     times: u64,
 }
 
-/// A run, with the requests that are worked on, by what they ask, and those that have ended, by their entries.
+/// A run, with the requests that are worked on, by what they ask, those that have ended, by their entries, and the open files.
 #[derive(Drop)]
 struct LongRun {
     draws: Draws,
     working: Vec<(u64, Asks<'static>)>,
     ended: Vec<(u64, u64)>,
+    /// The open files, each by its node and its handle.
+    files: Vec<(u64, u64)>,
     counts: Vec<Count>,
     sum: Sum,
 }
@@ -118,6 +82,7 @@ impl LongRun {
             draws: Draws { x: seed },
             working: Vec::new(alloc),
             ended: Vec::new(alloc),
+            files: Vec::new(alloc),
             counts,
             sum: Sum::ShareMissing,
         })
@@ -125,7 +90,9 @@ impl LongRun {
 
     fn draw_want(&mut self) -> Asks<'static> {
         let parent = self.draws.parent(7);
-        match self.draws.among(10) {
+        match self.draws.among(12) {
+            11 => self.draw_release(),
+            10 => Asks::Open(self.draws.among(6)),
             8..=9 => Asks::Page(parent, self.draws.page()),
             0..=1 => Asks::Node(self.draws.among(6)),
             2 => Asks::Remove(parent, self.draws.name()),
@@ -134,6 +101,15 @@ impl LongRun {
                 Asks::Move(parent, name, new_parent, self.draws.name())
             }
             _ => Asks::Name(parent, self.draws.name()),
+        }
+    }
+
+    /// An open file, or any handle of any node.
+    fn draw_release(&mut self) -> Asks<'static> {
+        let place = self.draws.place(self.files.len());
+        match (self.files.get(place), self.draws.among(4)) {
+            (Some((number, handle)), 1..) => Asks::Release(*number, *handle),
+            _ => Asks::Release(self.draws.among(6), self.draws.among(6)),
         }
     }
 
@@ -207,6 +183,29 @@ impl LongRun {
         }
     }
 
+    /// Whether as many files are open as there should be after that step, and which they are now.
+    fn follow_files(
+        &mut self,
+        step: &Step<'static>,
+        told: Told,
+        after: &Image,
+    ) -> Result<bool, AllocError> {
+        let before = self.files.len();
+        let open = after.files.as_slice();
+        let fits = match *step {
+            Step::Begin(_, Asks::Release(..), _) if told == Told::Go => open.len().saturating_add(1)
+                == before,
+            Step::Begin(..) | Step::Forget(..) => open.len() == before,
+            Step::Finish(..) => before <= open.len() && open.len() <= before.saturating_add(1),
+            _ => open.len() <= before && before <= open.len().saturating_add(1),
+        };
+        self.files.clear();
+        for filed in open {
+            self.files.push((filed.file.number, filed.handle))?;
+        }
+        Ok(fits)
+    }
+
     fn note(&mut self, event: Event) {
         for count in self.counts.iter_mut() {
             if count.event == event {
@@ -224,6 +223,9 @@ impl LongRun {
         before: &Image,
     ) -> Result<Option<Event>, AllocError> {
         let after = desk.image()?;
+        if !self.follow_files(step, told, &after)? {
+            return Ok(None);
+        }
         self.judge(step, told, before, &after)
     }
 
@@ -271,6 +273,19 @@ impl LongRun {
         Ok(steps)
     }
 
+    /// Releases each file that is open.
+    fn release_steps(&self, alloc: Global) -> Result<Vec<Step<'static>>, AllocError> {
+        let mut steps = Vec::new(alloc);
+        let mut unique = STEPS as u64;
+        for (number, handle) in &self.files {
+            unique = unique.saturating_add(1);
+            steps.push(Step::Begin(unique, Asks::Release(*number, *handle), Told::Shown))?;
+            steps.push(Step::Finish(unique, Outcome::Done, Told::Shown))?;
+            steps.push(Step::Settle(unique, Reply::Taken, Told::Shown))?;
+        }
+        Ok(steps)
+    }
+
     /// The place of an event that came too seldom, if one did.
     fn too_few(&self) -> Option<usize> {
         self.counts
@@ -291,6 +306,9 @@ impl Play for LongRun {
             }
         }
         for step in self.last_steps(desk.alloc)?.as_slice() {
+            self.go(desk, STEPS, *step)?;
+        }
+        for step in self.release_steps(desk.alloc)?.as_slice() {
             self.go(desk, STEPS, *step)?;
         }
         desk.tell(NOTHING_LEFT)?;

@@ -57,6 +57,8 @@ pub enum Asks<'a> {
     Open(u64),
     /// A file that is made at a name under a parent, and opened for writing.
     Create(u64, &'a str),
+    /// A handle of a node, to be closed.
+    Release(u64, u64),
 }
 
 /// What a request came to.

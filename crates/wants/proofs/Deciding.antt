@@ -6,7 +6,7 @@ use Rattle.flights.specs.declared.data.Case.TheVariants as cases
 use Rattle.flights.specs.declared.data.Want.{Want}
 use Rattle.flights.specs.declared.data.Want.TheVariants as wants
 use Rattle.tree.specs.Places.{Lookup, IsTree}
-use Rattle.wants.specs.Cases.{IsCase, IsDemand, IsEntryCase, Seen}
+use Rattle.wants.specs.Cases.{IsCase, IsClosingCase, IsDemand, IsEntryCase, Seen}
 use Rattle.wants.specs.Rows.{Demand, row_of}
 
 entry_once : (at : Lookup) (parent : ℕ) (name : Name) (c d : Case) → IsEntryCase at parent name c → IsEntryCase at parent name d → c ≡ d
@@ -14,6 +14,18 @@ entry_once at parent name cases.Plain cases.Plain a b = refl
 entry_once at parent name cases.Plain cases.Absent a b = absurd (b a.0 a.1)
 entry_once at parent name cases.Absent cases.Plain a b = absurd (a b.0 b.1)
 entry_once at parent name cases.Absent cases.Absent a b = refl
+entry_once at parent name cases.Pathless d a b = absurd a
+entry_once at parent name cases.Plain cases.Pathless a b = absurd b
+entry_once at parent name cases.Absent cases.Pathless a b = absurd b
+
+closing_once : (at : Lookup) (number : ℕ) (c d : Case) → IsClosingCase at number c → IsClosingCase at number d → c ≡ d
+closing_once at number cases.Plain cases.Plain a b = refl
+closing_once at number cases.Plain cases.Pathless a b = absurd (b a)
+closing_once at number cases.Pathless cases.Plain a b = absurd (a b)
+closing_once at number cases.Pathless cases.Pathless a b = refl
+closing_once at number cases.Absent d a b = absurd a
+closing_once at number cases.Plain cases.Absent a b = absurd b
+closing_once at number cases.Pathless cases.Absent a b = absurd b
 
 case_once : (seen : Seen) (want : Want) (c d : Case) → IsCase seen want c → IsCase seen want d → c ≡ d
 case_once seen (wants.Node number handle) c d a b = a ∙ sym b
@@ -23,6 +35,7 @@ case_once seen (wants.Move parent name new_parent new_name) c d a b = a ∙ sym 
 case_once seen (wants.Page folder names) c d a b = a ∙ sym b
 case_once seen (wants.Open number access) c d a b = a ∙ sym b
 case_once seen (wants.Create parent name access) c d a b = entry_once seen.at parent name c d a b
+case_once seen (wants.Release number fh) c d a b = closing_once seen.at number c d a b
 
 pub demand_once : (seen : Seen) (want : Want) (d e : Demand) → IsTree seen.at → IsDemand seen want d → IsDemand seen want e → d ≡ e
 demand_once seen want d e tree a b = a.row ∙ (ap (λ c. row_of want c) (case_once seen want a.case b.case a.fits b.fits) ∙ sym b.row)

@@ -21,7 +21,7 @@ location_once at tree (AtName parent name) p q a b = a.whole ∙ (ap (λ (up : N
 -- ---- refusals
 
 -- a path and a cut exclude each other, and so do a path and no node
-way_or_cut : (at : Lookup) (n : ℕ) → IsTree at → (names : Names) → Reaches at 1 n names → (x : Node) → at n ≡ Some x → x.place ≡ place.Cut → ⊥
+pub way_or_cut : (at : Lookup) (n : ℕ) → IsTree at → (names : Names) → Reaches at 1 n names → (x : Node) → at n ≡ Some x → x.place ≡ place.Cut → ⊥
 way_or_cut at n tree [] e x stood cut =
     let r = tree.rooted in
     let same : x ≡ r.node = same_Some x r.node (sym stood ∙ (ap at e ∙ r.here)) in

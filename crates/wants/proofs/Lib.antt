@@ -1,3 +1,4 @@
+pub mod Pathless
 pub mod Members
 pub mod RowLemmas
 pub mod Deciding

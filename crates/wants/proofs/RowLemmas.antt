@@ -5,10 +5,11 @@ use Rattle.std.proofs.lemmas.List.{length-map}
 use Rattle.paths.specs.Prefixes.{Name}
 use Rattle.tree.specs.declared.nodes.Key.{Key}
 use Rattle.flights.specs.declared.data.Case.{Case}
+use Rattle.flights.specs.declared.data.Case.TheVariants as cases
 use Rattle.flights.specs.declared.data.Want.{Want}
 use Rattle.flights.specs.declared.data.Want.TheVariants as wants
 use Rattle.wants.specs.Laws.{IsRow, base_of}
-use Rattle.wants.specs.Rows.{Location, AtNode, AtName, Opening, Used, used_on, move_row, name_row, node_row, page_names, page_row, removal_row, row_of}
+use Rattle.wants.specs.Rows.{Location, AtNode, AtName, Opening, Used, closed_at, closed_on, closed_row, closing, used_on, move_row, name_row, node_row, page_names, page_row, removal_row, row_of}
 use Rattle.wants.proofs.Members.{any_first, any_later, cases_in, first_in, in_map, later_in, none_in, only_in}
 
 -- the one location at or under the one node
@@ -92,6 +93,27 @@ page_is_row folder names = record {
   own = tt;
 }
 
+closed_under : (number : ℕ) (c : Case) (l : Location) → Contains (closed_at number c) l → Contains (closed_on number c) (base_of l)
+closed_under number cases.Plain l h = under_only number (AtNode number) l refl h
+closed_under number cases.Absent l h = under_only number (AtNode number) l refl h
+closed_under number cases.Pathless l h = absurd (none_in l h)
+
+closed_covered : (number : ℕ) (c : Case) (n : ℕ) → Contains (closed_on number c) n → Any (λ l. base_of l ≡ n) (closed_at number c)
+closed_covered number cases.Plain n h = any_first (λ l. base_of l ≡ n) (AtNode number) [] (only_in number n h)
+closed_covered number cases.Absent n h = any_first (λ l. base_of l ≡ n) (AtNode number) [] (only_in number n h)
+closed_covered number cases.Pathless n h = absurd (none_in n h)
+
+-- a file that is closed asks for what its node does, or for nothing
+closed_is_row : (number : ℕ) (c : Case) (used : Option Used) (closes : Option ℕ) → IsRow (record (closed_row number c) { used = used; closes = closes })
+closed_is_row number c used closes = record {
+  shared = closed_under number c;
+  alone = λ l h. absurd (none_in l h);
+  paths = closed_under number c;
+  covered = λ n h. inl (closed_covered number c n h);
+  entered = inl refl;
+  own = tt;
+}
+
 pub are_rows : (want : Want) (case : Case) → IsRow (row_of want case)
 are_rows (wants.Node number handle) c = node_is_row number (used_on number handle) None
 are_rows (wants.Name parent name) c = name_is_row parent name c None
@@ -100,3 +122,4 @@ are_rows (wants.Move parent name new_parent new_name) c = move_is_row parent nam
 are_rows (wants.Page folder names) c = page_is_row folder names
 are_rows (wants.Open number access) c = node_is_row number None (Some (record { target = AtNode number; access = access }))
 are_rows (wants.Create parent name access) c = name_is_row parent name c (Some (record { target = AtName parent name; access = access }))
+are_rows (wants.Release number fh) c = closed_is_row number c (Some (closing number fh)) (Some fh)

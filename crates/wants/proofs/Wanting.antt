@@ -27,6 +27,7 @@ use Rattle.wants.specs.declared.drafts.Terms.{Terms}
 use Rattle.wants.specs.Drafts.{IsEntryAt, IsTaken, IsRecord, IsTerms, IsVacant, IsWanted}
 use Rattle.wants.specs.Plans.{IsPlan, IsRefusedPlan, copied, copied_page}
 use Rattle.wants.specs.Rows.{Demand, AtName, AtNode, Opening, Used, name_row, node_row, page_row, row_of, used_on}
+use Rattle.wants.proofs.Pathless.{closing_there}
 use Rattle.wants.proofs.Members.{all_in, any_only, cases_in, first_in, later_in, none_in}
 
 -- ---- whether a node stands at a name
@@ -80,6 +81,7 @@ named_or_free at living counts tree census parent name = elim (among at census.l
 pub entry_case : (at : Lookup) (parent : ℕ) (name : Name) (c : Case) → IsEntryAt at (AtName parent name ∷ []) c → IsEntryCase at parent name c
 entry_case at parent name cases.Plain all = all_in (IsTaken at) (AtName parent name ∷ []) (AtName parent name) all (first_in (AtName parent name) [])
 entry_case at parent name cases.Absent any = any_only (IsVacant at) (AtName parent name) any
+entry_case at parent name cases.Pathless bad = absurd bad
 
 -- a want has a case
 pub case_there : (seen : Seen) (living counts : ℕ) → IsTree seen.at → IsCensus seen.at living counts → (want : Want) → (c : Case) × IsCase seen want c
@@ -90,6 +92,7 @@ case_there seen living counts tree census (wants.Move parent name new_parent new
 case_there seen living counts tree census (wants.Page folder names) = (cases.Plain, refl)
 case_there seen living counts tree census (wants.Open number access) = (cases.Plain, refl)
 case_there seen living counts tree census (wants.Create parent name access) = elim (named_or_free seen.at living counts tree census parent name) [ inl named ↦ (cases.Plain, named) | inr free ↦ (cases.Absent, free) ]
+case_there seen living counts tree census (wants.Release number fh) = closing_there seen.at tree number
 
 refused : (seen : Seen) (living counts : ℕ) → IsTree seen.at → IsCensus seen.at living counts → (want : Want) (e : ℤ) → ((c : Case) → IsUnsound seen.at (row_of want c) e) → IsRefusedPlan seen want e
 refused seen living counts tree census want e unsound =

@@ -1,13 +1,13 @@
 -- Which case of its row a want is, as the table stands. Beside the table of rows this alone looks at wants.
-use Rattle.std.specs.Prelude.{ℕ, ◌≡◌}
+use Rattle.std.specs.Prelude.{ℕ, ◌≡◌, ◌≤◌}
 use Rattle.files.specs.Filed.{Filing, files_of}
 use Rattle.files.specs.Handles.{Files}
 use Rattle.flights.specs.declared.data.Case.{Case}
 use Rattle.flights.specs.declared.data.Case.TheVariants as cases
 use Rattle.flights.specs.declared.data.Want.{Want}
 use Rattle.flights.specs.declared.data.Want.TheVariants as wants
-use Rattle.paths.specs.Prefixes.{Name}
-use Rattle.tree.specs.Places.{Lookup, Nodes, IsFree, IsNamed, at_in}
+use Rattle.paths.specs.Prefixes.{Name, Names, path_bytes}
+use Rattle.tree.specs.Places.{Lookup, Nodes, IsFree, IsNamed, IsPathOf, at_in}
 use Rattle.wants.specs.Rows.{Demand, row_of}
 
 -- all that a case may look at: the nodes, the open files, and the counter of the next hidden name
@@ -23,6 +23,17 @@ seen_of tree files counter = record { at = at_in tree; files = (files_of files).
 abbrev pub IsEntryCase : Lookup → ℕ → Name → Case → Type 0
 IsEntryCase at parent name cases.Plain = (n : ℕ) × IsNamed at n parent name
 IsEntryCase at parent name cases.Absent = IsFree at parent name
+IsEntryCase at parent name cases.Pathless = ⊥
+
+-- a path leads to the node that is not too long
+abbrev pub HasShortPath : Lookup → ℕ → Type 0
+HasShortPath at n = (path : Names) × IsPathOf at n path × (path_bytes path ≤ 4096)
+
+-- an open file that is closed: its node has such a path, or it has none
+abbrev pub IsClosingCase : Lookup → ℕ → Case → Type 0
+IsClosingCase at number cases.Plain = HasShortPath at number
+IsClosingCase at number cases.Absent = ⊥
+IsClosingCase at number cases.Pathless = HasShortPath at number → ⊥
 
 abbrev pub IsCase : Seen → Want → Case → Type 0
 IsCase seen (wants.Node number handle) c = c ≡ cases.Plain
@@ -32,6 +43,7 @@ IsCase seen (wants.Move parent name new_parent new_name) c = c ≡ cases.Plain
 IsCase seen (wants.Page folder names) c = c ≡ cases.Plain
 IsCase seen (wants.Open number access) c = c ≡ cases.Plain
 IsCase seen (wants.Create parent name access) c = IsEntryCase seen.at parent name c
+IsCase seen (wants.Release number fh) c = IsClosingCase seen.at number c
 
 -- what the want asks of the table as it stands
 pub record IsDemand (seen : Seen) (want : Want) (d : Demand) : Type 0 where

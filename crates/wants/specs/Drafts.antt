@@ -25,10 +25,10 @@ use Rattle.wants.specs.declared.rows.Location as told_location
 use Rattle.wants.specs.declared.rows.Location.TheVariants as locations
 use Rattle.wants.specs.declared.rows.Row.{Row}
 use Rattle.wants.specs.Asked.{ArePaths, HasPath, Holds, IsPin, IsPrefixAt, IsRefusedMove, IsSound, IsThere, promise_of}
-use Rattle.wants.specs.Cases.{IsCase, Seen}
+use Rattle.wants.specs.Cases.{IsCase, IsClosingCase, Seen}
 use Rattle.wants.specs.Laws.{base_of}
 use Rattle.wants.specs.Plans.{copied, copied_page}
-use Rattle.wants.specs.Rows.{Change, Demand, Location, AtName, AtNode, births_in, cuts, moves, row_of, stays}
+use Rattle.wants.specs.Rows.{Change, Demand, Location, AtName, AtNode, births_in, closed_row, cuts, moves, no_demand, row_of, stays}
 
 -- ---- refusals
 
@@ -91,6 +91,7 @@ demand_in ls hold enters change c = record {
   done = change_in change ls;
   opens = None;
   used = None;
+  closes = None;
 }
 
 abbrev pub demand_of : Row → Case → Demand
@@ -271,6 +272,7 @@ pub record IsTerms (at : Lookup) (d : Demand) (t : Terms) : Type 0 where
 abbrev pub IsEntryAt : Lookup → List Location → Case → Type 0
 IsEntryAt at ls cases.Plain = All (IsTaken at) ls
 IsEntryAt at ls cases.Absent = Any (IsVacant at) ls
+IsEntryAt at ls cases.Pathless = ⊥
 
 -- a birth is promised for a name at which no node stands
 abbrev pub entered_case : Bool → Bool → Case
@@ -293,6 +295,20 @@ pub record IsOpening (at : Lookup) (row : Row) (t : Terms) : Type 0 where
 pub record IsWanted (seen : Seen) (want : Want) (t : Terms) : Type 0 where
   pub fits : IsCase seen want t.case
   pub terms : IsTerms seen.at (row_of want t.case) t
+
+-- what the closing of a file of the node asks for
+pub record IsClosing (at : Lookup) (number : ℕ) (t : Terms) : Type 0 where
+  pub fits : IsClosingCase at number t.case
+  pub terms : IsTerms at (closed_row number t.case) t
+
+-- nothing is asked for
+pub record IsNothing (t : Terms) : Type 0 where
+  pub case_is : t.case ≡ cases.Pathless
+  pub terms : (at : Lookup) → IsTerms at no_demand t
+
+-- the node has no path, or one that is too long
+abbrev pub IsWithoutPath : Refusal → Type 0
+IsWithoutPath r = (r ≡ refusal.Stale) ⊎ (r ≡ refusal.TooLong)
 
 -- the record of a request with that want and those terms
 pub record IsRecord (want : Want) (t : Terms) (p : Plan) : Type 0 where

@@ -23,6 +23,7 @@ copied (wants.Move parent name new_parent new_name) = Some new_name
 copied (wants.Page folder names) = None
 copied (wants.Open number access) = None
 copied (wants.Create parent name access) = Some name
+copied (wants.Release number fh) = None
 
 -- the same of the names of a page
 abbrev pub copied_page : Want → List Name
@@ -33,6 +34,7 @@ copied_page (wants.Move parent name new_parent new_name) = []
 copied_page (wants.Page folder names) = names
 copied_page (wants.Open number access) = []
 copied_page (wants.Create parent name access) = []
+copied_page (wants.Release number fh) = []
 
 -- its end takes no memory: there is room for what it may pin and answer
 pub record IsProvided (work : Work) (pins : Pinned) : Type 0 where

@@ -2,6 +2,7 @@
 -- outcome does, follow from the row alone.
 use Rattle.std.specs.Prelude.{ℕ, ◌==◌, ◌&&◌, Bool, true, false, List, [], ◌∷◌, Option, Some, None, length, map}
 use Rattle.files.specs.declared.data.Access.{Access}
+use Rattle.files.specs.declared.data.Need.TheVariants.{Any}
 use Rattle.paths.specs.Prefixes.{Name, is_name}
 use Rattle.tree.specs.declared.nodes.Key.{Key}
 use Rattle.flights.specs.declared.data.Case.{Case}
@@ -57,9 +58,11 @@ pub record Demand : Type 0 where
   pub opens : Option Opening
   -- the open file that it uses
   pub used : Option Used
+  -- the handle that is closed when it begins
+  pub closes : Option ℕ
 
 abbrev pub no_demand : Demand
-no_demand = record { given = []; paths = []; shared = []; alone = []; entries = []; births = 0; page = false; done = stays; opens = None; used = None }
+no_demand = record { given = []; paths = []; shared = []; alone = []; entries = []; births = 0; page = false; done = stays; opens = None; used = None; closes = None }
 
 -- ---- cases
 
@@ -67,6 +70,7 @@ no_demand = record { given = []; paths = []; shared = []; alone = []; entries = 
 abbrev pub births_in : Case → ℕ
 births_in cases.Plain = 0
 births_in cases.Absent = 1
+births_in cases.Pathless = 0
 
 -- ---- one row for each want
 
@@ -118,6 +122,25 @@ page_row folder names = record (node_row folder) {
   page = true;
 }
 
+-- the node whose file is closed, if it has a path
+abbrev pub closed_on : ℕ → Case → List ℕ
+closed_on number cases.Plain = number ∷ []
+closed_on number cases.Absent = number ∷ []
+closed_on number cases.Pathless = []
+
+abbrev pub closed_at : ℕ → Case → List Location
+closed_at number cases.Plain = AtNode number ∷ []
+closed_at number cases.Absent = AtNode number ∷ []
+closed_at number cases.Pathless = []
+
+-- a file that is closed: what its node asks for, or nothing
+abbrev pub closed_row : ℕ → Case → Demand
+closed_row number c = record no_demand { given = closed_on number c; paths = closed_at number c; shared = closed_at number c }
+
+-- a handle that is closed may be open for anything
+abbrev pub closing : ℕ → ℕ → Used
+closing number fh = record { number = number; handle = record { fh = fh; need = Any } }
+
 abbrev pub row_of : Want → Case → Demand
 row_of (wants.Node number handle) c = record (node_row number) { used = used_on number handle }
 row_of (wants.Name parent name) c = name_row parent name c
@@ -126,6 +149,7 @@ row_of (wants.Move parent name new_parent new_name) c = move_row parent name new
 row_of (wants.Page folder names) c = page_row folder names
 row_of (wants.Open number access) c = record (node_row number) { opens = Some (record { target = AtNode number; access = access }) }
 row_of (wants.Create parent name access) c = record (name_row parent name c) { opens = Some (record { target = AtName parent name; access = access }) }
+row_of (wants.Release number fh) c = record (closed_row number c) { used = Some (closing number fh); closes = Some fh }
 
 -- ---- what a ticket tells of its row
 

@@ -1,6 +1,7 @@
 //! What a want asks of a table, one row for each want.
 #![tactic(auto)]
 
+mod closing;
 mod data;
 mod drafts;
 mod found;
@@ -66,7 +67,11 @@ fn copied(want: &Want) -> Result<Option<Name>, AllocError>
     ensures { IfOk result (λ copy. copy ≡ name_copied want.now) }
 {
     match want {
-        Want::Node { .. } | Want::Remove { .. } | Want::Page { .. } | Want::Open { .. } => Ok(None),
+        Want::Node { .. }
+        | Want::Remove { .. }
+        | Want::Page { .. }
+        | Want::Open { .. }
+        | Want::Release { .. } => Ok(None),
         Want::Name { name, .. } | Want::Move { new_name: name, .. } | Want::Create { name, .. } => {
             Ok(Some(name.copy()?))
         }
@@ -84,7 +89,8 @@ fn copies(alloc: Global, want: &Want) -> Result<Names, AllocError>
         | Want::Remove { .. }
         | Want::Move { .. }
         | Want::Open { .. }
-        | Want::Create { .. } => Ok(Names::new(alloc)),
+        | Want::Create { .. }
+        | Want::Release { .. } => Ok(Names::new(alloc)),
     }
 }
 

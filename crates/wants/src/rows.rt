@@ -6,6 +6,7 @@ ghost use Rattle.wants.specs.Drafts.{IsWanted, errno_of, location_of};
 ghost use Rattle.wants.specs.Laws.{base_of};
 ghost use Rattle.wants.specs.Plans.{IsRefusedPlan};
 
+use crate::closing::closing_terms;
 use crate::drafts::{Terms, terms_of, terms_with_file};
 use crate::pages::page_terms;
 use crate::refusal::Refusal;
@@ -144,5 +145,6 @@ pub(crate) fn terms_for(
             };
             terms_with_file(alloc, tree, &row)
         }
+        Want::Release { number, fh: _ } => closing_terms(alloc, tree, *number),
     }
 }

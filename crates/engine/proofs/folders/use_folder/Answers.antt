@@ -1,4 +1,4 @@
-use Rattle.std.proofs.Common.{◌≡◌, List, [], ◌∷◌, false, Option, Some, Result, Ok, Err, refl, sym, ap, subst, ◌∙◌}
+use Rattle.std.proofs.Common.{◌≡◌, List, [], ◌∷◌, false, Option, Some, refl, sym, ap, subst, ◌∙◌}
 use Rattle.std.specs.Prelude.{IfOk, OnErr}
 use Rattle.backing.specs.declared.call.Child.{Child}
 use Rattle.handles.specs.Listings.{OpenFolder}
@@ -7,16 +7,8 @@ use Rattle.wire.specs.declared.reply.ReplyBody.{ReplyBody}
 use Rattle.wire.specs.declared.reply.ReplyBody.TheVariants.{Done}
 use Rattle.engine.specs.Folders.{FolderCall, Retire, IsUsed}
 use Rattle.engine.specs.Replies.{TakesMemory}
-use Rattle.engine.proofs.Lending.{elsewhere, here, unlent}
+use Rattle.engine.proofs.Lending.{elsewhere, err_map, here, ok_map, unlent}
 use Rattle.engine.proofs.folders.use_folder.Goals as goal
-
-ok_map : {A E : Type 0} (r : Result A E) (P Q : A → Type 0) → ((a : A) → P a → Q a) → IfOk r P → IfOk r Q
-ok_map (Ok a) P Q f h = f a h
-ok_map (Err e) P Q f h = tt
-
-err_map : {A E : Type 0} (r : Result A E) (P Q : Type 0) → (P → Q) → OnErr r P → OnErr r Q
-err_map (Ok a) P Q f h = tt
-err_map (Err e) P Q f h = f h
 
 pub returns-in_default-clause-ok : goal.returns-in_default-clause-ok
 returns-in_default-clause-ok g c = unlent c.args.node c.args.fh c.args.usage

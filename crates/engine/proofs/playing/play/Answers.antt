@@ -1,4 +1,4 @@
-use Rattle.std.proofs.Common.{◌≡◌, ◌<◌, ◌+◌, Option, Some, None, refl, sym, subst, [], lit<, arith}
+use Rattle.std.proofs.Common.{◌≡◌, ◌<◌, ◌+◌, Option, Some, None, List, length, refl, sym, subst, [], ◌∷◌, lit<, arith}
 use Rattle.std.proofs.lemmas.Option.{none-some}
 use Rattle.backing.specs.Calls.{Asked}
 use Rattle.backing.specs.declared.call.Call.{Call}
@@ -7,9 +7,16 @@ use Rattle.ops.specs.declared.script.Ending.TheVariants as endings
 use Rattle.backing.specs.Calls.{asked}
 use Rattle.engine.specs.Playing.{Playing}
 use Rattle.ops.specs.Ahead.{calls_ending, calls_from, end_of, plan_ahead, plan_ending, plan_from}
+use Rattle.ops.specs.Looking.{plan_looking}
 use Rattle.ops.specs.Scripts.{Plan, next_of}
+use Rattle.ops.specs.declared.findings.Found.{Found}
+use Rattle.paths.specs.Prefixes.{Names}
 use Rattle.engine.proofs.Runs.{played_on, played}
 use Rattle.engine.proofs.playing.play.Goals as goal
+
+looks_left : (left : List Names) (found : List (Option Found)) (call : Asked) → next_of (plan_looking (record { left = left; found = found })) ≡ Some call → 0 < length left
+looks_left [] found call e = absurd (none-some call e)
+looks_left (p ∷ ps) found call e = omega arith
 
 -- a script that asks has a call left
 asks_left : (change : Option Call) (ending : Ending) (call : Asked) → next_of (plan_from change (plan_ending ending)) ≡ Some call → 0 < calls_from change + calls_ending ending
@@ -18,6 +25,7 @@ asks_left None (endings.Look p tells) call e = lit< tt
 asks_left None (endings.List p) call e = lit< tt
 asks_left None (endings.Read p offset size) call e = lit< tt
 asks_left None (endings.Write p offset piece) call e = lit< tt
+asks_left None (endings.Each looks) call e = omega (arith, looks_left looks.left looks.found call e)
 asks_left None (endings.Over finding) call e = absurd (none-some call e)
 
 pub loop-call-smaller : goal.loop-call-smaller

@@ -5,6 +5,7 @@ use Rattle.wants.specs.Cases.{seen_of}
 use Rattle.wants.specs.Drafts.{IsWanted, errno_of}
 use Rattle.wants.specs.Plans.{IsRefusedPlan}
 use Rattle.wants.specs.Rows.{name_row, node_row}
+use Rattle.wants.proofs.Pathless.{closing_refused, closing_wanted}
 use Rattle.wants.proofs.Wanting.{name_opened, named_wanted, node_opened, node_refused, node_wanted, refused_as, unsound_opening}
 use Rattle.wants.proofs.rows.terms_for.Goals as goal
 
@@ -66,3 +67,13 @@ returns-in-Create-clause-err c =
     let t = c.terms_with_file-in-Create.ensures in
     IfErr-weaker c.terms_with_file-in-Create.result _ (λ (r : Refusal). IsRefusedPlan seen c.args.want.now (errno_of r))
     (λ r unsound. refused_as seen _ _ t.tree t.census c.args.want.now _ (errno_of r) c.in-Create.is (λ k. unsound_opening seen.at (name_row c.in-Create.parent c.in-Create.name k) _ (errno_of r) (unsound k))) t.err
+
+pub returns-in-Release-clause-ok : goal.returns-in-Release-clause-ok
+returns-in-Release-clause-ok c =
+    let seen = seen_of c.args.tree.now c.args._files.now c.args._counter in
+    IfOk-weaker c.closing_terms.result _ (λ t. IsWanted seen c.args.want.now t) (λ t closing. closing_wanted seen c.args.want.now _ _ t c.in-Release.is closing) c.closing_terms.ensures.ok
+
+pub returns-in-Release-clause-err : goal.returns-in-Release-clause-err
+returns-in-Release-clause-err c =
+    let seen = seen_of c.args.tree.now c.args._files.now c.args._counter in
+    IfErr-weaker c.closing_terms.result _ (λ (r : Refusal). IsRefusedPlan seen c.args.want.now (errno_of r)) (λ r starving. closing_refused seen c.closing_terms.ensures.tree c.args.want.now _ _ r c.in-Release.is starving) c.closing_terms.ensures.err

@@ -1,19 +1,41 @@
-use Rattle.std.proofs.Common.{subst}
+use Rattle.std.proofs.Common.{[], refl, subst}
 use Rattle.ops.specs.Ahead.{end_of}
-use Rattle.ops.specs.Scripts.{Plan, Follows}
-use Rattle.engine.proofs.Endings.{is_plain}
+use Rattle.ops.specs.Scripts.{Plan, Follows, listed_end, plan_of}
+use Rattle.ops.specs.declared.findings.Finding.{Finding}
+use Rattle.engine.specs.Walks.{no_memory}
 use Rattle.engine.proofs.session.Desk.perform.Goals as goal
+
+pub returns-in-Err-clause-performs : goal.returns-in-Err-clause-performs
+returns-in-Err-clause-performs g c = record {
+  made = [];
+  end = no_memory;
+  makes = refl;
+  concludes = c.cut_short.ensures.concludes c.args.page.now c.in-Err.ensures.err;
+}
+
+pub returns-in-Listed-clause-performs : goal.returns-in-Listed-clause-performs
+returns-in-Listed-clause-performs g c =
+    let played = c.play.ensures in
+    let plan = plan_of c.args.request.operation c.args.ticket in
+    let follows = subst (λ (p : Plan). Follows p played.made (end_of c.play.result)) c.in-Ok.ensures.ok played.follows in
+    let listed = subst (λ (f : Finding). Follows plan played.made (end_of f)) c.in-Listed.is follows in
+    record {
+      made = played.made;
+      end = listed_end c.in-Listed.children;
+      makes = played.makes;
+      concludes = c.list.ensures.concludes c.args.page.now played.made listed;
+    }
 
 pub returns-in_default : goal.returns-in_default
 returns-in_default g c =
     let played = c.play.ensures in
+    let follows = subst (λ (p : Plan). Follows p played.made (end_of c.play.result)) c.in-Ok.ensures.ok played.follows in
     record {
       performs = record {
         made = played.made;
         end = end_of c.play.result;
-        script = subst (λ (p : Plan). Follows p played.made (end_of c.play.result)) c.start-script.ensures played.follows;
         makes = played.makes;
-        concludes = c.tell.ensures.concludes (is_plain c.play.result c.in_default.not-Listed);
+        concludes = c.tell.ensures.concludes c.args.page.now played.made follows;
       };
       gains = c.tell.ensures.gains;
       settings = c.tell.ensures.settings;

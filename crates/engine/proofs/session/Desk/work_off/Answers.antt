@@ -1,4 +1,4 @@
-use Rattle.std.proofs.Common.{[], ◌∷◌, Option, refl, ap, ◌∙◌}
+use Rattle.std.proofs.Common.{[], ◌∷◌, Option, refl, ap, subst, ◌∙◌}
 use Rattle.files.specs.declared.data.OpenFile.{OpenFile}
 use Rattle.ops.specs.Replies.{file_reply}
 use Rattle.wire.specs.Pairs.{pairs_in}
@@ -7,6 +7,8 @@ use Rattle.table.proofs.Gaining.{gains_same}
 use Rattle.engine.proofs.Alone.{forgets_idle}
 use Rattle.engine.specs.Tables.{worlds}
 use Rattle.ops.specs.Intents.{Begin, want_of}
+use Rattle.ops.specs.Pages.{Paged}
+use Rattle.engine.specs.Walks.{CarriesOut}
 use Rattle.engine.proofs.Turns.{asked_of_file, carried, fault_answered, forgot, passed_over, said_at_once, unbegun, used}
 use Rattle.engine.proofs.session.Desk.work_off.Goals as goal
 
@@ -23,7 +25,9 @@ returns-in-Reply-clause-worked g c =
 pub returns-in-Ok-own-clause-worked : goal.returns-in-Ok-own-clause-worked
 returns-in-Ok-own-clause-worked g c =
     carried worlds c.args.self.now.settings g.L.LinkOut.sends g.C.Calls.gives c.args.frame.now c.in-Ok.request c.in-Ok-own.want c.args.link.now c.carry.new.link c.args.calls.now c.carry.new.calls (world_of c.args.table.now) (world_of c.carry.new.table) c.carry.result
-    c.in-Ok.ensures.found (ap Begin c.in-Ok-own.ensures.ok ∙ c.in-Want.ensures) c.carry.ensures.carries
+    c.in-Ok.ensures.found (ap Begin c.in-Ok-own.ensures.ok ∙ c.in-Want.ensures)
+    (subst (λ (page : Paged). CarriesOut worlds c.args.self.now.settings g.L.LinkOut.sends g.C.Calls.gives c.in-Ok.request c.in-Ok-own.want [] page
+    c.args.link.now c.args.calls.now (world_of c.args.table.now) c.carry.result c.carry.new.link c.carry.new.calls (world_of c.carry.new.table)) c.none-none.ensures (c.carry.ensures.carries []))
 
 pub returns-in-Err-own-clause-worked : goal.returns-in-Err-own-clause-worked
 returns-in-Err-own-clause-worked g c =
@@ -32,11 +36,8 @@ returns-in-Err-own-clause-worked g c =
 
 pub returns-in-Folder-clause-worked : goal.returns-in-Folder-clause-worked
 returns-in-Folder-clause-worked g c =
-    used worlds c.args.self.now.settings g.L.LinkOut.sends g.C.Calls.gives c.args.frame.now c.in-Ok.request c.in-Folder.fh c.in-Folder.usage c.args.link.now c.use_folder.new.link c.args.calls.now (world_of c.args.table.now) c.use_folder.result
+    used worlds c.args.self.now.settings g.L.LinkOut.sends g.C.Calls.gives c.args.frame.now c.in-Ok.request c.in-Folder.fh c.in-Folder.usage c.args.link.now c.use_folder.new.link c.args.calls.now c.use_folder.new.calls (world_of c.args.table.now) (world_of c.use_folder.new.table) c.use_folder.result
     c.in-Ok.ensures.found c.in-Folder.ensures c.use_folder.ensures.used
-
-pub returns-in-Folder-clause-gains : goal.returns-in-Folder-clause-gains
-returns-in-Folder-clause-gains g c = gains_same (world_of c.args.table.now) (world_of c.args.table.now) c.args.share.now c.args.share.now c.attest.ensures refl refl
 
 pub returns-in-Forget-clause-worked : goal.returns-in-Forget-clause-worked
 returns-in-Forget-clause-worked g c =

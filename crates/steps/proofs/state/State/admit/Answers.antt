@@ -48,18 +48,21 @@ returns-clause-begins c =
       demanded = demanded (seen_in (world_of s)) plan c.requires.plan;
       begins = (
         may_begin s plan.work.want plan c.requires.plan (c.requires.handle plan.work.case) c.expect_within.ensures.tally (λ up. false≢true (sym c.if-holds_up.false ∙ c.holds_up.ensures.held.1 up)) c.in-Ok.ensures.ok,
-        goes_on s c.reserve.new.self c.args.unique c.free_id-id.result plan c.requires.plan c.reserve.ensures.same c.add.new.self c.add.ensures.adds c.is_same-same.result c.free_id-id.ensures.free c.is_same-same.ensures,
+        goes_on s c.reserve.new.self c.args.unique c.free_id-id.result plan c.requires.plan c.reserve.ensures.same c.add.new.self c.add.ensures.adds c.is_same-same.result c.free_id-id.ensures.free c.is_same-same.ensures
+            c.closed_by-closes.result c.closed_by-closes.ensures (world_of c.close_file.new.self) c.close_file.ensures.closes,
       );
     }
 
-pub returns-clause-kept : goal.returns-clause-kept
-returns-clause-kept c =
+pub close_file-requires : goal.close_file-requires
+close_file-requires c =
     let s = c.args.self.now in
     let plan = c.args.plan in
-    begun_kept s c.reserve.new.self c.args.unique c.free_id-id.result plan c.requires.plan c.reserve.ensures.same c.add.new.self c.add.ensures.adds c.is_same-same.result c.free_id-id.ensures.free c.is_same-same.ensures
-    c.reserve.ensures.kept c.add.ensures.law (λ up. false≢true (sym c.if-holds_up.false ∙ c.holds_up.ensures.held.1 up))
-    (may_begin s plan.work.want plan c.requires.plan (c.requires.handle plan.work.case) c.expect_within.ensures.tally (λ up. false≢true (sym c.if-holds_up.false ∙ c.holds_up.ensures.held.1 up)) c.in-Ok.ensures.ok)
-    c.in-Ok.ensures.ok c.in-Ok-reserve.ensures.ok
+    record {
+      kept = begun_kept s c.reserve.new.self c.args.unique c.free_id-id.result plan c.requires.plan c.reserve.ensures.same c.add.new.self c.add.ensures.adds c.free_id-id.ensures.free
+          c.reserve.ensures.kept c.add.ensures.law (λ up. false≢true (sym c.if-holds_up.false ∙ c.holds_up.ensures.held.1 up))
+          (may_begin s plan.work.want plan c.requires.plan (c.requires.handle plan.work.case) c.expect_within.ensures.tally (λ up. false≢true (sym c.if-holds_up.false ∙ c.holds_up.ensures.held.1 up)) c.in-Ok.ensures.ok)
+          c.in-Ok.ensures.ok c.in-Ok-reserve.ensures.ok;
+    }
 
 pub returns-in-Err-reserve-clause-begins : goal.returns-in-Err-reserve-clause-begins
 returns-in-Err-reserve-clause-begins c =

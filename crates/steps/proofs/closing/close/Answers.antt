@@ -4,7 +4,7 @@ use Rattle.tree.specs.Places.{at_in}
 use Rattle.steps.specs.Steps.{numbers_of}
 use Rattle.steps.specs.Sweeping.{IsClosed}
 use Rattle.steps.proofs.Filing.{closed_none, closed_pruned}
-use Rattle.steps.proofs.settle.close.Goals as goal
+use Rattle.steps.proofs.closing.close.Goals as goal
 
 pub returns-in_default-close-clause-closed : goal.returns-in_default-close-clause-closed
 returns-in_default-close-clause-closed c =

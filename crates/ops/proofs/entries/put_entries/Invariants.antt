@@ -1,6 +1,6 @@
 use Rattle.std.proofs.Common.{◌≡◌, ◌+◌, ◌++◌, drop}
-use Rattle.ops.specs.Entries.{entries_bytes}
-use Rattle.ops.proofs.folders.put_entries.Given as goal
+use Rattle.ops.specs.Replies.{entries_bytes}
+use Rattle.ops.proofs.entries.put_entries.Given as goal
 
 abbrev pub invariant-loop-child : goal.invariant-loop-child
 invariant-loop-child l = record {

@@ -1,5 +1,5 @@
 use Rattle.engine.proofs.Turns.{starved}
-use Rattle.engine.proofs.session.Desk.use_folder.Goals as goal
+use Rattle.engine.proofs.session.Desk.tell_use.Goals as goal
 
 pub returns-in-Ok-clause-used : goal.returns-in-Ok-clause-used
 returns-in-Ok-clause-used g c =
@@ -13,5 +13,5 @@ returns-in-Err-clause-used g c =
       folders = used.0;
       meant = used.1;
       used = used.2;
-      told = starved g.L.LinkOut.sends (record { unique = c.args.request.now.unique; body = used.1 }) c.args.link.now c.refuse.new.link c.refuse.result used.3 c.refuse.ensures;
+      told = starved g.L.LinkOut.sends (record { unique = c.args.request.unique; body = used.1 }) c.args.link.now c.refuse.new.link c.refuse.result used.3 c.refuse.ensures;
     }

@@ -1,0 +1,120 @@
+//! READDIRPLUS: the page that it tells, and how it is finished, answered and settled.
+
+ghost use Rattle.std.specs.Prelude.{◌≡◌, true, [], List, Some, IfOk, OnErr};
+ghost use Rattle.steps.specs.Kept.{world_of};
+ghost use Rattle.table.specs.Gains.{Gains};
+ghost use Rattle.ops.specs.Ahead.{LooksAtEach};
+ghost use Rattle.ops.specs.Folders.{IsPaged};
+ghost use Rattle.ops.specs.Pages.{Paged as Told};
+ghost use Rattle.ops.specs.Scripts.{plan_of, Follows, Made};
+ghost use Rattle.engine.specs.Folders.{FolderCall, IsLentPage, LendsPage, PagesOf};
+ghost use Rattle.engine.specs.Tables.{worlds};
+ghost use Rattle.engine.specs.Walks.{entries_found, no_memory, Concludes};
+
+use crate::links::{LinkOut, Sent};
+use crate::session::{Desk, refuse};
+use errno::{EBADF, EINVAL, ENOMEM};
+use handles::{Dirs, Listing, PageFault};
+use ledger::{Ledgers, Share};
+use ops::{Looked, Paged, entries_reply};
+use std::alloc::{AllocError, Global};
+use std::sync::Wait;
+use table::{Outcome, Table, Ticket};
+use wire::{Reply, ReplyBody, Request};
+
+/// What comes of lending a folder for a page.
+#[derive(Drop)]
+pub(crate) enum Lends {
+    /// These entries are to be told.
+    Page(Paged),
+    /// There is no page, which is answered at once.
+    Nothing(ReplyBody),
+}
+
+/// A page of the listing, with entries of its own.
+fn take_page(alloc: Global, listing: &Listing, offset: u64, size: u32) -> Result<Lends, AllocError>
+    ensures ok { IfOk result (PagesOf listing.now.entries offset size) }
+    ensures err { OnErr result ((page : Told) × IsPaged true listing.now.entries offset size (Some page.entries) × (page.from ≡ offset)) }
+{
+    match listing.page(offset, size, true) {
+        Ok(page) => Ok(Lends::Page(Paged::copy_of(alloc, page)?)),
+        Err(PageFault::Small) => Ok(Lends::Nothing(ReplyBody::Failed { errno: EINVAL })),
+    }
+}
+
+/// A page of the folder under a handle, if it is one of the node. The folder is given back when this returns. An error says that there was
+/// no memory to copy the page.
+pub(crate) fn lend_page<H: Wait>(
+    rt: &H,
+    alloc: Global,
+    dirs: &Dirs,
+    node: u64,
+    fh: u64,
+    offset: u64,
+    size: u32,
+) -> Result<Lends, AllocError>
+    ensures ok { IfOk result (IsLentPage node fh offset size) }
+    ensures err { OnErr result ((folders : List FolderCall) × (page : Told) × LendsPage node fh offset size folders page) }
+{
+    let Some(lent) = dirs.lend(rt, fh) else {
+        return Ok(Lends::Nothing(ReplyBody::Failed { errno: EBADF }));
+    };
+    if lent.listing().number() != node {
+        return Ok(Lends::Nothing(ReplyBody::Failed { errno: EBADF }));
+    }
+    take_page(alloc, lent.listing(), offset, size)
+}
+
+impl Desk {
+    /// Finishes a READDIRPLUS whose names were looked at: an entry is given for each that was found, and its page is told.
+    pub fn tell_entries<T: Ledgers, L: LinkOut>(
+        &mut self,
+        link: &mut L,
+        table: &mut Table<T>,
+        share: &mut Share<T>,
+        request: Request<'_>,
+        ticket: Ticket,
+        page: &Paged,
+        looked: Looked,
+    ) -> Sent
+        ensures concludes { (made : List Made) → Follows (plan_of request.entry.operation ticket) made (entries_found looked) → Concludes worlds self.old.settings L.sends request.entry page.now ticket made (entries_found looked)
+            link.old (world_of table.old) result link.new (world_of table.new) }
+        ensures gains { Gains (world_of table.old) share.old (world_of table.new) share.new }
+        ensures settings { self.new.settings ≡ self.old.settings }
+        ensures agreed { self.new.agreed ≡ self.old.agreed }
+    {
+        let unique = request.unique;
+        let (there, founds) = looked.into_parts();
+        let answered = table.finish(share, ticket, Outcome::Entries(there));
+        match entries_reply(self.alloc, self.settings, page, &founds, answered.given()) {
+            Ok(body) => {
+                let (sent, _) = self.settle(link, table, share, answered, Reply { unique, body });
+                sent
+            }
+            Err(_) => {
+                table.settle(share, answered, false);
+                refuse(link, unique, ENOMEM)
+            }
+        }
+    }
+
+    /// Finishes a request whose script found no memory: it has failed.
+    pub fn cut_short<T: Ledgers, L: LinkOut>(
+        &mut self,
+        link: &mut L,
+        table: &mut Table<T>,
+        share: &mut Share<T>,
+        request: Request<'_>,
+        ticket: Ticket,
+    ) -> Sent
+        ensures concludes { (page : Told) → LooksAtEach request.entry.operation → Concludes worlds self.old.settings L.sends request.entry page ticket [] no_memory
+            link.old (world_of table.old) result link.new (world_of table.new) }
+        ensures gains { Gains (world_of table.old) share.old (world_of table.new) share.new }
+        ensures settings { self.new.settings ≡ self.old.settings }
+        ensures agreed { self.new.agreed ≡ self.old.agreed }
+    {
+        let answered = table.finish(share, ticket, Outcome::Failed);
+        table.settle(share, answered, false);
+        refuse(link, request.unique, ENOMEM)
+    }
+}

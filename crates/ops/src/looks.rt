@@ -1,0 +1,132 @@
+//! Looks at one path after another.
+
+ghost use Rattle.std.specs.Prelude.{◌≡◌, ◌<◌, [], length, map, is_some, IfOk};
+ghost use Rattle.ops.specs.Ahead.{end_of};
+ghost use Rattle.ops.specs.Looking.{looked_on, plan_looking};
+ghost use Rattle.ops.specs.Scripts.{found_in, next_of, AsksNext, End, Over};
+
+use crate::findings::{Finding, Found};
+use crate::judging::judge;
+use backing::{Answer, Call};
+use errno::EIO;
+use paths::Path;
+use std::alloc::{AllocError, Global};
+use std::marker::Model;
+use table::FoundNames;
+
+/// What stands at each of some paths, or nothing. Contracts see a list.
+#[derive(Drop)]
+pub struct Looked {
+    found: Vec<Option<Found>>,
+    /// Whether something was found, for each of them.
+    there: Vec<bool>,
+}
+
+impl Model for Looked {
+    ghost use Rattle.std.specs.Prelude.{◌≡◌, List, Option, map, is_some};
+    ghost use Rattle.ops.specs.declared.findings.Found.{Found};
+
+    ghost Value = { List (Option Found) };
+
+    ghost view = { λ l. l.found.items };
+
+    ghost invariant = { λ l. l.there.items ≡ map (λ found. is_some found) l.found.items };
+}
+
+impl Looked {
+    /// For each path whether something stands there, and what. It takes no memory.
+    pub fn into_parts(self) -> (FoundNames, Vec<Option<Found>>)
+        ensures there { result.0 ≡ map (λ found. is_some found) self }
+        ensures found { result.1.items ≡ self }
+    {
+        let Self { found, there } = self;
+        (FoundNames::from_vec(there), found)
+    }
+}
+
+/// Looks at one path after another: those that are left, and what was found at those before them.
+#[derive(Drop)]
+pub struct Looks<'a> {
+    left: &'a [Path],
+    found: Vec<Option<Found>>,
+    there: Vec<bool>,
+}
+
+impl<'a> Model for Looks<'a> {
+    ghost use Rattle.std.specs.Prelude.{◌≡◌, ◌≤◌, ◌+◌, map, is_some, length, vec_capacity};
+    ghost use Rattle.ops.specs.Looking.{Looking};
+
+    ghost Value = { Looking };
+
+    ghost view = { λ l. record { left = l.left.now; found = l.found.items } };
+
+    ghost invariant = { λ l. (l.there.items ≡ map (λ found. is_some found) l.found.items)
+        × (length l.found.items + length l.left.now ≤ vec_capacity l.found)
+        × (length l.there.items + length l.left.now ≤ vec_capacity l.there) };
+}
+
+/// What is told of an answer: a fault is nothing.
+fn found_in(answer: &Answer) -> Option<Found>
+    ensures { result ≡ found_in answer.now }
+{
+    match answer {
+        Answer::Stat { kind, size } => Some(Found {
+            kind: *kind,
+            size: *size,
+        }),
+        _ => None,
+    }
+}
+
+impl<'a> Looks<'a> {
+    /// Looks at these paths, none of which has been looked at.
+    pub fn new(alloc: Global, paths: &'a [Path]) -> Result<Looks<'a>, AllocError>
+        ensures { IfOk result (λ looks. looks ≡ record { left = paths.now; found = [] }) }
+    {
+        let found = Vec::with_capacity(alloc, paths.len())?;
+        let there = Vec::with_capacity(alloc, paths.len())?;
+        Ok(Looks {
+            left: paths,
+            found,
+            there,
+        })
+    }
+
+    /// The next look, if a path is left.
+    pub fn next(&self) -> Option<Call<'_>>
+        ensures { AsksNext result (next_of (plan_looking self.now)) }
+    {
+        match self.left {
+            [path, ..] => Some(Call::Stat(path)),
+            [] => None,
+        }
+    }
+
+    /// Takes the answer to the next look. It takes no memory.
+    pub fn feed(&mut self, answer: Answer)
+        ensures { self.new ≡ looked_on self.old.left self.old.found answer }
+    {
+        match self.left {
+            [path, left @ ..] => {
+                let found = found_in(&judge(Call::Stat(path), answer));
+                self.found.push_reserved(found);
+                self.there.push_reserved(found.is_some());
+                self.left = left;
+            }
+            [] => {}
+        }
+    }
+
+    /// What was found, once no path is left.
+    pub fn into_finding(self) -> Finding
+        ensures { (end : End) → plan_looking self.entry ≡ Over end → end_of result ≡ end }
+    {
+        match self.left {
+            [] => {
+                let Self { found, there, .. } = self;
+                Finding::Looked(Looked { found, there })
+            }
+            [_, ..] => Finding::Error { errno: EIO },
+        }
+    }
+}

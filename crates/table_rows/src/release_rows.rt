@@ -1,0 +1,97 @@
+//! Files that are closed: when the handle goes, and what its node asks for meanwhile.
+
+use crate::story::Asks::{Open, Read, Release, Remove};
+use crate::story::Spot::{At, Cut};
+use crate::story::Told::{Amount, Busy, Ended, Given, Go, Refused, Settled};
+use crate::story::{DEFAULT, Flying, Holding, Living, Outcome, ROOT, Reply, Step, Story, Sum, TOP};
+use crate::teller::run;
+use errno::EBADF;
+use image::Stage::Working;
+use std::test::Fail;
+use table::Limits;
+
+/// One file may be open. Its handle is closed when the release begins, so that another may be opened then, under the next handle; and it stays closed whatever
+/// the release comes to.
+const AT_ONCE: Story = Story {
+    limits: Limits {
+        files: 1,
+        ..DEFAULT
+    },
+    steps: &[
+        Step::LookUp(ROOT, "a", Given(2, 0)),
+        Step::Begin(1, Open(2), Go),
+        Step::Finish(1, Outcome::Done, Ended),
+        Step::Settle(1, Reply::Taken, Settled(0)),
+        Step::Begin(2, Release(ROOT, 1), Refused(EBADF)),
+        Step::Begin(2, Release(2, 2), Refused(EBADF)),
+        Step::File(1, Some(2)),
+        Step::Begin(2, Release(2, 1), Go),
+        Step::File(1, None),
+        Step::Paths(2, &["a"]),
+        Step::Holds(&[Holding("a", 1, 0)]),
+        Step::Requests(&[Flying(2, Working, &[2])]),
+        Step::Begin(3, Release(2, 1), Refused(EBADF)),
+        Step::Begin(3, Open(2), Go),
+        Step::Finish(3, Outcome::Done, Ended),
+        Step::File(1, None),
+        Step::File(2, Some(2)),
+        Step::Finish(2, Outcome::Failed, Ended),
+        Step::Settle(2, Reply::Untaken, Settled(0)),
+        Step::Settle(3, Reply::Taken, Settled(0)),
+        Step::File(1, None),
+        Step::Begin(4, Read(2, 1), Refused(EBADF)),
+        Step::Nodes(&[TOP, Living(2, 0, At(ROOT, "a"), 1)]),
+    ],
+    gathers: Sum::All(1, 1, 0, 0),
+};
+
+#[test]
+fn released_at_once(rt: HostRuntime) -> Result<(), Fail> {
+    run(rt.alloc(), &AT_ONCE)
+}
+
+/// A name is removed while two files of its node are open. A release waits for the removal. Once the node is cut a release holds, pins and tells
+/// nothing, and that of the last file drops the node at once.
+const OF_A_CUT_NODE: Story = Story {
+    limits: DEFAULT,
+    steps: &[
+        Step::LookUp(ROOT, "a", Given(2, 0)),
+        Step::Begin(1, Open(2), Go),
+        Step::Finish(1, Outcome::Done, Ended),
+        Step::Settle(1, Reply::Taken, Settled(0)),
+        Step::Begin(2, Open(2), Go),
+        Step::Finish(2, Outcome::Done, Ended),
+        Step::Settle(2, Reply::Taken, Settled(0)),
+        Step::Forget(2, 1, Amount(1)),
+        Step::Begin(3, Remove(ROOT, "a"), Go),
+        Step::Begin(4, Release(2, 1), Busy),
+        Step::File(1, Some(2)),
+        Step::Finish(3, Outcome::Done, Ended),
+        Step::Settle(3, Reply::Taken, Settled(0)),
+        Step::Nodes(&[TOP, Living(2, 0, Cut, 0)]),
+        Step::Begin(4, Release(2, 1), Go),
+        Step::Paths(4, &[]),
+        Step::Holds(&[]),
+        Step::Requests(&[Flying(4, Working, &[])]),
+        Step::Nodes(&[TOP, Living(2, 0, Cut, 0)]),
+        Step::Begin(5, Release(2, 2), Go),
+        Step::Nodes(&[TOP]),
+        Step::Begin(6, Release(2, 2), Refused(EBADF)),
+        Step::Finish(4, Outcome::Done, Ended),
+        Step::Finish(5, Outcome::Done, Ended),
+        Step::Settle(4, Reply::Taken, Settled(0)),
+        Step::Settle(5, Reply::Taken, Settled(0)),
+        Step::LookUp(ROOT, "b", Given(2, 1)),
+        Step::Begin(7, Open(2), Go),
+        Step::Finish(7, Outcome::Done, Ended),
+        Step::File(2, None),
+        Step::File(3, Some(2)),
+        Step::Settle(7, Reply::Taken, Settled(0)),
+    ],
+    gathers: Sum::All(2, 2, 0, 1),
+};
+
+#[test]
+fn release_of_a_cut_node(rt: HostRuntime) -> Result<(), Fail> {
+    run(rt.alloc(), &OF_A_CUT_NODE)
+}
