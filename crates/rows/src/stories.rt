@@ -130,14 +130,6 @@ fn names_of(alloc: Global, from: u64, names: &[(&str, Stands)]) -> Result<ReplyB
     Ok(ReplyBody::Data(Data::new(bytes)))
 }
 
-fn entry_of(node: u64, stands: Stands) -> Entry {
-    Entry {
-        node,
-        generation: 0,
-        attributes: attributes_of(stands),
-    }
-}
-
 fn entries_of(
     alloc: Global,
     from: u64,
