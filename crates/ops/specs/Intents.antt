@@ -2,7 +2,7 @@
 use Rattle.std.specs.Prelude.{ℕ, ℤ, ◌+◌, ◌*◌, ◌^◌, ◌%◌, ◌==◌, Bool, true, false, if◌then◌else◌, List, [], ◌∷◌, Option, Some, None}
 use Rattle.std.specs.Int.{bit_at}
 use Rattle.std.specs.List.{list_any}
-use Rattle.errno.specs.declared.TheConstants.{EPERM, ENOENT, EINVAL, ENOSYS}
+use Rattle.errno.specs.declared.TheConstants.{EPERM, ENOENT, EINVAL}
 use Rattle.files.specs.declared.data.Access.{Access}
 use Rattle.files.specs.declared.data.Access.TheVariants.{Reading, Writing, Both}
 use Rattle.files.specs.declared.data.Need.{Need}
@@ -106,7 +106,7 @@ intended node (ops.Init major minor max_readahead flags) = Nothing
 intended node (ops.Open flags) = open_intent node (access_of flags)
 intended node (ops.Read fh offset size) = by_handle node fh need.Reading
 intended node (ops.Write fh offset written) = by_handle node fh need.Writing
-intended node (ops.Release fh) = refused ENOSYS
+intended node (ops.Release fh) = Begin (wants.Release node fh)
 intended node (ops.Sync fh) = by_handle node fh need.Any
 intended node (ops.Flush fh) = File fh
 intended node (ops.Create name flags) = create_intent node name.now (access_of flags)
@@ -132,6 +132,7 @@ want_of (wanted.Remove parent name) = wants.Remove parent name.now
 want_of (wanted.Move parent name new_parent new_name) = wants.Move parent name.now new_parent new_name.now
 want_of (wanted.Open number access) = wants.Open number access
 want_of (wanted.Create parent name access) = wants.Create parent name.now access
+want_of (wanted.Release number fh) = wants.Release number fh
 
 abbrev pub intent_in : Coded → Intent
 intent_in (coded.Reply body) = Reply body
@@ -146,4 +147,5 @@ intent_in coded.Nothing = Nothing
 abbrev pub HasName : Wanted → Type 0
 HasName (wanted.Node number handle) = ⊥
 HasName (wanted.Open number access) = ⊥
+HasName (wanted.Release number fh) = ⊥
 HasName wanted = Unit {0}

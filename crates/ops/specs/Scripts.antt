@@ -157,6 +157,8 @@ plan_of (ops.Rename name new_parent new_name) ticket = at_paths ticket.paths (λ
 plan_of (ops.Open flags) ticket = at_path ticket.paths (λ p. open_file p)
 plan_of (ops.Read fh offset size) ticket = at_path ticket.paths (λ p. read p offset size)
 plan_of (ops.Write fh offset piece) ticket = at_path ticket.paths (λ p. write p offset piece.now)
+-- The handle is closed when it begins, also of a node that has no path.
+plan_of (ops.Release fh) ticket = done
 plan_of (ops.Sync fh) ticket = at_path ticket.paths (λ p. make (AskSync p) done)
 plan_of (ops.Create name flags) ticket = at_path ticket.paths (λ p. make (AskMake p) (give_file p))
 plan_of ops.OpenDir ticket = at_path ticket.paths (λ p. list p)
@@ -165,7 +167,6 @@ plan_of (ops.ReadDirPlus fh offset size) ticket = at_names ticket.paths
 plan_of (ops.Forget n) ticket = failed EIO
 plan_of ops.StatFs ticket = failed EIO
 plan_of (ops.Init major minor max_readahead flags) ticket = failed EIO
-plan_of (ops.Release fh) ticket = failed EIO
 plan_of (ops.Flush fh) ticket = failed EIO
 plan_of (ops.ReadDir fh offset size) ticket = failed EIO
 plan_of (ops.ReleaseDir fh) ticket = failed EIO

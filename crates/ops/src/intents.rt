@@ -7,7 +7,7 @@ ghost use Rattle.ops.specs.Intents.{intent_in, has_handle, intended, intent, nam
 
 use crate::opening::{by_handle, create_intent, open_intent};
 use crate::wanted::Wanted;
-use errno::{ENOENT, ENOSYS, EPERM};
+use errno::{ENOENT, EPERM};
 use files::Need;
 use hidden::is_reserved;
 use wire::{Forgotten, Operation, ReplyBody, Request};
@@ -162,6 +162,7 @@ fn intended<'a>(node: u64, operation: Operation<'a>) -> Intent<'a>
         Operation::Write { fh, .. } => by_handle(node, fh, Need::Writing),
         Operation::Sync { fh } => by_handle(node, fh, Need::Any),
         Operation::Flush { fh } => Intent::File { fh },
+        Operation::Release { fh } => Intent::Want(Wanted::Release { number: node, fh }),
         Operation::Unlink { name } | Operation::RemoveDir { name } => {
             Intent::Want(Wanted::Remove { parent, name })
         }
@@ -192,7 +193,6 @@ fn intended<'a>(node: u64, operation: Operation<'a>) -> Intent<'a>
             fh,
             usage: FolderUse::Sync,
         },
-        Operation::Release { .. } => refused(ENOSYS),
         Operation::Init { .. } | Operation::Interrupt | Operation::Destroy => Intent::Nothing,
     }
 }

@@ -1,7 +1,8 @@
 //! The calls of one request: at most one that changes something, and then at most one whose answer the reply tells, or one at each name
 //! of a page.
 
-ghost use Rattle.std.specs.Prelude.{◌≡◌, ◌<◌, IfOk, OnErr};
+ghost use Rattle.std.specs.Prelude.{◌≡◌, ◌<◌, [], IfOk, OnErr};
+ghost use Rattle.steps.specs.Answers.{Claim};
 ghost use Rattle.ops.specs.Ahead.{calls_left, end_of, plan_ahead, plan_ending, plan_from, told_of, unless, LooksAtEach};
 ghost use Rattle.ops.specs.Intents.{sets_size};
 ghost use Rattle.ops.specs.Scripts.{after, at_names, at_paths, if_done, look, next_of, plan_of, rename, set_size, AsksNext, End, Over, Plan};
@@ -118,10 +119,24 @@ fn end_with_looks(alloc: Global, ticket: &Ticket) -> Result<Ending<'_>, AllocErr
     }
 }
 
+/// The script of a request whose ticket has no path.
+fn without_path<'a>(operation: Operation<'_>) -> Script<'a>
+    ensures { (ticket : Claim) → ticket.paths ≡ [] → plan_ahead result ≡ plan_of operation.entry ticket }
+{
+    let ending = match operation {
+        Operation::Release { .. } => DONE,
+        _ => UNFIT,
+    };
+    Script {
+        change: None,
+        ending,
+    }
+}
+
 impl<'a> Script<'a> {
     /// The script of a request that began with this ticket. Only that of a READDIRPLUS takes memory.
     ///
-    /// A ticket that has not the paths of its request, and a request that makes no call, has a script that is over with EIO (own).
+    /// A ticket that has not the paths of its request, and a request that has no script, has one that is over with EIO (own).
     pub fn start(
         alloc: Global,
         operation: Operation<'a>,
@@ -131,10 +146,7 @@ impl<'a> Script<'a> {
         ensures err { OnErr result (LooksAtEach operation.entry) }
     {
         let Some(path) = ticket.paths().first() else {
-            return Ok(Script {
-                change: None,
-                ending: UNFIT,
-            });
+            return Ok(without_path(operation));
         };
         let (change, ending) = match operation {
             Operation::Lookup { .. } => (None, look(path, Telling::Entry)),
@@ -149,6 +161,7 @@ impl<'a> Script<'a> {
             Operation::Read { offset, size, .. } => (None, Ending::Read { path, offset, size }),
             Operation::Write { offset, data, .. } => (None, Ending::Write { path, offset, data }),
             Operation::Sync { .. } => (Some(Call::Sync(path)), DONE),
+            Operation::Release { .. } => (None, DONE),
             Operation::OpenDir => (None, Ending::List { path }),
             Operation::Unlink { .. } => (Some(Call::Remove(path)), DONE),
             Operation::RemoveDir { .. } => (Some(Call::RemoveDir(path)), DONE),
@@ -157,7 +170,6 @@ impl<'a> Script<'a> {
             Operation::Forget { .. }
             | Operation::StatFs
             | Operation::Init { .. }
-            | Operation::Release { .. }
             | Operation::Flush { .. }
             | Operation::ReadDir { .. }
             | Operation::ReleaseDir { .. }

@@ -37,6 +37,11 @@ pub enum Wanted<'a> {
         number: u64,
         access: Access,
     },
+    /// An open file of a node, to be closed.
+    Release {
+        number: u64,
+        fh: u64,
+    },
     /// A file to be made and opened.
     Create {
         parent: u64,
@@ -56,6 +61,7 @@ impl<'a> Wanted<'a> {
         match self {
             Wanted::Node { number, handle } => Ok(Want::Node { number, handle }),
             Wanted::Open { number, access } => Ok(Want::Open { number, access }),
+            Wanted::Release { number, fh } => Ok(Want::Release { number, fh }),
             Wanted::Create {
                 parent,
                 name,

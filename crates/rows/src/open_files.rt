@@ -10,7 +10,9 @@ use errno::{
 use ledger::Blanks;
 use std::marker::Brand;
 use std::test::Fail;
-use wire::Operation::{Create, Flush, GetAttr, Lookup, Open, Read, Rename, SetAttr, Sync, Write};
+use wire::Operation::{
+    Create, Flush, GetAttr, Lookup, Open, Read, Release, Rename, SetAttr, Sync, Write,
+};
 
 /// Files that are made or opened, and those that may not be.
 const OPENED: &[Story] = &[
@@ -600,6 +602,63 @@ const HANDLES: &[Story] = &[
 #[test]
 fn handles_of_files(rt: HostRuntime) -> Result<(), Fail> {
     for story in HANDLES {
+        tell::<HostRuntime, Brand>(&rt, rt.alloc(), Blanks::new(1), story)?;
+    }
+    Ok(())
+}
+
+/// Handles that are given up.
+const RELEASED: &[Story] = &[
+    Story {
+        says: "a handle is given up once, and given to no other file",
+        asks: &[
+            (1, Lookup { name: "a" }),
+            (2, Open { flags: 0 }),
+            (2, Open { flags: 2 }),
+            (1, Release { fh: 1 }),
+            (2, Release { fh: 1 }),
+            (2, Release { fh: 1 }),
+            (2, Flush { fh: 1 }),
+            (2, Flush { fh: 2 }),
+            (2, Open { flags: 0 }),
+        ],
+        replies: &[
+            Entry(2, File(3)),
+            Opened(1),
+            Opened(2),
+            Failed(EBADF),
+            Done,
+            Failed(EBADF),
+            Failed(EBADF),
+            Done,
+            Opened(3),
+        ],
+        ..NOTHING
+    },
+    Story {
+        says: "one file may be open, so another is once it was given up",
+        open_files: 1,
+        asks: &[
+            (1, Lookup { name: "a" }),
+            (2, Open { flags: 0 }),
+            (2, Open { flags: 0 }),
+            (2, Release { fh: 1 }),
+            (2, Open { flags: 0 }),
+        ],
+        replies: &[
+            Entry(2, File(3)),
+            Opened(1),
+            Failed(ENFILE),
+            Done,
+            Opened(2),
+        ],
+        ..NOTHING
+    },
+];
+
+#[test]
+fn released_files(rt: HostRuntime) -> Result<(), Fail> {
+    for story in RELEASED {
         tell::<HostRuntime, Brand>(&rt, rt.alloc(), Blanks::new(1), story)?;
     }
     Ok(())
