@@ -29,6 +29,8 @@ pub mod Placing
 pub mod Ends
 pub mod Rooted
 pub mod Giving
+mod Altering
+pub mod Marking
 pub mod Changing
 pub mod Answering
 mod Filling

@@ -1,6 +1,7 @@
 -- The steps of a table. Each says the whole new world.
 use Rattle.std.specs.Prelude.{ℕ, ℤ, ◌+◌, ◌-◌, ◌<◌, ◌≡◌, ◌==◌, ◌&&◌, ◌↔◌, not, if◌then◌else◌, Bool, true, false, List, [], ◌∷◌, ◌++◌, Option, Some, None, Contains, length, drop, map, min}
 use Rattle.errno.specs.declared.TheConstants.{EAGAIN, EBADF, ENFILE}
+use Rattle.std.specs.List.{slice_get}
 use Rattle.files.specs.declared.data.OpenFile.{OpenFile}
 use Rattle.files.specs.Handles.{Files, allows}
 use Rattle.flights.specs.declared.data.Given.{Given}
@@ -15,11 +16,11 @@ use Rattle.tree.specs.declared.nodes.Node.{Node}
 use Rattle.tree.specs.Moves.{Changes, IsPathOfName, after_cut, after_move}
 use Rattle.tree.specs.Places.{Lookup, with_node}
 use Rattle.wants.specs.Asked.{ArePaths, HasPath, Holds, IsDemand, IsPin, IsSound, IsThere, IsUnsound, promise_of}
-use Rattle.wants.specs.Rows.{Change, Demand, Location, Opening, Used, cuts, is_same, moves, stays}
+use Rattle.wants.specs.Rows.{Change, Demand, Location, Opening, Used, cuts, hides, is_same, moves, stays}
 use Rattle.steps.specs.declared.data.Begin.{Begin}
 use Rattle.steps.specs.declared.data.Begin.TheVariants.{Go, Busy, Refused}
 use Rattle.steps.specs.declared.data.Outcome.{Outcome}
-use Rattle.steps.specs.declared.data.Outcome.TheVariants.{Done, Entries, Entry, Failed}
+use Rattle.steps.specs.declared.data.Outcome.TheVariants.{Done, Entries, Entry, Failed, Hidden}
 use Rattle.steps.specs.Answers.{Answer, Claim, Settlement, entries_in}
 use Rattle.steps.specs.Entries.{Enters, TakesAllBack, untaken_of}
 use Rattle.steps.specs.Swept.{IsSwept}
@@ -168,12 +169,21 @@ opened_alone d = if length d.entries == 0 then d.opens else None
 abbrev pub opened_with : Demand → Option Opening
 opened_with d = if length d.entries == 0 then None else d.opens
 
+-- what was to be cut is hidden under the candidate, if there is one
+abbrev pub hiding_at : Change → Option Location → Change
+hiding_at stays candidate = stays
+hiding_at (cuts l) None = stays
+hiding_at (cuts l) (Some candidate) = hides l candidate
+hiding_at (moves source target) candidate = stays
+hiding_at (hides l other) candidate = stays
+
 -- an outcome that does not fit the row acts as a failure
 abbrev pub act_of : Demand → Outcome → Act
 act_of d Failed = failure d
 act_of d Done = record (failure d) { change = d.done; opens = opened_alone d }
 act_of d Entry = record (failure d) { found = one_found d.page d.entries; opens = opened_with d }
 act_of d (Entries found) = record (failure d) { found = page_found d.page d.entries found }
+act_of d (Hidden candidate) = record (failure d) { change = hiding_at d.done (slice_get d.candidates candidate) }
 
 -- ---- finish: entries
 
@@ -212,10 +222,22 @@ pub record Moves (old : Lookup) (source target : Location) (new : Lookup) : Type
   pub new_leads : HasPath old target new_path
   pub changes : Changes (after_move path new_path) old new
 
+-- what stood at the location before, if anything did, has a hidden mark, and all else is as it was
+pub data Marks (before : Lookup) (l : Location) (old new : Lookup) : Type 0 where
+  none_there : ((n : ℕ) → IsThere before l n → ⊥) → new ≡ old → Marks before l old new
+  one_there : (n : ℕ) (x : Node) → IsThere before l n → old n ≡ Some x → new ≡ with_node old n (record x { hidden = true }) → Marks before l old new
+
+-- what stands at the location or below is moved to the candidate, where what stood is cut, and what stood at the location is marked
+pub record Hides (old : Lookup) (l candidate : Location) (new : Lookup) : Type 0 where
+  pub mid : Lookup
+  pub moves : Moves old l candidate mid
+  pub marks : Marks old l mid new
+
 abbrev pub Alters : Lookup → Change → Lookup → Type 0
 Alters old stays new = new ≡ old
 Alters old (cuts l) new = Cuts old l new
 Alters old (moves source target) new = Moves old source target new
+Alters old (hides l candidate) new = Hides old l candidate new
 
 -- ---- finish: files
 

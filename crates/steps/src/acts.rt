@@ -1,12 +1,12 @@
 //! What the end of a request's work may do: the names of its row, taken out of its want.
 
 ghost use Rattle.std.specs.Prelude.{◌≡◌};
-ghost use Rattle.steps.specs.Ending.{alone_in, change_in, folders_in, folders_of, is_page, keys_in, with_in};
+ghost use Rattle.steps.specs.Ending.{alone_in, candidates_in, change_in, folders_in, folders_of, is_page, keys_in, with_in};
 ghost use Rattle.steps.specs.Steps.{opened_alone, opened_with};
 ghost use Rattle.wants.specs.Plans.{copied, copied_page};
 ghost use Rattle.wants.specs.Rows.{Case, row_of};
 
-use crate::keys::{Keys, PageKeys};
+use crate::keys::{FolderKeys, Keys};
 use files::Access;
 use flights::{Names, Want};
 use paths::Name;
@@ -17,7 +17,7 @@ use tree::Key;
 pub(crate) enum Entries {
     Nothing,
     One(Keys),
-    Page(PageKeys),
+    Page(FolderKeys),
 }
 
 /// What becomes of names once the work is done.
@@ -28,6 +28,8 @@ pub(crate) enum Change {
     Cuts(Key),
     /// What stands at the first is moved to the second, where what stood is cut.
     Moves(Key, Keys),
+    /// What stands at the first is moved to the second, where what stood is cut, and marked.
+    Hides(Key, Keys),
 }
 
 /// Which file may be opened.
@@ -45,6 +47,8 @@ pub(crate) enum Opens {
 pub(crate) struct Acts {
     pub(crate) entries: Entries,
     pub(crate) change: Change,
+    /// The names that an open file may be hidden under.
+    pub(crate) candidates: Option<FolderKeys>,
     pub(crate) opens: Opens,
 }
 
@@ -56,6 +60,7 @@ pub(crate) fn acts_of(want: Want, copy: Option<Name>, copies: Names) -> Acts
     ensures page { (c : Case) → is_page result.entries ≡ (row_of want c).page }
     ensures folders { (c : Case) → folders_in result.entries ≡ folders_of (row_of want c) }
     ensures change { (c : Case) → change_in result.change ≡ (row_of want c).done }
+    ensures candidates { (c : Case) → candidates_in result.candidates ≡ (row_of want c).candidates }
     ensures alone { (c : Case) → alone_in result.opens ≡ opened_alone (row_of want c) }
     ensures entered { (c : Case) → with_in result.opens result.entries ≡ opened_with (row_of want c) }
 {
@@ -63,16 +68,19 @@ pub(crate) fn acts_of(want: Want, copy: Option<Name>, copies: Names) -> Acts
         Want::Node { .. } => Acts {
             entries: Entries::Nothing,
             change: Change::Stays,
+            candidates: None,
             opens: Opens::Nothing,
         },
         Want::Name { parent, name } => Acts {
             entries: Entries::One(Keys::new(parent, name, copy)),
             change: Change::Stays,
+            candidates: None,
             opens: Opens::Nothing,
         },
         Want::Remove { parent, name } => Acts {
             entries: Entries::Nothing,
             change: Change::Cuts(Key { parent, name }),
+            candidates: None,
             opens: Opens::Nothing,
         },
         Want::Move {
@@ -83,20 +91,23 @@ pub(crate) fn acts_of(want: Want, copy: Option<Name>, copies: Names) -> Acts
         } => Acts {
             entries: Entries::Nothing,
             change: Change::Moves(Key { parent, name }, Keys::new(new_parent, new_name, copy)),
+            candidates: None,
             opens: Opens::Nothing,
         },
         Want::Page { folder, names } => Acts {
-            entries: Entries::Page(PageKeys {
+            entries: Entries::Page(FolderKeys {
                 folder,
                 names,
                 copies,
             }),
             change: Change::Stays,
+            candidates: None,
             opens: Opens::Nothing,
         },
         Want::Open { number, access } => Acts {
             entries: Entries::Nothing,
             change: Change::Stays,
+            candidates: None,
             opens: Opens::Node(number, access),
         },
         Want::Create {
@@ -106,6 +117,7 @@ pub(crate) fn acts_of(want: Want, copy: Option<Name>, copies: Names) -> Acts
         } => Acts {
             entries: Entries::One(Keys::new(parent, name, copy)),
             change: Change::Stays,
+            candidates: None,
             opens: Opens::Entry(access),
         },
     }

@@ -25,6 +25,8 @@ pub data Change : Type 0 where
   cuts : Location → Change
   -- what stands at the first is moved to the second, where what stood is cut
   moves : Location → Location → Change
+  -- what stands at the first is moved to the second, where what stood is cut, and has a hidden mark
+  hides : Location → Location → Change
 
 -- a file that may be opened: of the node that stands there
 pub record Opening : Type 0 where
@@ -52,13 +54,15 @@ pub record Demand : Type 0 where
   pub page : Bool
   -- what becomes of the names once the work is done
   pub done : Change
+  -- the names that an open file may be hidden under
+  pub candidates : List Location
   -- the file that may be opened
   pub opens : Option Opening
   -- the open file that it uses
   pub used : Option Used
 
 abbrev pub no_demand : Demand
-no_demand = record { given = []; paths = []; shared = []; alone = []; entries = []; births = 0; page = false; done = stays; opens = None; used = None }
+no_demand = record { given = []; paths = []; shared = []; alone = []; entries = []; births = 0; page = false; done = stays; candidates = []; opens = None; used = None }
 
 -- ---- cases
 
@@ -159,3 +163,4 @@ abbrev pub is_same : Change → Bool
 is_same stays = false
 is_same (cuts l) = false
 is_same (moves source target) = are_same source target
+is_same (hides l candidate) = false
