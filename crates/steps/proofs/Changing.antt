@@ -18,11 +18,12 @@ use Rattle.steps.specs.Swept.{IsSwept}
 use Rattle.steps.specs.Sweeping.{HaveReasonsBelow, IsBooked, IsSameRest}
 use Rattle.steps.specs.World.{AreReady, Flight, Flights, IsAtWork, Work}
 use Rattle.steps.proofs.Booked.{IsBooked-swept}
-use Rattle.steps.proofs.Altering.{AltersNodes, IsAltered, IsBooked-altered, altered_back, alters_by, alters_hidden, nodes_altered, nothing_altered}
+use Rattle.steps.proofs.Altering.{AltersNodes, IsAltered, IsBooked-altered, altered_back, alters_by, alters_hidden, alters_then, nodes_altered, nothing_altered}
 use Rattle.steps.proofs.Filing.{nodes_swept}
 use Rattle.steps.proofs.Guarding.{left_where, path_some, path_stays}
 use Rattle.steps.proofs.Kept.{kept_changed, ready_swept}
 use Rattle.steps.proofs.Lawful.{booked_of, lawful_from}
+use Rattle.steps.proofs.Replacing.{alters_follow}
 use Rattle.steps.proofs.Staying.{KeepsPaths}
 use Rattle.steps.proofs.Viewed.{are_kept}
 
@@ -37,6 +38,11 @@ altered_by_change s (rows.hides l c) may new it =
     let m = it.moves in
     alters_hidden (at_in s.tree) l c new it (path_some (at_in s.tree) c may.demand.alone may.placed may.own.1 m.new_path m.new_leads)
     (λ above. may.not_misplaced _ (record { path = m.path; leads = m.leads; new_path = m.new_path; new_leads = m.new_leads; refused = inr (refl, above) }))
+altered_by_change s (rows.replaces l t c moved) may new it =
+    let m = it.hides.moves in
+    let hidden = alters_hidden (at_in s.tree) t c it.hidden it.hides (path_some (at_in s.tree) c may.demand.alone may.placed may.own.2 m.new_path m.new_leads)
+    (λ above. may.not_misplaced _ (inr (record { path = m.path; leads = m.leads; new_path = m.new_path; new_leads = m.new_leads; refused = inr (refl, above) }))) in
+    alters_then (at_in s.tree) it.hidden new hidden (alters_follow it.hidden new m.new_path it.path it.new_path moved it.follows)
 
 -- the nodes that names change under are given
 under_given : (s : State) (change : rows.Change) (may : MayAlter s change) (n : ℕ) → IsUnder change n → (kept_by s.flights s.files) n ≡ true
@@ -46,6 +52,9 @@ under_given s (rows.moves l m) may n (inl e) = may.kept n (subst (λ k. Contains
 under_given s (rows.moves l m) may n (inr e) = may.kept n (subst (λ k. Contains may.demand.given k) (sym e) (may.row.alone m may.own.1))
 under_given s (rows.hides l c) may n (inl e) = may.kept n (subst (λ k. Contains may.demand.given k) (sym e) (may.row.alone l may.own.0))
 under_given s (rows.hides l c) may n (inr e) = may.kept n (subst (λ k. Contains may.demand.given k) (sym e) (may.row.alone c may.own.1))
+under_given s (rows.replaces l t c m) may n (inl e) = may.kept n (subst (λ k. Contains may.demand.given k) (sym e) (may.row.alone l may.own.0))
+under_given s (rows.replaces l t c m) may n (inr (inl e)) = may.kept n (subst (λ k. Contains may.demand.given k) (sym e) (may.row.alone t may.own.1))
+under_given s (rows.replaces l t c m) may n (inr (inr e)) = may.kept n (subst (λ k. Contains may.demand.given k) (sym e) (may.row.alone c may.own.2))
 
 module _ (s : State) (kept : IsKept s) (change : rows.Change) (may : MayAlter s change) (mid : Nodes) (alters : Alters (at_in s.tree) change (at_in mid))
     (children : KeepsChildren (at_in s.tree) (IsUnder change) (at_in mid)) (rest : mid ≡ record s.tree { nodes = mid.nodes; next = mid.next }) (tree : IsTree (at_in mid)) where

@@ -18,15 +18,16 @@ use Rattle.steps.proofs.Standing.{HoldsPrefixes, named_born, named_written, stay
 use Rattle.std.proofs.lemmas.Option.{none-some, same_Some}
 use Rattle.flights.specs.declared.data.Want.{Want}
 use Rattle.steps.specs.declared.data.Outcome.{Outcome}
-use Rattle.steps.specs.declared.data.Outcome.TheVariants.{Done, Entries, Entry, Failed, Hidden}
+use Rattle.steps.specs.declared.data.Outcome.TheVariants.{Done, Entries, Entry, Failed, Hidden, HiddenMove}
 use Rattle.wants.specs.Asked.{HasPath, Holds}
 use Rattle.wants.specs.Laws.{AreOwn, IsRow}
 use Rattle.steps.specs.Laws.{AreEntriesHarmless, AreOthersLeft, AreSweepsHarmless, IsPlaced, LeavesWork}
-use Rattle.wants.specs.Rows.{AtName, AtNode, Case, Change, Demand, Location, cuts, hides, moves, row_of, stays}
-use Rattle.steps.specs.Steps.{Alters, EntersAll, Hides, HoldsUp, Marks, Moves, act_of, hiding_at, none_there, one_there}
+use Rattle.wants.specs.Rows.{AtName, AtNode, Case, Change, Demand, Location, cuts, hides, moves, replaces, row_of, stays}
+use Rattle.steps.specs.Steps.{Alters, EntersAll, Hides, HoldsUp, Marks, Moves, act_of, hiding_at, none_there, one_there, replacing_at}
 use Rattle.steps.specs.World.{Flight, Flights, IsAtWork, Work}
 use Rattle.wants.proofs.Members.{any_in, first_in, later_in}
 use Rattle.wants.proofs.RowLemmas.{are_rows}
+use Rattle.steps.proofs.Following.{path_follows}
 use Rattle.steps.proofs.Staying.{KeepsPaths, paths_kept, ready_kept}
 
 -- ---- acts change no names but those that their rows hold alone
@@ -42,6 +43,15 @@ hiding_own alone (cuts l) None own among = tt
 hiding_own alone (cuts l) (Some c) own among = (own, among c refl)
 hiding_own alone (moves s t) o own among = tt
 hiding_own alone (hides l c) o own among = tt
+hiding_own alone (replaces s t c m) o own among = tt
+
+pub replacing_own : (alone : List Location) (change : Change) (o : Option Location) (moved : Bool) → AreOwn alone change → ((l : Location) → o ≡ Some l → Contains alone l) → AreOwn alone (replacing_at change o moved)
+replacing_own alone stays o moved own among = tt
+replacing_own alone (cuts l) o moved own among = tt
+replacing_own alone (moves s t) None moved own among = tt
+replacing_own alone (moves s t) (Some c) moved own among = (own.0, own.1, among c refl)
+replacing_own alone (hides l c) o moved own among = tt
+replacing_own alone (replaces s t c m) o moved own among = tt
 
 pub act_own : (d : Demand) → IsRow d → (outcome : Outcome) → AreOwn d.alone (act_of d outcome).change
 act_own d row Failed = tt
@@ -49,6 +59,7 @@ act_own d row Done = row.own
 act_own d row Entry = tt
 act_own d row (Entries found) = tt
 act_own d row (Hidden i) = hiding_own d.alone d.done (slice_get d.candidates i) row.own (λ l e. row.hidden l (candidate_in d.candidates i l e))
+act_own d row (HiddenMove i moved) = replacing_own d.alone d.done (slice_get d.candidates i) moved row.own (λ l e. row.hidden l (candidate_in d.candidates i l e))
 
 pub acts_own : (want : Want) (case : Case) (outcome : Outcome) → AreOwn (row_of want case).alone (act_of (row_of want case) outcome).change
 acts_own want case outcome = act_own (row_of want case) (are_rows want case) outcome
@@ -64,7 +75,7 @@ reaches_named old new named n [] h = h
 reaches_named old new named n (name ∷ way) h = (h.0, named n h.0 name h.1, reaches_named old new named h.0 way h.2)
 
 -- a mark moves nothing
-path_after_mark : (before old new : Lookup) (l : Location) → Marks before l old new → (n : ℕ) (q : Names) → IsPathOf old n q → IsPathOf new n q
+pub path_after_mark : (before old new : Lookup) (l : Location) → Marks before l old new → (n : ℕ) (q : Names) → IsPathOf old n q → IsPathOf new n q
 path_after_mark before old new l (none_there none same) n q h = subst (λ (at : Lookup). IsPathOf at n q) (sym same) h
 path_after_mark before old new l (one_there m x there here same) n q h =
     subst (λ (at : Lookup). IsPathOf at n q) (sym same) (reaches_named old _ (named_written old m x (record x { hidden = true }) here refl) n (reverse q) h)
@@ -106,6 +117,8 @@ module _ (old : Lookup) (flights : Flights) (d : Demand) (held : Held) (holds : 
   path_stays (cuts l) new own it n h = path_after_cut old new it.path it.changes n q (apart l own it.path it.leads) h
   path_stays (moves s t) new own it n h = moved_away s t own.0 own.1 new it n h
   path_stays (hides l c) new own it n h = hidden_away l c own.0 own.1 new it n h
+  path_stays (replaces s t c moved) new own it n h =
+      path_follows it.hidden new it.hides.moves.new_path it.path it.new_path moved it.follows n q (apart t own.1 it.new_path it.new_leads) (apart s own.0 it.path it.leads) (hidden_away t c own.1 own.2 it.hidden it.hides n h)
 
 -- where all its paths stay, a request is left
 pub left_where : (old new : Lookup) (flights : Flights) → IsTree new → ((id : ℕ) (f : Flight) (work : Work) → IsAtWork flights id f work → KeepsPaths old new f.pins work.held) → LeavesWork old new flights

@@ -1,6 +1,7 @@
 pub mod Standing
 mod Filing
 pub mod Staying
+mod Following
 pub mod Guarding
 pub mod Beginning
 pub mod Finishing
@@ -31,6 +32,7 @@ pub mod Rooted
 pub mod Giving
 mod Altering
 pub mod Marking
+mod Replacing
 pub mod Changing
 pub mod Answering
 mod Filling

@@ -1,5 +1,5 @@
 -- A name that is hidden: what stands there is moved to a name beside it, and marked.
-use Rattle.std.proofs.Common.{ℕ, ℤ, ◌≡◌, [], ◌∷◌, ◌++◌, true, length-append, Option, Some, None, refl, sym, ap, ◌∙◌, subst, inl, inr, arith}
+use Rattle.std.proofs.Common.{Bool, ℕ, ℤ, ◌≡◌, [], ◌∷◌, ◌++◌, true, length-append, Option, Some, None, refl, sym, ap, ◌∙◌, subst, inl, inr, arith}
 use Rattle.std.specs.List.{slice_get}
 use Rattle.std.proofs.lemmas.Bool.{cases_eq}
 use Rattle.std.proofs.lemmas.Option.{same_Some}
@@ -16,13 +16,13 @@ use Rattle.tree.proofs.Transfers.{changes_alive}
 use Rattle.wants.specs.Asked.{HasPath, IsMisplaced, IsProperPrefix, IsRefusedAt}
 use Rattle.wants.specs.Laws.{AreSiblings, IsBeside}
 use Rattle.wants.specs.Plans.{row_in}
-use Rattle.wants.specs.Rows.{AtName, AtNode, Change, Location, cuts, hides, moves, stays}
+use Rattle.wants.specs.Rows.{AtName, AtNode, Change, Location, cuts, hides, moves, replaces, stays}
 use Rattle.steps.specs.declared.state.State.{State}
 use Rattle.steps.specs.Ending.{IsEnding, KeepsChildren, MayAlter, name_at}
 use Rattle.steps.specs.Kept.{IsKept}
 use Rattle.steps.specs.Steps as steps
-use Rattle.steps.specs.Steps.{hiding_at, none_there, one_there}
-use Rattle.steps.proofs.Guarding.{candidate_in, hiding_own}
+use Rattle.steps.specs.Steps.{hiding_at, none_there, one_there, replacing_at}
+use Rattle.steps.proofs.Guarding.{candidate_in, hiding_own, replacing_own}
 use Rattle.steps.proofs.Reasons.{child_written}
 use Rattle.steps.proofs.Rooted.{is_row, may_alter}
 
@@ -52,6 +52,7 @@ hiding_placed at tree (cuts l) None beside e bad = bad
 hiding_placed at tree (cuts l) (Some c) beside e bad = siblings_placed at tree l c (beside c refl) e bad
 hiding_placed at tree (moves s t) o beside e bad = bad
 hiding_placed at tree (hides l c) o beside e bad = bad
+hiding_placed at tree (replaces s t c moved) o beside e bad = bad
 
 -- what a request that ends may hide
 pub may_hide : (s : State) (id : ℕ) (work : RecordedWork) → IsKept s → IsEnding s id work → (i : ℕ) → MayAlter s (hiding_at (row_in work).done (slice_get (row_in work).candidates i))
@@ -69,6 +70,33 @@ may_hide s id work kept e i =
       clear = may.clear;
       kept = may.kept;
       not_misplaced = hiding_placed (at_in s.tree) kept.law.tree d.done (slice_get d.candidates i) (λ l found. row.beside l (candidate_in d.candidates i l found));
+    }
+
+replacing_placed : (at : Lookup) → IsTree at → (change : Change) (o : Option Location) (moved : Bool) → ((e : ℤ) → IsMisplaced at change e → ⊥) → ((l : Location) → o ≡ Some l → IsBeside change l) → (e : ℤ) → IsMisplaced at (replacing_at change o moved) e → ⊥
+replacing_placed at tree stays o moved may beside e bad = bad
+replacing_placed at tree (cuts l) o moved may beside e bad = bad
+replacing_placed at tree (moves s t) None moved may beside e bad = bad
+replacing_placed at tree (moves s t) (Some c) moved may beside e (inl bad) = may e bad
+replacing_placed at tree (moves s t) (Some c) moved may beside e (inr bad) = siblings_placed at tree t c (beside c refl) e bad
+replacing_placed at tree (hides l c) o moved may beside e bad = bad
+replacing_placed at tree (replaces s t c again) o moved may beside e bad = bad
+
+-- and what it may replace
+pub may_replace : (s : State) (id : ℕ) (work : RecordedWork) → IsKept s → IsEnding s id work → (i : ℕ) (moved : Bool) → MayAlter s (replacing_at (row_in work).done (slice_get (row_in work).candidates i) moved)
+may_replace s id work kept e i moved =
+    let d = row_in work in
+    let row = is_row s id work kept e in
+    let may = may_alter s id work kept e in
+    record {
+      demand = d;
+      row = row;
+      placed = may.placed;
+      own = replacing_own d.alone d.done (slice_get d.candidates i) moved row.own (λ l found. row.hidden l (candidate_in d.candidates i l found));
+      held = may.held;
+      holds = may.holds;
+      clear = may.clear;
+      kept = may.kept;
+      not_misplaced = replacing_placed (at_in s.tree) kept.law.tree d.done (slice_get d.candidates i) moved may.not_misplaced (λ l found. row.beside l (candidate_in d.candidates i l found));
     }
 
 -- ---- a mark

@@ -21,7 +21,7 @@ use Rattle.tree.specs.Places.{Lookup, IsNamed, IsPathOf, Leads, at_in}
 use Rattle.wants.specs.Asked.{Holds, IsPrefixAt, promise_of}
 use Rattle.wants.specs.Laws.{AreOwn, IsRow, base_of}
 use Rattle.wants.specs.Plans.{row_in}
-use Rattle.wants.specs.Rows.{AtName, AtNode, Case, Change, Demand, Opening, case_in, cuts, hides, moves, page_keys, row_of, stays}
+use Rattle.wants.specs.Rows.{AtName, AtNode, Case, Change, Demand, Opening, case_in, cuts, hides, moves, page_keys, replaces, row_of, stays}
 use Rattle.wants.proofs.Members.{any_in, cases_in, first_in, in_map, none_in, only_in}
 use Rattle.wants.proofs.RowLemmas.{are_rows}
 use Rattle.steps.specs.declared.state.State.{State}
@@ -120,6 +120,8 @@ own_leads at d held row holds stays own = tt
 own_leads at d held row holds (cuts l) own = given_leads at d held holds (base_of l) (row.alone l own)
 own_leads at d held row holds (moves s t) own = (given_leads at d held holds (base_of s) (row.alone s own.0), given_leads at d held holds (base_of t) (row.alone t own.1))
 own_leads at d held row holds (hides l c) own = (given_leads at d held holds (base_of l) (row.alone l own.0), given_leads at d held holds (base_of c) (row.alone c own.1))
+own_leads at d held row holds (replaces s t c moved) own =
+    (given_leads at d held holds (base_of s) (row.alone s own.0), given_leads at d held holds (base_of t) (row.alone t own.1), given_leads at d held holds (base_of c) (row.alone c own.2))
 
 -- ---- who shares a path, none holds it alone
 

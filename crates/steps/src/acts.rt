@@ -30,6 +30,8 @@ pub(crate) enum Change {
     Moves(Key, Keys),
     /// What stands at the first is moved to the second, where what stood is cut, and marked.
     Hides(Key, Keys),
+    /// What stands at the second is hidden at the third, and then, if so told, what stood at the first is moved to the second.
+    Replaces(Key, Keys, Keys, bool),
 }
 
 /// Which file may be opened.

@@ -9,7 +9,7 @@ ghost use Rattle.wants.specs.Plans.{row_in};
 use crate::acts::{Acts, Change, acts_of};
 use crate::data::{Answered, Outcome, Ticket};
 use crate::give::give_none;
-use crate::hiding::hide;
+use crate::hiding::{hide, replace};
 use crate::places::alter;
 use crate::state::State;
 use crate::sweep::sweep_cut;
@@ -85,6 +85,10 @@ impl State {
             Outcome::Entries(found) => self.give_entries(id, &held, entries, &found, answer),
             Outcome::Hidden(index) => {
                 self.change(hide(change, candidates, index));
+                give_none(id, &entries, answer, None)
+            }
+            Outcome::HiddenMove { candidate, moved } => {
+                self.change(replace(change, candidates, candidate, moved));
                 give_none(id, &entries, answer, None)
             }
         }

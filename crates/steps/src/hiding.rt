@@ -3,7 +3,7 @@
 ghost use Rattle.std.specs.Prelude.{◌≡◌, option_map};
 ghost use Rattle.std.specs.List.{slice_get};
 ghost use Rattle.steps.specs.Ending.{candidates_in, change_in, keyed_name, names_in};
-ghost use Rattle.steps.specs.Steps.{hiding_at};
+ghost use Rattle.steps.specs.Steps.{hiding_at, replacing_at};
 
 use crate::acts::Change;
 use crate::keys::{FolderKeys, Keys};
@@ -47,6 +47,25 @@ pub(crate) fn hide(change: Change, candidates: Option<FolderKeys>, index: u8) ->
     };
     match change {
         Change::Cuts(key) => Change::Hides(key, candidate),
-        Change::Stays | Change::Moves(..) | Change::Hides(..) => Change::Stays,
+        _ => Change::Stays,
+    }
+}
+
+/// What was to be replaced is hidden under the candidate of that index, and then the move is made, if `moved`. Where there is
+/// no such candidate, nothing changes.
+pub(crate) fn replace(
+    change: Change,
+    candidates: Option<FolderKeys>,
+    index: u8,
+    moved: bool,
+) -> Change
+    ensures { change_in result ≡ replacing_at (change_in change) (slice_get (candidates_in candidates) index) moved }
+{
+    let Some(candidate) = candidate_at(candidates, index) else {
+        return Change::Stays;
+    };
+    match change {
+        Change::Moves(key, target) => Change::Replaces(key, target, candidate, moved),
+        _ => Change::Stays,
     }
 }

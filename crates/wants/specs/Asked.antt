@@ -10,7 +10,7 @@ use Rattle.flights.specs.declared.data.Want.{Want}
 use Rattle.flights.specs.declared.data.Want.TheVariants as wants
 use Rattle.tree.specs.Places.{Lookup, IsFree, IsNamed, IsPathOf, Leads}
 use Rattle.tree.specs.Moves.{IsPathOfName}
-use Rattle.wants.specs.Rows.{Case, Change, Demand, Location, AtName, AtNode, absent, cuts, hides, moves, plain, row_of, stays}
+use Rattle.wants.specs.Rows.{Case, Change, Demand, Location, AtName, AtNode, absent, cuts, hides, moves, plain, replaces, row_of, stays}
 
 -- ---- locations
 
@@ -83,6 +83,7 @@ IsMisplaced at stays e = ⊥
 IsMisplaced at (cuts l) e = ⊥
 IsMisplaced at (moves source target) e = IsRefusedAt at source target e
 IsMisplaced at (hides l candidate) e = IsRefusedAt at l candidate e
+IsMisplaced at (replaces source target candidate moved) e = IsRefusedAt at source target e ⊎ IsRefusedAt at target candidate e
 
 -- none of these tests refuses the row
 pub record IsSound (at : Lookup) (d : Demand) : Type 0 where

@@ -4,7 +4,7 @@ use Rattle.flights.specs.declared.data.Want.{Want}
 use Rattle.tree.specs.declared.nodes.Key.{Key}
 use Rattle.tree.specs.Places.{Lookup, IsTree}
 use Rattle.wants.specs.Asked.{IsDemand}
-use Rattle.wants.specs.Rows.{Case, Change, Demand, Location, AtName, AtNode, cuts, hides, moves, row_of, stays}
+use Rattle.wants.specs.Rows.{Case, Change, Demand, Location, AtName, AtNode, cuts, hides, moves, replaces, row_of, stays}
 
 -- the node that a location is that of, or is under
 abbrev pub base_of : Location → ℕ
@@ -17,6 +17,7 @@ AreOwn alone stays = Unit {0}
 AreOwn alone (cuts l) = Contains alone l
 AreOwn alone (moves source target) = Contains alone source × Contains alone target
 AreOwn alone (hides l candidate) = Contains alone l × Contains alone candidate
+AreOwn alone (replaces source target candidate moved) = Contains alone source × Contains alone target × Contains alone candidate
 
 -- two names under one node
 abbrev pub AreSiblings : Location → Location → Type 0
@@ -30,6 +31,7 @@ IsBeside stays l = ⊥
 IsBeside (cuts gone) l = AreSiblings gone l
 IsBeside (moves source target) l = AreSiblings target l
 IsBeside (hides gone candidate) l = ⊥
+IsBeside (replaces source target candidate moved) l = ⊥
 
 -- what all that is proved of rows rests on
 pub record IsRow (d : Demand) : Type 0 where

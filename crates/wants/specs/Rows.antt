@@ -27,6 +27,8 @@ pub data Change : Type 0 where
   moves : Location → Location → Change
   -- what stands at the first is moved to the second, where what stood is cut, and has a hidden mark
   hides : Location → Location → Change
+  -- what stands at the second is hidden at the third, and then, where it is so told, what stood at the first is moved to the second
+  replaces : Location → Location → Location → Bool → Change
 
 -- a file that may be opened: of the node that stands there
 pub record Opening : Type 0 where
@@ -164,3 +166,4 @@ is_same stays = false
 is_same (cuts l) = false
 is_same (moves source target) = are_same source target
 is_same (hides l candidate) = false
+is_same (replaces source target candidate moved) = false
