@@ -60,6 +60,15 @@ pub enum Want {
     },
 }
 
+/// What a request's row takes from the table besides its want, as the table stood when the request began.
+#[derive(Clone, Copy, Debug, PartialEq, Eq)]
+pub enum Case {
+    /// Nothing, or a node stands at the name for which an entry may be given.
+    Plain,
+    /// No node stands at that name.
+    Absent,
+}
+
 /// What a request may still add, kept free for it from its begin to its finish.
 #[derive(Clone, Copy, Debug, PartialEq, Eq)]
 pub struct Promise {
@@ -195,6 +204,7 @@ impl Pins {
 #[derive(Drop)]
 pub struct Work {
     pub want: Want,
+    pub case: Case,
     /// The name that the want may give to a node, once more: a node is put into the tree under two keys.
     pub copy: Option<Name>,
     /// The names of its page once more, for the same reason.

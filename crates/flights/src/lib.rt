@@ -7,6 +7,6 @@ mod listed;
 mod names;
 mod owners;
 
-pub use data::{Flight, Given, Givens, Handle, Pins, Promise, Stage, Want, Work};
+pub use data::{Case, Flight, Given, Givens, Handle, Pins, Promise, Stage, Want, Work};
 pub use flying::Flights;
 pub use names::Names;

@@ -5,40 +5,43 @@ use Rattle.std.proofs.lemmas.List.Elements.{All-cons}
 use Rattle.paths.specs.Prefixes.{Name}
 use Rattle.tree.specs.declared.nodes.Key.{Key}
 use Rattle.tree.specs.Places.{Lookup}
+use Rattle.flights.specs.declared.data.Case.{Case}
+use Rattle.flights.specs.declared.data.Case.TheVariants as cases
 use Rattle.flights.specs.declared.data.Want.{Want}
 use Rattle.flights.specs.declared.data.Want.TheVariants.{Node, Name as AName, Remove, Move, Page, Open, Create}
 use Rattle.steps.specs.Answers.{Claim}
-use Rattle.wants.specs.Asked.{IsCase, IsDemand, IsEntryCase, IsPin, IsThere}
-use Rattle.wants.specs.Rows.{AtName, Case, Demand, absent, name_row, plain, row_of}
+use Rattle.wants.specs.Asked.{IsPin, IsThere}
+use Rattle.wants.specs.Cases.{IsCase, IsDemand, IsEntryCase, Seen}
+use Rattle.wants.specs.Rows.{AtName, Demand, name_row, row_of}
 use Rattle.steps.specs.Steps.{GoesOn, MayBegin}
-use Rattle.steps.specs.World.{Flight, IsReady, IsStanding, Working, World}
+use Rattle.steps.specs.World.{Flight, IsReady, IsStanding, Working, World, seen_in}
 use Rattle.wants.proofs.Members.{any_first}
 
 module _ (at : Lookup) (f : Flight) where
   entry_known : (parent : ℕ) (name : Name) (c : Case) → IsEntryCase at parent name c → ((n : ℕ) → IsPin at (name_row parent name c) n → Contains f.pins n)
       → ((name_row parent name c).births ≡ length (name_row parent name c).entries) ⊎ All (IsStanding at f) (name_row parent name c).entries
-  entry_known parent name plain fits pins =
+  entry_known parent name cases.Plain fits pins =
       let key : Key = record { parent = parent; name = name } in
       let stands : IsStanding at f key = record { number = fits.0; named = fits.1; pin = pins fits.0 (inr (any_first (λ l. IsThere at l fits.0) (AtName parent name) [] fits.1)) } in
       inr (All-cons (IsStanding at f) key [] stands (λ k d within. absurd (omega (arith, within))))
-  entry_known parent name absent fits pins = inl refl
+  entry_known parent name cases.Absent fits pins = inl refl
 
-  names_known : (want : Want) (c : Case) → IsCase at want c → ((n : ℕ) → IsPin at (row_of want c) n → Contains f.pins n)
-      → ((row_of want c).births ≡ length (row_of want c).entries) ⊎ All (IsStanding at f) (row_of want c).entries
-  names_known (Node number handle) c fits pins = inl refl
-  names_known (AName parent name) c fits pins = entry_known parent name c fits pins
-  names_known (Remove parent name) c fits pins = inl refl
-  names_known (Move parent name new_parent new_name) c fits pins = inl refl
-  names_known (Page folder names) c fits pins = inl (sym (length-map names (λ (name : Name). let key : Key = record { parent = folder; name = name } in key)))
-  names_known (Open number access) c fits pins = inl refl
-  names_known (Create parent name access) c fits pins = entry_known parent name c fits pins
+names_known : (seen : Seen) (f : Flight) (want : Want) (c : Case) → IsCase seen want c → ((n : ℕ) → IsPin seen.at (row_of want c) n → Contains f.pins n)
+    → ((row_of want c).births ≡ length (row_of want c).entries) ⊎ All (IsStanding seen.at f) (row_of want c).entries
+names_known seen f (Node number handle) c fits pins = inl refl
+names_known seen f (AName parent name) c fits pins = entry_known seen.at f parent name c fits pins
+names_known seen f (Remove parent name) c fits pins = inl refl
+names_known seen f (Move parent name new_parent new_name) c fits pins = inl refl
+names_known seen f (Page folder names) c fits pins = inl (sym (length-map names (λ (name : Name). let key : Key = record { parent = folder; name = name } in key)))
+names_known seen f (Open number access) c fits pins = inl refl
+names_known seen f (Create parent name access) c fits pins = entry_known seen.at f parent name c fits pins
 
-pub begun_ready : (old new : World) (unique : ℕ) (want : Want) (d : Demand) (ticket : Claim) → IsDemand old.at want d → MayBegin old d → (goes : GoesOn old unique want d ticket new)
+pub begun_ready : (old new : World) (unique : ℕ) (want : Want) (d : Demand) (ticket : Claim) → IsDemand (seen_in old) want d → MayBegin old d → (goes : GoesOn old unique want d ticket new)
     → IsReady old.at (record { unique = unique; stage = Working (record { want = want; row = d; held = goes.held }); pins = goes.pins }) (record { want = want; row = d; held = goes.held })
 begun_ready old new unique want d ticket asked may goes =
     let f : Flight = record { unique = unique; stage = Working (record { want = want; row = d; held = goes.held }); pins = goes.pins } in
     let P : Demand → Type 0 = λ e. ((n : ℕ) → IsPin old.at e n → Contains goes.pins n) → (e.births ≡ length e.entries) ⊎ All (IsStanding old.at f) e.entries in
-    let known : P d = subst P (sym asked.row) (names_known old.at f want asked.case asked.fits) in
+    let known : P d = subst P (sym asked.row) (names_known (seen_in old) f want asked.case asked.fits) in
     record {
       case = asked.case;
       row = asked.row;

@@ -16,13 +16,14 @@ use Rattle.steps.specs.Entries.{Enters, newborn}
 use Rattle.steps.specs.Swept.{IsSwept}
 use Rattle.steps.proofs.Standing.{HoldsPrefixes, named_born, named_written, stays_pinned}
 use Rattle.std.proofs.lemmas.Option.{none-some, same_Some}
+use Rattle.flights.specs.declared.data.Case.{Case}
 use Rattle.flights.specs.declared.data.Want.{Want}
 use Rattle.steps.specs.declared.data.Outcome.{Outcome}
 use Rattle.steps.specs.declared.data.Outcome.TheVariants.{Done, Entries, Entry, Failed, Hidden, HiddenMove}
 use Rattle.wants.specs.Asked.{HasPath, Holds}
 use Rattle.wants.specs.Laws.{AreOwn, IsRow}
 use Rattle.steps.specs.Laws.{AreEntriesHarmless, AreOthersLeft, AreSweepsHarmless, IsPlaced, LeavesWork}
-use Rattle.wants.specs.Rows.{AtName, AtNode, Case, Change, Demand, Location, cuts, hides, moves, replaces, row_of, stays}
+use Rattle.wants.specs.Rows.{AtName, AtNode, Change, Demand, Location, cuts, hides, moves, replaces, row_of, stays}
 use Rattle.steps.specs.Steps.{Alters, EntersAll, Hides, HoldsUp, Marks, Moves, act_of, hiding_at, none_there, one_there, replacing_at}
 use Rattle.steps.specs.World.{Flight, Flights, IsAtWork, Work}
 use Rattle.wants.proofs.Members.{any_in, first_in, later_in}

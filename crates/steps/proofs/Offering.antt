@@ -13,7 +13,7 @@ use Rattle.flights.specs.Listed.{flying_of}
 use Rattle.tree.specs.declared.nodes.Key.{Key}
 use Rattle.tree.specs.Places.{IsAlive, IsNamed, Lookup, at_in}
 use Rattle.wants.specs.Plans.{row_in}
-use Rattle.wants.specs.Rows.{AtNode, Opening, case_in, stays}
+use Rattle.wants.specs.Rows.{AtNode, Opening, stays}
 use Rattle.steps.specs.declared.acts.Entries.{Entries as Entered}
 use Rattle.steps.specs.declared.acts.Entries.TheVariants.{Nothing, One, Page}
 use Rattle.steps.specs.declared.acts.Opens.{Opens as Opening_}
@@ -71,7 +71,7 @@ module _ (s : State) (id : ℕ) (work : RecordedWork) (kept : IsKept s) (e : IsE
     pub may_open : (o : Opening_) → alone_in o ≡ opened_alone (row_in work) → MayOpen new o
     may_open opens.Nothing is = tt
     may_open (opens.Node number access) is = (
-      alive number (node_given work.want (case_in work.want work.promise) number access is),
+      alive number (node_given work.want work.case number access is),
       room_same new (ap (λ (t : State). t.files) rest) (ap (λ (t : State). t.limits) rest) (ap (λ (t : State). (flying_of t.flights).files) rest)
           (file_room (one_file _ (some_if (length (row_in work).entries == 0) (row_in work).opens _ is))),
     )

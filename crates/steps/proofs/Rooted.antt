@@ -12,6 +12,7 @@ use Rattle.holds.specs.Conflicts.{Conflict}
 use Rattle.holds.specs.declared.held.Held.{Held}
 use Rattle.holds.specs.declared.held.GivenPath.{GivenPath}
 use Rattle.flights.specs.declared.data.Promise.{Promise}
+use Rattle.flights.specs.declared.data.Case.{Case}
 use Rattle.flights.specs.declared.data.Want.{Want}
 use Rattle.flights.specs.declared.data.Want.TheVariants as wants
 use Rattle.flights.specs.declared.data.Work.{Work as RecordedWork}
@@ -21,7 +22,7 @@ use Rattle.tree.specs.Places.{Lookup, IsNamed, IsPathOf, Leads, at_in}
 use Rattle.wants.specs.Asked.{Holds, IsPrefixAt, promise_of}
 use Rattle.wants.specs.Laws.{AreOwn, IsRow, base_of}
 use Rattle.wants.specs.Plans.{row_in}
-use Rattle.wants.specs.Rows.{AtName, AtNode, Case, Change, Demand, Opening, case_in, cuts, hides, moves, page_keys, replaces, row_of, stays}
+use Rattle.wants.specs.Rows.{AtName, AtNode, Change, Demand, Opening, cuts, hides, moves, page_keys, replaces, row_of, stays}
 use Rattle.wants.proofs.Members.{any_in, cases_in, first_in, in_map, none_in, only_in}
 use Rattle.wants.proofs.RowLemmas.{are_rows}
 use Rattle.steps.specs.declared.state.State.{State}
@@ -158,7 +159,7 @@ module _ (s : State) (id : ℕ) (work : RecordedWork) (kept : IsKept s) (e : IsE
   row = row_in work
 
   pub is_row : IsRow row
-  is_row = are_rows work.want (case_in work.want work.promise)
+  is_row = are_rows work.want work.case
 
   pub promised : work.promise ≡ promise_of row
   promised = e.provided.promise
@@ -175,7 +176,7 @@ module _ (s : State) (id : ℕ) (work : RecordedWork) (kept : IsKept s) (e : IsE
     here = e.here;
     answered = e.answered;
     pin_room = e.provided.pin_room;
-    leads = λ key h. given_leads (at_in s.tree) row work.held e.ready.holds key.parent (entries_under work.want (case_in work.want work.promise) key h);
+    leads = λ key h. given_leads (at_in s.tree) row work.held e.ready.holds key.parent (entries_under work.want work.case key h);
     promise = work.promise;
     births = elim entries_standing [ inl one ↦ inl (ap (λ (p : Promise). p.nodes) promised ∙ one) | inr all ↦ inr all ];
     postings = ap (λ (p : Promise). p.postings) promised;
@@ -183,18 +184,18 @@ module _ (s : State) (id : ℕ) (work : RecordedWork) (kept : IsKept s) (e : IsE
   }
 
   pub are_unowned : row.page ≡ false → AreUnowned s row.entries
-  are_unowned one key h = unowned (at_in s.tree) (flights_in (flying_of s.flights)) row work.held key e.ready.holds e.clear (entries_shared work.want (case_in work.want work.promise) one key h)
+  are_unowned one key h = unowned (at_in s.tree) (flights_in (flying_of s.flights)) row work.held key e.ready.holds e.clear (entries_shared work.want work.case one key h)
 
   pub may_fill : row.page ≡ true → MayFill s id row.entries
   may_fill page =
-      let nodes : work.promise.nodes ≡ length row.entries = ap (λ (p : Promise). p.nodes) promised ∙ page_births work.want (case_in work.want work.promise) page in
+      let nodes : work.promise.nodes ≡ length row.entries = ap (λ (p : Promise). p.nodes) promised ∙ page_births work.want work.case page in
       let postings : work.promise.postings ≡ 3 * length row.entries = ap (λ (p : Promise). p.postings) promised in
       record {
         flight = e.flight;
         here = e.here;
         answered = e.answered;
         pin_room = e.provided.pin_room;
-        leads = λ key h. given_leads (at_in s.tree) row work.held e.ready.holds key.parent (entries_under work.want (case_in work.want work.promise) key h);
+        leads = λ key h. given_leads (at_in s.tree) row work.held e.ready.holds key.parent (entries_under work.want work.case key h);
         room = record {
           nodes = omega (arith, nodes, e.room.nodes);
           postings = omega (arith, postings, e.room.postings);
@@ -207,13 +208,13 @@ module _ (s : State) (id : ℕ) (work : RecordedWork) (kept : IsKept s) (e : IsE
       }
 
   pub folder_leads : (n : ℕ) → Contains (folders_of row) n → LeadsTo (at_in s.tree) work.held.given n
-  folder_leads n h = lead_of (at_in s.tree) work.want (case_in work.want work.promise) work.held e.ready.holds n h
+  folder_leads n h = lead_of (at_in s.tree) work.want work.case work.held e.ready.holds n h
 
   abbrev pub may_alter : MayAlter s row.done
   may_alter = record {
     demand = row;
     row = is_row;
-    placed = rows_placed work.want (case_in work.want work.promise);
+    placed = rows_placed work.want work.case;
     own = is_row.own;
     held = work.held;
     holds = e.ready.holds;

@@ -7,6 +7,8 @@ use Rattle.files.specs.Filed.{files_of}
 use Rattle.files.specs.Handles.{Opened}
 use Rattle.flights.specs.declared.data.Flight.{Flight as Recorded}
 use Rattle.flights.specs.declared.data.Stage.TheVariants as recorded
+use Rattle.flights.specs.declared.data.Case.{Case}
+use Rattle.flights.specs.declared.data.Case.TheVariants as cases
 use Rattle.flights.specs.declared.data.Want.{Want}
 use Rattle.flights.specs.declared.data.Want.TheVariants as wants
 use Rattle.flights.specs.declared.data.Work.{Work as RecordedWork}
@@ -22,7 +24,7 @@ use Rattle.wants.specs.declared.data.Plan.{Plan}
 use Rattle.wants.specs.Asked.{Holds, IsPin, IsThere}
 use Rattle.wants.specs.Laws.{IsRow}
 use Rattle.wants.specs.Plans.{IsPlan, IsProvided, row_in}
-use Rattle.wants.specs.Rows.{AtName, AtNode, Case, Demand, Location, case_in, is_same, plain, row_of}
+use Rattle.wants.specs.Rows.{AtName, AtNode, Demand, Location, is_same, row_of}
 use Rattle.wants.proofs.Members.{in_any}
 use Rattle.wants.proofs.RowLemmas.{are_rows}
 use Rattle.steps.specs.declared.data.Limits.{Limits}
@@ -31,7 +33,7 @@ use Rattle.steps.specs.Beginning.{Allows, IsRoomForOne, IsSameButRoom}
 use Rattle.steps.specs.Keeping.{kept_by}
 use Rattle.steps.specs.Kept.{AreProvided, IsKept, IsLimited, flight_of, flights_in, work_of, world_of}
 use Rattle.steps.specs.Steps.{GoesOn, HoldsUp, MayBegin}
-use Rattle.steps.specs.World.{AreHeld, AreReady, Flight, Flights, IsAtWork, IsReady, Work, World, with_entry}
+use Rattle.steps.specs.World.{AreHeld, AreReady, Flight, Flights, IsAtWork, IsReady, Work, World, seen_in, with_entry}
 use Rattle.steps.proofs.Apart.{AreApart, at_work_more, apart_more, held_up_recorded, known_held}
 use Rattle.steps.proofs.Beginning.{begun_ready}
 use Rattle.steps.proofs.Filing.{cases_kept, keeps_open, keeps_pinned, kept_more}
@@ -75,7 +77,7 @@ module _ (at : Lookup) (tree : IsTree at) (d : Demand) (held : Held) (row : IsRo
 -- ---- a plan that is recorded
 
 -- whether a name is moved to itself does not hang on the case
-pub same_case : (want : Want) (c : Case) → is_same (row_of want plain).done ≡ is_same (row_of want c).done
+pub same_case : (want : Want) (c : Case) → is_same (row_of want cases.Plain).done ≡ is_same (row_of want c).done
 same_case (wants.Node number handle) c = refl
 same_case (wants.Name parent name) c = refl
 same_case (wants.Remove parent name) c = refl
@@ -87,7 +89,7 @@ same_case (wants.Create parent name access) c = refl
 same_record : (v w : RecordedWork) → recorded.Working v ≡ recorded.Working w → v ≡ w
 same_record v w e = cc
 
-module _ (s mid : State) (unique id : ℕ) (plan : Plan) (is : IsPlan (at_in s.tree) plan.work.want plan) (same : IsSameButRoom s mid) (flights : InFlight)
+module _ (s mid : State) (unique id : ℕ) (plan : Plan) (is : IsPlan (seen_in (world_of s)) plan.work.want plan) (same : IsSameButRoom s mid) (flights : InFlight)
     (adds : Adds (flying_of mid.flights) (record { id = id; unique = unique; stage = recorded.Working plan.work; pins = plan.pins }) (flying_of flights)) where
   abbrev pub begun : Recorded
   begun = record { id = id; unique = unique; stage = recorded.Working plan.work; pins = plan.pins }
@@ -98,11 +100,11 @@ module _ (s mid : State) (unique id : ℕ) (plan : Plan) (is : IsPlan (at_in s.t
   pub flights_new : flights_in (flying_of flights) ≡ with_entry (flights_in (flying_of mid.flights)) id (Some (flight_of begun))
   flights_new = flights_with (flying_of mid.flights) (flying_of flights) id begun adds.at
 
-  abbrev pub goes_on : (same_path : Bool) → (flying_of mid.flights).at id ≡ None → same_path ≡ is_same (row_of plan.work.want plain).done
+  abbrev pub goes_on : (same_path : Bool) → (flying_of mid.flights).at id ≡ None → same_path ≡ is_same (row_of plan.work.want cases.Plain).done
       → GoesOn (world_of s) unique plan.work.want (row_in plan.work) (record { id = id; paths = plan.paths; same = same_path }) (world_of (record mid { flights = flights }))
   goes_on same_path fresh same_is = record {
     fresh = ap (λ (fs : Flights). fs id) (sym flights_same) ∙ ap (λ (o : Option Recorded). option_map flight_of o) fresh;
-    ticket_is = record { paths = is.paths; same = same_is ∙ same_case plan.work.want (case_in plan.work.want plan.work.promise) };
+    ticket_is = record { paths = is.paths; same = same_is ∙ same_case plan.work.want plan.work.case };
     held = plan.work.held;
     holds = is.holds;
     pins = plan.pins.numbers;
@@ -111,7 +113,7 @@ module _ (s mid : State) (unique id : ℕ) (plan : Plan) (is : IsPlan (at_in s.t
         ∙ ap (λ (fs : Flights). record (world_of s) { flights = fs }) (flights_new ∙ ap (λ (fs : Flights). with_entry fs id (Some (flight_of begun))) flights_same);
   }
 
-  module _ (same_path : Bool) (fresh : (flying_of mid.flights).at id ≡ None) (same_is : same_path ≡ is_same (row_of plan.work.want plain).done) (kept : IsKept mid) (all_flying : IsFlying (flying_of flights))
+  module _ (same_path : Bool) (fresh : (flying_of mid.flights).at id ≡ None) (same_is : same_path ≡ is_same (row_of plan.work.want cases.Plain).done) (kept : IsKept mid) (all_flying : IsFlying (flying_of flights))
       (free : flying.HoldsUp (flying_of s.flights).at plan.work.held → ⊥) (may : MayBegin (world_of s) (row_in plan.work)) (allows : Allows s plan.work.promise) (room : IsRoomForOne mid plan.work.promise) where
     at_same : at_in mid.tree ≡ at_in s.tree
     at_same = ap (λ (w : World). w.at) same.world
@@ -123,14 +125,14 @@ module _ (s mid : State) (unique id : ℕ) (plan : Plan) (is : IsPlan (at_in s.t
     given_pinned n given = (is.pins n).1 (inl given)
 
     its_row : IsRow (row_in plan.work)
-    its_row = are_rows plan.work.want (case_in plan.work.want plan.work.promise)
+    its_row = are_rows plan.work.want plan.work.case
 
     -- ---- the new request
 
     new_ready : IsReady (at_in mid.tree) (flight_of begun) (work_of plan.work)
     new_ready = subst (λ (at : Lookup). IsReady at (flight_of begun) (work_of plan.work)) (sym at_same)
         (begun_ready (world_of s) (world_of (record mid { flights = flights })) unique plan.work.want (row_in plan.work) (record { id = id; paths = plan.paths; same = same_path })
-        (record { case = case_in plan.work.want plan.work.promise; fits = is.fits; row = refl }) may (goes_on same_path fresh same_is))
+        (record { case = plan.work.case; fits = is.fits; row = refl }) may (goes_on same_path fresh same_is))
 
     new_known : All (IsGivenPath (at_in mid.tree) plan.work.held) plan.work.held.given
     new_known = subst (λ (at : Lookup). All (IsGivenPath at plan.work.held) plan.work.held.given) (sym at_same)

@@ -13,7 +13,7 @@ use Rattle.steps.specs.declared.state.State.{State}
 use Rattle.steps.specs.Beginning.{Allows, Forbids, IsTooMuch}
 use Rattle.steps.specs.Kept.{flights_in, tally_of, world_of}
 use Rattle.steps.specs.Steps.{IsAdmissible, IsBadHandle, IsCrowded, IsFull, IsHeldUp, IsRefusal, MayBegin, crowded, full}
-use Rattle.steps.specs.World.{HasRoom, IsTally, Tally}
+use Rattle.steps.specs.World.{HasRoom, IsTally, Tally, seen_in}
 use Rattle.steps.proofs.Adding.{tally_once}
 use Rattle.steps.proofs.Apart.{held_up_recorded, held_up_same, held_up_seen}
 
@@ -38,14 +38,14 @@ module _ (s : State) (p : Promise) where
 
 -- ---- tests of a plan
 
-module _ (s : State) (want : Want) (plan : Plan) (is : IsPlan (at_in s.tree) want plan) where
+module _ (s : State) (want : Want) (plan : Plan) (is : IsPlan (seen_in (world_of s)) want plan) where
   pub held_up : flying.HoldsUp (flying_of s.flights).at plan.work.held → IsHeldUp (world_of s) (row_in plan.work)
   held_up up = record { held = plan.work.held; holds = is.holds; up = held_up_seen (flying_of s.flights) plan.work.held up }
 
   pub not_held_up : (flying.HoldsUp (flying_of s.flights).at plan.work.held → ⊥) → IsHeldUp (world_of s) (row_in plan.work) → ⊥
   not_held_up free up = free (held_up_recorded (flying_of s.flights) plan.work.held (held_up_same (at_in s.tree) (row_in plan.work) up.held plan.work.held up.holds is.holds (flights_in (flying_of s.flights)) up.up))
 
-module _ (s : State) (want : Want) (plan : Plan) (is : IsPlan (at_in s.tree) want plan) (usable : IsBadHandle (world_of s) (row_in plan.work) → ⊥) (tally : IsTally (world_of s) (tally_of s)) where
+module _ (s : State) (want : Want) (plan : Plan) (is : IsPlan (seen_in (world_of s)) want plan) (usable : IsBadHandle (world_of s) (row_in plan.work) → ⊥) (tally : IsTally (world_of s) (tally_of s)) where
   pub admissible : IsAdmissible (world_of s) (row_in plan.work)
   admissible = record { usable = usable; sound = is.sound }
 

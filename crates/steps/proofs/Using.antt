@@ -9,7 +9,7 @@ use Rattle.wants.specs.Rows.{Used, row_of}
 use Rattle.wants.proofs.Wanting.{case_there}
 use Rattle.steps.specs.Beginning.{IsRefusedHandle}
 use Rattle.steps.specs.Steps.{IsUsable}
-use Rattle.steps.specs.World.{World}
+use Rattle.steps.specs.World.{World, seen_in}
 
 module _ (w : World) (want : Want) (number : ℕ) (handle : Option Handle) (h : Handle) (is : want ≡ wants.Node number handle) (some : handle ≡ Some h) where
   abbrev used : Used
@@ -20,7 +20,7 @@ module _ (w : World) (want : Want) (number : ℕ) (handle : Option Handle) (h : 
 
   pub used_badly : (living counts : ℕ) → IsTree w.at → IsCensus w.at living counts → (IsUsable w.files used → ⊥) → IsRefusedHandle w want EBADF
   used_badly living counts tree census unusable = subst (λ (v : Want). IsRefusedHandle w v EBADF) (sym want_is) (
-      let it = case_there w.at living counts tree census (wants.Node number (Some h)) in
+      let it = case_there (seen_in w) living counts tree census (wants.Node number (Some h)) in
       record {
         demand = row_of (wants.Node number (Some h)) it.0;
         demanded = record { case = it.0; fits = it.1; row = refl };

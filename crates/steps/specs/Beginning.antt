@@ -2,15 +2,16 @@
 use Rattle.std.specs.Prelude.{ℤ, ◌+◌, ◌^◌, ◌<◌, ◌≤◌, ◌≡◌, ◌⊎◌, length}
 use Rattle.errno.specs.declared.TheConstants.{EAGAIN, EBADF, ENFILE}
 use Rattle.files.specs.Filed.{files_of}
+use Rattle.flights.specs.declared.data.Case.{Case}
 use Rattle.flights.specs.declared.data.Promise.{Promise}
 use Rattle.flights.specs.Listed.{flying_of}
 use Rattle.steps.specs.declared.state.State.{State}
 use Rattle.flights.specs.declared.data.Want.{Want}
-use Rattle.wants.specs.Asked.{IsDemand}
-use Rattle.wants.specs.Rows.{Case, Demand, row_of}
+use Rattle.wants.specs.Cases.{IsDemand}
+use Rattle.wants.specs.Rows.{Demand, row_of}
 use Rattle.steps.specs.Kept.{world_of}
 use Rattle.steps.specs.Steps.{IsBadHandle}
-use Rattle.steps.specs.World.{World}
+use Rattle.steps.specs.World.{World, seen_in}
 
 -- the files that may be opened keep within the limit, and handles are left for them
 pub record HasHandles (s : State) (p : Promise) : Type 0 where
@@ -38,7 +39,7 @@ Forbids s p e = ((e ≡ ENFILE) × IsTooMuch s p) ⊎ ((e ≡ EAGAIN) × (IsTooM
 -- what the want's row uses, whatever its case, is not open, is open on another node, or lacks the access
 pub record IsRefusedHandle (w : World) (want : Want) (e : ℤ) : Type 0 where
   pub demand : Demand
-  pub demanded : IsDemand w.at want demand
+  pub demanded : IsDemand (seen_in w) want demand
   pub errno : e ≡ EBADF
   pub bad : IsBadHandle w demand
 

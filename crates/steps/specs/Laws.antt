@@ -1,6 +1,7 @@
 -- What is proved of the steps, whatever the want.
 use Rattle.std.specs.Prelude.{ℕ, ◌≡◌, Bool, List, Option, None, Contains, ◌++◌}
 use Rattle.files.specs.Handles.{Files}
+use Rattle.flights.specs.declared.data.Case.{Case}
 use Rattle.flights.specs.declared.data.Given.{Given}
 use Rattle.flights.specs.declared.data.Want.{Want}
 use Rattle.holds.specs.declared.held.Held.{Held}
@@ -8,15 +9,16 @@ use Rattle.ledger.specs.declared.postings.Posting.{Posting}
 use Rattle.paths.specs.Prefixes.{Names}
 use Rattle.tree.specs.declared.nodes.Key.{Key}
 use Rattle.tree.specs.Places.{Lookup, IsTree}
-use Rattle.wants.specs.Asked.{ArePaths, Holds, IsDemand}
+use Rattle.wants.specs.Asked.{ArePaths, Holds}
+use Rattle.wants.specs.Cases.{IsDemand}
 use Rattle.wants.specs.Laws.{AreOwn}
-use Rattle.wants.specs.Rows.{Case, Change, Demand, Location, AtNode, row_of}
+use Rattle.wants.specs.Rows.{Change, Demand, Location, AtNode, row_of}
 use Rattle.steps.specs.declared.data.Begin.{Begin}
 use Rattle.steps.specs.declared.data.Outcome.{Outcome}
 use Rattle.steps.specs.Answers.{Answer, Claim, Settlement}
 use Rattle.steps.specs.Steps.{Alters, Begins, Ends, EntersAll, Finishes, Forgets, GoesOn, HoldsUp, MayBegin, Settles, act_of}
 use Rattle.steps.specs.Swept.{IsSwept}
-use Rattle.steps.specs.World.{AreKept, Flight, Flights, IsAtWork, IsReady, IsTally, Tally, Work, Working, World, with_entry}
+use Rattle.steps.specs.World.{AreKept, Flight, Flights, IsAtWork, IsReady, IsTally, Tally, Work, Working, World, seen_in, with_entry}
 
 -- ---- what others were given stays
 
@@ -35,7 +37,7 @@ pub record LeavesWork (old new : Lookup) (flights : Flights) : Type 0 where
 
 -- a request that goes on has what it relies on
 abbrev pub AreBegunReady : Type 0
-AreBegunReady = (old new : World) (unique : ℕ) (want : Want) (d : Demand) (ticket : Claim) → IsDemand old.at want d → MayBegin old d → (goes : GoesOn old unique want d ticket new)
+AreBegunReady = (old new : World) (unique : ℕ) (want : Want) (d : Demand) (ticket : Claim) → IsDemand (seen_in old) want d → MayBegin old d → (goes : GoesOn old unique want d ticket new)
     → IsReady old.at (record { unique = unique; stage = Working (record { want = want; row = d; held = goes.held }); pins = goes.pins }) (record { want = want; row = d; held = goes.held })
 
 -- a change of names that nothing is in the way of leaves all others

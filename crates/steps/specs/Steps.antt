@@ -15,7 +15,8 @@ use Rattle.tree.specs.declared.nodes.Key.{Key}
 use Rattle.tree.specs.declared.nodes.Node.{Node}
 use Rattle.tree.specs.Moves.{Changes, IsPathOfName, Where, after_cut, after_move}
 use Rattle.tree.specs.Places.{Lookup, with_node}
-use Rattle.wants.specs.Asked.{ArePaths, HasPath, Holds, IsDemand, IsPin, IsSound, IsThere, IsUnsound, promise_of}
+use Rattle.wants.specs.Asked.{ArePaths, HasPath, Holds, IsPin, IsSound, IsThere, IsUnsound, promise_of}
+use Rattle.wants.specs.Cases.{IsDemand}
 use Rattle.wants.specs.Rows.{Change, Demand, Location, Opening, Used, cuts, hides, is_same, moves, replaces, stays}
 use Rattle.steps.specs.declared.data.Begin.{Begin}
 use Rattle.steps.specs.declared.data.Begin.TheVariants.{Go, Busy, Refused}
@@ -24,7 +25,7 @@ use Rattle.steps.specs.declared.data.Outcome.TheVariants.{Done, Entries, Entry, 
 use Rattle.steps.specs.Answers.{Answer, Claim, Settlement, entries_in}
 use Rattle.steps.specs.Entries.{Enters, TakesAllBack, untaken_of}
 use Rattle.steps.specs.Swept.{IsSwept}
-use Rattle.steps.specs.World.{AreKept, Answered, Flight, Flights, HasRoom, IsAtWork, IsTally, Tally, Work, Working, World, with_entry}
+use Rattle.steps.specs.World.{AreKept, Answered, Flight, Flights, HasRoom, IsAtWork, IsTally, Tally, Work, Working, World, seen_in, with_entry}
 
 -- what the ledger gained by a step
 abbrev pub gained : World → World → List Posting
@@ -136,7 +137,7 @@ BeginsAs old unique want d (Refused e) new = IsRefusal old d e × (new ≡ old)
 
 pub record Begins (old : World) (unique : ℕ) (want : Want) (answer : Begin) (new : World) : Type 0 where
   pub demand : Demand
-  pub demanded : IsDemand old.at want demand
+  pub demanded : IsDemand (seen_in old) want demand
   pub begins : BeginsAs old unique want demand answer new
 
 -- ---- finish: what an outcome comes to

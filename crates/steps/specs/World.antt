@@ -4,6 +4,7 @@ use Rattle.std.specs.Prelude.{ℕ, ℤ, ◌+◌, ◌^◌, ◌<◌, ◌≤◌, �
 use Rattle.holds.specs.declared.held.Held.{Held}
 use Rattle.holds.specs.Conflicts.{Conflict}
 use Rattle.ledger.specs.declared.postings.Posting.{Posting}
+use Rattle.flights.specs.declared.data.Case.{Case}
 use Rattle.flights.specs.declared.data.Promise.{Promise}
 use Rattle.flights.specs.declared.data.Want.{Want}
 use Rattle.files.specs.declared.data.OpenFile.{OpenFile}
@@ -14,7 +15,8 @@ use Rattle.image.specs.Law.{HasNode, IsLawful, IsGivenPath}
 use Rattle.sums.specs.Sum.{IsSum}
 use Rattle.steps.specs.declared.data.Limits.{Limits}
 use Rattle.wants.specs.Asked.{Holds, IsMisplaced, promise_of}
-use Rattle.wants.specs.Rows.{Case, Demand, row_of}
+use Rattle.wants.specs.Cases.{Seen}
+use Rattle.wants.specs.Rows.{Demand, row_of}
 
 -- ---- what a table keeps
 
@@ -51,6 +53,10 @@ pub record World : Type 0 where
   pub counter : ℕ
   -- the last handle that was given, or 0
   pub last_handle : ℕ
+
+-- what the case of a want may look at
+abbrev pub seen_in : World → Seen
+seen_in w = record { at = w.at; files = w.files; counter = w.counter }
 
 -- the same look-up, but that the key leads to x, or to none
 abbrev pub with_entry : {X : Type 0} → (ℕ → Option X) → ℕ → Option X → ℕ → Option X

@@ -4,11 +4,11 @@ ghost use Rattle.std.specs.Prelude.{◌≡◌};
 ghost use Rattle.steps.specs.Ending.{alone_in, candidates_in, change_in, folders_in, folders_of, is_page, keys_in, with_in};
 ghost use Rattle.steps.specs.Steps.{opened_alone, opened_with};
 ghost use Rattle.wants.specs.Plans.{copied, copied_page};
-ghost use Rattle.wants.specs.Rows.{Case, row_of};
+ghost use Rattle.wants.specs.Rows.{row_of};
 
 use crate::keys::{FolderKeys, Keys};
 use files::Access;
-use flights::{Names, Want};
+use flights::{Case, Names, Want};
 use paths::Name;
 use tree::Key;
 
@@ -54,17 +54,17 @@ pub(crate) struct Acts {
     pub(crate) opens: Opens,
 }
 
-/// What the row of the want says.
-pub(crate) fn acts_of(want: Want, copy: Option<Name>, copies: Names) -> Acts
+/// What the row of the want says in that case.
+pub(crate) fn acts_of(want: Want, _case: Case, copy: Option<Name>, copies: Names) -> Acts
     requires copy { copy ≡ copied want }
     requires copies { copies ≡ copied_page want }
-    ensures entries { (c : Case) → keys_in result.entries ≡ (row_of want c).entries }
-    ensures page { (c : Case) → is_page result.entries ≡ (row_of want c).page }
-    ensures folders { (c : Case) → folders_in result.entries ≡ folders_of (row_of want c) }
-    ensures change { (c : Case) → change_in result.change ≡ (row_of want c).done }
-    ensures candidates { (c : Case) → candidates_in result.candidates ≡ (row_of want c).candidates }
-    ensures alone { (c : Case) → alone_in result.opens ≡ opened_alone (row_of want c) }
-    ensures entered { (c : Case) → with_in result.opens result.entries ≡ opened_with (row_of want c) }
+    ensures entries { keys_in result.entries ≡ (row_of want _case).entries }
+    ensures page { is_page result.entries ≡ (row_of want _case).page }
+    ensures folders { folders_in result.entries ≡ folders_of (row_of want _case) }
+    ensures change { change_in result.change ≡ (row_of want _case).done }
+    ensures candidates { candidates_in result.candidates ≡ (row_of want _case).candidates }
+    ensures alone { alone_in result.opens ≡ opened_alone (row_of want _case) }
+    ensures entered { with_in result.opens result.entries ≡ opened_with (row_of want _case) }
 {
     match want {
         Want::Node { .. } => Acts {

@@ -6,21 +6,21 @@ ghost use Rattle.steps.specs.Beginning.{Allows, Forbids, HasHandles, IsHandleUsa
 ghost use Rattle.steps.specs.Kept.{IsKept, tally_of, world_of};
 ghost use Rattle.steps.specs.Steps.{Begins, IsUsable};
 ghost use Rattle.steps.specs.World.{IsTally};
-ghost use Rattle.tree.specs.Places.{at_in};
 ghost use Rattle.wants.specs.Plans.{IsPlan};
-ghost use Rattle.wants.specs.Rows.{is_same, plain, row_of};
+ghost use Rattle.wants.specs.Cases.{seen_of};
+ghost use Rattle.wants.specs.Rows.{is_same, row_of};
 
 use crate::data::{Begin, Ticket};
 use crate::state::State;
 use errno::{EAGAIN, EBADF, ENFILE, ENOMEM};
 use files::Files;
-use flights::{Flight, Handle, Promise, Stage, Want};
+use flights::{Case, Flight, Handle, Promise, Stage, Want};
 use std::alloc::AllocError;
 use wants::{Plan, plan};
 
 /// Whether a name is moved to itself.
 fn is_same(want: &Want) -> bool
-    ensures { result ≡ is_same (row_of want.now plain).done }
+    ensures { result ≡ is_same (row_of want.now Case.Plain).done }
 {
     match want {
         Want::Move {
@@ -59,7 +59,7 @@ impl State {
             Ok(()) => {}
             Err(errno) => return Begin::Refused(errno),
         }
-        match plan(self.alloc, &self.tree, want) {
+        match plan(self.alloc, &self.tree, &self.files, self.counter, want) {
             Ok(plan) => self.admit(unique, plan),
             Err(errno) => Begin::Refused(errno),
         }
@@ -90,7 +90,7 @@ impl State {
     /// Records a request that passed the tests of its paths, if none is in its way and the limits allow it.
     fn admit(&mut self, unique: u64, plan: Plan) -> Begin
         requires kept { IsKept self.old }
-        requires plan { IsPlan (at_in self.old.tree) plan.work.want plan }
+        requires plan { IsPlan (seen_of self.old.tree self.old.files self.old.counter) plan.work.want plan }
         requires handle { IsHandleUsable (world_of self.old) plan.work.want }
         ensures begins { Begins (world_of self.old) unique plan.work.want result (world_of self.new) }
         ensures kept { IsKept self.new }

@@ -58,6 +58,7 @@ impl State {
     {
         let Work {
             want,
+            case,
             copy,
             copies,
             held,
@@ -69,7 +70,7 @@ impl State {
             change,
             candidates,
             opens,
-        } = acts_of(want, copy, copies);
+        } = acts_of(want, case, copy, copies);
         match outcome {
             Outcome::Failed => give_none(id, &entries, answer, None),
             Outcome::Done => {

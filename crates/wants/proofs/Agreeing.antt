@@ -14,9 +14,10 @@ use Rattle.wants.specs.declared.drafts.Draft.{Draft}
 use Rattle.wants.specs.declared.rows.Hold.{Hold}
 use Rattle.wants.specs.declared.rows.Hold.TheVariants.{Shared, Alone}
 use Rattle.wants.specs.Asked.{ArePaths, HasPath, Holds, IsAboveAt, IsAlone, IsLong, IsMisplaced, IsPin, IsPrefixAt, IsRefusedMove, IsShared, IsSound, IsStale, IsThere, IsUnsound, long, misplaced, no_memory, stale, promise_of}
-use Rattle.wants.specs.Drafts.{AreEnough, AreNames, AreRooted, CanMove, IsAgreed, IsBadRow, IsCaseOf, IsDraft, IsDrawn, IsEntered, IsFit, IsLongPath, IsLost, IsOwnAt, IsPinAt, IsRootedAt, IsSharedAt, IsShortPath, IsTaken, IsVacant, IsWrongChange, MayChange, alone_in, change_in, demand_in, entries_of, errno_of, key_in, locations_of}
+use Rattle.wants.specs.Drafts.{AreEnough, AreNames, AreRooted, CanMove, IsAgreed, IsBadRow, IsCaseOf, IsDraft, IsDrawn, IsEntered, IsFit, IsLongPath, IsLost, IsOwnAt, IsPinAt, IsRootedAt, IsSharedAt, IsShortPath, IsTaken, IsVacant, IsWrongChange, MayChange, alone_in, change_in, demand_in, entered_case, entries_of, errno_of, key_in, locations_of}
 use Rattle.wants.specs.Laws.{base_of}
-use Rattle.wants.specs.Rows.{Case, Location, AtName, AtNode, entered_case}
+use Rattle.flights.specs.declared.data.Case.{Case}
+use Rattle.wants.specs.Rows.{Location, AtName, AtNode, births_in}
 use Rattle.flights.specs.declared.data.Promise.{Promise}
 use Rattle.flights.specs.Roomy.{Listed, Pinned}
 use Rattle.holds.specs.declared.held.Held.{Held}
@@ -191,12 +192,11 @@ module _ (at : Lookup) (tree : IsTree at) where
 
   -- ---- promises
 
-  pub case_for : (enters none : Bool) (ls : List Location) (postings : ℕ) → (none ≡ true → Any (IsVacant at) ls) → (none ≡ false → All (IsTaken at) ls)
-      → IsCaseOf at enters ls (entered_case (record { nodes = if none then (if enters then 1 else 0) else 0; postings = postings; files = 0 }))
-  case_for true true ls postings vacant taken = vacant refl
-  case_for true false ls postings vacant taken = taken refl
-  case_for false true ls postings vacant taken = refl
-  case_for false false ls postings vacant taken = refl
+  pub case_for : (enters none : Bool) (ls : List Location) → (none ≡ true → Any (IsVacant at) ls) → (none ≡ false → All (IsTaken at) ls) → IsCaseOf at enters ls (entered_case none enters)
+  case_for true true ls vacant taken = vacant refl
+  case_for true false ls vacant taken = taken refl
+  case_for false true ls vacant taken = refl
+  case_for false false ls vacant taken = refl
 
 pub one_entry : (enters : Bool) (ls : List Location) → IsEntered enters ls → length (if enters then key_in ls else []) ≡ (if enters then 1 else 0)
 one_entry false ls entered = refl
@@ -205,7 +205,7 @@ one_entry true (AtNode n ∷ ls) entered = absurd entered
 one_entry true (AtName parent name ∷ ls) entered = refl
 
 pub promise_for : (enters none : Bool) (ls : List Location) (hold : Hold) (change : told_change.Change) → IsEntered enters ls
-    → (let p : Promise = record { nodes = if none then (if enters then 1 else 0) else 0; postings = 3 * (if enters then 1 else 0); files = 0 } in p ≡ promise_of (demand_in ls hold enters change (entered_case p)))
+    → (let p : Promise = record { nodes = births_in (entered_case none enters); postings = 3 * (if enters then 1 else 0); files = 0 } in p ≡ promise_of (demand_in ls hold enters change (entered_case none enters)))
 promise_for false true ls hold change entered = refl
 promise_for false false ls hold change entered = refl
 promise_for true true [] hold change entered = absurd entered
@@ -230,21 +230,22 @@ pub enough_paths : (change : told_change.Change) (m n : ℕ) → m ≡ n → Are
 enough_paths change m n e h = subst (λ k. AreEnough change k) e h
 
 pub agreed : (at : Lookup) → IsTree at → (row : Row) (x : Draft) (births entries : ℕ) (t : Terms) → IsFit row → AreRooted at (locations_of row) → IsDraft at row.hold (locations_of row) x → MayChange row.change x.paths.items
-    → entries ≡ entries_of row → births ≡ (if x.absent then entries else 0) → entries_of row ≤ x.pins.room → IsDrawn x births entries t → IsAgreed at row t
+    → entries ≡ entries_of row → births ≡ births_in (entered_case x.absent row.enters) → entries_of row ≤ x.pins.room → IsDrawn x (entered_case x.absent row.enters) births entries t → IsAgreed at row t
 agreed at tree row x births entries t fit rooted is may e b room drawn =
     let ls = locations_of row in
-    let c = entered_case t.promise in
+    let c = t.case in
+    let case = entered_case x.absent row.enters in
     let few : length (if row.enters then key_in ls else []) ≡ entries_of row = one_entry row.enters ls fit.entry in
-    let promised : t.promise ≡ record { nodes = if x.absent then entries_of row else 0; postings = 3 * entries_of row; files = 0 }
-    = subst (λ (n : ℕ). t.promise ≡ record { nodes = if x.absent then n else 0; postings = 3 * n; files = 0 }) e (subst (λ (m : ℕ). t.promise ≡ record { nodes = m; postings = 3 * entries; files = 0 }) b drawn.promise) in
+    let promised : t.promise ≡ record { nodes = births_in case; postings = 3 * entries_of row; files = 0 }
+    = subst (λ (n : ℕ). t.promise ≡ record { nodes = births_in case; postings = 3 * n; files = 0 }) e (subst (λ (m : ℕ). t.promise ≡ record { nodes = m; postings = 3 * entries; files = 0 }) b drawn.promise) in
     record {
-      fits = subst (λ (p : Promise). IsCaseOf at row.enters ls (entered_case p)) (sym promised) (case_for at tree row.enters x.absent ls (3 * entries_of row) is.vacant is.taken);
+      fits = subst (λ k. IsCaseOf at row.enters ls k) (sym drawn.case_is) (case_for at tree row.enters x.absent ls is.vacant is.taken);
       terms = record {
         sound = sound at tree ls row.hold row.enters row.change c x.paths.items rooted is.paths may;
         holds = subst (λ (held : Held). Holds at (demand_in ls row.hold row.enters row.change c) held) (sym drawn.held) (holds_for at tree ls x row.hold fit.names row.enters row.change c is);
         pins = subst (λ (p : Pinned). (n : ℕ) → Contains p.numbers n ↔ IsPin at (demand_in ls row.hold row.enters row.change c) n) (sym drawn.pins) (pins_for at tree ls x row.hold row.enters row.change c is);
         paths = subst (λ (ps : List Names). ArePaths at ls ps) (sym drawn.paths) (paths_for at tree ls x.paths.items is.paths);
-        promise = subst (λ (p : Promise). p ≡ promise_of (demand_in ls row.hold row.enters row.change (entered_case p))) (sym promised) (promise_for row.enters x.absent ls row.hold row.change fit.entry);
+        promise = subst (λ k. t.promise ≡ promise_of (demand_in ls row.hold row.enters row.change k)) (sym drawn.case_is) (promised ∙ promise_for row.enters x.absent ls row.hold row.change fit.entry);
         pin_room = subst (λ (p : Pinned). length (if row.enters then key_in ls else []) ≤ p.room) (sym drawn.pins) (subst (λ n. n ≤ x.pins.room) (sym few) room);
         answer_room = subst (λ (g : Listed). length (if row.enters then key_in ls else []) ≤ g.room) (sym drawn.answer) (omega (arith, few, e));
         unanswered = ap (λ (g : Listed). g.items) drawn.answer;

@@ -11,6 +11,7 @@ use Rattle.holds.specs.declared.held.Held.{Held}
 use Rattle.tree.specs.declared.nodes.Key.{Key}
 use Rattle.tree.specs.Places.{Lookup, IsTree, Leads}
 use Rattle.wants.specs.declared.drafts.Draft.{Draft}
+use Rattle.flights.specs.declared.data.Case.TheVariants as cases
 use Rattle.wants.specs.declared.drafts.Terms.{Terms}
 use Rattle.wants.specs.declared.found.Found.{Found}
 use Rattle.wants.specs.declared.refusal.Refusal.{Refusal}
@@ -130,7 +131,7 @@ module _ (at : Lookup) (tree : IsTree at) (folder : ℕ) where
       λ h. (is.pins n).1 (elim h [ inl named ↦ inl (only_in folder n named) | inr there ↦ inr there ]),
     )
 
-    pub page_agreed : (x : Draft) (t : Terms) → Leads at folder → IsPage at folder (page_names folder names) x → length names ≤ x.pins.room → IsDrawn x (length names) (length names) t → IsTerms at (page_row folder names) t
+    pub page_agreed : (x : Draft) (t : Terms) → Leads at folder → IsPage at folder (page_names folder names) x → length names ≤ x.pins.room → IsDrawn x cases.Plain (length names) (length names) t → IsTerms at (page_row folder names) t
     page_agreed x t leads is room drawn = record {
       sound = record { not_stale = page_rooted leads; not_long = page_short x.paths.items is.paths; not_misplaced = λ e bad. bad };
       holds = subst (λ (held : Held). Holds at (page_row folder names) held) (sym drawn.held) (page_holds x is);

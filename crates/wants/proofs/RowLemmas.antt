@@ -4,10 +4,11 @@ use Rattle.std.specs.Prelude.{Any}
 use Rattle.std.proofs.lemmas.List.{length-map}
 use Rattle.paths.specs.Prefixes.{Name}
 use Rattle.tree.specs.declared.nodes.Key.{Key}
+use Rattle.flights.specs.declared.data.Case.{Case}
 use Rattle.flights.specs.declared.data.Want.{Want}
 use Rattle.flights.specs.declared.data.Want.TheVariants as wants
 use Rattle.wants.specs.Laws.{IsRow, base_of}
-use Rattle.wants.specs.Rows.{Case, Location, AtNode, AtName, Opening, Used, used_on, move_row, name_row, node_row, page_names, page_row, removal_row, row_of}
+use Rattle.wants.specs.Rows.{Location, AtNode, AtName, Opening, Used, used_on, move_row, name_row, node_row, page_names, page_row, removal_row, row_of}
 use Rattle.wants.proofs.Members.{any_first, any_later, cases_in, first_in, in_map, later_in, none_in, only_in}
 
 -- the one location at or under the one node

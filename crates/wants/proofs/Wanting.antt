@@ -5,6 +5,8 @@ use Rattle.std.proofs.lemmas.Bool.{cases_Bool, cases_eq, false≢true}
 use Rattle.std.proofs.lemmas.Option.{none-some, same_Some}
 use Rattle.paths.specs.Prefixes.{Name, Names, is_name}
 use Rattle.paths.proofs.PrefixLemmas.{is_name-true, is_name-yes}
+use Rattle.flights.specs.declared.data.Case.{Case}
+use Rattle.flights.specs.declared.data.Case.TheVariants as cases
 use Rattle.flights.specs.declared.data.Want.{Want}
 use Rattle.flights.specs.declared.data.Want.TheVariants as wants
 use Rattle.flights.specs.declared.data.Work.{Work}
@@ -18,12 +20,13 @@ use Rattle.tree.proofs.LookupLemmas.{cases_option}
 use Rattle.files.specs.declared.data.Access.{Access}
 use Rattle.flights.specs.declared.data.Handle.{Handle}
 use Rattle.flights.specs.declared.data.Promise.{Promise}
-use Rattle.wants.specs.Asked.{IsCase, IsEntryCase, IsLong, IsSound, IsStale, IsUnsound, long, misplaced, no_memory, stale}
+use Rattle.wants.specs.Asked.{IsLong, IsSound, IsStale, IsUnsound, long, misplaced, no_memory, stale}
+use Rattle.wants.specs.Cases.{IsCase, IsEntryCase, Seen}
 use Rattle.wants.specs.declared.data.Plan.{Plan}
 use Rattle.wants.specs.declared.drafts.Terms.{Terms}
 use Rattle.wants.specs.Drafts.{IsEntryAt, IsTaken, IsRecord, IsTerms, IsVacant, IsWanted}
 use Rattle.wants.specs.Plans.{IsPlan, IsRefusedPlan, copied, copied_page}
-use Rattle.wants.specs.Rows.{Case, Demand, AtName, AtNode, Opening, Used, absent, entered_case, name_row, node_row, page_row, plain, row_of, used_on}
+use Rattle.wants.specs.Rows.{Demand, AtName, AtNode, Opening, Used, name_row, node_row, page_row, row_of, used_on}
 use Rattle.wants.proofs.Members.{all_in, any_only, cases_in, first_in, later_in, none_in}
 
 -- ---- whether a node stands at a name
@@ -75,26 +78,26 @@ named_or_free at living counts tree census parent name = elim (among at census.l
 -- ---- cases
 
 pub entry_case : (at : Lookup) (parent : ℕ) (name : Name) (c : Case) → IsEntryAt at (AtName parent name ∷ []) c → IsEntryCase at parent name c
-entry_case at parent name plain all = all_in (IsTaken at) (AtName parent name ∷ []) (AtName parent name) all (first_in (AtName parent name) [])
-entry_case at parent name absent any = any_only (IsVacant at) (AtName parent name) any
+entry_case at parent name cases.Plain all = all_in (IsTaken at) (AtName parent name ∷ []) (AtName parent name) all (first_in (AtName parent name) [])
+entry_case at parent name cases.Absent any = any_only (IsVacant at) (AtName parent name) any
 
 -- a want has a case
-pub case_there : (at : Lookup) (living counts : ℕ) → IsTree at → IsCensus at living counts → (want : Want) → (c : Case) × IsCase at want c
-case_there at living counts tree census (wants.Node number handle) = (plain, refl)
-case_there at living counts tree census (wants.Name parent name) = elim (named_or_free at living counts tree census parent name) [ inl named ↦ (plain, named) | inr free ↦ (absent, free) ]
-case_there at living counts tree census (wants.Remove parent name) = (plain, refl)
-case_there at living counts tree census (wants.Move parent name new_parent new_name) = (plain, refl)
-case_there at living counts tree census (wants.Page folder names) = (plain, refl)
-case_there at living counts tree census (wants.Open number access) = (plain, refl)
-case_there at living counts tree census (wants.Create parent name access) = elim (named_or_free at living counts tree census parent name) [ inl named ↦ (plain, named) | inr free ↦ (absent, free) ]
+pub case_there : (seen : Seen) (living counts : ℕ) → IsTree seen.at → IsCensus seen.at living counts → (want : Want) → (c : Case) × IsCase seen want c
+case_there seen living counts tree census (wants.Node number handle) = (cases.Plain, refl)
+case_there seen living counts tree census (wants.Name parent name) = elim (named_or_free seen.at living counts tree census parent name) [ inl named ↦ (cases.Plain, named) | inr free ↦ (cases.Absent, free) ]
+case_there seen living counts tree census (wants.Remove parent name) = (cases.Plain, refl)
+case_there seen living counts tree census (wants.Move parent name new_parent new_name) = (cases.Plain, refl)
+case_there seen living counts tree census (wants.Page folder names) = (cases.Plain, refl)
+case_there seen living counts tree census (wants.Open number access) = (cases.Plain, refl)
+case_there seen living counts tree census (wants.Create parent name access) = elim (named_or_free seen.at living counts tree census parent name) [ inl named ↦ (cases.Plain, named) | inr free ↦ (cases.Absent, free) ]
 
-refused : (at : Lookup) (living counts : ℕ) → IsTree at → IsCensus at living counts → (want : Want) (e : ℤ) → ((c : Case) → IsUnsound at (row_of want c) e) → IsRefusedPlan at want e
-refused at living counts tree census want e unsound =
-    let it = case_there at living counts tree census want in
+refused : (seen : Seen) (living counts : ℕ) → IsTree seen.at → IsCensus seen.at living counts → (want : Want) (e : ℤ) → ((c : Case) → IsUnsound seen.at (row_of want c) e) → IsRefusedPlan seen want e
+refused seen living counts tree census want e unsound =
+    let it = case_there seen living counts tree census want in
     record { demand = row_of want it.0; demanded = record { case = it.0; fits = it.1; row = refl }; unsound = unsound it.0 }
 
-pub refused_as : (at : Lookup) (living counts : ℕ) → IsTree at → IsCensus at living counts → (want w : Want) (e : ℤ) → want ≡ w → ((c : Case) → IsUnsound at (row_of w c) e) → IsRefusedPlan at want e
-refused_as at living counts tree census want w e is unsound = subst (λ (v : Want). IsRefusedPlan at v e) (sym is) (refused at living counts tree census w e unsound)
+pub refused_as : (seen : Seen) (living counts : ℕ) → IsTree seen.at → IsCensus seen.at living counts → (want w : Want) (e : ℤ) → want ≡ w → ((c : Case) → IsUnsound seen.at (row_of w c) e) → IsRefusedPlan seen want e
+refused_as seen living counts tree census want w e is unsound = subst (λ (v : Want). IsRefusedPlan seen v e) (sym is) (refused seen living counts tree census w e unsound)
 
 -- no test of the nodes looks at the open file that a row uses
 sound_using : (at : Lookup) (d : Demand) (u : Option Used) → IsSound at d → IsSound at (record d { used = u })
@@ -128,13 +131,13 @@ terms_using at d u t terms = record {
   unanswered = terms.unanswered;
 }
 
-pub node_wanted : (at : Lookup) (want : Want) (number : ℕ) (handle : Option Handle) (t : Terms) → want ≡ wants.Node number handle → IsTerms at (node_row number) t → IsWanted at want t
-node_wanted at want number handle t is terms =
-    subst (λ (v : Want). IsWanted at v t) (sym is) (record { fits = refl; terms = terms_using at (node_row number) (used_on number handle) t terms })
+pub node_wanted : (seen : Seen) (want : Want) (number : ℕ) (handle : Option Handle) (t : Terms) → want ≡ wants.Node number handle → t.case ≡ cases.Plain → IsTerms seen.at (node_row number) t → IsWanted seen want t
+node_wanted seen want number handle t is fits terms =
+    subst (λ (v : Want). IsWanted seen v t) (sym is) (record { fits = fits; terms = terms_using seen.at (node_row number) (used_on number handle) t terms })
 
-pub node_refused : (at : Lookup) (living counts : ℕ) → IsTree at → IsCensus at living counts → (want : Want) (number : ℕ) (handle : Option Handle) (e : ℤ) → want ≡ wants.Node number handle → IsUnsound at (node_row number) e → IsRefusedPlan at want e
-node_refused at living counts tree census want number handle e is unsound =
-    refused_as at living counts tree census want (wants.Node number handle) e is (λ c. unsound_using at (node_row number) (used_on number handle) e unsound)
+pub node_refused : (seen : Seen) (living counts : ℕ) → IsTree seen.at → IsCensus seen.at living counts → (want : Want) (number : ℕ) (handle : Option Handle) (e : ℤ) → want ≡ wants.Node number handle → IsUnsound seen.at (node_row number) e → IsRefusedPlan seen want e
+node_refused seen living counts tree census want number handle e is unsound =
+    refused_as seen living counts tree census want (wants.Node number handle) e is (λ c. unsound_using seen.at (node_row number) (used_on number handle) e unsound)
 
 -- no test of the nodes looks at the file that a row opens
 stale_opening : (at : Lookup) (d : Demand) (o : Option Opening) → (IsStale at d → ⊥) → IsStale at (record d { opens = o }) → ⊥
@@ -165,36 +168,36 @@ terms_opening at d o t terms = record {
   unanswered = terms.unanswered;
 }
 
-pub node_opened : (at : Lookup) (want : Want) (number : ℕ) (access : Access) (t u : Terms) → want ≡ wants.Open number access → IsTerms at (node_row number) t → u ≡ opening_one t → IsWanted at want u
-node_opened at want number access t u is terms made = subst (λ (v : Terms). IsWanted at want v) (sym made) (subst (λ (v : Want). IsWanted at v (opening_one t)) (sym is) (record {
-  fits = refl;
-  terms = terms_opening at (node_row number) (record { target = AtNode number; access = access }) t terms;
+pub node_opened : (seen : Seen) (want : Want) (number : ℕ) (access : Access) (t u : Terms) → want ≡ wants.Open number access → t.case ≡ cases.Plain → IsTerms seen.at (node_row number) t → u ≡ opening_one t → IsWanted seen want u
+node_opened seen want number access t u is fits terms made = subst (λ (v : Terms). IsWanted seen want v) (sym made) (subst (λ (v : Want). IsWanted seen v (opening_one t)) (sym is) (record {
+  fits = fits;
+  terms = terms_opening seen.at (node_row number) (record { target = AtNode number; access = access }) t terms;
 }))
 
-pub name_opened : (at : Lookup) (want : Want) (parent : ℕ) (name : Name) (access : Access) (t u : Terms) → want ≡ wants.Create parent name access → IsEntryAt at (AtName parent name ∷ []) (entered_case t.promise)
-    → IsTerms at (name_row parent name (entered_case t.promise)) t → u ≡ opening_one t → IsWanted at want u
-name_opened at want parent name access t u is fits terms made = subst (λ (v : Terms). IsWanted at want v) (sym made) (subst (λ (v : Want). IsWanted at v (opening_one t)) (sym is) (record {
-  fits = entry_case at parent name (entered_case t.promise) fits;
-  terms = terms_opening at (name_row parent name (entered_case t.promise)) (record { target = AtName parent name; access = access }) t terms;
+pub name_opened : (seen : Seen) (want : Want) (parent : ℕ) (name : Name) (access : Access) (t u : Terms) → want ≡ wants.Create parent name access → IsEntryAt seen.at (AtName parent name ∷ []) t.case
+    → IsTerms seen.at (name_row parent name t.case) t → u ≡ opening_one t → IsWanted seen want u
+name_opened seen want parent name access t u is fits terms made = subst (λ (v : Terms). IsWanted seen want v) (sym made) (subst (λ (v : Want). IsWanted seen v (opening_one t)) (sym is) (record {
+  fits = entry_case seen.at parent name t.case fits;
+  terms = terms_opening seen.at (name_row parent name t.case) (record { target = AtName parent name; access = access }) t terms;
 }))
 
 -- a name for which an entry may be given
-pub named_wanted : (at : Lookup) (want : Want) (parent : ℕ) (name : Name) (t : Terms) → want ≡ wants.Name parent name → IsEntryAt at (AtName parent name ∷ []) (entered_case t.promise) → IsTerms at (name_row parent name (entered_case t.promise)) t → IsWanted at want t
-named_wanted at want parent name t is fits terms = subst (λ (v : Want). IsWanted at v t) (sym is) (record { fits = entry_case at parent name (entered_case t.promise) fits; terms = terms })
+pub named_wanted : (seen : Seen) (want : Want) (parent : ℕ) (name : Name) (t : Terms) → want ≡ wants.Name parent name → IsEntryAt seen.at (AtName parent name ∷ []) t.case → IsTerms seen.at (name_row parent name t.case) t → IsWanted seen want t
+named_wanted seen want parent name t is fits terms = subst (λ (v : Want). IsWanted seen v t) (sym is) (record { fits = entry_case seen.at parent name t.case fits; terms = terms })
 
--- names of a page
-pub page_wanted : (at : Lookup) (want : Want) (folder : ℕ) (names : List Name) (t : Terms) → want ≡ wants.Page folder names → IsTerms at (page_row folder names) t → IsWanted at want t
-page_wanted at want folder names t is terms = subst (λ (v : Want). IsWanted at v t) (sym is) (record { fits = refl; terms = terms })
+-- a want whose row has one case
+pub plain_wanted : (seen : Seen) (want w : Want) (d : Demand) (t : Terms) → want ≡ w → IsCase seen w t.case → row_of w t.case ≡ d → IsTerms seen.at d t → IsWanted seen want t
+plain_wanted seen want w d t is fits row terms = subst (λ (v : Want). IsWanted seen v t) (sym is) (record { fits = fits; terms = subst (λ (e : Demand). IsTerms seen.at e t) (sym row) terms })
 
-pub page_refused_as : (at : Lookup) (want : Want) (folder : ℕ) (names : List Name) (e : ℤ) → want ≡ wants.Page folder names → IsUnsound at (page_row folder names) e → IsRefusedPlan at want e
-page_refused_as at want folder names e is unsound =
-    subst (λ (v : Want). IsRefusedPlan at v e) (sym is) (record { demand = page_row folder names; demanded = record { case = plain; fits = refl; row = refl }; unsound = unsound })
+pub page_refused_as : (seen : Seen) (want : Want) (folder : ℕ) (names : List Name) (e : ℤ) → want ≡ wants.Page folder names → IsUnsound seen.at (page_row folder names) e → IsRefusedPlan seen want e
+page_refused_as seen want folder names e is unsound =
+    subst (λ (v : Want). IsRefusedPlan seen v e) (sym is) (record { demand = page_row folder names; demanded = record { case = cases.Plain; fits = refl; row = refl }; unsound = unsound })
 
 -- the record of a request as its want's row asks for it
-pub planned : (at : Lookup) (want : Want) (t : Terms) (p : Plan) → IsWanted at want t → IsRecord want t p → IsPlan at want p
-planned at want t p wanted made =
-    let row : (w : Work) → w ≡ record { want = want; copy = copied want; copies = copied_page want; held = t.held; promise = t.promise; answer = t.answer } → IsPlan at want (record { work = w; pins = t.pins; paths = t.paths })
-    = λ w is. subst (λ (v : Work). IsPlan at want (record { work = v; pins = t.pins; paths = t.paths })) (sym is) (record {
+pub planned : (seen : Seen) (want : Want) (t : Terms) (p : Plan) → IsWanted seen want t → IsRecord want t p → IsPlan seen want p
+planned seen want t p wanted made =
+    let row : (w : Work) → w ≡ record { want = want; case = t.case; copy = copied want; copies = copied_page want; held = t.held; promise = t.promise; answer = t.answer } → IsPlan seen want (record { work = w; pins = t.pins; paths = t.paths })
+    = λ w is. subst (λ (v : Work). IsPlan seen want (record { work = v; pins = t.pins; paths = t.paths })) (sym is) (record {
       want_is = refl;
       fits = wanted.fits;
       sound = wanted.terms.sound;
@@ -210,5 +213,5 @@ planned at want t p wanted made =
         unanswered = wanted.terms.unanswered;
       };
     }) in
-    subst (λ (pins : Pinned). IsPlan at want (record { work = p.work; pins = pins; paths = p.paths })) (sym made.pins)
-    (subst (λ (paths : List Names). IsPlan at want (record { work = p.work; pins = t.pins; paths = paths })) (sym made.paths) (row p.work made.work))
+    subst (λ (pins : Pinned). IsPlan seen want (record { work = p.work; pins = pins; paths = p.paths })) (sym made.pins)
+    (subst (λ (paths : List Names). IsPlan seen want (record { work = p.work; pins = t.pins; paths = paths })) (sym made.paths) (row p.work made.work))

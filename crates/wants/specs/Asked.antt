@@ -1,16 +1,14 @@
--- What a row asks for, as the nodes stand. But for `IsCase`, nothing here looks at a want.
+-- What a row asks for, as the nodes stand. Nothing here looks at a want.
 use Rattle.std.specs.Prelude.{ℕ, ℤ, ◌*◌, ◌<◌, ◌≡◌, ◌≢◌, ◌↔◌, ◌⊎◌, if◌then◌else◌, is_some, true, List, [], ◌∷◌, map, length, All, Any, Contains}
 use Rattle.errno.specs.declared.TheConstants.{EINVAL, ENAMETOOLONG, ENOMEM, ENOTEMPTY, ESTALE}
-use Rattle.paths.specs.Prefixes.{Name, Names, is_prefix, path_bytes}
+use Rattle.paths.specs.Prefixes.{Names, is_prefix, path_bytes}
 use Rattle.holds.specs.declared.held.Held.{Held}
 use Rattle.holds.specs.declared.held.GivenPath.{GivenPath}
 use Rattle.holds.specs.Conflicts.{IsSomePrefix}
 use Rattle.flights.specs.declared.data.Promise.{Promise}
-use Rattle.flights.specs.declared.data.Want.{Want}
-use Rattle.flights.specs.declared.data.Want.TheVariants as wants
-use Rattle.tree.specs.Places.{Lookup, IsFree, IsNamed, IsPathOf, Leads}
+use Rattle.tree.specs.Places.{Lookup, IsNamed, IsPathOf, Leads}
 use Rattle.tree.specs.Moves.{IsPathOfName}
-use Rattle.wants.specs.Rows.{Case, Change, Demand, Location, AtName, AtNode, absent, cuts, hides, moves, plain, replaces, row_of, stays}
+use Rattle.wants.specs.Rows.{Change, Demand, Location, AtName, AtNode, cuts, hides, moves, replaces, stays}
 
 -- ---- locations
 
@@ -22,28 +20,6 @@ HasPath at (AtName parent name) path = IsPathOfName at parent name path
 abbrev pub IsThere : Lookup → Location → ℕ → Type 0
 IsThere at (AtNode number) n = n ≡ number
 IsThere at (AtName parent name) n = IsNamed at n parent name
-
--- ---- cases
-
--- a name for which an entry may be given: a node stands there, or none
-abbrev pub IsEntryCase : Lookup → ℕ → Name → Case → Type 0
-IsEntryCase at parent name plain = (n : ℕ) × IsNamed at n parent name
-IsEntryCase at parent name absent = IsFree at parent name
-
-abbrev pub IsCase : Lookup → Want → Case → Type 0
-IsCase at (wants.Node number handle) c = c ≡ plain
-IsCase at (wants.Name parent name) c = IsEntryCase at parent name c
-IsCase at (wants.Remove parent name) c = c ≡ plain
-IsCase at (wants.Move parent name new_parent new_name) c = c ≡ plain
-IsCase at (wants.Page folder names) c = c ≡ plain
-IsCase at (wants.Open number access) c = c ≡ plain
-IsCase at (wants.Create parent name access) c = IsEntryCase at parent name c
-
--- what the want asks of the table as its nodes stand
-pub record IsDemand (at : Lookup) (want : Want) (d : Demand) : Type 0 where
-  pub case : Case
-  pub fits : IsCase at want case
-  pub row : d ≡ row_of want case
 
 -- ---- tests of the nodes alone
 

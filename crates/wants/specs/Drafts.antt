@@ -1,9 +1,11 @@
 -- What the code gathers of a row, location by location.
-use Rattle.std.specs.Prelude.{ℕ, ℤ, ◌+◌, ◌*◌, ◌<◌, ◌≤◌, ◌≡◌, ◌↔◌, ◌⊎◌, ◌||◌, Bool, true, false, if◌then◌else◌, List, [], ◌∷◌, ◌++◌, Some, None, All, Any, Contains, is_none, length, map}
+use Rattle.std.specs.Prelude.{ℕ, ℤ, ◌+◌, ◌*◌, ◌<◌, ◌≤◌, ◌≡◌, ◌↔◌, ◌⊎◌, ◌||◌, ◌&&◌, Bool, true, false, if◌then◌else◌, List, [], ◌∷◌, ◌++◌, Some, None, All, Any, Contains, is_none, length, map}
 use Rattle.std.specs.List.{AllZip}
 use Rattle.errno.specs.declared.TheConstants.{EINVAL, ENAMETOOLONG, ENOMEM, ENOTEMPTY, ESTALE}
 use Rattle.paths.specs.Prefixes.{Names, prefixes, path_bytes}
 use Rattle.holds.specs.declared.held.GivenPath.{GivenPath}
+use Rattle.flights.specs.declared.data.Case.{Case}
+use Rattle.flights.specs.declared.data.Case.TheVariants as cases
 use Rattle.flights.specs.declared.data.Want.{Want}
 use Rattle.tree.specs.declared.nodes.Key.{Key}
 use Rattle.tree.specs.declared.nodes.TreeFault.{TreeFault}
@@ -22,10 +24,11 @@ use Rattle.wants.specs.declared.rows.Hold.TheVariants.{Shared, Alone}
 use Rattle.wants.specs.declared.rows.Location as told_location
 use Rattle.wants.specs.declared.rows.Location.TheVariants as locations
 use Rattle.wants.specs.declared.rows.Row.{Row}
-use Rattle.wants.specs.Asked.{ArePaths, HasPath, Holds, IsCase, IsPin, IsPrefixAt, IsRefusedMove, IsSound, IsThere, promise_of}
+use Rattle.wants.specs.Asked.{ArePaths, HasPath, Holds, IsPin, IsPrefixAt, IsRefusedMove, IsSound, IsThere, promise_of}
+use Rattle.wants.specs.Cases.{IsCase, Seen}
 use Rattle.wants.specs.Laws.{base_of}
 use Rattle.wants.specs.Plans.{copied, copied_page}
-use Rattle.wants.specs.Rows.{Case, Change, Demand, Location, AtName, AtNode, absent, births_in, case_in, cuts, entered_case, moves, plain, row_of, stays}
+use Rattle.wants.specs.Rows.{Change, Demand, Location, AtName, AtNode, births_in, cuts, moves, row_of, stays}
 
 -- ---- refusals
 
@@ -246,7 +249,8 @@ pub record IsNoDraft (room : ℕ) (x : Draft) : Type 0 where
 
 -- ---- terms
 
-pub record IsDrawn (x : Draft) (births entries : ℕ) (t : Terms) : Type 0 where
+pub record IsDrawn (x : Draft) (case : Case) (births entries : ℕ) (t : Terms) : Type 0 where
+  pub case_is : t.case ≡ case
   pub held : t.held ≡ record { given = x.given.items; shared = x.shared.items; exclusive = x.exclusive.items }
   pub promise : t.promise ≡ record { nodes = births; postings = 3 * entries; files = 0 }
   pub answer : t.answer ≡ record { items = []; room = entries }
@@ -266,16 +270,20 @@ pub record IsTerms (at : Lookup) (d : Demand) (t : Terms) : Type 0 where
 
 -- whether a node stands at the name for which an entry may be given
 abbrev pub IsEntryAt : Lookup → List Location → Case → Type 0
-IsEntryAt at ls plain = All (IsTaken at) ls
-IsEntryAt at ls absent = Any (IsVacant at) ls
+IsEntryAt at ls cases.Plain = All (IsTaken at) ls
+IsEntryAt at ls cases.Absent = Any (IsVacant at) ls
+
+-- a birth is promised for a name at which no node stands
+abbrev pub entered_case : Bool → Bool → Case
+entered_case none enters = if none && enters then cases.Absent else cases.Plain
 
 abbrev pub IsCaseOf : Lookup → Bool → List Location → Case → Type 0
 IsCaseOf at true ls c = IsEntryAt at ls c
-IsCaseOf at false ls c = c ≡ plain
+IsCaseOf at false ls c = c ≡ cases.Plain
 
 pub record IsAgreed (at : Lookup) (row : Row) (t : Terms) : Type 0 where
-  pub fits : IsCaseOf at row.enters (locations_of row) (entered_case t.promise)
-  pub terms : IsTerms at (demand_of row (entered_case t.promise)) t
+  pub fits : IsCaseOf at row.enters (locations_of row) t.case
+  pub terms : IsTerms at (demand_of row t.case) t
 
 -- the same, with a file that may be opened
 pub record IsOpening (at : Lookup) (row : Row) (t : Terms) : Type 0 where
@@ -283,12 +291,12 @@ pub record IsOpening (at : Lookup) (row : Row) (t : Terms) : Type 0 where
   pub agreed : IsAgreed at row terms
   pub more : t ≡ record terms { promise = record terms.promise { files = 1 } }
 
-pub record IsWanted (at : Lookup) (want : Want) (t : Terms) : Type 0 where
-  pub fits : IsCase at want (case_in want t.promise)
-  pub terms : IsTerms at (row_of want (case_in want t.promise)) t
+pub record IsWanted (seen : Seen) (want : Want) (t : Terms) : Type 0 where
+  pub fits : IsCase seen want t.case
+  pub terms : IsTerms seen.at (row_of want t.case) t
 
 -- the record of a request with that want and those terms
 pub record IsRecord (want : Want) (t : Terms) (p : Plan) : Type 0 where
-  pub work : p.work ≡ record { want = want; copy = copied want; copies = copied_page want; held = t.held; promise = t.promise; answer = t.answer }
+  pub work : p.work ≡ record { want = want; case = t.case; copy = copied want; copies = copied_page want; held = t.held; promise = t.promise; answer = t.answer }
   pub pins : p.pins ≡ t.pins
   pub paths : p.paths ≡ t.paths

@@ -1,10 +1,11 @@
 -- What is proved of rows.
 use Rattle.std.specs.Prelude.{ℕ, ◌≡◌, ◌⊎◌, List, Any, Contains, length}
+use Rattle.flights.specs.declared.data.Case.{Case}
 use Rattle.flights.specs.declared.data.Want.{Want}
 use Rattle.tree.specs.declared.nodes.Key.{Key}
-use Rattle.tree.specs.Places.{Lookup, IsTree}
-use Rattle.wants.specs.Asked.{IsDemand}
-use Rattle.wants.specs.Rows.{Case, Change, Demand, Location, AtName, AtNode, cuts, hides, moves, replaces, row_of, stays}
+use Rattle.tree.specs.Places.{IsTree}
+use Rattle.wants.specs.Cases.{IsDemand, Seen}
+use Rattle.wants.specs.Rows.{Change, Demand, Location, AtName, AtNode, cuts, hides, moves, replaces, row_of, stays}
 
 -- the node that a location is that of, or is under
 abbrev pub base_of : Location → ℕ
@@ -55,4 +56,4 @@ AreRows = (want : Want) (case : Case) → IsRow (row_of want case)
 
 -- a want asks for one row
 abbrev pub AreDemandsFixed : Type 0
-AreDemandsFixed = (at : Lookup) (want : Want) (d e : Demand) → IsTree at → IsDemand at want d → IsDemand at want e → d ≡ e
+AreDemandsFixed = (seen : Seen) (want : Want) (d e : Demand) → IsTree seen.at → IsDemand seen want d → IsDemand seen want e → d ≡ e

@@ -1,5 +1,6 @@
 pub mod Rows
 pub mod Asked
+pub mod Cases
 pub mod Laws
 pub mod Plans
 pub mod Drafts

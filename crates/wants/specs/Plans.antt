@@ -5,14 +5,14 @@ use Rattle.flights.specs.declared.data.Want.{Want}
 use Rattle.flights.specs.declared.data.Want.TheVariants as wants
 use Rattle.flights.specs.declared.data.Work.{Work}
 use Rattle.flights.specs.Roomy.{Pinned}
-use Rattle.tree.specs.Places.{Lookup}
 use Rattle.wants.specs.declared.data.Plan.{Plan}
-use Rattle.wants.specs.Asked.{ArePaths, Holds, IsCase, IsDemand, IsPin, IsSound, IsUnsound, promise_of}
-use Rattle.wants.specs.Rows.{Demand, case_in, row_of}
+use Rattle.wants.specs.Asked.{ArePaths, Holds, IsPin, IsSound, IsUnsound, promise_of}
+use Rattle.wants.specs.Cases.{IsCase, IsDemand, Seen}
+use Rattle.wants.specs.Rows.{Demand, row_of}
 
 -- the row of a request that is worked on
 abbrev pub row_in : Work → Demand
-row_in work = row_of work.want (case_in work.want work.promise)
+row_in work = row_of work.want work.case
 
 -- the name that the want may give to a node, which is put into the tree under a key and a copy of it
 abbrev pub copied : Want → Option Name
@@ -44,17 +44,17 @@ pub record IsProvided (work : Work) (pins : Pinned) : Type 0 where
   pub unanswered : work.answer.items ≡ []
 
 -- the tests of the nodes allow the want: what it holds, pins and is promised, and the paths of its ticket
-pub record IsPlan (at : Lookup) (want : Want) (p : Plan) : Type 0 where
+pub record IsPlan (seen : Seen) (want : Want) (p : Plan) : Type 0 where
   pub want_is : p.work.want ≡ want
-  pub fits : IsCase at want (case_in want p.work.promise)
-  pub sound : IsSound at (row_in p.work)
-  pub holds : Holds at (row_in p.work) p.work.held
-  pub pins : (n : ℕ) → Contains p.pins.numbers n ↔ IsPin at (row_in p.work) n
-  pub paths : ArePaths at (row_in p.work).paths p.paths
+  pub fits : IsCase seen want p.work.case
+  pub sound : IsSound seen.at (row_in p.work)
+  pub holds : Holds seen.at (row_in p.work) p.work.held
+  pub pins : (n : ℕ) → Contains p.pins.numbers n ↔ IsPin seen.at (row_in p.work) n
+  pub paths : ArePaths seen.at (row_in p.work).paths p.paths
   pub provided : IsProvided p.work p.pins
 
 -- they refuse it, or memory was refused
-pub record IsRefusedPlan (at : Lookup) (want : Want) (e : ℤ) : Type 0 where
+pub record IsRefusedPlan (seen : Seen) (want : Want) (e : ℤ) : Type 0 where
   pub demand : Demand
-  pub demanded : IsDemand at want demand
-  pub unsound : IsUnsound at demand e
+  pub demanded : IsDemand seen want demand
+  pub unsound : IsUnsound seen.at demand e

@@ -1,11 +1,12 @@
 -- What a want asks of a table: one row for each want. What a beginning tests, holds, pins and promises, and what an
 -- outcome does, follow from the row alone.
-use Rattle.std.specs.Prelude.{ℕ, ◌==◌, ◌&&◌, Bool, true, false, if◌then◌else◌, List, [], ◌∷◌, Option, Some, None, length, map}
+use Rattle.std.specs.Prelude.{ℕ, ◌==◌, ◌&&◌, Bool, true, false, List, [], ◌∷◌, Option, Some, None, length, map}
 use Rattle.files.specs.declared.data.Access.{Access}
 use Rattle.paths.specs.Prefixes.{Name, is_name}
 use Rattle.tree.specs.declared.nodes.Key.{Key}
+use Rattle.flights.specs.declared.data.Case.{Case}
+use Rattle.flights.specs.declared.data.Case.TheVariants as cases
 use Rattle.flights.specs.declared.data.Handle.{Handle}
-use Rattle.flights.specs.declared.data.Promise.{Promise}
 use Rattle.flights.specs.declared.data.Want.{Want}
 use Rattle.flights.specs.declared.data.Want.TheVariants as wants
 
@@ -68,16 +69,10 @@ no_demand = record { given = []; paths = []; shared = []; alone = []; entries = 
 
 -- ---- cases
 
--- all that a row takes from the table besides the want
-pub data Case : Type 0 where
-  plain : Case
-  -- no node stands at the name
-  absent : Case
-
 -- where no node stands at its name, one may be born
 abbrev pub births_in : Case → ℕ
-births_in plain = 0
-births_in absent = 1
+births_in cases.Plain = 0
+births_in cases.Absent = 1
 
 -- ---- one row for each want
 
@@ -137,20 +132,6 @@ row_of (wants.Move parent name new_parent new_name) c = move_row parent name new
 row_of (wants.Page folder names) c = page_row folder names
 row_of (wants.Open number access) c = record (node_row number) { opens = Some (record { target = AtNode number; access = access }) }
 row_of (wants.Create parent name access) c = record (name_row parent name c) { opens = Some (record { target = AtName parent name; access = access }) }
-
--- for a name a node is promised where none stood there
-abbrev pub entered_case : Promise → Case
-entered_case p = if p.nodes == 0 then plain else absent
-
--- the case of a request that was promised so much
-abbrev pub case_in : Want → Promise → Case
-case_in (wants.Node number handle) p = plain
-case_in (wants.Name parent name) p = entered_case p
-case_in (wants.Remove parent name) p = plain
-case_in (wants.Move parent name new_parent new_name) p = plain
-case_in (wants.Page folder names) p = plain
-case_in (wants.Open number access) p = plain
-case_in (wants.Create parent name access) p = entered_case p
 
 -- ---- what a ticket tells of its row
 

@@ -4,13 +4,13 @@ ghost use Rattle.std.specs.Prelude.{ℕ, ◌+◌, ◌*◌, ◌^◌, ◌<◌, ◌
 ghost use Rattle.paths.specs.Prefixes.{prefixes};
 ghost use Rattle.tree.specs.Places.{IsCensus, IsTree, at_in};
 ghost use Rattle.wants.specs.Asked.{IsUnsound};
-ghost use Rattle.wants.specs.Drafts.{Adds, AreRooted, IsAgreed, IsBadRow, IsDraft, IsDrawn, IsFit, IsNoDraft, IsOpening, demand_of, entries_of, errno_of, locations_of, own_paths, shared_path};
-ghost use Rattle.wants.specs.Rows.{Case};
+ghost use Rattle.wants.specs.Drafts.{Adds, AreRooted, entered_case, IsAgreed, IsBadRow, IsDraft, IsDrawn, IsFit, IsNoDraft, IsOpening, demand_of, entries_of, errno_of, locations_of, own_paths, shared_path};
+ghost use Rattle.wants.specs.Rows.{births_in};
 
 use crate::found::{Found, expect_change, expect_rooted, find};
 use crate::refusal::Refusal;
 use crate::rows::{Hold, Row};
-use flights::{Givens, Pins, Promise};
+use flights::{Case, Givens, Pins, Promise};
 use holds::{GivenPath, GivenPaths, Held, Paths, prefixes_of};
 use paths::Path;
 use std::alloc::{AllocError, Global};
@@ -22,6 +22,7 @@ const ENTRY_POSTINGS: u64 = 3;
 /// What a row asks for.
 #[derive(Drop)]
 pub(crate) struct Terms {
+    pub(crate) case: Case,
     pub(crate) held: Held,
     pub(crate) promise: Promise,
     pub(crate) answer: Givens,
@@ -63,6 +64,27 @@ fn pin(pins: &mut Pins, number: u64, found: Option<u64>)
             }
         }
         None => {}
+    }
+}
+
+/// The case of a row that may give entries, by whether no node stands at one of its locations.
+fn entered_case(none: bool, enters: bool) -> Case
+    ensures { result ≡ entered_case none enters }
+{
+    if none && enters {
+        Case::Absent
+    } else {
+        Case::Plain
+    }
+}
+
+/// How many nodes may be born for a name.
+fn births_in(case: Case) -> u64
+    ensures { result ≡ births_in case }
+{
+    match case {
+        Case::Plain => 0,
+        Case::Absent => 1,
     }
 }
 
@@ -131,11 +153,12 @@ impl Draft {
     pub(crate) fn into_terms(
         self,
         alloc: Global,
+        case: Case,
         births: u64,
         entries: usize,
     ) -> Result<Terms, AllocError>
         requires { 3 * entries < 2 ^ 64 }
-        ensures { IfOk result (IsDrawn self births entries) }
+        ensures { IfOk result (IsDrawn self case births entries) }
     {
         let answer = Givens::with_capacity(alloc, entries)?;
         let promise = Promise {
@@ -157,6 +180,7 @@ impl Draft {
             exclusive: Paths::from_vec(exclusive),
         };
         Ok(Terms {
+            case,
             held,
             promise,
             answer,
@@ -171,6 +195,7 @@ fn with_file(terms: Terms) -> Terms
     ensures { result ≡ record terms { promise = record terms.promise { files = 1 } } }
 {
     let Terms {
+        case,
         held,
         promise,
         answer,
@@ -178,6 +203,7 @@ fn with_file(terms: Terms) -> Terms
         paths,
     } = terms;
     Terms {
+        case,
         held,
         promise: Promise {
             files: 1,
@@ -218,9 +244,8 @@ pub(crate) fn terms_of(alloc: Global, tree: &Tree, row: &Row) -> Result<Terms, R
     expect_rooted(tree, row.locations)?;
     let draft = draft_of(alloc, tree, row)?;
     expect_change(row.change, draft.paths.as_slice())?;
-    let entries = usize::from(row.enters);
-    let births = if draft.absent { entries as u64 } else { 0 };
-    let terms = draft.into_terms(alloc, births, entries)?;
+    let case = entered_case(draft.absent, row.enters);
+    let terms = draft.into_terms(alloc, case, births_in(case), usize::from(row.enters))?;
     Ok(terms)
 }
 

@@ -9,7 +9,7 @@ mod refusal;
 mod rows;
 
 ghost use Rattle.std.specs.Prelude.{◌≡◌, IfOk, IfErr};
-ghost use Rattle.tree.specs.Places.{at_in};
+ghost use Rattle.wants.specs.Cases.{seen_of};
 ghost use Rattle.wants.specs.Laws.{AreDemandsFixed, AreRows};
 ghost use Rattle.wants.specs.Plans.{IsPlan, IsRefusedPlan, copied as name_copied, copied_page};
 ghost use Rattle.wants.specs.Drafts.{IsRecord};
@@ -17,6 +17,7 @@ ghost use Rattle.wants.specs.Drafts.{IsRecord};
 pub use data::Plan;
 use drafts::Terms;
 use errno::ENOMEM;
+use files::Files;
 use flights::{Names, Want, Work};
 use paths::Name;
 use rows::terms_for;
@@ -33,17 +34,24 @@ pub fn rows_are_grounded()
     ensures { AreRows }
 {}
 
-/// What a request with that want is to be recorded with, if the tests of the nodes alone allow it.
+/// What a request with that want is to be recorded with, if the tests of the nodes alone allow it: the nodes, the open files
+/// and the counter of the next hidden name say which case of its row the want is.
 ///
 /// The tests come in this order. [`errno::ESTALE`]: a node that the want names is not alive, or is cut; no memory was asked for
 /// until then. [`errno::ENAMETOOLONG`]: a path of the ticket is longer than 4,096 bytes. [`errno::EINVAL`]: a name would be moved
 /// below itself. [`errno::ENOTEMPTY`]: a name would be moved onto a folder that it stands in. [`errno::ENOMEM`] may stand in place
 /// of any but the first, where memory is refused.
-pub fn plan(alloc: Global, tree: &Tree, want: Want) -> Result<Plan, i32>
-    ensures ok { IfOk result (IsPlan (at_in tree.now) want) }
-    ensures err { IfErr result (IsRefusedPlan (at_in tree.now) want) }
+pub fn plan(
+    alloc: Global,
+    tree: &Tree,
+    files: &Files,
+    counter: u32,
+    want: Want,
+) -> Result<Plan, i32>
+    ensures ok { IfOk result (IsPlan (seen_of tree.now files.now counter) want) }
+    ensures err { IfErr result (IsRefusedPlan (seen_of tree.now files.now counter) want) }
 {
-    let terms = match terms_for(alloc, tree, &want) {
+    let terms = match terms_for(alloc, tree, files, counter, &want) {
         Ok(terms) => terms,
         Err(refusal) => return Err(refusal.errno()),
     };
@@ -87,6 +95,7 @@ fn recorded(alloc: Global, want: Want, terms: Terms) -> Result<Plan, AllocError>
     let copy = copied(&want)?;
     let copies = copies(alloc, &want)?;
     let Terms {
+        case,
         held,
         promise,
         answer,
@@ -95,6 +104,7 @@ fn recorded(alloc: Global, want: Want, terms: Terms) -> Result<Plan, AllocError>
     } = terms;
     let work = Work {
         want,
+        case,
         copy,
         copies,
         held,

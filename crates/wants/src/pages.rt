@@ -11,7 +11,7 @@ use crate::drafts::{Draft, Terms};
 use crate::found::{Found, expect_rooted, find};
 use crate::refusal::Refusal;
 use crate::rows::{Hold, Location};
-use flights::Pins;
+use flights::{Case, Pins};
 use paths::Name;
 use std::alloc::{AllocError, Global};
 use tree::Tree;
@@ -81,11 +81,11 @@ pub(crate) fn page_terms(
     folder: u64,
     names: &[Name],
 ) -> Result<Terms, Refusal>
-    ensures ok { IfOk result (IsTerms (at_in tree.now) (page_row folder names.now)) }
+    ensures ok { IfOk result (λ terms. (terms.case ≡ Case.Plain) × IsTerms (at_in tree.now) (page_row folder names.now) terms) }
     ensures err { IfErr result (λ refusal. IsUnsound (at_in tree.now) (page_row folder names.now) (errno_of refusal)) }
 {
     expect_rooted(tree, &[Location::AtNode(folder)])?;
     let draft = page_draft(alloc, tree, folder, names)?;
-    let terms = draft.into_terms(alloc, names.len() as u64, names.len())?;
+    let terms = draft.into_terms(alloc, Case::Plain, names.len() as u64, names.len())?;
     Ok(terms)
 }

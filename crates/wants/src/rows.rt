@@ -1,7 +1,7 @@
 //! What each want asks for: one row of one table.
 
 ghost use Rattle.std.specs.Prelude.{◌≡◌, IfOk, IfErr};
-ghost use Rattle.tree.specs.Places.{at_in};
+ghost use Rattle.wants.specs.Cases.{seen_of};
 ghost use Rattle.wants.specs.Drafts.{IsWanted, errno_of, location_of};
 ghost use Rattle.wants.specs.Laws.{base_of};
 ghost use Rattle.wants.specs.Plans.{IsRefusedPlan};
@@ -9,6 +9,7 @@ ghost use Rattle.wants.specs.Plans.{IsRefusedPlan};
 use crate::drafts::{Terms, terms_of, terms_with_file};
 use crate::pages::page_terms;
 use crate::refusal::Refusal;
+use files::Files;
 use flights::Want;
 use paths::Name;
 use std::alloc::Global;
@@ -66,9 +67,15 @@ pub(crate) struct Row<'a> {
 }
 
 /// What the want's row asks for: the table of rows.
-pub(crate) fn terms_for(alloc: Global, tree: &Tree, want: &Want) -> Result<Terms, Refusal>
-    ensures ok { IfOk result (IsWanted (at_in tree.now) want.now) }
-    ensures err { IfErr result (λ refusal. IsRefusedPlan (at_in tree.now) want.now (errno_of refusal)) }
+pub(crate) fn terms_for(
+    alloc: Global,
+    tree: &Tree,
+    _files: &Files,
+    _counter: u32,
+    want: &Want,
+) -> Result<Terms, Refusal>
+    ensures ok { IfOk result (IsWanted (seen_of tree.now _files.now _counter) want.now) }
+    ensures err { IfErr result (λ refusal. IsRefusedPlan (seen_of tree.now _files.now _counter) want.now (errno_of refusal)) }
 {
     match want {
         Want::Node { number, handle: _ } => {

@@ -2,8 +2,9 @@ use Rattle.std.proofs.Common.{ℕ, ◌≡◌, ◌==◌, ◌&&◌, ◌↔◌, Boo
 use Rattle.std.proofs.lemmas.Bool.{cases_Bool, eq-eqb}
 use Rattle.paths.specs.Prefixes.{Name, is_name}
 use Rattle.paths.proofs.PrefixLemmas.{is_name-true, is_name-yes}
+use Rattle.flights.specs.declared.data.Case.TheVariants as cases
 use Rattle.flights.specs.declared.data.Want.{Want}
-use Rattle.wants.specs.Rows.{is_same, plain, row_of}
+use Rattle.wants.specs.Rows.{is_same, row_of}
 use Rattle.steps.proofs.begin.is_same.Goals as goal
 
 test_is : (b : Bool) (a c : Name) → (b ≡ true) ↔ (a ≡ c) → b ≡ is_name a c
@@ -19,4 +20,4 @@ move_is_same parent new_parent name new_name b e h = test_is b name new_name h �
 pub returns-then-parent-new_parent : goal.returns-then-parent-new_parent
 returns-then-parent-new_parent c =
     let m = c.in-Move in
-    move_is_same m.parent m.new_parent m.name m.new_name c.is.result c.if-parent-new_parent.true c.is.ensures ∙ ap (λ (want : Want). is_same (row_of want plain).done) (sym m.is)
+    move_is_same m.parent m.new_parent m.name m.new_name c.is.result c.if-parent-new_parent.true c.is.ensures ∙ ap (λ (want : Want). is_same (row_of want cases.Plain).done) (sym m.is)

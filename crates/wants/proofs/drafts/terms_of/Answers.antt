@@ -1,5 +1,4 @@
-use Rattle.std.proofs.Common.{◌≡◌, if◌then◌else◌, List, length, sym, subst, ap, ◌∙◌, rules}
-use Rattle.std.proofs.lemmas.Bool.{cond-false, cond-true}
+use Rattle.std.proofs.Common.{◌≡◌, List, length, sym, subst, ap, ◌∙◌, rules}
 use Rattle.std.proofs.lemmas.List.{length-map}
 use Rattle.std.proofs.lemmas.Result.{err_from_is_err_and}
 use Rattle.paths.specs.Prefixes.{Names}
@@ -7,10 +6,10 @@ use Rattle.tree.specs.Places.{at_in}
 use Rattle.wants.specs.declared.refusal.Refusal.{Refusal}
 use Rattle.wants.specs.declared.refusal.Refusal.TheVariants.{Memory}
 use Rattle.wants.specs.Asked.{IsUnsound}
-use Rattle.wants.specs.Drafts.{IsShortPath, demand_of, errno_of, location_of, locations_of}
+use Rattle.wants.specs.Drafts.{IsDrawn, IsShortPath, demand_of, entered_case, errno_of, location_of, locations_of}
+use Rattle.wants.specs.Rows.{births_in}
 use Rattle.wants.proofs.Agreeing.{agreed, bad_refused, change_refused, enough_paths, lost_refused}
 use Rattle.wants.proofs.Members.{zip_length}
-use Rattle.wants.proofs.drafts.terms_of.Goals.{then-draft, else-draft}
 use Rattle.wants.proofs.drafts.terms_of.Goals as goal
 
 pub returns-in_err-expect_rooted-clause-err : goal.returns-in_err-expect_rooted-clause-err
@@ -48,9 +47,11 @@ returns-in_err-terms-clause-err c =
 
 pub returns-clause-ok : goal.returns-clause-ok
 returns-clause-ok c =
-    let births : c.if-draft.births ≡ (if c.in_ok-draft.draft.absent then c.from-entries.result else 0) = elim c.if-draft.branch [
-      | then-draft w ↦ w.births-is ∙ sym (cond-true c.in_ok-draft.draft.absent c.from-entries.result 0 w.if-draft.true)
-      | else-draft w ↦ w.births-is ∙ sym (cond-false c.in_ok-draft.draft.absent c.from-entries.result 0 w.if-draft.false)
-    ] in
-    agreed (at_in c.args.tree.now) c.expect_rooted.ensures.tree c.args.row.now c.in_ok-draft.draft c.if-draft.births c.from-entries.result c.in_ok-terms.terms c.requires c.in_ok-expect_rooted.ensures.ok c.in_ok-draft.ensures.ok
-    (rw c.as_slice.ensures.value at c.in_ok-expect_change.ensures.ok) (search rules) births c.in_ok-draft.ensures.room c.in_ok-terms.ensures
+    let x = c.in_ok-draft.draft in
+    let row = c.args.row.now in
+    let case = c.entered_case-case.ensures in
+    let births : c.births_in.result ≡ births_in (entered_case x.absent row.enters) = c.births_in.ensures ∙ ap births_in case in
+    let drawn : IsDrawn x (entered_case x.absent row.enters) c.births_in.result c.from.result c.in_ok-terms.terms
+    = subst (λ k. IsDrawn x k c.births_in.result c.from.result c.in_ok-terms.terms) case c.in_ok-terms.ensures in
+    agreed (at_in c.args.tree.now) c.expect_rooted.ensures.tree row x c.births_in.result c.from.result c.in_ok-terms.terms c.requires c.in_ok-expect_rooted.ensures.ok c.in_ok-draft.ensures.ok
+    (rw c.as_slice.ensures.value at c.in_ok-expect_change.ensures.ok) (search rules) births c.in_ok-draft.ensures.room drawn

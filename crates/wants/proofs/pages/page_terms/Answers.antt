@@ -32,6 +32,8 @@ returns-in_err-terms-clause-err c =
     rw (p.1, p.2) (page_bad (at_in c.args.tree.now) c.expect_rooted.ensures.tree c.args.folder c.args.names.now (folder_leads (at_in c.args.tree.now) c.args.folder c.in_ok-expect_rooted.ensures.ok) Memory tt)
 
 pub returns-clause-ok : goal.returns-clause-ok
-returns-clause-ok c =
-    page_agreed (at_in c.args.tree.now) c.expect_rooted.ensures.tree c.args.folder c.args.names.now c.in_ok-draft.draft c.in_ok-terms.terms
-    (folder_leads (at_in c.args.tree.now) c.args.folder c.in_ok-expect_rooted.ensures.ok) c.in_ok-draft.ensures.ok c.in_ok-draft.ensures.room c.in_ok-terms.ensures
+returns-clause-ok c = (
+  c.in_ok-terms.ensures.case_is,
+  page_agreed (at_in c.args.tree.now) c.expect_rooted.ensures.tree c.args.folder c.args.names.now c.in_ok-draft.draft c.in_ok-terms.terms
+      (folder_leads (at_in c.args.tree.now) c.args.folder c.in_ok-expect_rooted.ensures.ok) c.in_ok-draft.ensures.ok c.in_ok-draft.ensures.room c.in_ok-terms.ensures,
+)

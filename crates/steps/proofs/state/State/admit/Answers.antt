@@ -1,20 +1,19 @@
 use Rattle.std.proofs.Common.{refl, sym, ◌∙◌}
 use Rattle.std.proofs.lemmas.Bool.{false≢true}
-use Rattle.tree.specs.Places.{at_in}
 use Rattle.wants.specs.declared.data.Plan.{Plan}
-use Rattle.wants.specs.Asked.{IsDemand, no_memory}
+use Rattle.wants.specs.Asked.{no_memory}
+use Rattle.wants.specs.Cases.{IsDemand, Seen}
 use Rattle.wants.specs.Plans.{IsPlan, row_in}
-use Rattle.wants.specs.Rows.{case_in}
-use Rattle.tree.specs.Places.{Lookup}
 use Rattle.steps.specs.Kept.{world_of}
+use Rattle.steps.specs.World.{seen_in}
 use Rattle.steps.specs.Steps.{unsound}
 use Rattle.steps.proofs.Refusing.{refusal_bits}
 use Rattle.steps.proofs.Testing.{held_up, limit_refusal, may_begin}
 use Rattle.steps.proofs.Starting.{begun_kept, goes_on}
 use Rattle.steps.proofs.state.State.admit.Goals as goal
 
-demanded : (at : Lookup) (plan : Plan) → IsPlan at plan.work.want plan → IsDemand at plan.work.want (row_in plan.work)
-demanded at plan is = record { case = case_in plan.work.want plan.work.promise; fits = is.fits; row = refl }
+demanded : (seen : Seen) (plan : Plan) → IsPlan seen plan.work.want plan → IsDemand seen plan.work.want (row_in plan.work)
+demanded seen plan is = record { case = plan.work.case; fits = is.fits; row = refl }
 
 pub returns-then-holds_up-clause-begins : goal.returns-then-holds_up-clause-begins
 returns-then-holds_up-clause-begins c =
@@ -22,8 +21,8 @@ returns-then-holds_up-clause-begins c =
     let plan = c.args.plan in
     record {
       demand = row_in plan.work;
-      demanded = demanded (at_in s.tree) plan c.requires.plan;
-      begins = (record { usable = c.requires.handle (case_in plan.work.want plan.work.promise); sound = c.requires.plan.sound }, held_up s plan.work.want plan c.requires.plan (c.holds_up.ensures.held.0 c.if-holds_up.true), refl);
+      demanded = demanded (seen_in (world_of s)) plan c.requires.plan;
+      begins = (record { usable = c.requires.handle plan.work.case; sound = c.requires.plan.sound }, held_up s plan.work.want plan c.requires.plan (c.holds_up.ensures.held.0 c.if-holds_up.true), refl);
     }
 
 pub returns-in-Err-clause-begins : goal.returns-in-Err-clause-begins
@@ -32,10 +31,10 @@ returns-in-Err-clause-begins c =
     let plan = c.args.plan in
     record {
       demand = row_in plan.work;
-      demanded = demanded (at_in s.tree) plan c.requires.plan;
+      demanded = demanded (seen_in (world_of s)) plan c.requires.plan;
       begins = (
         refusal_bits (world_of s) (row_in plan.work) c.in-Err.errno
-            (limit_refusal s plan.work.want plan c.requires.plan (c.requires.handle (case_in plan.work.want plan.work.promise)) c.expect_within.ensures.tally c.in-Err.errno (λ up. false≢true (sym c.if-holds_up.false ∙ c.holds_up.ensures.held.1 up)) c.in-Err.ensures.err),
+            (limit_refusal s plan.work.want plan c.requires.plan (c.requires.handle plan.work.case) c.expect_within.ensures.tally c.in-Err.errno (λ up. false≢true (sym c.if-holds_up.false ∙ c.holds_up.ensures.held.1 up)) c.in-Err.ensures.err),
         refl,
       );
     }
@@ -46,9 +45,9 @@ returns-clause-begins c =
     let plan = c.args.plan in
     record {
       demand = row_in plan.work;
-      demanded = demanded (at_in s.tree) plan c.requires.plan;
+      demanded = demanded (seen_in (world_of s)) plan c.requires.plan;
       begins = (
-        may_begin s plan.work.want plan c.requires.plan (c.requires.handle (case_in plan.work.want plan.work.promise)) c.expect_within.ensures.tally (λ up. false≢true (sym c.if-holds_up.false ∙ c.holds_up.ensures.held.1 up)) c.in-Ok.ensures.ok,
+        may_begin s plan.work.want plan c.requires.plan (c.requires.handle plan.work.case) c.expect_within.ensures.tally (λ up. false≢true (sym c.if-holds_up.false ∙ c.holds_up.ensures.held.1 up)) c.in-Ok.ensures.ok,
         goes_on s c.reserve.new.self c.args.unique c.free_id-id.result plan c.requires.plan c.reserve.ensures.same c.add.new.self c.add.ensures.adds c.is_same-same.result c.free_id-id.ensures.free c.is_same-same.ensures,
       );
     }
@@ -59,7 +58,7 @@ returns-clause-kept c =
     let plan = c.args.plan in
     begun_kept s c.reserve.new.self c.args.unique c.free_id-id.result plan c.requires.plan c.reserve.ensures.same c.add.new.self c.add.ensures.adds c.is_same-same.result c.free_id-id.ensures.free c.is_same-same.ensures
     c.reserve.ensures.kept c.add.ensures.law (λ up. false≢true (sym c.if-holds_up.false ∙ c.holds_up.ensures.held.1 up))
-    (may_begin s plan.work.want plan c.requires.plan (c.requires.handle (case_in plan.work.want plan.work.promise)) c.expect_within.ensures.tally (λ up. false≢true (sym c.if-holds_up.false ∙ c.holds_up.ensures.held.1 up)) c.in-Ok.ensures.ok)
+    (may_begin s plan.work.want plan c.requires.plan (c.requires.handle plan.work.case) c.expect_within.ensures.tally (λ up. false≢true (sym c.if-holds_up.false ∙ c.holds_up.ensures.held.1 up)) c.in-Ok.ensures.ok)
     c.in-Ok.ensures.ok c.in-Ok-reserve.ensures.ok
 
 pub returns-in-Err-reserve-clause-begins : goal.returns-in-Err-reserve-clause-begins
@@ -68,6 +67,6 @@ returns-in-Err-reserve-clause-begins c =
     let plan = c.args.plan in
     record {
       demand = row_in plan.work;
-      demanded = demanded (at_in s.tree) plan c.requires.plan;
-      begins = (unsound (c.requires.handle (case_in plan.work.want plan.work.promise)) (no_memory refl c.requires.plan.sound.not_stale), c.reserve.ensures.same.world);
+      demanded = demanded (seen_in (world_of s)) plan c.requires.plan;
+      begins = (unsound (c.requires.handle plan.work.case) (no_memory refl c.requires.plan.sound.not_stale), c.reserve.ensures.same.world);
     }

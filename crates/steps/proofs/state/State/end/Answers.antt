@@ -5,7 +5,7 @@ use Rattle.flights.specs.declared.data.Given.{Given}
 use Rattle.flights.specs.Listed.{flying_of}
 use Rattle.tree.specs.declared.nodes.Key.{Key}
 use Rattle.wants.specs.Plans.{row_in}
-use Rattle.wants.specs.Rows.{Change, Demand, Location, Opening, case_in, stays}
+use Rattle.wants.specs.Rows.{Change, Demand, Location, Opening, stays}
 use Rattle.steps.specs.declared.acts.Entries.{Entries as Entered}
 use Rattle.steps.specs.Keeping.{kept_by}
 use Rattle.steps.specs.declared.data.Outcome.{Outcome}
@@ -30,7 +30,7 @@ returns-in-Failed-clause-ends c e =
     let w = world_of c.args.self.now in
     let work = c.args.work in
     let row = row_in work in
-    let entries : keys_in c.acts_of-entries.result.entries ≡ row.entries = c.acts_of-entries.ensures.entries (case_in work.want work.promise) in
+    let entries : keys_in c.acts_of-entries.result.entries ≡ row.entries = c.acts_of-entries.ensures.entries in
     let answer : c.give_none.result ≡ record { id = c.args.id; given = nothing_for row.entries; lost = false; opened = None } =
     c.give_none.ensures ∙ ap (λ (ks : List Key). let a : Answer = record { id = c.args.id; given = nothing_for ks; lost = false; opened = None } in a) entries in
     subst (λ (o : Outcome). Ends w c.args.id (flight_of e.flight) (act_of row o) row.entries c.give_none.result w) (sym c.in-Failed.is)
@@ -40,12 +40,12 @@ returns-in-Failed-clause-ends c e =
 pub change-requires-clause-may : goal.change-requires-clause-may
 change-requires-clause-may c =
     let work = c.args.work in
-    subst (λ (change : Change). MayAlter c.args.self.now change) (sym (c.acts_of-entries.ensures.change (case_in work.want work.promise))) (may_alter c.args.self.now c.args.id work c.requires.kept c.requires.ending)
+    subst (λ (change : Change). MayAlter c.args.self.now change) (sym c.acts_of-entries.ensures.change) (may_alter c.args.self.now c.args.id work c.requires.kept c.requires.ending)
 
 pub open_node-opened-requires-clause-may : goal.open_node-opened-requires-clause-may
 open_node-opened-requires-clause-may c =
     let work = c.args.work in
-    may_open c.args.self.now c.args.id work c.requires.kept c.requires.ending c.change.new.self c.change.ensures.kept c.change.ensures.rest c.acts_of-entries.result.opens (c.acts_of-entries.ensures.alone (case_in work.want work.promise))
+    may_open c.args.self.now c.args.id work c.requires.kept c.requires.ending c.change.new.self c.change.ensures.kept c.change.ensures.rest c.acts_of-entries.result.opens c.acts_of-entries.ensures.alone
 
 pub returns-in-Done-clause-ends : goal.returns-in-Done-clause-ends
 returns-in-Done-clause-ends c e =
@@ -54,55 +54,52 @@ returns-in-Done-clause-ends c e =
     let new = c.open_node-opened.new.self in
     let opened = c.open_node-opened.result in
     let work = c.args.work in
-    let case = case_in work.want work.promise in
     let row = row_in work in
-    let entries : keys_in c.acts_of-entries.result.entries ≡ row.entries = c.acts_of-entries.ensures.entries case in
+    let entries : keys_in c.acts_of-entries.result.entries ≡ row.entries = c.acts_of-entries.ensures.entries in
     let answer : c.give_none-in-Done.result ≡ record { id = c.args.id; given = nothing_for row.entries; lost = false; opened = opened } =
     c.give_none-in-Done.ensures ∙ ap (λ (ks : List Key). let a : Answer = record { id = c.args.id; given = nothing_for ks; lost = false; opened = opened } in a) entries in
-    let changes : ChangesNames w row.done (world_of mid) = subst (λ (change : Change). ChangesNames w change (world_of mid)) (c.acts_of-entries.ensures.change case) c.change.ensures.changes in
+    let changes : ChangesNames w row.done (world_of mid) = subst (λ (change : Change). ChangesNames w change (world_of mid)) c.acts_of-entries.ensures.change c.change.ensures.changes in
     let act : Act = record { found = none_found row.entries; change = row.done; opens = None } in
     let unopened : Answer = record { id = c.args.id; given = nothing_for row.entries; lost = false; opened = None } in
     let first = ends_changed w (world_of mid) c.args.id (flight_of e.flight) (ap (λ o. option_map flight_of o) e.here) (ap stage_of e.answered) act row.entries refl refl changes in
     let whole = ends_alone w c.args.id (flight_of e.flight) mid new c.change.ensures.kept opened act row.entries unopened first refl refl c.acts_of-entries.result.opens c.open_node-opened.ensures.opens in
     subst (λ (o : Outcome). Ends w c.args.id (flight_of e.flight) (act_of row o) row.entries c.give_none-in-Done.result (world_of new)) (sym c.in-Done.is)
     (subst (λ (a : Answer). Ends w c.args.id (flight_of e.flight) (act_of row Done) row.entries a (world_of new)) (sym answer)
-    (subst (λ (o : Option Opening). Ends w c.args.id (flight_of e.flight) (record act { opens = o }) row.entries (record unopened { opened = opened }) (world_of new)) (c.acts_of-entries.ensures.alone case) whole))
+    (subst (λ (o : Option Opening). Ends w c.args.id (flight_of e.flight) (record act { opens = o }) row.entries (record unopened { opened = opened }) (world_of new)) c.acts_of-entries.ensures.alone whole))
 
 pub give_entry-answered-requires-clause-may : goal.give_entry-answered-requires-clause-may
 give_entry-answered-requires-clause-may c =
     let work = c.args.work in
-    subst (λ (ks : List Key). MayEnter c.args.self.now c.args.id ks) (sym (c.acts_of-entries.ensures.entries (case_in work.want work.promise))) (may_enter c.args.self.now c.args.id work c.requires.kept c.requires.ending)
+    subst (λ (ks : List Key). MayEnter c.args.self.now c.args.id ks) (sym c.acts_of-entries.ensures.entries) (may_enter c.args.self.now c.args.id work c.requires.kept c.requires.ending)
 
 pub give_entry-answered-requires-clause-unowned : goal.give_entry-answered-requires-clause-unowned
 give_entry-answered-requires-clause-unowned c one =
     let work = c.args.work in
-    let case = case_in work.want work.promise in
-    subst (λ (ks : List Key). AreUnowned c.args.self.now ks) (sym (c.acts_of-entries.ensures.entries case))
-    (are_unowned c.args.self.now c.args.id work c.requires.kept c.requires.ending (sym (c.acts_of-entries.ensures.page case) ∙ one))
+    subst (λ (ks : List Key). AreUnowned c.args.self.now ks) (sym c.acts_of-entries.ensures.entries)
+    (are_unowned c.args.self.now c.args.id work c.requires.kept c.requires.ending (sym c.acts_of-entries.ensures.page ∙ one))
 
 pub open_given-opened-requires-clause-may : goal.open_given-opened-requires-clause-may
 open_given-opened-requires-clause-may c =
     let work = c.args.work in
     let r = c.give_entry-answered in
     may_given c.args.self.now c.args.id work c.requires.kept c.requires.ending r.new.self r.ensures.files r.ensures.limits r.ensures.promised
-    c.acts_of-entries.result.opens c.acts_of-entries.result.entries r.result.0.given r.result.1 (c.acts_of-entries.ensures.entered (case_in work.want work.promise)) r.ensures.given
+    c.acts_of-entries.result.opens c.acts_of-entries.result.entries r.result.0.given r.result.1 c.acts_of-entries.ensures.entered r.ensures.given
 
 pub give_entries-requires-clause-may : goal.give_entries-requires-clause-may
 give_entries-requires-clause-may c =
     let work = c.args.work in
-    subst (λ (ks : List Key). MayEnter c.args.self.now c.args.id ks) (sym (c.acts_of-entries.ensures.entries (case_in work.want work.promise))) (may_enter c.args.self.now c.args.id work c.requires.kept c.requires.ending)
+    subst (λ (ks : List Key). MayEnter c.args.self.now c.args.id ks) (sym c.acts_of-entries.ensures.entries) (may_enter c.args.self.now c.args.id work c.requires.kept c.requires.ending)
 
 pub give_entries-requires-clause-fill : goal.give_entries-requires-clause-fill
 give_entries-requires-clause-fill c page =
     let work = c.args.work in
-    let case = case_in work.want work.promise in
-    subst (λ (ks : List Key). MayFill c.args.self.now c.args.id ks) (sym (c.acts_of-entries.ensures.entries case))
-    (may_fill c.args.self.now c.args.id work c.requires.kept c.requires.ending (sym (c.acts_of-entries.ensures.page case) ∙ page))
+    subst (λ (ks : List Key). MayFill c.args.self.now c.args.id ks) (sym c.acts_of-entries.ensures.entries)
+    (may_fill c.args.self.now c.args.id work c.requires.kept c.requires.ending (sym c.acts_of-entries.ensures.page ∙ page))
 
 pub give_entries-requires-clause-leads : goal.give_entries-requires-clause-leads
 give_entries-requires-clause-leads c n h =
     let work = c.args.work in
-    let folders : folders_in c.acts_of-entries.result.entries ≡ folders_of (row_in work) = c.acts_of-entries.ensures.folders (case_in work.want work.promise) in
+    let folders : folders_in c.acts_of-entries.result.entries ≡ folders_of (row_in work) = c.acts_of-entries.ensures.folders in
     folder_leads c.args.self.now c.args.id work c.requires.kept c.requires.ending n (subst (λ ns. Contains ns n) folders h)
 
 -- the end of a request, by the entries that it gave
@@ -126,7 +123,6 @@ pub returns-in-Entry-clause-ends : goal.returns-in-Entry-clause-ends
 returns-in-Entry-clause-ends c e =
     let s = c.args.self.now in
     let work = c.args.work in
-    let case = case_in work.want work.promise in
     let row = row_in work in
     let w = world_of s in
     let acts = c.acts_of-entries in
@@ -143,13 +139,12 @@ returns-in-Entry-clause-ends c e =
     let whole = ends_entry w c.args.id (flight_of e.flight) mid new r.kept opened es answer first unopened o entered r.given c.open_given-opened.ensures.opens in
     subst (λ (out : Outcome). Ends w c.args.id (flight_of e.flight) (act_of row out) row.entries c.with_file.result (world_of new)) (sym c.in-Entry.is)
     (subst (λ (a : Answer). Ends w c.args.id (flight_of e.flight) (act_of row Entry) row.entries a (world_of new)) (sym c.with_file.ensures)
-    (ends_row s new c.args.id e.flight es row one_found (with_in o es) (opened_with row) (record answer { opened = opened }) (acts.ensures.entries case) (acts.ensures.page case) (acts.ensures.entered case) whole))
+    (ends_row s new c.args.id e.flight es row one_found (with_in o es) (opened_with row) (record answer { opened = opened }) acts.ensures.entries acts.ensures.page acts.ensures.entered whole))
 
 pub returns-in-Entries-clause-ends : goal.returns-in-Entries-clause-ends
 returns-in-Entries-clause-ends c e =
     let s = c.args.self.now in
     let work = c.args.work in
-    let case = case_in work.want work.promise in
     let row = row_in work in
     let w = world_of s in
     let acts = c.acts_of-entries in
@@ -158,7 +153,7 @@ returns-in-Entries-clause-ends c e =
     let new = c.give_entries.new.self in
     let found : Bool → List Key → List Bool = λ page keys. page_found page keys c.in-Entries.found in
     subst (λ (out : Outcome). Ends w c.args.id (flight_of e.flight) (act_of row out) row.entries c.give_entries.result (world_of new)) (sym c.in-Entries.is)
-    (ends_row s new c.args.id e.flight es row found None None c.give_entries.result (acts.ensures.entries case) (acts.ensures.page case) refl
+    (ends_row s new c.args.id e.flight es row found None None c.give_entries.result acts.ensures.entries acts.ensures.page refl
     (ends_by s new r.kept c.args.id e.flight e.here (ap stage_of e.answered) (keys_in es) (found (is_page es) (keys_in es)) c.give_entries.result r.told (r.gives e.flight e.here)))
 
 -- what is hidden is what the row says
@@ -170,8 +165,7 @@ pub change-requires-in-Hidden-clause-may : goal.change-requires-in-Hidden-clause
 change-requires-in-Hidden-clause-may c =
     let work = c.args.work in
     let acts = c.acts_of-entries in
-    let case = case_in work.want work.promise in
-    let is = hidden_is (row_in work) (change_in acts.result.change) (acts.ensures.change case) (candidates_in acts.result.candidates) (acts.ensures.candidates case) c.in-Hidden.index (change_in c.hide.result) c.hide.ensures in
+    let is = hidden_is (row_in work) (change_in acts.result.change) acts.ensures.change (candidates_in acts.result.candidates) acts.ensures.candidates c.in-Hidden.index (change_in c.hide.result) c.hide.ensures in
     subst (λ (change : Change). MayAlter c.args.self.now change) (sym is) (may_hide c.args.self.now c.args.id work c.requires.kept c.requires.ending c.in-Hidden.index)
 
 pub returns-in-Hidden-clause-ends : goal.returns-in-Hidden-clause-ends
@@ -180,13 +174,12 @@ returns-in-Hidden-clause-ends c e =
     let new = c.change-in-Hidden.new.self in
     let work = c.args.work in
     let acts = c.acts_of-entries in
-    let case = case_in work.want work.promise in
     let row = row_in work in
     let i = c.in-Hidden.index in
-    let entries : keys_in acts.result.entries ≡ row.entries = acts.ensures.entries case in
+    let entries : keys_in acts.result.entries ≡ row.entries = acts.ensures.entries in
     let answer : c.give_none-in-Hidden.result ≡ record { id = c.args.id; given = nothing_for row.entries; lost = false; opened = None } =
     c.give_none-in-Hidden.ensures ∙ ap (λ (ks : List Key). let a : Answer = record { id = c.args.id; given = nothing_for ks; lost = false; opened = None } in a) entries in
-    let is = hidden_is row (change_in acts.result.change) (acts.ensures.change case) (candidates_in acts.result.candidates) (acts.ensures.candidates case) i (change_in c.hide.result) c.hide.ensures in
+    let is = hidden_is row (change_in acts.result.change) acts.ensures.change (candidates_in acts.result.candidates) acts.ensures.candidates i (change_in c.hide.result) c.hide.ensures in
     let changes : ChangesNames w (hiding_at row.done (slice_get row.candidates i)) (world_of new) = subst (λ (change : Change). ChangesNames w change (world_of new)) is c.change-in-Hidden.ensures.changes in
     subst (λ (o : Outcome). Ends w c.args.id (flight_of e.flight) (act_of row o) row.entries c.give_none-in-Hidden.result (world_of new)) (sym c.in-Hidden.is)
     (subst (λ (a : Answer). Ends w c.args.id (flight_of e.flight) (act_of row (Hidden i)) row.entries a (world_of new)) (sym answer)
@@ -200,9 +193,8 @@ pub change-requires-in-HiddenMove-clause-may : goal.change-requires-in-HiddenMov
 change-requires-in-HiddenMove-clause-may c =
     let work = c.args.work in
     let acts = c.acts_of-entries in
-    let case = case_in work.want work.promise in
     let i = c.in-HiddenMove.candidate in
-    let is = replaced_is (row_in work) (change_in acts.result.change) (acts.ensures.change case) (candidates_in acts.result.candidates) (acts.ensures.candidates case) i c.in-HiddenMove.moved (change_in c.replace.result) c.replace.ensures in
+    let is = replaced_is (row_in work) (change_in acts.result.change) acts.ensures.change (candidates_in acts.result.candidates) acts.ensures.candidates i c.in-HiddenMove.moved (change_in c.replace.result) c.replace.ensures in
     subst (λ (change : Change). MayAlter c.args.self.now change) (sym is) (may_replace c.args.self.now c.args.id work c.requires.kept c.requires.ending i c.in-HiddenMove.moved)
 
 pub returns-clause-ends : goal.returns-clause-ends
@@ -211,14 +203,13 @@ returns-clause-ends c e =
     let new = c.change-in-HiddenMove.new.self in
     let work = c.args.work in
     let acts = c.acts_of-entries in
-    let case = case_in work.want work.promise in
     let row = row_in work in
     let i = c.in-HiddenMove.candidate in
     let moved = c.in-HiddenMove.moved in
-    let entries : keys_in acts.result.entries ≡ row.entries = acts.ensures.entries case in
+    let entries : keys_in acts.result.entries ≡ row.entries = acts.ensures.entries in
     let answer : c.give_none-in-HiddenMove.result ≡ record { id = c.args.id; given = nothing_for row.entries; lost = false; opened = None } =
     c.give_none-in-HiddenMove.ensures ∙ ap (λ (ks : List Key). let a : Answer = record { id = c.args.id; given = nothing_for ks; lost = false; opened = None } in a) entries in
-    let is = replaced_is row (change_in acts.result.change) (acts.ensures.change case) (candidates_in acts.result.candidates) (acts.ensures.candidates case) i moved (change_in c.replace.result) c.replace.ensures in
+    let is = replaced_is row (change_in acts.result.change) acts.ensures.change (candidates_in acts.result.candidates) acts.ensures.candidates i moved (change_in c.replace.result) c.replace.ensures in
     let changes : ChangesNames w (replacing_at row.done (slice_get row.candidates i) moved) (world_of new) = subst (λ (change : Change). ChangesNames w change (world_of new)) is c.change-in-HiddenMove.ensures.changes in
     subst (λ (o : Outcome). Ends w c.args.id (flight_of e.flight) (act_of row o) row.entries c.give_none-in-HiddenMove.result (world_of new)) (sym c.in-HiddenMove.is)
     (subst (λ (a : Answer). Ends w c.args.id (flight_of e.flight) (act_of row (HiddenMove i moved)) row.entries a (world_of new)) (sym answer)

@@ -1,0 +1,40 @@
+-- Which case of its row a want is, as the table stands. Beside the table of rows this alone looks at wants.
+use Rattle.std.specs.Prelude.{ℕ, ◌≡◌}
+use Rattle.files.specs.Filed.{Filing, files_of}
+use Rattle.files.specs.Handles.{Files}
+use Rattle.flights.specs.declared.data.Case.{Case}
+use Rattle.flights.specs.declared.data.Case.TheVariants as cases
+use Rattle.flights.specs.declared.data.Want.{Want}
+use Rattle.flights.specs.declared.data.Want.TheVariants as wants
+use Rattle.paths.specs.Prefixes.{Name}
+use Rattle.tree.specs.Places.{Lookup, Nodes, IsFree, IsNamed, at_in}
+use Rattle.wants.specs.Rows.{Demand, row_of}
+
+-- all that a case may look at: the nodes, the open files, and the counter of the next hidden name
+pub record Seen : Type 0 where
+  pub at : Lookup
+  pub files : Files
+  pub counter : ℕ
+
+abbrev pub seen_of : Nodes → Filing → ℕ → Seen
+seen_of tree files counter = record { at = at_in tree; files = (files_of files).at; counter = counter }
+
+-- a name for which an entry may be given: a node stands there, or none
+abbrev pub IsEntryCase : Lookup → ℕ → Name → Case → Type 0
+IsEntryCase at parent name cases.Plain = (n : ℕ) × IsNamed at n parent name
+IsEntryCase at parent name cases.Absent = IsFree at parent name
+
+abbrev pub IsCase : Seen → Want → Case → Type 0
+IsCase seen (wants.Node number handle) c = c ≡ cases.Plain
+IsCase seen (wants.Name parent name) c = IsEntryCase seen.at parent name c
+IsCase seen (wants.Remove parent name) c = c ≡ cases.Plain
+IsCase seen (wants.Move parent name new_parent new_name) c = c ≡ cases.Plain
+IsCase seen (wants.Page folder names) c = c ≡ cases.Plain
+IsCase seen (wants.Open number access) c = c ≡ cases.Plain
+IsCase seen (wants.Create parent name access) c = IsEntryCase seen.at parent name c
+
+-- what the want asks of the table as it stands
+pub record IsDemand (seen : Seen) (want : Want) (d : Demand) : Type 0 where
+  pub case : Case
+  pub fits : IsCase seen want case
+  pub row : d ≡ row_of want case
