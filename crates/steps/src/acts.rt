@@ -125,6 +125,7 @@ pub(crate) fn acts_of(want: Want, _case: Case, copy: Option<Name>, copies: Names
         Want::Release { .. } => Acts {
             entries: Entries::Nothing,
             change: Change::Stays,
+            candidates: None,
             opens: Opens::Nothing,
         },
     }

@@ -122,6 +122,8 @@ closed_is_row number c used closes = record {
   covered = λ n h. inl (closed_covered number c n h);
   entered = inl refl;
   own = tt;
+  hidden = λ l h. absurd (none_in l h);
+  beside = λ l h. absurd (none_in l h);
 }
 
 pub are_rows : (want : Want) (case : Case) → IsRow (row_of want case)
