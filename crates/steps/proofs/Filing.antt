@@ -10,10 +10,8 @@ use Rattle.flights.specs.declared.data.Given.{Given}
 use Rattle.flights.specs.Listed.{InFlight, flying_of}
 use Rattle.ledger.specs.declared.postings.Posting.{Posting}
 use Rattle.tree.specs.declared.nodes.Node.{Node}
-use Rattle.tree.specs.Moves.{Changes, Where}
 use Rattle.tree.specs.Places.{Lookup, with_node}
 use Rattle.tree.proofs.LookupLemmas.{with_same, with_other}
-use Rattle.tree.proofs.Transfers.{changed_generation}
 use Rattle.steps.specs.Entries.{Enters, TakesAllBack, newborn}
 use Rattle.steps.specs.Keeping.{kept_by}
 use Rattle.steps.specs.Swept.{IsSwept}
@@ -97,13 +95,6 @@ module _ (files : Files) where
   nodes_back (Some g ∷ gs) at new ps qs (mid, ms, inl back, rest) have =
       nodes_back gs mid new ms qs rest (subst (λ a. HaveNodes a files) (sym back.nodes) (nodes_written at g.number back.node (record back.node { count = back.node.count - 1 }) back.here refl have))
   nodes_back (Some g ∷ gs) at new ps qs (mid, ms, inr none, rest) have = nodes_back gs mid new ms qs rest (subst (λ a. HaveNodes a files) (sym none.nodes) have)
-
-  -- places change
-  pub nodes_changed : (f : Where → Where) (old new : Lookup) → Changes f old new → HaveNodes old files → HaveNodes new files
-  nodes_changed f old new c have handle file here =
-      let it = have handle file here in
-      let now = c.kept file.number it.node it.here in
-      record { node = now.0; here = now.1; generation = changed_generation it.node now.0 now.2 ∙ it.generation }
 
 -- nodes that nothing keeps are dropped
 pub nodes_swept : (flights : InFlight) (files : Filing) → IsFiled (files_of files) → (old new : Lookup) → IsSwept (kept_by flights files) old new → HaveNodes old (files_of files).at → HaveNodes new (files_of files).at

@@ -1,5 +1,6 @@
 -- What one request holds alone is no prefix of a path whose prefixes another holds, so that its changes leave that path.
-use Rattle.std.proofs.Common.{ℕ, ◌+◌, ◌≡◌, ◌≢◌, Bool, true, false, List, [], ◌∷◌, ◌++◌, Option, Some, None, Contains, reverse, refl, sym, ap, ◌∙◌, subst, inl, inr}
+use Rattle.std.proofs.Common.{ℕ, zero, suc, ◌+◌, ◌≡◌, ◌≢◌, Bool, true, false, List, [], ◌∷◌, ◌++◌, Option, Some, None, Contains, reverse, refl, sym, ap, ◌∙◌, subst, inl, inr}
+use Rattle.std.specs.List.{slice_get}
 use Rattle.std.proofs.lemmas.Bool.{cases_Bool}
 use Rattle.paths.specs.Prefixes.{Name, Names, is_prefix}
 use Rattle.holds.specs.declared.held.Held.{Held}
@@ -18,24 +19,48 @@ use Rattle.std.proofs.lemmas.Option.{none-some, same_Some}
 use Rattle.flights.specs.declared.data.Case.{Case}
 use Rattle.flights.specs.declared.data.Want.{Want}
 use Rattle.steps.specs.declared.data.Outcome.{Outcome}
-use Rattle.steps.specs.declared.data.Outcome.TheVariants.{Done, Entries, Entry, Failed}
+use Rattle.steps.specs.declared.data.Outcome.TheVariants.{Done, Entries, Entry, Failed, Hidden, HiddenMove}
 use Rattle.wants.specs.Asked.{HasPath, Holds}
 use Rattle.wants.specs.Laws.{AreOwn, IsRow}
 use Rattle.steps.specs.Laws.{AreEntriesHarmless, AreOthersLeft, AreSweepsHarmless, IsPlaced, LeavesWork}
-use Rattle.wants.specs.Rows.{AtName, AtNode, Change, Demand, Location, cuts, moves, row_of, stays}
-use Rattle.steps.specs.Steps.{Alters, EntersAll, HoldsUp, Moves, act_of}
+use Rattle.wants.specs.Rows.{AtName, AtNode, Change, Demand, Location, cuts, hides, moves, replaces, row_of, stays}
+use Rattle.steps.specs.Steps.{Alters, EntersAll, Hides, HoldsUp, Marks, Moves, act_of, hiding_at, none_there, one_there, replacing_at}
 use Rattle.steps.specs.World.{Flight, Flights, IsAtWork, Work}
-use Rattle.wants.proofs.Members.{any_in}
+use Rattle.wants.proofs.Members.{any_in, first_in, later_in}
 use Rattle.wants.proofs.RowLemmas.{are_rows}
+use Rattle.steps.proofs.Following.{path_follows}
 use Rattle.steps.proofs.Staying.{KeepsPaths, paths_kept, ready_kept}
 
 -- ---- acts change no names but those that their rows hold alone
+
+pub candidate_in : (ls : List Location) (i : ℕ) (l : Location) → slice_get ls i ≡ Some l → Contains ls l
+candidate_in [] i l e = absurd (none-some l e)
+candidate_in (m ∷ ls) zero l e = subst (λ k. Contains (m ∷ ls) k) (same_Some m l e) (first_in m ls)
+candidate_in (m ∷ ls) (suc i) l e = later_in m ls l (candidate_in ls i l e)
+
+pub hiding_own : (alone : List Location) (change : Change) (o : Option Location) → AreOwn alone change → ((l : Location) → o ≡ Some l → Contains alone l) → AreOwn alone (hiding_at change o)
+hiding_own alone stays o own among = tt
+hiding_own alone (cuts l) None own among = tt
+hiding_own alone (cuts l) (Some c) own among = (own, among c refl)
+hiding_own alone (moves s t) o own among = tt
+hiding_own alone (hides l c) o own among = tt
+hiding_own alone (replaces s t c m) o own among = tt
+
+pub replacing_own : (alone : List Location) (change : Change) (o : Option Location) (moved : Bool) → AreOwn alone change → ((l : Location) → o ≡ Some l → Contains alone l) → AreOwn alone (replacing_at change o moved)
+replacing_own alone stays o moved own among = tt
+replacing_own alone (cuts l) o moved own among = tt
+replacing_own alone (moves s t) None moved own among = tt
+replacing_own alone (moves s t) (Some c) moved own among = (own.0, own.1, among c refl)
+replacing_own alone (hides l c) o moved own among = tt
+replacing_own alone (replaces s t c m) o moved own among = tt
 
 pub act_own : (d : Demand) → IsRow d → (outcome : Outcome) → AreOwn d.alone (act_of d outcome).change
 act_own d row Failed = tt
 act_own d row Done = row.own
 act_own d row Entry = tt
 act_own d row (Entries found) = tt
+act_own d row (Hidden i) = hiding_own d.alone d.done (slice_get d.candidates i) row.own (λ l e. row.hidden l (candidate_in d.candidates i l e))
+act_own d row (HiddenMove i moved) = replacing_own d.alone d.done (slice_get d.candidates i) moved row.own (λ l e. row.hidden l (candidate_in d.candidates i l e))
 
 pub acts_own : (want : Want) (case : Case) (outcome : Outcome) → AreOwn (row_of want case).alone (act_of (row_of want case) outcome).change
 acts_own want case outcome = act_own (row_of want case) (are_rows want case) outcome
@@ -45,6 +70,16 @@ acts_own want case outcome = act_own (row_of want case) (are_rows want case) out
 conflict_at : (r h : Held) (p : Names) → Contains h.exclusive p → IsHeld r p → Conflict r h
 conflict_at r h p own (inl shared) = inr (inr (own.0, p, own.1, own.2, shared))
 conflict_at r h p own (inr alone) = inr (inl (own.0, p, own.1, own.2, alone))
+
+reaches_named : (old new : Lookup) → ((n p : ℕ) (name : Name) → IsNamed old n p name → IsNamed new n p name) → (n : ℕ) (way : Names) → Reaches old 1 n way → Reaches new 1 n way
+reaches_named old new named n [] h = h
+reaches_named old new named n (name ∷ way) h = (h.0, named n h.0 name h.1, reaches_named old new named h.0 way h.2)
+
+-- a mark moves nothing
+pub path_after_mark : (before old new : Lookup) (l : Location) → Marks before l old new → (n : ℕ) (q : Names) → IsPathOf old n q → IsPathOf new n q
+path_after_mark before old new l (none_there none same) n q h = subst (λ (at : Lookup). IsPathOf at n q) (sym same) h
+path_after_mark before old new l (one_there m x there here same) n q h =
+    subst (λ (at : Lookup). IsPathOf at n q) (sym same) (reaches_named old _ (named_written old m x (record x { hidden = true }) here refl) n (reverse q) h)
 
 -- nothing is in the way of these paths, so none of them is a prefix of a path whose prefixes another holds
 guard : (flights : Flights) (held : Held) (p : Names) → (HoldsUp flights held → ⊥) → Contains held.exclusive p → p ≢ []
@@ -59,7 +94,7 @@ not_empty [] name e = cc
 not_empty (x ∷ p) name e = cc
 
 -- the path of a location other than the root is not empty
-path_some : (at : Lookup) (l : Location) (alone : List Location) → IsPlaced alone → Contains alone l → (p : Names) → HasPath at l p → p ≢ []
+pub path_some : (at : Lookup) (l : Location) (alone : List Location) → IsPlaced alone → Contains alone l → (p : Names) → HasPath at l p → p ≢ []
 path_some at (AtNode n) alone placed among p leads e =
     let one : n ≡ 1 = subst (λ r. IsPathOf at n r) e leads in
     placed (subst (λ k. Contains alone (AtNode k)) one among)
@@ -75,10 +110,16 @@ module _ (old : Lookup) (flights : Flights) (d : Demand) (held : Held) (holds : 
   moved_away : (s t : Location) → Contains d.alone s → Contains d.alone t → (new : Lookup) → Moves old s t new → (n : ℕ) → IsPathOf old n q → IsPathOf new n q
   moved_away s t own_s own_t new m n h = path_after_move old new m.path m.new_path m.changes n q (apart t own_t m.new_path m.new_leads) (apart s own_s m.path m.leads) h
 
+  hidden_away : (l c : Location) → Contains d.alone l → Contains d.alone c → (new : Lookup) → Hides old l c new → (n : ℕ) → IsPathOf old n q → IsPathOf new n q
+  hidden_away l c own_l own_c new it n h = path_after_mark old it.mid new l it.marks n q (moved_away l c own_l own_c it.mid it.moves n h)
+
   pub path_stays : (change : Change) (new : Lookup) → AreOwn d.alone change → Alters old change new → (n : ℕ) → IsPathOf old n q → IsPathOf new n q
   path_stays stays new own same n h = subst (λ at. IsPathOf at n q) (sym same) h
   path_stays (cuts l) new own it n h = path_after_cut old new it.path it.changes n q (apart l own it.path it.leads) h
   path_stays (moves s t) new own it n h = moved_away s t own.0 own.1 new it n h
+  path_stays (hides l c) new own it n h = hidden_away l c own.0 own.1 new it n h
+  path_stays (replaces s t c moved) new own it n h =
+      path_follows it.hidden new it.hides.moves.new_path it.path it.new_path moved it.follows n q (apart t own.1 it.new_path it.new_leads) (apart s own.0 it.path it.leads) (hidden_away t c own.1 own.2 it.hidden it.hides n h)
 
 -- where all its paths stay, a request is left
 pub left_where : (old new : Lookup) (flights : Flights) → IsTree new → ((id : ℕ) (f : Flight) (work : Work) → IsAtWork flights id f work → KeepsPaths old new f.pins work.held) → LeavesWork old new flights
@@ -92,10 +133,6 @@ others_left old new flights d held change tree' holds clear placed own alters =
     left_where old new flights tree' (λ id f work here n pin q prefixes h. path_stays old flights d held holds clear placed id f work here q prefixes change new own alters n h)
 
 -- ---- entries
-
-reaches_named : (old new : Lookup) → ((n p : ℕ) (name : Name) → IsNamed old n p name → IsNamed new n p name) → (n : ℕ) (way : Names) → Reaches old 1 n way → Reaches new 1 n way
-reaches_named old new named n [] h = h
-reaches_named old new named n (name ∷ way) h = (h.0, named n h.0 name h.1, reaches_named old new named h.0 way h.2)
 
 pub entered_way : (at : Lookup) (ps : List Posting) (parent : ℕ) (name : Name) (g : Given) (at' : Lookup) (qs : List Posting) → Enters at ps parent name g at' qs → (n : ℕ) (way : Names) → Reaches at 1 n way → Reaches at' 1 n way
 entered_way at ps parent name g at' qs (inl again) n way h =

@@ -1,6 +1,7 @@
 pub mod Standing
 mod Filing
 pub mod Staying
+mod Following
 pub mod Guarding
 pub mod Beginning
 pub mod Finishing
@@ -30,6 +31,9 @@ pub mod Placing
 pub mod Ends
 pub mod Rooted
 pub mod Giving
+mod Altering
+pub mod Marking
+mod Replacing
 pub mod Changing
 pub mod Answering
 mod Filling

@@ -22,8 +22,18 @@ way_alive at tree m c name named (x ∷ up) way =
     let same = named_same at c m way.0 name x named way.1 in
     climbs_alive at tree.rooted up m (subst (λ k. Reaches at 1 k up) (sym same.0) way.2)
 
+way_leads : (at : Lookup) → IsTree at → (n p : ℕ) (name : Name) → IsNamed at n p name → (way : Names) → Reaches at 1 n way → Leads at p
+way_leads at tree n p name named [] way = absurd (root_unnamed at tree.rooted p name (subst (λ k. IsNamed at k p name) way named))
+way_leads at tree n p name named (x ∷ up) way =
+    let same = named_same at n p way.0 name x named way.1 in
+    record { names = up; climb = subst (λ k. Reaches at 1 k up) (sym same.0) way.2 }
+
 child_alive : (at : Lookup) → IsTree at → (m : ℕ) → HasChild at m → IsAlive at m
 child_alive at tree m (c, name, named) = let lead = tree.reached c m name named in way_alive at tree m c name named lead.names lead.climb
+
+-- and leads to the root
+pub parent_leads : (at : Lookup) → IsTree at → (n p : ℕ) (name : Name) → IsNamed at n p name → Leads at p
+parent_leads at tree n p name named = let lead = tree.reached n p name named in way_leads at tree n p name named lead.names lead.climb
 
 -- ---- a cut
 

@@ -67,7 +67,7 @@ HaveReasons-some at pinned but reasons n x h not_root left = reasons n x h not_r
 -- ---- writing and bearing
 
 -- a child stays a child when a node is written with the same place
-child_written : (at : Lookup) (n : ℕ) (x y : Node) → at n ≡ Some x → y.place ≡ x.place → (c : ℕ) → HasChild at c → HasChild (with_node at n y) c
+pub child_written : (at : Lookup) (n : ℕ) (x y : Node) → at n ≡ Some x → y.place ≡ x.place → (c : ℕ) → HasChild at c → HasChild (with_node at n y) c
 child_written at n x y stood place c h = elim (cases_eq n h.0) [
   | inl e ↦
       let same : h.2.0 ≡ x = same_Some h.2.0 x (sym h.2.1 ∙ (ap at (sym e) ∙ stood)) in

@@ -22,7 +22,7 @@ use Rattle.tree.specs.Places.{Lookup, IsNamed, IsPathOf, Leads, at_in}
 use Rattle.wants.specs.Asked.{Holds, IsPrefixAt, promise_of}
 use Rattle.wants.specs.Laws.{AreOwn, IsRow, base_of}
 use Rattle.wants.specs.Plans.{row_in}
-use Rattle.wants.specs.Rows.{AtName, AtNode, Change, Demand, Opening, cuts, moves, page_keys, row_of, stays}
+use Rattle.wants.specs.Rows.{AtName, AtNode, Change, Demand, Opening, cuts, hides, moves, page_keys, replaces, row_of, stays}
 use Rattle.wants.proofs.Members.{any_in, cases_in, first_in, in_map, none_in, only_in}
 use Rattle.wants.proofs.RowLemmas.{are_rows}
 use Rattle.steps.specs.declared.state.State.{State}
@@ -75,7 +75,7 @@ name_else : (parent : ℕ) (name : Name) → AtName parent name ≡ AtNode 1 →
 name_else parent name e = cc
 
 -- the root's path is not held alone
-rows_placed : (want : Want) (c : Case) → IsPlaced (row_of want c).alone
+pub rows_placed : (want : Want) (c : Case) → IsPlaced (row_of want c).alone
 rows_placed (wants.Node number handle) c h = none_in (AtNode 1) h
 rows_placed (wants.Name parent name) c h = none_in (AtNode 1) h
 rows_placed (wants.Remove parent name) c h = name_else parent name (only_in (AtName parent name) (AtNode 1) h)
@@ -125,6 +125,9 @@ pub own_leads : (at : Lookup) (d : Demand) (held : Held) → IsRow d → Holds a
 own_leads at d held row holds stays own = tt
 own_leads at d held row holds (cuts l) own = given_leads at d held holds (base_of l) (row.alone l own)
 own_leads at d held row holds (moves s t) own = (given_leads at d held holds (base_of s) (row.alone s own.0), given_leads at d held holds (base_of t) (row.alone t own.1))
+own_leads at d held row holds (hides l c) own = (given_leads at d held holds (base_of l) (row.alone l own.0), given_leads at d held holds (base_of c) (row.alone c own.1))
+own_leads at d held row holds (replaces s t c moved) own =
+    (given_leads at d held holds (base_of s) (row.alone s own.0), given_leads at d held holds (base_of t) (row.alone t own.1), given_leads at d held holds (base_of c) (row.alone c own.2))
 
 -- ---- who shares a path, none holds it alone
 
@@ -213,7 +216,7 @@ module _ (s : State) (id : ℕ) (work : RecordedWork) (kept : IsKept s) (e : IsE
   pub folder_leads : (n : ℕ) → Contains (folders_of row) n → LeadsTo (at_in s.tree) work.held.given n
   folder_leads n h = lead_of (at_in s.tree) work.want work.case work.held e.ready.holds n h
 
-  pub may_alter : MayAlter s row.done
+  abbrev pub may_alter : MayAlter s row.done
   may_alter = record {
     demand = row;
     row = is_row;

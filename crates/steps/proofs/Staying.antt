@@ -14,7 +14,7 @@ use Rattle.tree.proofs.Climbing.{named_at, path_same, path_under}
 use Rattle.steps.proofs.Standing.{HoldsPrefixes}
 use Rattle.wants.specs.Asked.{ArePaths, HasPath, Holds, IsAboveAt, IsAlone, IsMisplaced, IsRefusedAt, IsPrefixAt, IsShared}
 use Rattle.wants.specs.Laws.{AreOwn, IsRow, base_of}
-use Rattle.wants.specs.Rows.{AtName, AtNode, Change, Demand, Location, cuts, moves, stays}
+use Rattle.wants.specs.Rows.{AtName, AtNode, Change, Demand, Location, cuts, hides, moves, replaces, stays}
 use Rattle.steps.specs.World.{Flight, IsReady, IsStanding, Work}
 use Rattle.wants.proofs.Members.{any_in, in_any, in_map, later_in, cases_in, first_in, none_in}
 use Rattle.wants.proofs.RowLemmas.{are_rows}
@@ -159,6 +159,9 @@ misplaced_back : (old new : Lookup) (tree' : IsTree new) (d : Demand) (held : He
 misplaced_back old new tree' d held row holds f pinned keeps stays own e bad = bad
 misplaced_back old new tree' d held row holds f pinned keeps (cuts l) own e bad = bad
 misplaced_back old new tree' d held row holds f pinned keeps (moves s t) own e bad = refused_back old new tree' d held row holds f pinned keeps s t (row.alone s own.0) (row.alone t own.1) e bad
+misplaced_back old new tree' d held row holds f pinned keeps (hides l c) own e bad = refused_back old new tree' d held row holds f pinned keeps l c (row.alone l own.0) (row.alone c own.1) e bad
+misplaced_back old new tree' d held row holds f pinned keeps (replaces s t c moved) own e (inl bad) = inl (refused_back old new tree' d held row holds f pinned keeps s t (row.alone s own.0) (row.alone t own.1) e bad)
+misplaced_back old new tree' d held row holds f pinned keeps (replaces s t c moved) own e (inr bad) = inr (refused_back old new tree' d held row holds f pinned keeps t c (row.alone t own.1) (row.alone c own.2) e bad)
 
 module _ (old new : Lookup) (tree' : IsTree new) (f : Flight) (work : Work) (keeps : KeepsPaths old new f.pins work.held) (ready : IsReady old f work) where
   pub its_row : IsRow work.row

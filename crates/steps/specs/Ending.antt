@@ -17,11 +17,13 @@ use Rattle.tree.specs.Places.{Lookup, HasChild, IsAlive, IsCut, IsNamed, IsPathO
 use Rattle.wants.specs.Asked.{Holds, IsMisplaced}
 use Rattle.wants.specs.Laws.{AreOwn, IsRow, base_of}
 use Rattle.wants.specs.Plans.{IsProvided}
-use Rattle.wants.specs.Rows.{Change, Demand, AtName, AtNode, Location, Opening, cuts, moves, page_keys, stays}
+use Rattle.wants.specs.Rows.{Change, Demand, AtName, AtNode, Location, Opening, cuts, hides, moves, page_keys, page_names, replaces, stays}
 use Rattle.steps.specs.declared.acts.Change.{Change as Changing}
-use Rattle.steps.specs.declared.acts.Change.TheVariants.{Stays, Cuts, Moves}
+use Rattle.steps.specs.declared.acts.Change.TheVariants.{Stays, Cuts, Moves, Hides, Replaces}
 use Rattle.steps.specs.declared.acts.Entries.{Entries}
 use Rattle.steps.specs.declared.acts.Entries.TheVariants.{Nothing, One, Page}
+use Rattle.steps.specs.declared.keys.Keys.{Keys}
+use Rattle.steps.specs.declared.keys.FolderKeys.{FolderKeys}
 use Rattle.steps.specs.declared.acts.Opens.{Opens}
 use Rattle.steps.specs.declared.acts.Opens.TheVariants as opens
 use Rattle.steps.specs.declared.state.State.{State}
@@ -60,6 +62,18 @@ abbrev pub change_in : Changing → Change
 change_in Stays = stays
 change_in (Cuts key) = cuts (name_at key)
 change_in (Moves key target) = moves (name_at key) (name_at target.key)
+change_in (Hides key candidate) = hides (name_at key) (name_at candidate.key)
+change_in (Replaces key target candidate moved) = replaces (name_at key) (name_at target.key) (name_at candidate.key) moved
+
+abbrev pub keyed_name : Keys → Location
+keyed_name keys = name_at keys.key
+
+abbrev pub names_in : FolderKeys → List Location
+names_in keys = page_names keys.folder keys.names
+
+abbrev pub candidates_in : Option FolderKeys → List Location
+candidates_in None = []
+candidates_in (Some keys) = names_in keys
 
 -- the file that is opened without an entry, and the one of the name for which an entry is given
 abbrev pub alone_in : Opens → Option Opening
@@ -183,11 +197,15 @@ abbrev pub AreUnder : (ℕ → Type 0) → Change → Type 0
 AreUnder P stays = Unit {0}
 AreUnder P (cuts l) = P (base_of l)
 AreUnder P (moves source target) = P (base_of source) × P (base_of target)
+AreUnder P (hides l candidate) = P (base_of l) × P (base_of candidate)
+AreUnder P (replaces source target candidate moved) = P (base_of source) × P (base_of target) × P (base_of candidate)
 
 abbrev pub IsUnder : Change → ℕ → Type 0
 IsUnder stays n = ⊥
 IsUnder (cuts l) n = n ≡ base_of l
 IsUnder (moves source target) n = (n ≡ base_of source) ⊎ (n ≡ base_of target)
+IsUnder (hides l candidate) n = (n ≡ base_of l) ⊎ (n ≡ base_of candidate)
+IsUnder (replaces source target candidate moved) n = (n ≡ base_of source) ⊎ ((n ≡ base_of target) ⊎ (n ≡ base_of candidate))
 
 -- an entry of the name is given, and the request pins its node
 pub record EntersName (old : World) (id : ℕ) (f : Flight) (key : Key) (g : Given) (new : World) : Type 0 where

@@ -1,6 +1,7 @@
 -- The steps of a table. Each says the whole new world.
 use Rattle.std.specs.Prelude.{ℕ, ℤ, ◌+◌, ◌-◌, ◌<◌, ◌≡◌, ◌==◌, ◌&&◌, ◌↔◌, not, if◌then◌else◌, Bool, true, false, List, [], ◌∷◌, ◌++◌, Option, Some, None, Contains, length, drop, map, min}
 use Rattle.errno.specs.declared.TheConstants.{EAGAIN, EBADF, ENFILE}
+use Rattle.std.specs.List.{slice_get}
 use Rattle.files.specs.declared.data.OpenFile.{OpenFile}
 use Rattle.files.specs.Handles.{Files, allows}
 use Rattle.flights.specs.declared.data.Given.{Given}
@@ -9,18 +10,18 @@ use Rattle.holds.specs.declared.held.Held.{Held}
 use Rattle.holds.specs.Conflicts.{Conflict}
 use Rattle.ledger.specs.declared.postings.Posting.{Posting}
 use Rattle.ledger.specs.declared.postings.Posting.TheVariants as posting
-use Rattle.paths.specs.Prefixes.{Names}
+use Rattle.paths.specs.Prefixes.{Names, is_prefix}
 use Rattle.tree.specs.declared.nodes.Key.{Key}
 use Rattle.tree.specs.declared.nodes.Node.{Node}
-use Rattle.tree.specs.Moves.{Changes, IsPathOfName, after_cut, after_move}
+use Rattle.tree.specs.Moves.{Changes, IsPathOfName, Where, after_cut, after_move}
 use Rattle.tree.specs.Places.{Lookup, with_node}
 use Rattle.wants.specs.Asked.{ArePaths, HasPath, Holds, IsPin, IsSound, IsThere, IsUnsound, promise_of}
 use Rattle.wants.specs.Cases.{IsDemand}
-use Rattle.wants.specs.Rows.{Change, Demand, Location, Opening, Used, cuts, is_same, moves, stays}
+use Rattle.wants.specs.Rows.{Change, Demand, Location, Opening, Used, cuts, hides, is_same, moves, replaces, stays}
 use Rattle.steps.specs.declared.data.Begin.{Begin}
 use Rattle.steps.specs.declared.data.Begin.TheVariants.{Go, Busy, Refused}
 use Rattle.steps.specs.declared.data.Outcome.{Outcome}
-use Rattle.steps.specs.declared.data.Outcome.TheVariants.{Done, Entries, Entry, Failed}
+use Rattle.steps.specs.declared.data.Outcome.TheVariants.{Done, Entries, Entry, Failed, Hidden, HiddenMove}
 use Rattle.steps.specs.Answers.{Answer, Claim, Settlement, entries_in}
 use Rattle.steps.specs.Entries.{Enters, TakesAllBack, untaken_of}
 use Rattle.steps.specs.Swept.{IsSwept}
@@ -182,12 +183,32 @@ opened_alone d = if length d.entries == 0 then d.opens else None
 abbrev pub opened_with : Demand → Option Opening
 opened_with d = if length d.entries == 0 then None else d.opens
 
+-- what was to be cut is hidden under the candidate, if there is one
+abbrev pub hiding_at : Change → Option Location → Change
+hiding_at stays candidate = stays
+hiding_at (cuts l) None = stays
+hiding_at (cuts l) (Some candidate) = hides l candidate
+hiding_at (moves source target) candidate = stays
+hiding_at (hides l other) candidate = stays
+hiding_at (replaces source target other moved) candidate = stays
+
+-- what was to be replaced is, and then another name is moved to its place, if it may be
+abbrev pub replacing_at : Change → Option Location → Bool → Change
+replacing_at stays candidate moved = stays
+replacing_at (cuts l) candidate moved = stays
+replacing_at (moves source target) None moved = stays
+replacing_at (moves source target) (Some candidate) moved = replaces source target candidate moved
+replacing_at (hides l other) candidate moved = stays
+replacing_at (replaces source target other again) candidate moved = stays
+
 -- an outcome that does not fit the row acts as a failure
 abbrev pub act_of : Demand → Outcome → Act
 act_of d Failed = failure d
 act_of d Done = record (failure d) { change = d.done; opens = opened_alone d }
 act_of d Entry = record (failure d) { found = one_found d.page d.entries; opens = opened_with d }
 act_of d (Entries found) = record (failure d) { found = page_found d.page d.entries found }
+act_of d (Hidden candidate) = record (failure d) { change = hiding_at d.done (slice_get d.candidates candidate) }
+act_of d (HiddenMove candidate moved) = record (failure d) { change = replacing_at d.done (slice_get d.candidates candidate) moved }
 
 -- ---- finish: entries
 
@@ -226,10 +247,42 @@ pub record Moves (old : Lookup) (source target : Location) (new : Lookup) : Type
   pub new_leads : HasPath old target new_path
   pub changes : Changes (after_move path new_path) old new
 
+-- what stood at the location before, if anything did, has a hidden mark, and all else is as it was
+pub data Marks (before : Lookup) (l : Location) (old new : Lookup) : Type 0 where
+  none_there : ((n : ℕ) → IsThere before l n → ⊥) → new ≡ old → Marks before l old new
+  one_there : (n : ℕ) (x : Node) → IsThere before l n → old n ≡ Some x → new ≡ with_node old n (record x { hidden = true }) → Marks before l old new
+
+-- what stands at the location or below is moved to the candidate, where what stood is cut, and what stood at the location is marked
+pub record Hides (old : Lookup) (l candidate : Location) (new : Lookup) : Type 0 where
+  pub mid : Lookup
+  pub moves : Moves old l candidate mid
+  pub marks : Marks old l mid new
+
+-- p is moved to q once what stood at q is hidden at c. The paths are those of before: where c leads to p, what stood there was cut, and so
+-- what stands at q is cut alone
+abbrev pub after_follow : Names → Names → Names → Where → Where
+after_follow c p q w = if is_prefix c p && not (is_prefix p c) then after_cut q w else after_move p q w
+
+abbrev pub Follows : Lookup → Names → Names → Names → Bool → Lookup → Type 0
+Follows old candidate path new_path true new = Changes (after_follow candidate path new_path) old new
+Follows old candidate path new_path false new = new ≡ old
+
+-- what stands at the target is hidden, and then what stood at the source is moved to the target, if it may be
+pub record Replaces (old : Lookup) (source target candidate : Location) (moved : Bool) (new : Lookup) : Type 0 where
+  pub path : Names
+  pub leads : HasPath old source path
+  pub new_path : Names
+  pub new_leads : HasPath old target new_path
+  pub hidden : Lookup
+  pub hides : Hides old target candidate hidden
+  pub follows : Follows hidden hides.moves.new_path path new_path moved new
+
 abbrev pub Alters : Lookup → Change → Lookup → Type 0
 Alters old stays new = new ≡ old
 Alters old (cuts l) new = Cuts old l new
 Alters old (moves source target) new = Moves old source target new
+Alters old (hides l candidate) new = Hides old l candidate new
+Alters old (replaces source target candidate moved) new = Replaces old source target candidate moved new
 
 -- ---- finish: files
 

@@ -1,12 +1,12 @@
 //! What the end of a request's work may do: the names of its row, taken out of its want.
 
 ghost use Rattle.std.specs.Prelude.{◌≡◌};
-ghost use Rattle.steps.specs.Ending.{alone_in, change_in, folders_in, folders_of, is_page, keys_in, with_in};
+ghost use Rattle.steps.specs.Ending.{alone_in, candidates_in, change_in, folders_in, folders_of, is_page, keys_in, with_in};
 ghost use Rattle.steps.specs.Steps.{opened_alone, opened_with};
 ghost use Rattle.wants.specs.Plans.{copied, copied_page};
 ghost use Rattle.wants.specs.Rows.{row_of};
 
-use crate::keys::{Keys, PageKeys};
+use crate::keys::{FolderKeys, Keys};
 use files::Access;
 use flights::{Case, Names, Want};
 use paths::Name;
@@ -17,7 +17,7 @@ use tree::Key;
 pub(crate) enum Entries {
     Nothing,
     One(Keys),
-    Page(PageKeys),
+    Page(FolderKeys),
 }
 
 /// What becomes of names once the work is done.
@@ -28,6 +28,10 @@ pub(crate) enum Change {
     Cuts(Key),
     /// What stands at the first is moved to the second, where what stood is cut.
     Moves(Key, Keys),
+    /// What stands at the first is moved to the second, where what stood is cut, and marked.
+    Hides(Key, Keys),
+    /// What stands at the second is hidden at the third, and then, if so told, what stood at the first is moved to the second.
+    Replaces(Key, Keys, Keys, bool),
 }
 
 /// Which file may be opened.
@@ -45,6 +49,8 @@ pub(crate) enum Opens {
 pub(crate) struct Acts {
     pub(crate) entries: Entries,
     pub(crate) change: Change,
+    /// The names that an open file may be hidden under.
+    pub(crate) candidates: Option<FolderKeys>,
     pub(crate) opens: Opens,
 }
 
@@ -56,6 +62,7 @@ pub(crate) fn acts_of(want: Want, _case: Case, copy: Option<Name>, copies: Names
     ensures page { is_page result.entries ≡ (row_of want _case).page }
     ensures folders { folders_in result.entries ≡ folders_of (row_of want _case) }
     ensures change { change_in result.change ≡ (row_of want _case).done }
+    ensures candidates { candidates_in result.candidates ≡ (row_of want _case).candidates }
     ensures alone { alone_in result.opens ≡ opened_alone (row_of want _case) }
     ensures entered { with_in result.opens result.entries ≡ opened_with (row_of want _case) }
 {
@@ -63,16 +70,19 @@ pub(crate) fn acts_of(want: Want, _case: Case, copy: Option<Name>, copies: Names
         Want::Node { .. } => Acts {
             entries: Entries::Nothing,
             change: Change::Stays,
+            candidates: None,
             opens: Opens::Nothing,
         },
         Want::Name { parent, name } => Acts {
             entries: Entries::One(Keys::new(parent, name, copy)),
             change: Change::Stays,
+            candidates: None,
             opens: Opens::Nothing,
         },
         Want::Remove { parent, name } => Acts {
             entries: Entries::Nothing,
             change: Change::Cuts(Key { parent, name }),
+            candidates: None,
             opens: Opens::Nothing,
         },
         Want::Move {
@@ -83,20 +93,23 @@ pub(crate) fn acts_of(want: Want, _case: Case, copy: Option<Name>, copies: Names
         } => Acts {
             entries: Entries::Nothing,
             change: Change::Moves(Key { parent, name }, Keys::new(new_parent, new_name, copy)),
+            candidates: None,
             opens: Opens::Nothing,
         },
         Want::Page { folder, names } => Acts {
-            entries: Entries::Page(PageKeys {
+            entries: Entries::Page(FolderKeys {
                 folder,
                 names,
                 copies,
             }),
             change: Change::Stays,
+            candidates: None,
             opens: Opens::Nothing,
         },
         Want::Open { number, access } => Acts {
             entries: Entries::Nothing,
             change: Change::Stays,
+            candidates: None,
             opens: Opens::Node(number, access),
         },
         Want::Create {
@@ -106,11 +119,13 @@ pub(crate) fn acts_of(want: Want, _case: Case, copy: Option<Name>, copies: Names
         } => Acts {
             entries: Entries::One(Keys::new(parent, name, copy)),
             change: Change::Stays,
+            candidates: None,
             opens: Opens::Entry(access),
         },
         Want::Release { .. } => Acts {
             entries: Entries::Nothing,
             change: Change::Stays,
+            candidates: None,
             opens: Opens::Nothing,
         },
     }

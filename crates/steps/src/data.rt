@@ -95,6 +95,11 @@ pub enum Outcome {
     Entry,
     /// Of a page: which of its names are there. The client is given an entry of each of them that no other request holds alone.
     Entries(FoundNames),
+    /// Of a removal: what stood at its name was moved to the candidate of that index, counted from 0.
+    Hidden(u8),
+    /// Of a move: what stood at its target was moved to the candidate of that index, counted from 0, and then,
+    /// if `moved`, its source to its target.
+    HiddenMove { candidate: u8, moved: bool },
 }
 
 /// What a finished request gives to the client. It must be spent by `Table::settle`, or by `leave`.

@@ -9,6 +9,7 @@ ghost use Rattle.wants.specs.Plans.{row_in};
 use crate::acts::{Acts, Change, acts_of};
 use crate::data::{Answered, Outcome, Ticket};
 use crate::give::give_none;
+use crate::hiding::{hide, replace};
 use crate::places::alter;
 use crate::state::State;
 use crate::sweep::sweep_cut;
@@ -33,7 +34,7 @@ fn with_file(answered: Answered, opened: Option<u64>) -> Answered
 }
 
 impl State {
-    /// Cuts or moves names, with all below them, and drops what nothing keeps any more.
+    /// Cuts, moves or hides names, with all below them, and drops what nothing keeps any more.
     fn change(&mut self, change: Change)
         requires kept { IsKept self.old }
         requires may { MayAlter self.old (change_in change) }
@@ -67,6 +68,7 @@ impl State {
         let Acts {
             entries,
             change,
+            candidates,
             opens,
         } = acts_of(want, case, copy, copies);
         match outcome {
@@ -82,6 +84,14 @@ impl State {
                 with_file(answered, opened)
             }
             Outcome::Entries(found) => self.give_entries(id, &held, entries, &found, answer),
+            Outcome::Hidden(index) => {
+                self.change(hide(change, candidates, index));
+                give_none(id, &entries, answer, None)
+            }
+            Outcome::HiddenMove { candidate, moved } => {
+                self.change(replace(change, candidates, candidate, moved));
+                give_none(id, &entries, answer, None)
+            }
         }
     }
 

@@ -15,7 +15,7 @@ use crate::acts::Entries;
 use crate::data::Answered;
 use crate::entries::enter;
 use crate::found::FoundNames;
-use crate::keys::{Keys, PageKeys};
+use crate::keys::{FolderKeys, Keys};
 use crate::state::State;
 use flights::{Given, Givens};
 use holds::Held;
@@ -109,7 +109,7 @@ impl State {
         &mut self,
         id: u64,
         folder: &Path,
-        page: PageKeys,
+        page: FolderKeys,
         found: &[bool],
         answer: Givens,
     ) -> Answered
@@ -123,7 +123,7 @@ impl State {
         ensures gives { (f : Recorded) → (flying_of self.old.flights).at id ≡ Some f → GivesAll (world_of self.old) id (flight_of f) (page_keys page.folder page.names) found.now result.given (world_of self.new) }
         ensures kept { IsKept self.new }
     {
-        let PageKeys {
+        let FolderKeys {
             folder: parent,
             names,
             copies,

@@ -29,9 +29,9 @@ impl Keys {
     }
 }
 
-/// The names of a page, and the same names once more.
+/// Names in one folder, and the same names once more.
 #[derive(Drop)]
-pub(crate) struct PageKeys {
+pub(crate) struct FolderKeys {
     pub(crate) folder: u64,
     pub(crate) names: Names,
     pub(crate) copies: Names,

@@ -12,6 +12,7 @@ mod finish;
 mod forget;
 mod found;
 mod give;
+mod hiding;
 mod keys;
 mod laws;
 mod opening;

@@ -2,7 +2,7 @@
 
 ghost use Rattle.std.specs.Prelude.{◌≡◌, ◌⊎◌, ℤ};
 ghost use Rattle.steps.specs.Ending.{AreUnder, IsUnder, KeepsChildren, change_in, name_at};
-ghost use Rattle.steps.specs.Steps.{Alters, Cuts, Moves};
+ghost use Rattle.steps.specs.Steps.{Alters, Cuts, Hides, Moves, Replaces};
 ghost use Rattle.tree.specs.Places.{at_in, IsTree, Leads};
 ghost use Rattle.wants.specs.Asked.{IsMisplaced, IsRefusedAt};
 
@@ -27,12 +27,12 @@ fn cut_at(tree: &mut Tree, key: &Key)
 }
 
 /// Moves what stands at the name to the other, with all below it, and cuts what stood there.
-/// Where nothing stands at the name, what stands at the other is cut alone.
+/// Where nothing stands at the name, as where its parent is cut, what stands at the other is cut alone.
 fn move_at(tree: &mut Tree, key: &Key, target: Keys)
-    requires leads { Leads (at_in tree.old) key.now.parent }
     requires target_leads { Leads (at_in tree.old) target.key.parent }
     requires may { (e : ℤ) → IsRefusedAt (at_in tree.old) (name_at key.now) (name_at target.key) e → ⊥ }
-    ensures moves { Moves (at_in tree.old) (name_at key.now) (name_at target.key) (at_in tree.new) }
+    ensures moves { Leads (at_in tree.old) key.now.parent → Moves (at_in tree.old) (name_at key.now) (name_at target.key) (at_in tree.new) }
+    ensures alone { (Leads (at_in tree.old) key.now.parent → ⊥) → Cuts (at_in tree.old) (name_at target.key) (at_in tree.new) }
     ensures children { KeepsChildren (at_in tree.old) (λ n. (n ≡ key.now.parent) ⊎ (n ≡ target.key.parent)) (at_in tree.new) }
     ensures rest { tree.new ≡ record tree.old { nodes = tree.new.nodes; next = tree.new.next } }
     ensures tree { IsTree (at_in tree.new) }
@@ -43,7 +43,44 @@ fn move_at(tree: &mut Tree, key: &Key, target: Keys)
     }
 }
 
-/// Cuts or moves names, with all below them.
+/// Moves what stands at the name to the candidate, with all below it, cuts what stood there, and marks what stood at the name.
+/// Where nothing stands at the name, what stands at the candidate is cut alone.
+fn hide_at(tree: &mut Tree, key: &Key, candidate: Keys)
+    requires leads { Leads (at_in tree.old) key.now.parent }
+    requires candidate_leads { Leads (at_in tree.old) candidate.key.parent }
+    requires may { (e : ℤ) → IsRefusedAt (at_in tree.old) (name_at key.now) (name_at candidate.key) e → ⊥ }
+    ensures hides { Hides (at_in tree.old) (name_at key.now) (name_at candidate.key) (at_in tree.new) }
+    ensures children { KeepsChildren (at_in tree.old) (λ n. (n ≡ key.now.parent) ⊎ (n ≡ candidate.key.parent)) (at_in tree.new) }
+    ensures rest { tree.new ≡ record tree.old { nodes = tree.new.nodes; next = tree.new.next } }
+    ensures tree { IsTree (at_in tree.new) }
+{
+    let found = tree.find(key);
+    move_at(tree, key, candidate);
+    match found {
+        Some(number) => tree.set_hidden(number, true),
+        None => {}
+    }
+}
+
+/// Hides what stands at the target under the candidate, and then, if `moved`, moves what stood at the name to the target.
+fn replace_at(tree: &mut Tree, key: &Key, target: Keys, candidate: Keys, moved: bool)
+    requires leads { Leads (at_in tree.old) key.now.parent }
+    requires target_leads { Leads (at_in tree.old) target.key.parent }
+    requires candidate_leads { Leads (at_in tree.old) candidate.key.parent }
+    requires may { (e : ℤ) → IsRefusedAt (at_in tree.old) (name_at key.now) (name_at target.key) e → ⊥ }
+    requires may_hide { (e : ℤ) → IsRefusedAt (at_in tree.old) (name_at target.key) (name_at candidate.key) e → ⊥ }
+    ensures replaces { Replaces (at_in tree.old) (name_at key.now) (name_at target.key) (name_at candidate.key) moved (at_in tree.new) }
+    ensures children { KeepsChildren (at_in tree.old) (λ n. (n ≡ key.now.parent) ⊎ ((n ≡ target.key.parent) ⊎ (n ≡ candidate.key.parent))) (at_in tree.new) }
+    ensures rest { tree.new ≡ record tree.old { nodes = tree.new.nodes; next = tree.new.next } }
+    ensures tree { IsTree (at_in tree.new) }
+{
+    hide_at(tree, &target.key, candidate);
+    if moved {
+        move_at(tree, key, target);
+    }
+}
+
+/// Cuts, moves, hides or replaces names, with all below them.
 pub(crate) fn alter(tree: &mut Tree, change: Change)
     requires tree { IsTree (at_in tree.old) }
     requires leads { AreUnder (Leads (at_in tree.old)) (change_in change) }
@@ -57,5 +94,9 @@ pub(crate) fn alter(tree: &mut Tree, change: Change)
         Change::Stays => {}
         Change::Cuts(key) => cut_at(tree, &key),
         Change::Moves(key, target) => move_at(tree, &key, target),
+        Change::Hides(key, candidate) => hide_at(tree, &key, candidate),
+        Change::Replaces(key, target, candidate, moved) => {
+            replace_at(tree, &key, target, candidate, moved);
+        }
     }
 }

@@ -27,6 +27,8 @@ node_is_row number used opens = record {
   covered = λ n h. inl (any_first (λ l. base_of l ≡ n) (AtNode number) [] (only_in number n h));
   entered = inl refl;
   own = tt;
+  hidden = λ l h. absurd (none_in l h);
+  beside = λ l h. absurd (none_in l h);
 }
 
 name_is_row : (parent : ℕ) (name : Name) (c : Case) (opens : Option Opening) → IsRow (record (name_row parent name c) { opens = opens })
@@ -37,6 +39,8 @@ name_is_row parent name c opens = record {
   covered = λ n h. inl (any_first (λ l. base_of l ≡ n) (AtName parent name) [] (only_in parent n h));
   entered = inr (λ key h. key_only parent name key h);
   own = tt;
+  hidden = λ l h. absurd (none_in l h);
+  beside = λ l h. absurd (none_in l h);
 }
 
 removal_is_row : (parent : ℕ) (name : Name) → IsRow (removal_row parent name)
@@ -47,6 +51,8 @@ removal_is_row parent name = record {
   covered = λ n h. inr (any_first (λ l. base_of l ≡ n) (AtName parent name) [] (only_in parent n h));
   entered = inl refl;
   own = first_in (AtName parent name) [];
+  hidden = λ l h. absurd (none_in l h);
+  beside = λ l h. absurd (none_in l h);
 }
 
 module _ (parent : ℕ) (name : Name) (new_parent : ℕ) (new_name : Name) where
@@ -72,6 +78,8 @@ module _ (parent : ℕ) (name : Name) (new_parent : ℕ) (new_name : Name) where
     covered = λ n h. inr (pair_covered n h);
     entered = inl refl;
     own = (first_in (AtName parent name) (AtName new_parent new_name ∷ []), later_in (AtName parent name) (AtName new_parent new_name ∷ []) (AtName new_parent new_name) (first_in (AtName new_parent new_name) []));
+    hidden = λ l h. absurd (none_in l h);
+    beside = λ l h. absurd (none_in l h);
   }
 
 -- each name of a page is under its folder
@@ -91,6 +99,8 @@ page_is_row folder names = record {
   covered = λ n h. inl (any_first (λ l. base_of l ≡ n) (AtNode folder) [] (only_in folder n h));
   entered = inl (sym (length-map names (λ (name : Name). let key : Key = record { parent = folder; name = name } in key)));
   own = tt;
+  hidden = λ l h. absurd (none_in l h);
+  beside = λ l h. absurd (none_in l h);
 }
 
 closed_under : (number : ℕ) (c : Case) (l : Location) → Contains (closed_at number c) l → Contains (closed_on number c) (base_of l)
@@ -112,6 +122,8 @@ closed_is_row number c used closes = record {
   covered = λ n h. inl (closed_covered number c n h);
   entered = inl refl;
   own = tt;
+  hidden = λ l h. absurd (none_in l h);
+  beside = λ l h. absurd (none_in l h);
 }
 
 pub are_rows : (want : Want) (case : Case) → IsRow (row_of want case)

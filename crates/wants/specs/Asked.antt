@@ -8,7 +8,7 @@ use Rattle.holds.specs.Conflicts.{IsSomePrefix}
 use Rattle.flights.specs.declared.data.Promise.{Promise}
 use Rattle.tree.specs.Places.{Lookup, IsNamed, IsPathOf, Leads}
 use Rattle.tree.specs.Moves.{IsPathOfName}
-use Rattle.wants.specs.Rows.{Change, Demand, Location, AtName, AtNode, cuts, moves, stays}
+use Rattle.wants.specs.Rows.{Change, Demand, Location, AtName, AtNode, cuts, hides, moves, replaces, stays}
 
 -- ---- locations
 
@@ -58,6 +58,8 @@ abbrev pub IsMisplaced : Lookup → Change → ℤ → Type 0
 IsMisplaced at stays e = ⊥
 IsMisplaced at (cuts l) e = ⊥
 IsMisplaced at (moves source target) e = IsRefusedAt at source target e
+IsMisplaced at (hides l candidate) e = IsRefusedAt at l candidate e
+IsMisplaced at (replaces source target candidate moved) e = IsRefusedAt at source target e ⊎ IsRefusedAt at target candidate e
 
 -- none of these tests refuses the row
 pub record IsSound (at : Lookup) (d : Demand) : Type 0 where

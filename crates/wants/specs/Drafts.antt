@@ -89,6 +89,7 @@ demand_in ls hold enters change c = record {
   births = if enters then births_in c else 0;
   page = false;
   done = change_in change ls;
+  candidates = [];
   opens = None;
   used = None;
   closes = None;

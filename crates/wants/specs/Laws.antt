@@ -5,7 +5,7 @@ use Rattle.flights.specs.declared.data.Want.{Want}
 use Rattle.tree.specs.declared.nodes.Key.{Key}
 use Rattle.tree.specs.Places.{IsTree}
 use Rattle.wants.specs.Cases.{IsDemand, Seen}
-use Rattle.wants.specs.Rows.{Change, Demand, Location, AtName, AtNode, cuts, moves, row_of, stays}
+use Rattle.wants.specs.Rows.{Change, Demand, Location, AtName, AtNode, cuts, hides, moves, replaces, row_of, stays}
 
 -- the node that a location is that of, or is under
 abbrev pub base_of : Location → ℕ
@@ -17,6 +17,22 @@ abbrev pub AreOwn : List Location → Change → Type 0
 AreOwn alone stays = Unit {0}
 AreOwn alone (cuts l) = Contains alone l
 AreOwn alone (moves source target) = Contains alone source × Contains alone target
+AreOwn alone (hides l candidate) = Contains alone l × Contains alone candidate
+AreOwn alone (replaces source target candidate moved) = Contains alone source × Contains alone target × Contains alone candidate
+
+-- two names under one node
+abbrev pub AreSiblings : Location → Location → Type 0
+AreSiblings (AtName p a) (AtName q b) = p ≡ q
+AreSiblings (AtName p a) (AtNode m) = ⊥
+AreSiblings (AtNode n) l = ⊥
+
+-- a name beside the one that goes, or that is replaced
+abbrev pub IsBeside : Change → Location → Type 0
+IsBeside stays l = ⊥
+IsBeside (cuts gone) l = AreSiblings gone l
+IsBeside (moves source target) l = AreSiblings target l
+IsBeside (hides gone candidate) l = ⊥
+IsBeside (replaces source target candidate moved) l = ⊥
 
 -- what all that is proved of rows rests on
 pub record IsRow (d : Demand) : Type 0 where
@@ -30,6 +46,9 @@ pub record IsRow (d : Demand) : Type 0 where
   pub entered : (d.births ≡ length d.entries) ⊎ ((key : Key) → Contains d.entries key → Contains d.shared (AtName key.parent key.name))
   -- the names that change are held alone
   pub own : AreOwn d.alone d.done
+  -- and so are those that a file may be hidden under, beside the name that goes
+  pub hidden : (l : Location) → Contains d.candidates l → Contains d.alone l
+  pub beside : (l : Location) → Contains d.candidates l → IsBeside d.done l
 
 -- the law of rows: whatever the want and the case
 abbrev pub AreRows : Type 0

@@ -27,6 +27,10 @@ pub data Change : Type 0 where
   cuts : Location → Change
   -- what stands at the first is moved to the second, where what stood is cut
   moves : Location → Location → Change
+  -- what stands at the first is moved to the second, where what stood is cut, and has a hidden mark
+  hides : Location → Location → Change
+  -- what stands at the second is hidden at the third, and then, where it is so told, what stood at the first is moved to the second
+  replaces : Location → Location → Location → Bool → Change
 
 -- a file that may be opened: of the node that stands there
 pub record Opening : Type 0 where
@@ -54,6 +58,8 @@ pub record Demand : Type 0 where
   pub page : Bool
   -- what becomes of the names once the work is done
   pub done : Change
+  -- the names that an open file may be hidden under
+  pub candidates : List Location
   -- the file that may be opened
   pub opens : Option Opening
   -- the open file that it uses
@@ -62,7 +68,7 @@ pub record Demand : Type 0 where
   pub closes : Option ℕ
 
 abbrev pub no_demand : Demand
-no_demand = record { given = []; paths = []; shared = []; alone = []; entries = []; births = 0; page = false; done = stays; opens = None; used = None; closes = None }
+no_demand = record { given = []; paths = []; shared = []; alone = []; entries = []; births = 0; page = false; done = stays; candidates = []; opens = None; used = None; closes = None }
 
 -- ---- cases
 
@@ -164,3 +170,5 @@ abbrev pub is_same : Change → Bool
 is_same stays = false
 is_same (cuts l) = false
 is_same (moves source target) = are_same source target
+is_same (hides l candidate) = false
+is_same (replaces source target candidate moved) = false

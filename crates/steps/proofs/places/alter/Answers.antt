@@ -1,4 +1,4 @@
-use Rattle.std.proofs.Common.{ap, subst, sym}
+use Rattle.std.proofs.Common.{ap, inl, inr, subst, sym}
 use Rattle.tree.specs.Places.{at_in}
 use Rattle.wants.specs.Asked.{IsMisplaced}
 use Rattle.wants.specs.Rows.{Change}
@@ -13,3 +13,18 @@ returns-in-Cuts-clause-children c = subst (λ (change : Change). KeepsChildren (
 
 pub returns-in-Moves-clause-children : goal.returns-in-Moves-clause-children
 returns-in-Moves-clause-children c = subst (λ (change : Change). KeepsChildren (at_in c.args.tree.now) (IsUnder change) (at_in c.move_at.new.tree)) (ap change_in (sym c.in-Moves.is)) c.move_at.ensures.children
+
+pub hide_at-requires-clause-may : goal.hide_at-requires-clause-may
+hide_at-requires-clause-may c e refused = c.requires.may e (subst (λ (change : Change). IsMisplaced (at_in c.args.tree.now) change e) (ap change_in (sym c.in-Hides.is)) refused)
+
+pub returns-in-Hides-clause-children : goal.returns-in-Hides-clause-children
+returns-in-Hides-clause-children c = subst (λ (change : Change). KeepsChildren (at_in c.args.tree.now) (IsUnder change) (at_in c.hide_at.new.tree)) (ap change_in (sym c.in-Hides.is)) c.hide_at.ensures.children
+
+pub replace_at-requires-clause-may : goal.replace_at-requires-clause-may
+replace_at-requires-clause-may c e refused = c.requires.may e (subst (λ (change : Change). IsMisplaced (at_in c.args.tree.now) change e) (ap change_in (sym c.in-Replaces.is)) (inl refused))
+
+pub replace_at-requires-clause-may_hide : goal.replace_at-requires-clause-may_hide
+replace_at-requires-clause-may_hide c e refused = c.requires.may e (subst (λ (change : Change). IsMisplaced (at_in c.args.tree.now) change e) (ap change_in (sym c.in-Replaces.is)) (inr refused))
+
+pub returns-in-Replaces-clause-children : goal.returns-in-Replaces-clause-children
+returns-in-Replaces-clause-children c = subst (λ (change : Change). KeepsChildren (at_in c.args.tree.now) (IsUnder change) (at_in c.replace_at.new.tree)) (ap change_in (sym c.in-Replaces.is)) c.replace_at.ensures.children

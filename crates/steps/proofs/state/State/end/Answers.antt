@@ -5,20 +5,22 @@ use Rattle.flights.specs.declared.data.Given.{Given}
 use Rattle.flights.specs.Listed.{flying_of}
 use Rattle.tree.specs.declared.nodes.Key.{Key}
 use Rattle.wants.specs.Plans.{row_in}
-use Rattle.wants.specs.Rows.{Change, Demand, Opening, stays}
+use Rattle.wants.specs.Rows.{Change, Demand, Location, Opening, stays}
 use Rattle.steps.specs.declared.acts.Entries.{Entries as Entered}
 use Rattle.steps.specs.Keeping.{kept_by}
 use Rattle.steps.specs.declared.data.Outcome.{Outcome}
-use Rattle.steps.specs.declared.data.Outcome.TheVariants.{Done, Entry, Failed}
+use Rattle.std.specs.List.{slice_get}
+use Rattle.steps.specs.declared.data.Outcome.TheVariants.{Done, Entry, Failed, Hidden, HiddenMove}
 use Rattle.steps.specs.declared.state.State.{State}
 use Rattle.steps.specs.Answers.{Answer}
-use Rattle.steps.specs.Ending.{AreUnowned, ChangesNames, GivesAll, MayAlter, MayEnter, MayFill, folders_in, folders_of, is_page, keys_in, with_in}
+use Rattle.steps.specs.Ending.{AreUnowned, ChangesNames, GivesAll, candidates_in, change_in, MayAlter, MayEnter, MayFill, folders_in, folders_of, is_page, keys_in, with_in}
 use Rattle.steps.specs.Kept.{IsKept, flight_of, stage_of, world_of}
-use Rattle.steps.specs.Steps.{Act, Ends, act_of, none_found, one_found, opened_with, page_found}
+use Rattle.steps.specs.Steps.{Act, Ends, act_of, hiding_at, replacing_at, none_found, one_found, opened_with, page_found}
 use Rattle.steps.specs.World.{Answered}
 use Rattle.steps.proofs.Ends.{ends_changed, nothing_changes, nothing_for}
 use Rattle.steps.proofs.Filling.{ends_given}
 use Rattle.steps.proofs.Offering.{ends_alone, ends_entry, may_given, may_open}
+use Rattle.steps.proofs.Marking.{may_hide, may_replace}
 use Rattle.steps.proofs.Rooted.{are_unowned, folder_leads, may_alter, may_enter, may_fill}
 use Rattle.steps.proofs.Viewed.{are_kept}
 use Rattle.steps.proofs.state.State.end.Goals as goal
@@ -139,8 +141,8 @@ returns-in-Entry-clause-ends c e =
     (subst (λ (a : Answer). Ends w c.args.id (flight_of e.flight) (act_of row Entry) row.entries a (world_of new)) (sym c.with_file.ensures)
     (ends_row s new c.args.id e.flight es row one_found (with_in o es) (opened_with row) (record answer { opened = opened }) acts.ensures.entries acts.ensures.page acts.ensures.entered whole))
 
-pub returns-clause-ends : goal.returns-clause-ends
-returns-clause-ends c e =
+pub returns-in-Entries-clause-ends : goal.returns-in-Entries-clause-ends
+returns-in-Entries-clause-ends c e =
     let s = c.args.self.now in
     let work = c.args.work in
     let row = row_in work in
@@ -153,3 +155,62 @@ returns-clause-ends c e =
     subst (λ (out : Outcome). Ends w c.args.id (flight_of e.flight) (act_of row out) row.entries c.give_entries.result (world_of new)) (sym c.in-Entries.is)
     (ends_row s new c.args.id e.flight es row found None None c.give_entries.result acts.ensures.entries acts.ensures.page refl
     (ends_by s new r.kept c.args.id e.flight e.here (ap stage_of e.answered) (keys_in es) (found (is_page es) (keys_in es)) c.give_entries.result r.told (r.gives e.flight e.here)))
+
+-- what is hidden is what the row says
+hidden_is : (row : Demand) (change : Change) (done : change ≡ row.done) (all : List Location) (candidates : all ≡ row.candidates) (i : ℕ) (hidden : Change) → hidden ≡ hiding_at change (slice_get all i) → hidden ≡ hiding_at row.done (slice_get row.candidates i)
+hidden_is row change done all candidates i hidden is =
+    is ∙ (ap (λ (d : Change). hiding_at d (slice_get all i)) done ∙ ap (λ (ls : List Location). hiding_at row.done (slice_get ls i)) candidates)
+
+pub change-requires-in-Hidden-clause-may : goal.change-requires-in-Hidden-clause-may
+change-requires-in-Hidden-clause-may c =
+    let work = c.args.work in
+    let acts = c.acts_of-entries in
+    let is = hidden_is (row_in work) (change_in acts.result.change) acts.ensures.change (candidates_in acts.result.candidates) acts.ensures.candidates c.in-Hidden.index (change_in c.hide.result) c.hide.ensures in
+    subst (λ (change : Change). MayAlter c.args.self.now change) (sym is) (may_hide c.args.self.now c.args.id work c.requires.kept c.requires.ending c.in-Hidden.index)
+
+pub returns-in-Hidden-clause-ends : goal.returns-in-Hidden-clause-ends
+returns-in-Hidden-clause-ends c e =
+    let w = world_of c.args.self.now in
+    let new = c.change-in-Hidden.new.self in
+    let work = c.args.work in
+    let acts = c.acts_of-entries in
+    let row = row_in work in
+    let i = c.in-Hidden.index in
+    let entries : keys_in acts.result.entries ≡ row.entries = acts.ensures.entries in
+    let answer : c.give_none-in-Hidden.result ≡ record { id = c.args.id; given = nothing_for row.entries; lost = false; opened = None } =
+    c.give_none-in-Hidden.ensures ∙ ap (λ (ks : List Key). let a : Answer = record { id = c.args.id; given = nothing_for ks; lost = false; opened = None } in a) entries in
+    let is = hidden_is row (change_in acts.result.change) acts.ensures.change (candidates_in acts.result.candidates) acts.ensures.candidates i (change_in c.hide.result) c.hide.ensures in
+    let changes : ChangesNames w (hiding_at row.done (slice_get row.candidates i)) (world_of new) = subst (λ (change : Change). ChangesNames w change (world_of new)) is c.change-in-Hidden.ensures.changes in
+    subst (λ (o : Outcome). Ends w c.args.id (flight_of e.flight) (act_of row o) row.entries c.give_none-in-Hidden.result (world_of new)) (sym c.in-Hidden.is)
+    (subst (λ (a : Answer). Ends w c.args.id (flight_of e.flight) (act_of row (Hidden i)) row.entries a (world_of new)) (sym answer)
+    (ends_changed w (world_of new) c.args.id (flight_of e.flight) (ap (λ o. option_map flight_of o) e.here) (ap stage_of e.answered) (act_of row (Hidden i)) row.entries refl refl changes))
+
+replaced_is : (row : Demand) (change : Change) (done : change ≡ row.done) (all : List Location) (candidates : all ≡ row.candidates) (i : ℕ) (moved : Bool) (replaced : Change) → replaced ≡ replacing_at change (slice_get all i) moved → replaced ≡ replacing_at row.done (slice_get row.candidates i) moved
+replaced_is row change done all candidates i moved replaced is =
+    is ∙ (ap (λ (d : Change). replacing_at d (slice_get all i) moved) done ∙ ap (λ (ls : List Location). replacing_at row.done (slice_get ls i) moved) candidates)
+
+pub change-requires-in-HiddenMove-clause-may : goal.change-requires-in-HiddenMove-clause-may
+change-requires-in-HiddenMove-clause-may c =
+    let work = c.args.work in
+    let acts = c.acts_of-entries in
+    let i = c.in-HiddenMove.candidate in
+    let is = replaced_is (row_in work) (change_in acts.result.change) acts.ensures.change (candidates_in acts.result.candidates) acts.ensures.candidates i c.in-HiddenMove.moved (change_in c.replace.result) c.replace.ensures in
+    subst (λ (change : Change). MayAlter c.args.self.now change) (sym is) (may_replace c.args.self.now c.args.id work c.requires.kept c.requires.ending i c.in-HiddenMove.moved)
+
+pub returns-clause-ends : goal.returns-clause-ends
+returns-clause-ends c e =
+    let w = world_of c.args.self.now in
+    let new = c.change-in-HiddenMove.new.self in
+    let work = c.args.work in
+    let acts = c.acts_of-entries in
+    let row = row_in work in
+    let i = c.in-HiddenMove.candidate in
+    let moved = c.in-HiddenMove.moved in
+    let entries : keys_in acts.result.entries ≡ row.entries = acts.ensures.entries in
+    let answer : c.give_none-in-HiddenMove.result ≡ record { id = c.args.id; given = nothing_for row.entries; lost = false; opened = None } =
+    c.give_none-in-HiddenMove.ensures ∙ ap (λ (ks : List Key). let a : Answer = record { id = c.args.id; given = nothing_for ks; lost = false; opened = None } in a) entries in
+    let is = replaced_is row (change_in acts.result.change) acts.ensures.change (candidates_in acts.result.candidates) acts.ensures.candidates i moved (change_in c.replace.result) c.replace.ensures in
+    let changes : ChangesNames w (replacing_at row.done (slice_get row.candidates i) moved) (world_of new) = subst (λ (change : Change). ChangesNames w change (world_of new)) is c.change-in-HiddenMove.ensures.changes in
+    subst (λ (o : Outcome). Ends w c.args.id (flight_of e.flight) (act_of row o) row.entries c.give_none-in-HiddenMove.result (world_of new)) (sym c.in-HiddenMove.is)
+    (subst (λ (a : Answer). Ends w c.args.id (flight_of e.flight) (act_of row (HiddenMove i moved)) row.entries a (world_of new)) (sym answer)
+    (ends_changed w (world_of new) c.args.id (flight_of e.flight) (ap (λ o. option_map flight_of o) e.here) (ap stage_of e.answered) (act_of row (HiddenMove i moved)) row.entries refl refl changes))

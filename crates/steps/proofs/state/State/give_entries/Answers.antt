@@ -10,7 +10,7 @@ use Rattle.wants.proofs.Members.{first_in}
 use Rattle.wants.specs.Rows.{page_keys}
 use Rattle.steps.specs.declared.acts.Entries.{Entries}
 use Rattle.steps.specs.declared.acts.Entries.TheVariants.{Page}
-use Rattle.steps.specs.declared.keys.PageKeys.{PageKeys}
+use Rattle.steps.specs.declared.keys.FolderKeys.{FolderKeys}
 use Rattle.steps.specs.Answers.{Answer}
 use Rattle.steps.specs.Ending.{GivesAll, LeadsTo, is_page, keys_in, folders_in}
 use Rattle.steps.specs.Kept.{flight_of, world_of}
@@ -34,7 +34,7 @@ returns-then-found-as_slice-clause-gives c f here =
     (subst (λ (gs : List (Option Given)). GivesAll w c.args.id (flight_of f) keys (none_found keys) gs w) (sym (ap (λ (a : Answer). a.given) c.give_none.ensures))
     (none_given c.args.self.now c.args.id may.flight may.here may.answered f here keys)))
 
-folder_lead : (at : Lookup) (given : List GivenPath) (entries : Entries) (page : PageKeys) → entries ≡ Page page → ((n : ℕ) → Contains (folders_in entries) n → LeadsTo at given n) → LeadsTo at given page.folder
+folder_lead : (at : Lookup) (given : List GivenPath) (entries : Entries) (page : FolderKeys) → entries ≡ Page page → ((n : ℕ) → Contains (folders_in entries) n → LeadsTo at given n) → LeadsTo at given page.folder
 folder_lead at given entries page is leads = leads page.folder (subst (λ (e : Entries). Contains (folders_in e) page.folder) (sym is) (first_in page.folder []))
 
 pub path_of-requires : goal.path_of-requires
