@@ -12,7 +12,11 @@ mod entry_counts;
 #[cfg(test)]
 mod entry_lines;
 #[cfg(test)]
+mod file_bytes;
+#[cfg(test)]
 mod file_frames;
+#[cfg(test)]
+mod file_handles;
 #[cfg(test)]
 mod folders;
 #[cfg(test)]

@@ -1,4 +1,4 @@
-use Rattle.rows.proofs.open_files.handles_of_files.Given as goal
+use Rattle.rows.proofs.file_handles.released_files.Given as goal
 
 -- the table's four ledgers are those of the blanks
 abbrev pub ghosts-tell : goal.ghosts-tell
