@@ -100,6 +100,8 @@ pub fn outcome_of(alloc: Global, outcome: Outcome) -> Result<TableOutcome, Alloc
             all.extend_from_slice(found)?;
             TableOutcome::Entries(FoundNames::from_vec(all))
         }
+        Outcome::Hidden(candidate) => TableOutcome::Hidden(candidate),
+        Outcome::HiddenMove(candidate, moved) => TableOutcome::HiddenMove { candidate, moved },
     })
 }
 

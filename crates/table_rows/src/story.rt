@@ -68,6 +68,10 @@ pub enum Outcome<'a> {
     Entry,
     /// Which of the names of a page are there.
     Entries(&'a [bool]),
+    /// What stood at its name was moved to the candidate of that index.
+    Hidden(u8),
+    /// What stood at its target was, and then, if so told, its source to its target.
+    HiddenMove(u8, bool),
 }
 
 /// What a call told.
