@@ -6,3 +6,4 @@ mod Drafting
 mod Agreeing
 pub mod Wanting
 mod Paging
+pub mod Removing

@@ -28,7 +28,7 @@ use Rattle.wants.specs.Asked.{ArePaths, HasPath, Holds, IsPin, IsPrefixAt, IsRef
 use Rattle.wants.specs.Cases.{IsCase, Seen}
 use Rattle.wants.specs.Laws.{base_of}
 use Rattle.wants.specs.Plans.{copied, copied_page}
-use Rattle.wants.specs.Rows.{Change, Demand, Location, AtName, AtNode, births_in, cuts, moves, row_of, stays}
+use Rattle.wants.specs.Rows.{Change, Demand, Location, AtName, AtNode, births_in, cuts, hidden_in, moves, row_of, stays}
 
 -- ---- refusals
 
@@ -272,6 +272,7 @@ pub record IsTerms (at : Lookup) (d : Demand) (t : Terms) : Type 0 where
 abbrev pub IsEntryAt : Lookup → List Location → Case → Type 0
 IsEntryAt at ls cases.Plain = All (IsTaken at) ls
 IsEntryAt at ls cases.Absent = Any (IsVacant at) ls
+IsEntryAt at ls (cases.Hiding number counter) = ⊥
 
 -- a birth is promised for a name at which no node stands
 abbrev pub entered_case : Bool → Bool → Case
@@ -297,6 +298,6 @@ pub record IsWanted (seen : Seen) (want : Want) (t : Terms) : Type 0 where
 
 -- the record of a request with that want and those terms
 pub record IsRecord (want : Want) (t : Terms) (p : Plan) : Type 0 where
-  pub work : p.work ≡ record { want = want; case = t.case; copy = copied want; copies = copied_page want; held = t.held; promise = t.promise; answer = t.answer }
+  pub work : p.work ≡ record { want = want; case = t.case; copy = copied want; candidates = hidden_in t.case; copies = copied_page want t.case; held = t.held; promise = t.promise; answer = t.answer }
   pub pins : p.pins ≡ t.pins
   pub paths : p.paths ≡ t.paths
