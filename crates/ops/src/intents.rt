@@ -144,9 +144,16 @@ fn intended<'a>(node: u64, operation: Operation<'a>) -> Intent<'a>
         Operation::BatchForget { pairs } => Intent::ForgetAll { pairs },
         Operation::GetAttr | Operation::OpenDir => Intent::Want(Wanted::Node { number: node }),
         Operation::SetAttr { valid, .. } => set_intent(node, valid),
-        Operation::Unlink { name } | Operation::RemoveDir { name } => {
-            Intent::Want(Wanted::Remove { parent, name })
-        }
+        Operation::Unlink { name } => Intent::Want(Wanted::Remove {
+            parent,
+            name,
+            may_hide: true,
+        }),
+        Operation::RemoveDir { name } => Intent::Want(Wanted::Remove {
+            parent,
+            name,
+            may_hide: false,
+        }),
         Operation::Rename {
             name,
             new_parent,

@@ -1,7 +1,9 @@
 -- What a request that goes on leaves.
-use Rattle.std.proofs.Common.{ℕ, ◌≡◌, ◌||◌, ◌⊎◌, Bool, true, reverse, All, Contains, List, Option, Some, None, length, refl, sym, ap, ◌∙◌, subst, inl, inr, arith}
+use Rattle.std.proofs.Common.{ℕ, ◌+◌, ◌%◌, ◌^◌, ◌==◌, if◌then◌else◌, not, false, [], ◌≡◌, ◌||◌, ◌⊎◌, Bool, true, reverse, All, Contains, List, Option, Some, None, length, refl, sym, ap, ◌∙◌, subst, inl, inr, arith}
 use Rattle.std.specs.Prelude.{option_map}
 use Rattle.std.proofs.lemmas.Bool.{or_cases, or_left}
+use Rattle.std.proofs.lemmas.List.{length-map}
+use Rattle.paths.specs.Prefixes.{Name}
 use Rattle.holds.specs.declared.held.Held.{Held}
 use Rattle.files.specs.Filed.{files_of}
 use Rattle.files.specs.Handles.{Opened}
@@ -22,9 +24,10 @@ use Rattle.tree.specs.Places.{Lookup, Nodes, at_in, IsAlive, IsTree}
 use Rattle.tree.proofs.Climbing.{climbs_alive}
 use Rattle.wants.specs.declared.data.Plan.{Plan}
 use Rattle.wants.specs.Asked.{Holds, IsPin, IsThere}
+use Rattle.wants.specs.Cases.{IsCase, IsEntryCase, Seen}
 use Rattle.wants.specs.Laws.{IsRow}
 use Rattle.wants.specs.Plans.{IsPlan, IsProvided, row_in}
-use Rattle.wants.specs.Rows.{AtName, AtNode, Demand, Location, is_same, row_of}
+use Rattle.wants.specs.Rows.{AtName, AtNode, Demand, Location, hidden_in, is_same, names_under, row_of}
 use Rattle.wants.proofs.Members.{in_any}
 use Rattle.wants.proofs.RowLemmas.{are_rows}
 use Rattle.steps.specs.declared.data.Limits.{Limits}
@@ -32,7 +35,7 @@ use Rattle.steps.specs.declared.state.State.{State}
 use Rattle.steps.specs.Beginning.{Allows, IsRoomForOne, IsSameButRoom}
 use Rattle.steps.specs.Keeping.{kept_by}
 use Rattle.steps.specs.Kept.{AreProvided, IsKept, IsLimited, flight_of, flights_in, work_of, world_of}
-use Rattle.steps.specs.Steps.{GoesOn, HoldsUp, MayBegin}
+use Rattle.steps.specs.Steps.{GoesOn, HoldsUp, MayBegin, may_hide}
 use Rattle.steps.specs.World.{AreHeld, AreReady, Flight, Flights, IsAtWork, IsReady, Work, World, seen_in, with_entry}
 use Rattle.steps.proofs.Apart.{AreApart, at_work_more, apart_more, held_up_recorded, known_held}
 use Rattle.steps.proofs.Beginning.{begun_ready}
@@ -76,11 +79,32 @@ module _ (at : Lookup) (tree : IsTree at) (d : Demand) (held : Held) (row : IsRo
 
 -- ---- a plan that is recorded
 
+-- the names that are kept for a request are the candidates of its row
+names_fit : (parent : ℕ) (names : List Name) (kept : List Name) → kept ≡ names → not (length kept == 0) ≡ not (length (names_under parent names) == 0)
+names_fit parent names kept is = ap (λ (n : ℕ). not (n == 0)) (ap {B = ℕ} length is ∙ sym (length-map names (λ (x : Name). AtName parent x)))
+
+none_fit : (kept : List Name) → kept ≡ [] → not (length kept == 0) ≡ false
+none_fit kept is = ap (λ (n : ℕ). not (n == 0)) (ap {B = ℕ} length is)
+
+entry_fits : (at : Lookup) (parent : ℕ) (name : Name) (c : Case) → IsEntryCase at parent name c → hidden_in c ≡ []
+entry_fits at parent name cases.Plain fits = refl
+entry_fits at parent name cases.Absent fits = refl
+entry_fits at parent name (cases.Hiding n k) fits = absurd fits
+
+pub hides_so : (seen : Seen) (want : Want) (c : Case) → IsCase seen want c → (kept : List Name) → kept ≡ hidden_in c → not (length kept == 0) ≡ may_hide (row_of want c)
+hides_so seen (wants.Node number handle) c fits kept is = none_fit kept (is ∙ ap (λ (k : Case). hidden_in k) fits)
+hides_so seen (wants.Name parent name) c fits kept is = none_fit kept (is ∙ entry_fits seen.at parent name c fits)
+hides_so seen (wants.Remove parent name may) c fits kept is = names_fit parent (hidden_in c) kept is
+hides_so seen (wants.Move parent name new_parent new_name) c fits kept is = none_fit kept (is ∙ ap (λ (k : Case). hidden_in k) fits)
+hides_so seen (wants.Page folder names) c fits kept is = none_fit kept (is ∙ ap (λ (k : Case). hidden_in k) fits)
+hides_so seen (wants.Open number access) c fits kept is = none_fit kept (is ∙ ap (λ (k : Case). hidden_in k) fits)
+hides_so seen (wants.Create parent name access) c fits kept is = none_fit kept (is ∙ entry_fits seen.at parent name c fits)
+
 -- whether a name is moved to itself does not hang on the case
 pub same_case : (want : Want) (c : Case) → is_same (row_of want cases.Plain).done ≡ is_same (row_of want c).done
 same_case (wants.Node number handle) c = refl
 same_case (wants.Name parent name) c = refl
-same_case (wants.Remove parent name) c = refl
+same_case (wants.Remove parent name may_hide) c = refl
 same_case (wants.Move parent name new_parent new_name) c = refl
 same_case (wants.Page folder names) c = refl
 same_case (wants.Open number access) c = refl
@@ -100,20 +124,24 @@ module _ (s mid : State) (unique id : ℕ) (plan : Plan) (is : IsPlan (seen_in (
   pub flights_new : flights_in (flying_of flights) ≡ with_entry (flights_in (flying_of mid.flights)) id (Some (flight_of begun))
   flights_new = flights_with (flying_of mid.flights) (flying_of flights) id begun adds.at
 
-  abbrev pub goes_on : (same_path : Bool) → (flying_of mid.flights).at id ≡ None → same_path ≡ is_same (row_of plan.work.want cases.Plain).done
-      → GoesOn (world_of s) unique plan.work.want (row_in plan.work) (record { id = id; paths = plan.paths; same = same_path }) (world_of (record mid { flights = flights }))
-  goes_on same_path fresh same_is = record {
+  abbrev pub goes_on : (same_path hide : Bool) (counter : ℕ) → (flying_of mid.flights).at id ≡ None → same_path ≡ is_same (row_of plan.work.want cases.Plain).done
+      → hide ≡ may_hide (row_in plan.work) → counter ≡ (if hide then (s.counter + 10) % 2 ^ 32 else s.counter)
+      → GoesOn (world_of s) unique plan.work.want (row_in plan.work) (record { id = id; paths = plan.paths; same = same_path; hide = hide }) (world_of (record mid { flights = flights; counter = counter }))
+  goes_on same_path hide counter fresh same_is hide_is counter_is = record {
     fresh = ap (λ (fs : Flights). fs id) (sym flights_same) ∙ ap (λ (o : Option Recorded). option_map flight_of o) fresh;
-    ticket_is = record { paths = is.paths; same = same_is ∙ same_case plan.work.want plan.work.case };
+    ticket_is = record { paths = is.paths; same = same_is ∙ same_case plan.work.want plan.work.case; hide = hide_is };
     held = plan.work.held;
     holds = is.holds;
     pins = plan.pins.numbers;
     pinned = is.pins;
-    new_is = ap (λ (w : World). record w { flights = flights_in (flying_of flights) }) same.world
-        ∙ ap (λ (fs : Flights). record (world_of s) { flights = fs }) (flights_new ∙ ap (λ (fs : Flights). with_entry fs id (Some (flight_of begun))) flights_same);
+    new_is = ap (λ (w : World). let v : World = record w { flights = flights_in (flying_of flights); counter = counter } in v) same.world
+        ∙ (ap (λ (fs : Flights). let v : World = record (world_of s) { flights = fs; counter = counter } in v) (flights_new ∙ ap (λ (fs : Flights). with_entry fs id (Some (flight_of begun))) flights_same)
+        ∙ ap (λ (k : ℕ). let v : World = record (world_of s) { flights = with_entry (flights_in (flying_of s.flights)) id (Some (flight_of begun)); counter = k } in v)
+        (counter_is ∙ ap (λ (b : Bool). if b then (s.counter + 10) % 2 ^ 32 else s.counter) hide_is));
   }
 
-  module _ (same_path : Bool) (fresh : (flying_of mid.flights).at id ≡ None) (same_is : same_path ≡ is_same (row_of plan.work.want cases.Plain).done) (kept : IsKept mid) (all_flying : IsFlying (flying_of flights))
+  module _ (same_path hide : Bool) (counter : ℕ) (fresh : (flying_of mid.flights).at id ≡ None) (same_is : same_path ≡ is_same (row_of plan.work.want cases.Plain).done)
+      (hide_is : hide ≡ may_hide (row_in plan.work)) (counter_is : counter ≡ (if hide then (s.counter + 10) % 2 ^ 32 else s.counter)) (kept : IsKept mid) (all_flying : IsFlying (flying_of flights))
       (free : flying.HoldsUp (flying_of s.flights).at plan.work.held → ⊥) (may : MayBegin (world_of s) (row_in plan.work)) (allows : Allows s plan.work.promise) (room : IsRoomForOne mid plan.work.promise) where
     at_same : at_in mid.tree ≡ at_in s.tree
     at_same = ap (λ (w : World). w.at) same.world
@@ -131,8 +159,8 @@ module _ (s mid : State) (unique id : ℕ) (plan : Plan) (is : IsPlan (seen_in (
 
     new_ready : IsReady (at_in mid.tree) (flight_of begun) (work_of plan.work)
     new_ready = subst (λ (at : Lookup). IsReady at (flight_of begun) (work_of plan.work)) (sym at_same)
-        (begun_ready (world_of s) (world_of (record mid { flights = flights })) unique plan.work.want (row_in plan.work) (record { id = id; paths = plan.paths; same = same_path })
-        (record { case = plan.work.case; fits = is.fits; row = refl }) may (goes_on same_path fresh same_is))
+        (begun_ready (world_of s) (world_of (record mid { flights = flights; counter = counter })) unique plan.work.want (row_in plan.work) (record { id = id; paths = plan.paths; same = same_path; hide = hide })
+        (record { case = plan.work.case; fits = is.fits; row = refl }) may (goes_on same_path hide counter fresh same_is hide_is counter_is))
 
     new_known : All (IsGivenPath (at_in mid.tree) plan.work.held) plan.work.held.given
     new_known = subst (λ (at : Lookup). All (IsGivenPath at plan.work.held) plan.work.held.given) (sym at_same)
@@ -190,7 +218,7 @@ module _ (s mid : State) (unique id : ℕ) (plan : Plan) (is : IsPlan (seen_in (
     same_file : {X : Type 0} → (of : Opened → X) → of (files_of mid.files) ≡ of (record (files_of s.files) { room = (files_of mid.files).room })
     same_file of = ap of same.files
 
-    all_limited : IsLimited (record mid { flights = flights })
+    all_limited : IsLimited (record mid { flights = flights; counter = counter })
     all_limited = record {
       nodes = omega (arith, adds.nodes, allows.nodes, ap (λ (t : Nodes). t.living) same.tree, ap (λ (x : Flying). x.nodes) same.flights, ap (λ (l : Limits). l.nodes) same.limits);
       postings = omega (arith, adds.postings, allows.postings, ap {B = ℕ} length same.made, ap (λ (t : Nodes). t.counts) same.tree, ap (λ (x : Flying). x.postings) same.flights, ap (λ (l : Limits). l.postings) same.limits);
@@ -202,7 +230,7 @@ module _ (s mid : State) (unique id : ℕ) (plan : Plan) (is : IsPlan (seen_in (
       short = kept.limited.short;
     }
 
-    pub begun_kept : IsKept (record mid { flights = flights })
+    pub begun_kept : IsKept (record mid { flights = flights; counter = counter })
     begun_kept = record {
       law = all_lawful;
       flying = all_flying;

@@ -51,6 +51,12 @@ pub fn want_of(alloc: Global, asks: Asks) -> Result<Want, AllocError> {
         Asks::Remove(parent, name) => Want::Remove {
             parent,
             name: Name::copy_of(alloc, name)?,
+            may_hide: false,
+        },
+        Asks::Unlink(parent, name) => Want::Remove {
+            parent,
+            name: Name::copy_of(alloc, name)?,
+            may_hide: true,
         },
         Asks::Move(parent, name, new_parent, new_name) => Want::Move {
             parent,

@@ -10,6 +10,7 @@ mod draws;
 #[cfg(test)]
 mod event;
 #[cfg(test)]
+mod hiding_rows;
 mod holding_rows;
 #[cfg(test)]
 mod image_rows;

@@ -47,6 +47,8 @@ pub enum Asks<'a> {
     Name(u64, &'a str),
     /// The removal of a name under a parent.
     Remove(u64, &'a str),
+    /// The same, where a file that is open may be hidden instead.
+    Unlink(u64, &'a str),
     /// The move of a name under a parent to another name under another.
     Move(u64, &'a str, u64, &'a str),
     /// Names in a folder.
@@ -127,10 +129,12 @@ pub enum Spot<'a> {
     Root,
     /// At a name under a parent.
     At(u64, &'a str),
+    /// At that name, with a hidden mark.
+    Hidden(u64, &'a str),
     Cut,
 }
 
-/// A living node: its number, its generation, where it stands, and its count. None is hidden.
+/// A living node: its number, its generation, where it stands, and its count.
 #[derive(Clone, Copy)]
 pub struct Living<'a>(pub u64, pub u64, pub Spot<'a>, pub u64);
 
