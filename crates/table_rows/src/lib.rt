@@ -11,6 +11,7 @@ mod draws;
 mod event;
 #[cfg(test)]
 mod hiding_rows;
+#[cfg(test)]
 mod holding_rows;
 #[cfg(test)]
 mod image_rows;
