@@ -34,6 +34,8 @@ pub enum Want {
     Remove {
         parent: u64,
         name: Name,
+        /// Whether a file that is open may be hidden instead.
+        may_hide: bool,
     },
     /// A name to be moved to another, whatever stands at either (RENAME).
     Move {
@@ -74,6 +76,12 @@ pub enum Case {
     Absent,
     /// The node whose file is closed has no path, or one that is longer than 4,096 bytes.
     Pathless,
+    /// The node that stands at the name which goes has an open file, which may be hidden.
+    Hiding {
+        number: u64,
+        /// The counter of the first name that it may be hidden under.
+        counter: u32,
+    },
 }
 
 /// What a request may still add, kept free for it from its begin to its finish.
@@ -214,7 +222,9 @@ pub struct Work {
     pub case: Case,
     /// The name that the want may give to a node, once more: a node is put into the tree under two keys.
     pub copy: Option<Name>,
-    /// The names of its page once more, for the same reason.
+    /// The names that an open file may be hidden under.
+    pub candidates: Names,
+    /// The names of its page, or those candidates, once more, for the same reason.
     pub copies: Names,
     /// The names that others have to wait for.
     pub held: Held,

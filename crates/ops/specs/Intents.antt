@@ -98,8 +98,8 @@ intended node (ops.Forget n) = Forget (record { node = node; nlookup = n } ∷ [
 intended node ops.GetAttr = Begin (wants.Node node None)
 intended node (ops.SetAttr valid fh size) = set_intent node valid fh
 intended node (ops.MakeDir name) = Begin (wants.Name node name.now)
-intended node (ops.Unlink name) = Begin (wants.Remove node name.now)
-intended node (ops.RemoveDir name) = Begin (wants.Remove node name.now)
+intended node (ops.Unlink name) = Begin (wants.Remove node name.now true)
+intended node (ops.RemoveDir name) = Begin (wants.Remove node name.now false)
 intended node (ops.Rename name new_parent new_name) = Begin (wants.Move node name.now new_parent new_name.now)
 intended node ops.StatFs = Reply StatFs
 intended node (ops.Init major minor max_readahead flags) = Nothing
@@ -128,7 +128,7 @@ intent q = if list_any (λ name. is_reserved name) (names_of q.operation) then r
 abbrev pub want_of : Wanted → Want
 want_of (wanted.Node number handle) = wants.Node number handle
 want_of (wanted.Name parent name) = wants.Name parent name.now
-want_of (wanted.Remove parent name) = wants.Remove parent name.now
+want_of (wanted.Remove parent name may_hide) = wants.Remove parent name.now may_hide
 want_of (wanted.Move parent name new_parent new_name) = wants.Move parent name.now new_parent new_name.now
 want_of (wanted.Open number access) = wants.Open number access
 want_of (wanted.Create parent name access) = wants.Create parent name.now access

@@ -163,9 +163,16 @@ fn intended<'a>(node: u64, operation: Operation<'a>) -> Intent<'a>
         Operation::Sync { fh } => by_handle(node, fh, Need::Any),
         Operation::Flush { fh } => Intent::File { fh },
         Operation::Release { fh } => Intent::Want(Wanted::Release { number: node, fh }),
-        Operation::Unlink { name } | Operation::RemoveDir { name } => {
-            Intent::Want(Wanted::Remove { parent, name })
-        }
+        Operation::Unlink { name } => Intent::Want(Wanted::Remove {
+            parent,
+            name,
+            may_hide: true,
+        }),
+        Operation::RemoveDir { name } => Intent::Want(Wanted::Remove {
+            parent,
+            name,
+            may_hide: false,
+        }),
         Operation::Rename {
             name,
             new_parent,

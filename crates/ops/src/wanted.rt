@@ -24,6 +24,8 @@ pub enum Wanted<'a> {
     Remove {
         parent: u64,
         name: &'a str,
+        /// Whether a file that is open may be hidden instead.
+        may_hide: bool,
     },
     /// A name to be moved to another, whatever stands at either.
     Move {
@@ -78,9 +80,17 @@ impl<'a> Wanted<'a> {
                 let name = Name::copy_of(alloc, name)?;
                 Ok(Want::Name { parent, name })
             }
-            Wanted::Remove { parent, name } => {
+            Wanted::Remove {
+                parent,
+                name,
+                may_hide,
+            } => {
                 let name = Name::copy_of(alloc, name)?;
-                Ok(Want::Remove { parent, name })
+                Ok(Want::Remove {
+                    parent,
+                    name,
+                    may_hide,
+                })
             }
             Wanted::Move {
                 parent,

@@ -88,9 +88,14 @@ pub(crate) fn copy_of(want: &Want) -> Result<Want, AllocError>
             parent: *parent,
             name: name.copy()?,
         }),
-        Want::Remove { parent, name } => Ok(Want::Remove {
+        Want::Remove {
+            parent,
+            name,
+            may_hide,
+        } => Ok(Want::Remove {
             parent: *parent,
             name: name.copy()?,
+            may_hide: *may_hide,
         }),
         Want::Move {
             parent,

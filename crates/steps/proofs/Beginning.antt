@@ -27,12 +27,13 @@ module _ (at : Lookup) (f : Flight) where
       inr (All-cons (IsStanding at f) key [] stands (λ k d within. absurd (omega (arith, within))))
   entry_known parent name cases.Absent fits pins = inl refl
   entry_known parent name cases.Pathless fits pins = absurd fits
+  entry_known parent name (cases.Hiding n k) fits pins = absurd fits
 
 names_known : (seen : Seen) (f : Flight) (want : Want) (c : Case) → IsCase seen want c → ((n : ℕ) → IsPin seen.at (row_of want c) n → Contains f.pins n)
     → ((row_of want c).births ≡ length (row_of want c).entries) ⊎ All (IsStanding seen.at f) (row_of want c).entries
 names_known seen f (Node number handle) c fits pins = inl refl
 names_known seen f (AName parent name) c fits pins = entry_known seen.at f parent name c fits pins
-names_known seen f (Remove parent name) c fits pins = inl refl
+names_known seen f (Remove parent name may_hide) c fits pins = inl refl
 names_known seen f (Move parent name new_parent new_name) c fits pins = inl refl
 names_known seen f (Page folder names) c fits pins = inl (sym (length-map names (λ (name : Name). let key : Key = record { parent = folder; name = name } in key)))
 names_known seen f (Open number access) c fits pins = inl refl

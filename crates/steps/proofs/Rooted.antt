@@ -22,7 +22,7 @@ use Rattle.tree.specs.Places.{Lookup, IsNamed, IsPathOf, Leads, at_in}
 use Rattle.wants.specs.Asked.{Holds, IsPrefixAt, promise_of}
 use Rattle.wants.specs.Laws.{AreOwn, IsRow, base_of}
 use Rattle.wants.specs.Plans.{row_in}
-use Rattle.wants.specs.Rows.{AtName, AtNode, Change, Demand, Opening, cuts, hides, moves, page_keys, replaces, row_of, stays}
+use Rattle.wants.specs.Rows.{AtName, AtNode, Change, Demand, Opening, cuts, hidden_in, hides, moves, names_under, page_keys, replaces, row_of, stays}
 use Rattle.wants.proofs.Members.{any_in, cases_in, first_in, in_map, none_in, only_in}
 use Rattle.wants.proofs.RowLemmas.{are_rows}
 use Rattle.steps.specs.declared.state.State.{State}
@@ -40,7 +40,7 @@ use Rattle.steps.proofs.Viewed.{are_kept}
 pub entries_under : (want : Want) (c : Case) (key : Key) → Contains (row_of want c).entries key → Contains (row_of want c).given key.parent
 entries_under (wants.Node number handle) c key h = absurd (none_in key h)
 entries_under (wants.Name parent name) c key h = subst (λ (k : Key). Contains (parent ∷ []) k.parent) (only_in (record { parent = parent; name = name }) key h) (first_in parent [])
-entries_under (wants.Remove parent name) c key h = absurd (none_in key h)
+entries_under (wants.Remove parent name may_hide) c key h = absurd (none_in key h)
 entries_under (wants.Move parent name new_parent new_name) c key h = absurd (none_in key h)
 entries_under (wants.Page folder names) c key h =
     let it = in_map (λ (name : Name). let k : Key = record { parent = folder; name = name } in k) names key h in
@@ -53,7 +53,7 @@ entries_under (wants.Release number fh) c key h = absurd (none_in key h)
 entries_shared : (want : Want) (c : Case) → (row_of want c).page ≡ false → (key : Key) → Contains (row_of want c).entries key → Contains (row_of want c).shared (name_at key)
 entries_shared (wants.Node number handle) c one key h = absurd (none_in key h)
 entries_shared (wants.Name parent name) c one key h = subst (λ (k : Key). Contains (AtName parent name ∷ []) (name_at k)) (only_in (record { parent = parent; name = name }) key h) (first_in (AtName parent name) [])
-entries_shared (wants.Remove parent name) c one key h = absurd (none_in key h)
+entries_shared (wants.Remove parent name may_hide) c one key h = absurd (none_in key h)
 entries_shared (wants.Move parent name new_parent new_name) c one key h = absurd (none_in key h)
 entries_shared (wants.Page folder names) c one key h = absurd (true≢false one)
 entries_shared (wants.Open number access) c one key h = absurd (none_in key h)
@@ -64,7 +64,7 @@ entries_shared (wants.Release number fh) c one key h = absurd (none_in key h)
 page_births : (want : Want) (c : Case) → (row_of want c).page ≡ true → (row_of want c).births ≡ length (row_of want c).entries
 page_births (wants.Node number handle) c page = refl
 page_births (wants.Name parent name) c page = absurd (false≢true page)
-page_births (wants.Remove parent name) c page = refl
+page_births (wants.Remove parent name may_hide) c page = refl
 page_births (wants.Move parent name new_parent new_name) c page = refl
 page_births (wants.Page folder names) c page = sym (length-map names (λ (name : Name). let k : Key = record { parent = folder; name = name } in k))
 page_births (wants.Open number access) c page = refl
@@ -78,7 +78,10 @@ name_else parent name e = cc
 pub rows_placed : (want : Want) (c : Case) → IsPlaced (row_of want c).alone
 rows_placed (wants.Node number handle) c h = none_in (AtNode 1) h
 rows_placed (wants.Name parent name) c h = none_in (AtNode 1) h
-rows_placed (wants.Remove parent name) c h = name_else parent name (only_in (AtName parent name) (AtNode 1) h)
+rows_placed (wants.Remove parent name may_hide) c h = elim (cases_in (AtName parent name) (names_under parent (hidden_in c)) (AtNode 1) h) [
+  | inl e ↦ name_else parent name e
+  | inr more ↦ let it = in_map (λ (x : Name). AtName parent x) (hidden_in c) (AtNode 1) more in name_else parent it.0 it.2
+]
 rows_placed (wants.Page folder names) c h = none_in (AtNode 1) h
 rows_placed (wants.Move parent name new_parent new_name) c h = elim (cases_in (AtName parent name) (AtName new_parent new_name ∷ []) (AtNode 1) h) [
   | inl e ↦ name_else parent name e
@@ -97,7 +100,7 @@ none_alone false o none = refl
 pub node_given : (want : Want) (c : Case) (number : ℕ) (access : Access) → Some (record { target = AtNode number; access = access }) ≡ opened_alone (row_of want c) → Contains (row_of want c).given number
 node_given (wants.Node n handle) c number access e = absurd (none-some _ (sym e))
 node_given (wants.Name parent name) c number access e = absurd (none-some _ (sym e))
-node_given (wants.Remove parent name) c number access e = absurd (none-some _ (sym e))
+node_given (wants.Remove parent name may_hide) c number access e = absurd (none-some _ (sym e))
 node_given (wants.Move parent name new_parent new_name) c number access e = absurd (none-some _ (sym e))
 node_given (wants.Page folder names) c number access e = absurd (none-some _ (sym (e ∙ none_alone (length (page_keys folder names) == 0) None refl)))
 node_given (wants.Open n a) c number access e =
@@ -151,7 +154,7 @@ lead_only at (lead ∷ more ∷ given) number e leads = absurd (omega (arith, ap
 lead_of : (at : Lookup) (want : Want) (c : Case) (held : Held) → Holds at (row_of want c) held → (n : ℕ) → Contains (folders_of (row_of want c)) n → LeadsTo at held.given n
 lead_of at (wants.Node number handle) c held holds n h = absurd (none_in n h)
 lead_of at (wants.Name parent name) c held holds n h = absurd (none_in n h)
-lead_of at (wants.Remove parent name) c held holds n h = absurd (none_in n h)
+lead_of at (wants.Remove parent name may_hide) c held holds n h = absurd (none_in n h)
 lead_of at (wants.Move parent name new_parent new_name) c held holds n h = absurd (none_in n h)
 lead_of at (wants.Page folder names) c held holds n h = subst (λ k. LeadsTo at held.given k) (only_in folder n h) (lead_only at held.given folder holds.numbers holds.leads)
 lead_of at (wants.Open number access) c held holds n h = absurd (none_in n h)

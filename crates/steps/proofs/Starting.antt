@@ -1,7 +1,9 @@
 -- What a request that goes on leaves.
-use Rattle.std.proofs.Common.{ℕ, ◌≡◌, ◌||◌, ◌⊎◌, Bool, true, reverse, All, Contains, List, Option, Some, None, length, refl, sym, ap, ◌∙◌, subst, inl, inr, arith}
+use Rattle.std.proofs.Common.{ℕ, ◌+◌, ◌%◌, ◌^◌, ◌==◌, if◌then◌else◌, not, false, [], ◌≡◌, ◌||◌, ◌⊎◌, Bool, true, reverse, All, Contains, List, Option, Some, None, length, refl, sym, ap, ◌∙◌, subst, inl, inr, arith}
 use Rattle.std.specs.Prelude.{option_map}
 use Rattle.std.proofs.lemmas.Bool.{or_cases, or_left}
+use Rattle.std.proofs.lemmas.List.{length-map}
+use Rattle.paths.specs.Prefixes.{Name}
 use Rattle.holds.specs.declared.held.Held.{Held}
 use Rattle.files.specs.Filed.{files_of}
 use Rattle.files.specs.Handles.{Opened}
@@ -22,9 +24,10 @@ use Rattle.tree.specs.Places.{Lookup, Nodes, at_in, IsAlive, IsTree}
 use Rattle.tree.proofs.Climbing.{climbs_alive}
 use Rattle.wants.specs.declared.data.Plan.{Plan}
 use Rattle.wants.specs.Asked.{Holds, IsPin, IsThere}
+use Rattle.wants.specs.Cases.{IsClosingCase, IsCase, IsEntryCase, Seen}
 use Rattle.wants.specs.Laws.{IsRow}
 use Rattle.wants.specs.Plans.{IsPlan, IsProvided, row_in}
-use Rattle.wants.specs.Rows.{AtName, AtNode, Demand, Location, is_same, row_of}
+use Rattle.wants.specs.Rows.{AtName, AtNode, Demand, Location, hidden_in, is_same, names_under, row_of}
 use Rattle.wants.proofs.Members.{in_any}
 use Rattle.wants.proofs.RowLemmas.{are_rows}
 use Rattle.steps.specs.declared.data.Limits.{Limits}
@@ -32,7 +35,7 @@ use Rattle.steps.specs.declared.state.State.{State}
 use Rattle.steps.specs.Beginning.{Allows, ClosesFile, IsRoomForOne, IsSameButRoom}
 use Rattle.steps.specs.Keeping.{kept_by}
 use Rattle.steps.specs.Kept.{AreProvided, IsKept, IsLimited, flight_of, flights_in, work_of, world_of}
-use Rattle.steps.specs.Steps.{GoesOn, HoldsUp, Leaves, MayBegin, files_without}
+use Rattle.steps.specs.Steps.{GoesOn, HoldsUp, Leaves, MayBegin, files_without, may_hide}
 use Rattle.steps.specs.World.{AreHeld, AreReady, Flight, Flights, IsAtWork, IsReady, Work, World, seen_in, with_entry}
 use Rattle.steps.proofs.Apart.{AreApart, at_work_more, apart_more, held_up_recorded, known_held}
 use Rattle.steps.proofs.Beginning.{ready_begun}
@@ -76,11 +79,40 @@ module _ (at : Lookup) (tree : IsTree at) (d : Demand) (held : Held) (row : IsRo
 
 -- ---- a plan that is recorded
 
+-- the names that are kept for a request are the candidates of its row
+names_fit : (parent : ℕ) (names : List Name) (kept : List Name) → kept ≡ names → not (length kept == 0) ≡ not (length (names_under parent names) == 0)
+names_fit parent names kept is = ap (λ (n : ℕ). not (n == 0)) (ap {B = ℕ} length is ∙ sym (length-map names (λ (x : Name). AtName parent x)))
+
+none_fit : (kept : List Name) → kept ≡ [] → not (length kept == 0) ≡ false
+none_fit kept is = ap (λ (n : ℕ). not (n == 0)) (ap {B = ℕ} length is)
+
+entry_fits : (at : Lookup) (parent : ℕ) (name : Name) (c : Case) → IsEntryCase at parent name c → hidden_in c ≡ []
+entry_fits at parent name cases.Plain fits = refl
+entry_fits at parent name cases.Absent fits = refl
+entry_fits at parent name cases.Pathless fits = absurd fits
+entry_fits at parent name (cases.Hiding n k) fits = absurd fits
+
+closing_fits : (at : Lookup) (number : ℕ) (c : Case) → IsClosingCase at number c → hidden_in c ≡ []
+closing_fits at number cases.Plain fits = refl
+closing_fits at number cases.Absent fits = absurd fits
+closing_fits at number cases.Pathless fits = refl
+closing_fits at number (cases.Hiding n k) fits = absurd fits
+
+pub hides_so : (seen : Seen) (want : Want) (c : Case) → IsCase seen want c → (kept : List Name) → kept ≡ hidden_in c → not (length kept == 0) ≡ may_hide (row_of want c)
+hides_so seen (wants.Node number handle) c fits kept is = none_fit kept (is ∙ ap (λ (k : Case). hidden_in k) fits)
+hides_so seen (wants.Name parent name) c fits kept is = none_fit kept (is ∙ entry_fits seen.at parent name c fits)
+hides_so seen (wants.Remove parent name may) c fits kept is = names_fit parent (hidden_in c) kept is
+hides_so seen (wants.Move parent name new_parent new_name) c fits kept is = none_fit kept (is ∙ ap (λ (k : Case). hidden_in k) fits)
+hides_so seen (wants.Page folder names) c fits kept is = none_fit kept (is ∙ ap (λ (k : Case). hidden_in k) fits)
+hides_so seen (wants.Open number access) c fits kept is = none_fit kept (is ∙ ap (λ (k : Case). hidden_in k) fits)
+hides_so seen (wants.Create parent name access) c fits kept is = none_fit kept (is ∙ entry_fits seen.at parent name c fits)
+hides_so seen (wants.Release number fh) c fits kept is = none_fit kept (is ∙ closing_fits seen.at number c fits)
+
 -- whether a name is moved to itself does not hang on the case
 pub same_case : (want : Want) (c : Case) → is_same (row_of want cases.Plain).done ≡ is_same (row_of want c).done
 same_case (wants.Node number handle) c = refl
 same_case (wants.Name parent name) c = refl
-same_case (wants.Remove parent name) c = refl
+same_case (wants.Remove parent name may_hide) c = refl
 same_case (wants.Move parent name new_parent new_name) c = refl
 same_case (wants.Page folder names) c = refl
 same_case (wants.Open number access) c = refl
@@ -91,7 +123,7 @@ same_case (wants.Release number fh) c = refl
 pub same_closes : (want : Want) (c : Case) → (row_of want cases.Plain).closes ≡ (row_of want c).closes
 same_closes (wants.Node number handle) c = refl
 same_closes (wants.Name parent name) c = refl
-same_closes (wants.Remove parent name) c = refl
+same_closes (wants.Remove parent name may_hide) c = refl
 same_closes (wants.Move parent name new_parent new_name) c = refl
 same_closes (wants.Page folder names) c = refl
 same_closes (wants.Open number access) c = refl
@@ -112,28 +144,32 @@ module _ (s mid : State) (unique id : ℕ) (plan : Plan) (is : IsPlan (seen_in (
   pub flights_new : flights_in (flying_of flights) ≡ with_entry (flights_in (flying_of mid.flights)) id (Some (flight_of begun))
   flights_new = flights_with (flying_of mid.flights) (flying_of flights) id begun adds.at
 
-  pub mid_is : world_of (record mid { flights = flights }) ≡ record (world_of s) { flights = with_entry (flights_in (flying_of s.flights)) id (Some (flight_of begun)) }
-  mid_is = ap (λ (w : World). record w { flights = flights_in (flying_of flights) }) same.world
-      ∙ ap (λ (fs : Flights). record (world_of s) { flights = fs }) (flights_new ∙ ap (λ (fs : Flights). with_entry fs id (Some (flight_of begun))) flights_same)
+  pub mid_is : (counter : ℕ) → world_of (record mid { flights = flights; counter = counter }) ≡ record (world_of s) { flights = with_entry (flights_in (flying_of s.flights)) id (Some (flight_of begun)); counter = counter }
+  mid_is counter = ap (λ (w : World). let v : World = record w { flights = flights_in (flying_of flights); counter = counter } in v) same.world
+      ∙ ap (λ (fs : Flights). let v : World = record (world_of s) { flights = fs; counter = counter } in v) (flights_new ∙ ap (λ (fs : Flights). with_entry fs id (Some (flight_of begun))) flights_same)
 
-  abbrev pub goes_on : (same_path : Bool) → (flying_of mid.flights).at id ≡ None → same_path ≡ is_same (row_of plan.work.want cases.Plain).done
-      → (closes : Option ℕ) → closes ≡ (row_of plan.work.want cases.Plain).closes → (new : World) → ClosesFile (world_of (record mid { flights = flights })) closes new
-      → GoesOn (world_of s) unique plan.work.want (row_in plan.work) (record { id = id; paths = plan.paths; same = same_path }) new
-  goes_on same_path fresh same_is closes closes_is new closed =
+  abbrev pub goes_on : (same_path hide : Bool) (counter : ℕ) → (flying_of mid.flights).at id ≡ None → same_path ≡ is_same (row_of plan.work.want cases.Plain).done
+      → hide ≡ may_hide (row_in plan.work) → counter ≡ (if hide then (s.counter + 10) % 2 ^ 32 else s.counter)
+      → (closes : Option ℕ) → closes ≡ (row_of plan.work.want cases.Plain).closes → (new : World) → ClosesFile (world_of (record mid { flights = flights; counter = counter })) closes new
+      → GoesOn (world_of s) unique plan.work.want (row_in plan.work) (record { id = id; paths = plan.paths; same = same_path; hide = hide }) new
+  goes_on same_path hide counter fresh same_is hide_is counter_is closes closes_is new closed =
       let shut : closes ≡ (row_in plan.work).closes = closes_is ∙ same_closes plan.work.want plan.work.case in
+      let flying : Flights = with_entry (flights_in (flying_of s.flights)) id (Some (flight_of begun)) in
       record {
         fresh = ap (λ (fs : Flights). fs id) (sym flights_same) ∙ ap (λ (o : Option Recorded). option_map flight_of o) fresh;
-        ticket_is = record { paths = is.paths; same = same_is ∙ same_case plan.work.want plan.work.case };
+        ticket_is = record { paths = is.paths; same = same_is ∙ same_case plan.work.want plan.work.case; hide = hide_is };
         held = plan.work.held;
         holds = is.holds;
         pins = plan.pins.numbers;
         pinned = is.pins;
-        leaves = subst (λ (h : Option ℕ). Leaves (at_in s.tree) h new) shut (subst (λ (at : Lookup). Leaves at closes new) (ap (λ (w : World). w.at) mid_is) closed.leaves);
-        new_is = closed.new_is ∙ (ap (λ (w : World). record w { at = new.at; files = files_without closes w.files }) mid_is
-            ∙ ap (λ (h : Option ℕ). record (world_of s) { at = new.at; flights = with_entry (flights_in (flying_of s.flights)) id (Some (flight_of begun)); files = files_without h (files_of s.files).at }) shut);
+        leaves = subst (λ (h : Option ℕ). Leaves (at_in s.tree) h new) shut (subst (λ (at : Lookup). Leaves at closes new) (ap (λ (w : World). w.at) (mid_is counter)) closed.leaves);
+        new_is = closed.new_is ∙ (ap (λ (w : World). record w { at = new.at; files = files_without closes w.files }) (mid_is counter)
+            ∙ (ap (λ (h : Option ℕ). let v : World = record (world_of s) { at = new.at; flights = flying; files = files_without h (files_of s.files).at; counter = counter } in v) shut
+            ∙ ap (λ (k : ℕ). let v : World = record (world_of s) { at = new.at; flights = flying; files = files_without (row_in plan.work).closes (files_of s.files).at; counter = k } in v)
+            (counter_is ∙ ap (λ (b : Bool). if b then (s.counter + 10) % 2 ^ 32 else s.counter) hide_is)));
       }
 
-  module _ (fresh : (flying_of mid.flights).at id ≡ None) (kept : IsKept mid) (all_flying : IsFlying (flying_of flights))
+  module _ (counter : ℕ) (fresh : (flying_of mid.flights).at id ≡ None) (kept : IsKept mid) (all_flying : IsFlying (flying_of flights))
       (free : flying.HoldsUp (flying_of s.flights).at plan.work.held → ⊥) (may : MayBegin (world_of s) (row_in plan.work)) (allows : Allows s plan.work.promise) (room : IsRoomForOne mid plan.work.promise) where
     at_same : at_in mid.tree ≡ at_in s.tree
     at_same = ap (λ (w : World). w.at) same.world
@@ -209,7 +245,7 @@ module _ (s mid : State) (unique id : ℕ) (plan : Plan) (is : IsPlan (seen_in (
     same_file : {X : Type 0} → (of : Opened → X) → of (files_of mid.files) ≡ of (record (files_of s.files) { room = (files_of mid.files).room })
     same_file of = ap of same.files
 
-    all_limited : IsLimited (record mid { flights = flights })
+    all_limited : IsLimited (record mid { flights = flights; counter = counter })
     all_limited = record {
       nodes = omega (arith, adds.nodes, allows.nodes, ap (λ (t : Nodes). t.living) same.tree, ap (λ (x : Flying). x.nodes) same.flights, ap (λ (l : Limits). l.nodes) same.limits);
       postings = omega (arith, adds.postings, allows.postings, ap {B = ℕ} length same.made, ap (λ (t : Nodes). t.counts) same.tree, ap (λ (x : Flying). x.postings) same.flights, ap (λ (l : Limits). l.postings) same.limits);
@@ -221,7 +257,7 @@ module _ (s mid : State) (unique id : ℕ) (plan : Plan) (is : IsPlan (seen_in (
       short = kept.limited.short;
     }
 
-    pub begun_kept : IsKept (record mid { flights = flights })
+    pub begun_kept : IsKept (record mid { flights = flights; counter = counter })
     begun_kept = record {
       law = all_lawful;
       flying = all_flying;

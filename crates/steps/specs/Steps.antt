@@ -1,5 +1,5 @@
 -- The steps of a table. Each says the whole new world.
-use Rattle.std.specs.Prelude.{ℕ, ℤ, ◌+◌, ◌-◌, ◌<◌, ◌≡◌, ◌==◌, ◌&&◌, ◌↔◌, not, if◌then◌else◌, Bool, true, false, List, [], ◌∷◌, ◌++◌, Option, Some, None, Contains, length, drop, map, min}
+use Rattle.std.specs.Prelude.{ℕ, ℤ, ◌+◌, ◌-◌, ◌%◌, ◌^◌, ◌<◌, ◌≡◌, ◌==◌, ◌&&◌, ◌↔◌, not, if◌then◌else◌, Bool, true, false, List, [], ◌∷◌, ◌++◌, Option, Some, None, Contains, length, drop, map, min}
 use Rattle.errno.specs.declared.TheConstants.{EAGAIN, EBADF, ENFILE}
 use Rattle.std.specs.List.{slice_get}
 use Rattle.files.specs.declared.data.OpenFile.{OpenFile}
@@ -118,10 +118,19 @@ pub data IsRefusal (w : World) (d : Demand) (e : ℤ) : Type 0 where
 
 -- ---- begin
 
--- the ticket tells the paths, and whether a name is moved to itself
+-- whether an open file may have to be hidden
+abbrev pub may_hide : Demand → Bool
+may_hide d = not (length d.candidates == 0)
+
+-- the counter of the next hidden name: ten names more are taken where a file may have to be hidden
+abbrev pub counter_after : Demand → ℕ → ℕ
+counter_after d counter = if may_hide d then (counter + 10) % 2 ^ 32 else counter
+
+-- the ticket tells the paths, and whether a name is moved to itself, or may have to be hidden
 pub record IsTicket (at : Lookup) (d : Demand) (ticket : Claim) : Type 0 where
   pub paths : ArePaths at d.paths ticket.paths
   pub same : ticket.same ≡ is_same d.done
+  pub hide : ticket.hide ≡ may_hide d
 
 -- where a file is closed what nothing keeps any more goes, else all nodes stay
 abbrev pub Leaves : Lookup → Option ℕ → World → Type 0
@@ -141,6 +150,7 @@ pub record GoesOn (old : World) (unique : ℕ) (want : Want) (d : Demand) (ticke
     at = new.at;
     flights = with_entry old.flights ticket.id (Some (record { unique = unique; stage = Working (record { want = want; row = d; held = held }); pins = pins }));
     files = files_without d.closes old.files;
+    counter = counter_after d old.counter;
   }
 
 abbrev pub BeginsAs : World → ℕ → Want → Demand → Begin → World → Type 0

@@ -4,7 +4,7 @@ ghost use Rattle.std.specs.Prelude.{◌≡◌};
 ghost use Rattle.steps.specs.Ending.{alone_in, candidates_in, change_in, folders_in, folders_of, is_page, keys_in, with_in};
 ghost use Rattle.steps.specs.Steps.{opened_alone, opened_with};
 ghost use Rattle.wants.specs.Plans.{copied, copied_page};
-ghost use Rattle.wants.specs.Rows.{row_of};
+ghost use Rattle.wants.specs.Rows.{hidden_in, row_of};
 
 use crate::keys::{FolderKeys, Keys};
 use files::Access;
@@ -55,9 +55,16 @@ pub(crate) struct Acts {
 }
 
 /// What the row of the want says in that case.
-pub(crate) fn acts_of(want: Want, _case: Case, copy: Option<Name>, copies: Names) -> Acts
+pub(crate) fn acts_of(
+    want: Want,
+    _case: Case,
+    copy: Option<Name>,
+    beside: Names,
+    copies: Names,
+) -> Acts
     requires copy { copy ≡ copied want }
-    requires copies { copies ≡ copied_page want }
+    requires beside { beside ≡ hidden_in _case }
+    requires copies { copies ≡ copied_page want _case }
     ensures entries { keys_in result.entries ≡ (row_of want _case).entries }
     ensures page { is_page result.entries ≡ (row_of want _case).page }
     ensures folders { folders_in result.entries ≡ folders_of (row_of want _case) }
@@ -79,10 +86,14 @@ pub(crate) fn acts_of(want: Want, _case: Case, copy: Option<Name>, copies: Names
             candidates: None,
             opens: Opens::Nothing,
         },
-        Want::Remove { parent, name } => Acts {
+        Want::Remove { parent, name, .. } => Acts {
             entries: Entries::Nothing,
             change: Change::Cuts(Key { parent, name }),
-            candidates: None,
+            candidates: Some(FolderKeys {
+                folder: parent,
+                names: beside,
+                copies,
+            }),
             opens: Opens::Nothing,
         },
         Want::Move {

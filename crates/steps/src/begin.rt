@@ -1,6 +1,6 @@
 //! The beginning of a request.
 
-ghost use Rattle.std.specs.Prelude.{◌≡◌, ◌≤◌, ◌<◌, ◌+◌, ◌↔◌, true, IfErr, IsTrue, OnOk};
+ghost use Rattle.std.specs.Prelude.{◌≡◌, ◌≤◌, ◌<◌, ◌+◌, ◌%◌, ◌^◌, if◌then◌else◌, ◌==◌, not, length, ◌↔◌, true, IfErr, IsTrue, OnOk};
 ghost use Rattle.files.specs.Filed.{files_of};
 ghost use Rattle.steps.specs.Beginning.{Allows, Forbids, HasHandles, IsHandleUsable, IsRefusedHandle, IsRoomForOne, IsSameButRoom, used_in};
 ghost use Rattle.steps.specs.Kept.{IsKept, tally_of, world_of};
@@ -14,7 +14,7 @@ use crate::data::{Begin, Ticket};
 use crate::state::State;
 use errno::{EAGAIN, EBADF, ENFILE, ENOMEM};
 use files::{Files, Need};
-use flights::{Case, Flight, Handle, Promise, Stage, Want};
+use flights::{Case, Flight, Handle, Promise, Stage, Want, Work};
 use std::alloc::AllocError;
 use wants::{Plan, plan};
 
@@ -90,6 +90,27 @@ fn is_usable(files: &Files, number: u64, handle: &Handle) -> bool
     }
 }
 
+/// Whether an open file may have to be hidden, under names that are kept for it.
+fn may_hide(work: &Work) -> bool
+    ensures { result ≡ not (length work.now.candidates == 0) }
+{
+    !work.candidates.as_slice().is_empty()
+}
+
+/// How many names are taken where a file may have to be hidden.
+const CANDIDATES: u32 = 10;
+
+/// The counter of the next hidden name, once a request was taken up.
+fn next_counter(counter: u32, hide: bool) -> u32
+    ensures { result ≡ (if hide then (counter + 10) % 2 ^ 32 else counter) }
+{
+    if hide {
+        counter.wrapping_add(CANDIDATES)
+    } else {
+        counter
+    }
+}
+
 impl State {
     /// Takes up a request, if its tests allow it, and keeps free what its end may need. A handle that it closes is closed at once.
     /// Busy and a refusal change nothing.
@@ -147,6 +168,7 @@ impl State {
             Err(_) => return Begin::Refused(ENOMEM),
         }
         let same = is_same(&work.want);
+        let hide = may_hide(&work);
         let closes = closed_by(&work.want);
         let id = self.flights.free_id();
         self.flights.add(Flight {
@@ -155,8 +177,14 @@ impl State {
             stage: Stage::Working(work),
             pins,
         });
+        self.counter = next_counter(self.counter, hide);
         self.close_file(closes);
-        Begin::Go(Ticket { id, paths, same })
+        Begin::Go(Ticket {
+            id,
+            paths,
+            same,
+            hide,
+        })
     }
 
     /// Tests that the limits allow one request more that is promised so much.

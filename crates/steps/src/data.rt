@@ -40,6 +40,7 @@ pub struct Ticket {
     pub(crate) id: u64,
     pub(crate) paths: Paths,
     pub(crate) same: bool,
+    pub(crate) hide: bool,
 }
 
 impl Model for Ticket {
@@ -47,7 +48,7 @@ impl Model for Ticket {
 
     ghost Value = { Claim };
 
-    ghost view = { λ t. record { id = t.id; paths = t.paths; same = t.same } };
+    ghost view = { λ t. record { id = t.id; paths = t.paths; same = t.same; hide = t.hide } };
 }
 
 impl Ticket {
@@ -59,7 +60,7 @@ impl Ticket {
     }
 
     /// The paths that the request is about, as they were when it began: of a move the old one and then the new one, of a page
-    /// that of its folder and then that of each name.
+    /// that of its folder and then that of each name, and last the ten that an open file may be hidden under, if it may.
     pub fn paths(&self) -> &[Path]
         ensures { result.now ≡ self.now.paths }
     {
@@ -71,6 +72,13 @@ impl Ticket {
         ensures { result ≡ self.now.same }
     {
         self.same
+    }
+
+    /// Whether the file at the name that goes is open and may be hidden: the last ten paths are those that it may be moved to.
+    pub fn hide(&self) -> bool
+        ensures { result ≡ self.now.hide }
+    {
+        self.hide
     }
 }
 

@@ -60,6 +60,7 @@ impl State {
             want,
             case,
             copy,
+            candidates: beside,
             copies,
             held,
             promise: _,
@@ -70,7 +71,7 @@ impl State {
             change,
             candidates,
             opens,
-        } = acts_of(want, case, copy, copies);
+        } = acts_of(want, case, copy, beside, copies);
         match outcome {
             Outcome::Failed => give_none(id, &entries, answer, None),
             Outcome::Done => {
@@ -105,6 +106,7 @@ impl State {
             id,
             paths: _,
             same: _,
+            hide: _,
         } = ticket;
         let Some(work) = self.flights.answer(id) else {
             return Answered {

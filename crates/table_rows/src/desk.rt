@@ -51,6 +51,12 @@ pub fn want_of(alloc: Global, asks: Asks) -> Result<Want, AllocError> {
         Asks::Remove(parent, name) => Want::Remove {
             parent,
             name: Name::copy_of(alloc, name)?,
+            may_hide: false,
+        },
+        Asks::Unlink(parent, name) => Want::Remove {
+            parent,
+            name: Name::copy_of(alloc, name)?,
+            may_hide: true,
         },
         Asks::Move(parent, name, new_parent, new_name) => Want::Move {
             parent,
@@ -101,6 +107,8 @@ pub fn outcome_of(alloc: Global, outcome: Outcome) -> Result<TableOutcome, Alloc
             all.extend_from_slice(found)?;
             TableOutcome::Entries(FoundNames::from_vec(all))
         }
+        Outcome::Hidden(candidate) => TableOutcome::Hidden(candidate),
+        Outcome::HiddenMove(candidate, moved) => TableOutcome::HiddenMove { candidate, moved },
     })
 }
 

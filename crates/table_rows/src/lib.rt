@@ -10,6 +10,8 @@ mod draws;
 #[cfg(test)]
 mod event;
 #[cfg(test)]
+mod hiding_rows;
+#[cfg(test)]
 mod holding_rows;
 #[cfg(test)]
 mod image_rows;

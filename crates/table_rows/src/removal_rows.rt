@@ -121,6 +121,34 @@ const MISFIT: Story = Story {
     gathers: Sum::All(2, 3, 0, 0),
 };
 
+/// A removal that has no candidates hides nothing, whatever it is told, and neither does a look at a node.
+const UNHIDDEN: Story = Story {
+    limits: DEFAULT,
+    steps: &[
+        Step::LookUp(ROOT, "d", Given(2, 0)),
+        Step::LookUp(2, "x", Given(3, 0)),
+        Step::Begin(1, Remove(ROOT, "d"), Go),
+        Step::Finish(1, Outcome::Hidden(0), Ended),
+        Step::Nodes(KNOWN),
+        Step::Settle(1, Reply::Taken, Settled(0)),
+        Step::Begin(2, Remove(ROOT, "d"), Go),
+        Step::Finish(2, Outcome::HiddenMove(9, true), Ended),
+        Step::Nodes(KNOWN),
+        Step::Settle(2, Reply::Taken, Settled(0)),
+        Step::Begin(3, Node(3), Go),
+        Step::Finish(3, Outcome::Hidden(0), Ended),
+        Step::Nodes(KNOWN),
+        Step::Settle(3, Reply::Taken, Settled(0)),
+        Step::Requests(&[]),
+    ],
+    gathers: Sum::All(2, 2, 0, 0),
+};
+
+#[test]
+fn nothing_hidden_without_candidates(rt: HostRuntime) -> Result<(), Fail> {
+    run(rt.alloc(), &UNHIDDEN)
+}
+
 #[test]
 fn removal_failed(rt: HostRuntime) -> Result<(), Fail> {
     run(rt.alloc(), &FAILED)

@@ -38,7 +38,7 @@ impl From<&Posting> for Posted {
 fn is_at(place: &Place, spot: Spot) -> bool {
     match (place, spot) {
         (Place::Root, Spot::Root) | (Place::Cut, Spot::Cut) => true,
-        (Place::Named(key), Spot::At(parent, name)) => {
+        (Place::Named(key), Spot::At(parent, name) | Spot::Hidden(parent, name)) => {
             key.parent == parent && key.name.as_str() == name
         }
         _ => false,
@@ -48,7 +48,7 @@ fn is_at(place: &Place, spot: Spot) -> bool {
 fn is_living(node: &Node, living: &Living) -> bool {
     let Living(number, generation, spot, count) = *living;
     (node.number, node.generation, node.count) == (number, generation, count)
-        && !node.hidden
+        && node.hidden == matches!(spot, Spot::Hidden(..))
         && is_at(&node.place, spot)
 }
 

@@ -47,6 +47,8 @@ pub enum Asks<'a> {
     Name(u64, &'a str),
     /// The removal of a name under a parent.
     Remove(u64, &'a str),
+    /// The same, where a file that is open may be hidden instead.
+    Unlink(u64, &'a str),
     /// The move of a name under a parent to another name under another.
     Move(u64, &'a str, u64, &'a str),
     /// Names in a folder.
@@ -70,6 +72,10 @@ pub enum Outcome<'a> {
     Entry,
     /// Which of the names of a page are there.
     Entries(&'a [bool]),
+    /// What stood at its name was moved to the candidate of that index.
+    Hidden(u8),
+    /// What stood at its target was, and then, if so told, its source to its target.
+    HiddenMove(u8, bool),
 }
 
 /// What a call told.
@@ -125,10 +131,12 @@ pub enum Spot<'a> {
     Root,
     /// At a name under a parent.
     At(u64, &'a str),
+    /// At that name, with a hidden mark.
+    Hidden(u64, &'a str),
     Cut,
 }
 
-/// A living node: its number, its generation, where it stands, and its count. None is hidden.
+/// A living node: its number, its generation, where it stands, and its count.
 #[derive(Clone, Copy)]
 pub struct Living<'a>(pub u64, pub u64, pub Spot<'a>, pub u64);
 

@@ -44,7 +44,7 @@ prefix_above (x ∷ p) (y ∷ up) name begins other =
     rw (both.0, rest) refl
 
 module _ (at : Lookup) (tree : IsTree at) where
-  above_forth : (p : Names) (parent : ℕ) (name : Name) → IsPrefixAt at p (AtNode parent) → IsAboveAt at p (AtName parent name)
+  pub above_forth : (p : Names) (parent : ℕ) (name : Name) → IsPrefixAt at p (AtNode parent) → IsAboveAt at p (AtName parent name)
   above_forth p parent name it = record {
     path = it.path ++ name ∷ [];
     leads = record { above = it.path; leads = it.leads; whole = refl };
@@ -52,7 +52,7 @@ module _ (at : Lookup) (tree : IsTree at) where
     other = λ e. true≢false (sym it.begins.begins ∙ (ap (λ (r : Names). is_prefix r it.path) e ∙ not_over_parent it.path name));
   }
 
-  above_back : (p : Names) (parent : ℕ) (name : Name) → IsAboveAt at p (AtName parent name) → IsPrefixAt at p (AtNode parent)
+  pub above_back : (p : Names) (parent : ℕ) (name : Name) → IsAboveAt at p (AtName parent name) → IsPrefixAt at p (AtNode parent)
   above_back p parent name it = record {
     path = it.leads.above;
     leads = it.leads.leads;

@@ -7,3 +7,4 @@ mod Drafting
 mod Agreeing
 pub mod Wanting
 mod Paging
+pub mod Removing

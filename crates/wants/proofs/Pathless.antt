@@ -87,6 +87,7 @@ module _ (at : Lookup) (tree : IsTree at) (number : ℕ) where
   starved fh cases.Plain short = no_memory refl (λ s. rooted short (record { number = s.number; named = s.named; lost = s.lost }))
   starved fh cases.Absent bad = absurd bad
   starved fh cases.Pathless none = no_memory refl (λ s. none_in s.number s.named)
+  starved fh (cases.Hiding n k) bad = absurd bad
 
 -- want of memory
 pub closing_refused : (seen : Seen) → IsTree seen.at → (want : Want) (number fh : ℕ) (r : Refusal) → want ≡ wants.Release number fh → r ≡ refusal.Memory → IsRefusedPlan seen want (errno_of r)

@@ -8,8 +8,8 @@ use Rattle.flights.specs.declared.data.Case.{Case}
 use Rattle.flights.specs.declared.data.Case.TheVariants as cases
 use Rattle.flights.specs.declared.data.Want.{Want}
 use Rattle.flights.specs.declared.data.Want.TheVariants as wants
-use Rattle.wants.specs.Laws.{IsRow, base_of}
-use Rattle.wants.specs.Rows.{Location, AtNode, AtName, Opening, Used, closed_at, closed_on, closed_row, closing, used_on, move_row, name_row, node_row, page_names, page_row, removal_row, row_of}
+use Rattle.wants.specs.Laws.{AreSiblings, IsRow, base_of}
+use Rattle.wants.specs.Rows.{Location, AtNode, AtName, Opening, Used, closed_at, closed_on, closed_row, closing, used_on, move_row, name_row, node_row, page_names, page_row, hidden_in, names_under, removal_row, row_of}
 use Rattle.wants.proofs.Members.{any_first, any_later, cases_in, first_in, in_map, later_in, none_in, only_in}
 
 -- the one location at or under the one node
@@ -43,16 +43,25 @@ name_is_row parent name c opens = record {
   beside = λ l h. absurd (none_in l h);
 }
 
-removal_is_row : (parent : ℕ) (name : Name) → IsRow (removal_row parent name)
-removal_is_row parent name = record {
+-- each name beside the one that goes is under the same node
+beside_under : (parent : ℕ) (name : Name) (others : List Name) (l : Location) → Contains (AtName parent name ∷ names_under parent others) l → Contains (parent ∷ []) (base_of l)
+beside_under parent name others l h = elim (cases_in (AtName parent name) (names_under parent others) l h) [
+  | inl e ↦ subst (λ k. Contains (parent ∷ []) k) (ap base_of e) (first_in parent [])
+  | inr more ↦
+      let it = in_map (λ (x : Name). AtName parent x) others l more in
+      subst (λ k. Contains (parent ∷ []) k) (ap base_of it.2) (first_in parent [])
+]
+
+removal_is_row : (parent : ℕ) (name : Name) (others : List Name) → IsRow (removal_row parent name others)
+removal_is_row parent name others = record {
   shared = λ l h. absurd (none_in l h);
-  alone = λ l h. under_only parent (AtName parent name) l refl h;
-  paths = λ l h. under_only parent (AtName parent name) l refl h;
-  covered = λ n h. inr (any_first (λ l. base_of l ≡ n) (AtName parent name) [] (only_in parent n h));
+  alone = beside_under parent name others;
+  paths = beside_under parent name others;
+  covered = λ n h. inr (any_first (λ l. base_of l ≡ n) (AtName parent name) (names_under parent others) (only_in parent n h));
   entered = inl refl;
-  own = first_in (AtName parent name) [];
-  hidden = λ l h. absurd (none_in l h);
-  beside = λ l h. absurd (none_in l h);
+  own = first_in (AtName parent name) (names_under parent others);
+  hidden = λ l h. later_in (AtName parent name) (names_under parent others) l h;
+  beside = λ l h. let it = in_map (λ (x : Name). AtName parent x) others l h in subst (λ m. AreSiblings (AtName parent name) m) it.2 refl;
 }
 
 module _ (parent : ℕ) (name : Name) (new_parent : ℕ) (new_name : Name) where
@@ -107,11 +116,13 @@ closed_under : (number : ℕ) (c : Case) (l : Location) → Contains (closed_at 
 closed_under number cases.Plain l h = under_only number (AtNode number) l refl h
 closed_under number cases.Absent l h = under_only number (AtNode number) l refl h
 closed_under number cases.Pathless l h = absurd (none_in l h)
+closed_under number (cases.Hiding m k) l h = absurd (none_in l h)
 
 closed_covered : (number : ℕ) (c : Case) (n : ℕ) → Contains (closed_on number c) n → Any (λ l. base_of l ≡ n) (closed_at number c)
 closed_covered number cases.Plain n h = any_first (λ l. base_of l ≡ n) (AtNode number) [] (only_in number n h)
 closed_covered number cases.Absent n h = any_first (λ l. base_of l ≡ n) (AtNode number) [] (only_in number n h)
 closed_covered number cases.Pathless n h = absurd (none_in n h)
+closed_covered number (cases.Hiding m k) n h = absurd (none_in n h)
 
 -- a file that is closed asks for what its node does, or for nothing
 closed_is_row : (number : ℕ) (c : Case) (used : Option Used) (closes : Option ℕ) → IsRow (record (closed_row number c) { used = used; closes = closes })
@@ -129,7 +140,7 @@ closed_is_row number c used closes = record {
 pub are_rows : (want : Want) (case : Case) → IsRow (row_of want case)
 are_rows (wants.Node number handle) c = node_is_row number (used_on number handle) None
 are_rows (wants.Name parent name) c = name_is_row parent name c None
-are_rows (wants.Remove parent name) c = removal_is_row parent name
+are_rows (wants.Remove parent name may_hide) c = removal_is_row parent name (hidden_in c)
 are_rows (wants.Move parent name new_parent new_name) c = move_is_row parent name new_parent new_name
 are_rows (wants.Page folder names) c = page_is_row folder names
 are_rows (wants.Open number access) c = node_is_row number None (Some (record { target = AtNode number; access = access }))

@@ -1,5 +1,5 @@
 -- What a want's row asks for, and why it is refused.
-use Rattle.std.proofs.Common.{ℕ, ℤ, ◌≡◌, List, [], ◌∷◌, Option, Some, Contains, refl, sym, ap, ◌∙◌, subst, ◌⊎◌, inl, inr}
+use Rattle.std.proofs.Common.{ℕ, ℤ, ◌≡◌, Bool, List, [], ◌∷◌, Option, Some, Contains, refl, sym, ap, ◌∙◌, subst, ◌⊎◌, inl, inr}
 use Rattle.std.specs.Prelude.{IsSome}
 use Rattle.std.proofs.lemmas.Bool.{cases_Bool, cases_eq, false≢true}
 use Rattle.std.proofs.lemmas.Option.{none-some, same_Some}
@@ -26,8 +26,8 @@ use Rattle.wants.specs.declared.data.Plan.{Plan}
 use Rattle.wants.specs.declared.drafts.Terms.{Terms}
 use Rattle.wants.specs.Drafts.{IsEntryAt, IsTaken, IsRecord, IsTerms, IsVacant, IsWanted}
 use Rattle.wants.specs.Plans.{IsPlan, IsRefusedPlan, copied, copied_page}
-use Rattle.wants.specs.Rows.{Demand, AtName, AtNode, Opening, Used, name_row, node_row, page_row, row_of, used_on}
-use Rattle.wants.proofs.Pathless.{closing_there}
+use Rattle.wants.specs.Removals.{AreRemovalTerms, IsRefusedRemoval}
+use Rattle.wants.specs.Rows.{Demand, AtName, AtNode, Opening, Used, hidden_in, name_row, node_row, page_row, removal_row, row_of, used_on}
 use Rattle.wants.proofs.Members.{all_in, any_only, cases_in, first_in, later_in, none_in}
 
 -- ---- whether a node stands at a name
@@ -70,7 +70,7 @@ among at (k ∷ ks) parent name = elim (there at k parent name) [
   ]
 ]
 
-named_or_free : (at : Lookup) (living counts : ℕ) → IsTree at → IsCensus at living counts → (parent : ℕ) (name : Name) → ((n : ℕ) × IsNamed at n parent name) ⊎ IsFree at parent name
+pub named_or_free : (at : Lookup) (living counts : ℕ) → IsTree at → IsCensus at living counts → (parent : ℕ) (name : Name) → ((n : ℕ) × IsNamed at n parent name) ⊎ IsFree at parent name
 named_or_free at living counts tree census parent name = elim (among at census.living_is.keys parent name) [
   | inl it ↦ inl (it.0, it.2)
   | inr none ↦ inr (λ n named. none n ((census.living_is.exact n).1 (subst (λ (o : Option Node). IsSome o) (sym named.1) refl)) named)
@@ -82,25 +82,16 @@ pub entry_case : (at : Lookup) (parent : ℕ) (name : Name) (c : Case) → IsEnt
 entry_case at parent name cases.Plain all = all_in (IsTaken at) (AtName parent name ∷ []) (AtName parent name) all (first_in (AtName parent name) [])
 entry_case at parent name cases.Absent any = any_only (IsVacant at) (AtName parent name) any
 entry_case at parent name cases.Pathless bad = absurd bad
+entry_case at parent name (cases.Hiding n k) bad = absurd bad
 
--- a want has a case
-pub case_there : (seen : Seen) (living counts : ℕ) → IsTree seen.at → IsCensus seen.at living counts → (want : Want) → (c : Case) × IsCase seen want c
-case_there seen living counts tree census (wants.Node number handle) = (cases.Plain, refl)
-case_there seen living counts tree census (wants.Name parent name) = elim (named_or_free seen.at living counts tree census parent name) [ inl named ↦ (cases.Plain, named) | inr free ↦ (cases.Absent, free) ]
-case_there seen living counts tree census (wants.Remove parent name) = (cases.Plain, refl)
-case_there seen living counts tree census (wants.Move parent name new_parent new_name) = (cases.Plain, refl)
-case_there seen living counts tree census (wants.Page folder names) = (cases.Plain, refl)
-case_there seen living counts tree census (wants.Open number access) = (cases.Plain, refl)
-case_there seen living counts tree census (wants.Create parent name access) = elim (named_or_free seen.at living counts tree census parent name) [ inl named ↦ (cases.Plain, named) | inr free ↦ (cases.Absent, free) ]
-case_there seen living counts tree census (wants.Release number fh) = closing_there seen.at tree number
+-- a name for which an entry may be given has a case
+pub entry_there : (at : Lookup) (living counts : ℕ) → IsTree at → IsCensus at living counts → (parent : ℕ) (name : Name) → (c : Case) × IsEntryCase at parent name c
+entry_there at living counts tree census parent name = elim (named_or_free at living counts tree census parent name) [ inl named ↦ (cases.Plain, named) | inr free ↦ (cases.Absent, free) ]
 
-refused : (seen : Seen) (living counts : ℕ) → IsTree seen.at → IsCensus seen.at living counts → (want : Want) (e : ℤ) → ((c : Case) → IsUnsound seen.at (row_of want c) e) → IsRefusedPlan seen want e
-refused seen living counts tree census want e unsound =
-    let it = case_there seen living counts tree census want in
-    record { demand = row_of want it.0; demanded = record { case = it.0; fits = it.1; row = refl }; unsound = unsound it.0 }
-
-pub refused_as : (seen : Seen) (living counts : ℕ) → IsTree seen.at → IsCensus seen.at living counts → (want w : Want) (e : ℤ) → want ≡ w → ((c : Case) → IsUnsound seen.at (row_of w c) e) → IsRefusedPlan seen want e
-refused_as seen living counts tree census want w e is unsound = subst (λ (v : Want). IsRefusedPlan seen v e) (sym is) (refused seen living counts tree census w e unsound)
+-- a want that has a case is refused where each case is
+pub refused_as : (seen : Seen) (want w : Want) (e : ℤ) → want ≡ w → (c : Case) × IsCase seen w c → ((c : Case) → IsUnsound seen.at (row_of w c) e) → IsRefusedPlan seen want e
+refused_as seen want w e is it unsound =
+    subst (λ (v : Want). IsRefusedPlan seen v e) (sym is) (record { demand = row_of w it.0; demanded = record { case = it.0; fits = it.1; row = refl }; unsound = unsound it.0 })
 
 -- no test of the nodes looks at the open file that a row uses
 sound_using : (at : Lookup) (d : Demand) (u : Option Used) → IsSound at d → IsSound at (record d { used = u })
@@ -138,9 +129,9 @@ pub node_wanted : (seen : Seen) (want : Want) (number : ℕ) (handle : Option Ha
 node_wanted seen want number handle t is fits terms =
     subst (λ (v : Want). IsWanted seen v t) (sym is) (record { fits = fits; terms = terms_using seen.at (node_row number) (used_on number handle) t terms })
 
-pub node_refused : (seen : Seen) (living counts : ℕ) → IsTree seen.at → IsCensus seen.at living counts → (want : Want) (number : ℕ) (handle : Option Handle) (e : ℤ) → want ≡ wants.Node number handle → IsUnsound seen.at (node_row number) e → IsRefusedPlan seen want e
-node_refused seen living counts tree census want number handle e is unsound =
-    refused_as seen living counts tree census want (wants.Node number handle) e is (λ c. unsound_using seen.at (node_row number) (used_on number handle) e unsound)
+pub node_refused : (seen : Seen) (want : Want) (number : ℕ) (handle : Option Handle) (e : ℤ) → want ≡ wants.Node number handle → IsUnsound seen.at (node_row number) e → IsRefusedPlan seen want e
+node_refused seen want number handle e is unsound =
+    refused_as seen want (wants.Node number handle) e is (cases.Plain, refl) (λ c. unsound_using seen.at (node_row number) (used_on number handle) e unsound)
 
 -- no test of the nodes looks at the file that a row opens
 stale_opening : (at : Lookup) (d : Demand) (o : Option Opening) → (IsStale at d → ⊥) → IsStale at (record d { opens = o }) → ⊥
@@ -196,10 +187,17 @@ pub page_refused_as : (seen : Seen) (want : Want) (folder : ℕ) (names : List N
 page_refused_as seen want folder names e is unsound =
     subst (λ (v : Want). IsRefusedPlan seen v e) (sym is) (record { demand = page_row folder names; demanded = record { case = cases.Plain; fits = refl; row = refl }; unsound = unsound })
 
+pub removal_wanted : (seen : Seen) (want : Want) (parent : ℕ) (name : Name) (may_hide : Bool) (t : Terms) → want ≡ wants.Remove parent name may_hide → AreRemovalTerms seen parent name may_hide t → IsWanted seen want t
+removal_wanted seen want parent name may_hide t is are = subst (λ (v : Want). IsWanted seen v t) (sym is) (record { fits = are.fits; terms = are.terms })
+
+pub removal_refused : (seen : Seen) (want : Want) (parent : ℕ) (name : Name) (may_hide : Bool) (e : ℤ) → want ≡ wants.Remove parent name may_hide → IsRefusedRemoval seen parent name may_hide e → IsRefusedPlan seen want e
+removal_refused seen want parent name may_hide e is bad =
+    subst (λ (v : Want). IsRefusedPlan seen v e) (sym is) (record { demand = removal_row parent name (hidden_in bad.case); demanded = record { case = bad.case; fits = bad.fits; row = refl }; unsound = bad.unsound })
+
 -- the record of a request as its want's row asks for it
 pub planned : (seen : Seen) (want : Want) (t : Terms) (p : Plan) → IsWanted seen want t → IsRecord want t p → IsPlan seen want p
 planned seen want t p wanted made =
-    let row : (w : Work) → w ≡ record { want = want; case = t.case; copy = copied want; copies = copied_page want; held = t.held; promise = t.promise; answer = t.answer } → IsPlan seen want (record { work = w; pins = t.pins; paths = t.paths })
+    let row : (w : Work) → w ≡ record { want = want; case = t.case; copy = copied want; candidates = hidden_in t.case; copies = copied_page want t.case; held = t.held; promise = t.promise; answer = t.answer } → IsPlan seen want (record { work = w; pins = t.pins; paths = t.paths })
     = λ w is. subst (λ (v : Work). IsPlan seen want (record { work = v; pins = t.pins; paths = t.paths })) (sym is) (record {
       want_is = refl;
       fits = wanted.fits;
@@ -210,6 +208,7 @@ planned seen want t p wanted made =
       provided = record {
         promise = wanted.terms.promise;
         copy = refl;
+        candidates = refl;
         copies = refl;
         pin_room = wanted.terms.pin_room;
         answer_room = wanted.terms.answer_room;

@@ -1,7 +1,7 @@
 -- Which case of its row a want is, as the table stands. Beside the table of rows this alone looks at wants.
-use Rattle.std.specs.Prelude.{ℕ, ◌≡◌, ◌≤◌}
+use Rattle.std.specs.Prelude.{ℕ, ◌≡◌, ◌≤◌, Bool, true}
 use Rattle.files.specs.Filed.{Filing, files_of}
-use Rattle.files.specs.Handles.{Files}
+use Rattle.files.specs.Handles.{Files, IsOpen}
 use Rattle.flights.specs.declared.data.Case.{Case}
 use Rattle.flights.specs.declared.data.Case.TheVariants as cases
 use Rattle.flights.specs.declared.data.Want.{Want}
@@ -24,6 +24,7 @@ abbrev pub IsEntryCase : Lookup → ℕ → Name → Case → Type 0
 IsEntryCase at parent name cases.Plain = (n : ℕ) × IsNamed at n parent name
 IsEntryCase at parent name cases.Absent = IsFree at parent name
 IsEntryCase at parent name cases.Pathless = ⊥
+IsEntryCase at parent name (cases.Hiding number counter) = ⊥
 
 -- a path leads to the node that is not too long
 abbrev pub HasShortPath : Lookup → ℕ → Type 0
@@ -34,11 +35,19 @@ abbrev pub IsClosingCase : Lookup → ℕ → Case → Type 0
 IsClosingCase at number cases.Plain = HasShortPath at number
 IsClosingCase at number cases.Absent = ⊥
 IsClosingCase at number cases.Pathless = HasShortPath at number → ⊥
+IsClosingCase at number (cases.Hiding n counter) = ⊥
+
+-- a name that goes: the node that stands there may have an open file, which may have to be hidden
+abbrev pub IsRemovalCase : Seen → ℕ → Name → Bool → Case → Type 0
+IsRemovalCase seen parent name may_hide cases.Plain = may_hide ≡ true → (n : ℕ) → IsNamed seen.at n parent name → IsOpen seen.files n → ⊥
+IsRemovalCase seen parent name may_hide cases.Absent = ⊥
+IsRemovalCase seen parent name may_hide cases.Pathless = ⊥
+IsRemovalCase seen parent name may_hide (cases.Hiding number counter) = (may_hide ≡ true) × (counter ≡ seen.counter) × IsNamed seen.at number parent name × IsOpen seen.files number
 
 abbrev pub IsCase : Seen → Want → Case → Type 0
 IsCase seen (wants.Node number handle) c = c ≡ cases.Plain
 IsCase seen (wants.Name parent name) c = IsEntryCase seen.at parent name c
-IsCase seen (wants.Remove parent name) c = c ≡ cases.Plain
+IsCase seen (wants.Remove parent name may_hide) c = IsRemovalCase seen parent name may_hide c
 IsCase seen (wants.Move parent name new_parent new_name) c = c ≡ cases.Plain
 IsCase seen (wants.Page folder names) c = c ≡ cases.Plain
 IsCase seen (wants.Open number access) c = c ≡ cases.Plain

@@ -28,7 +28,7 @@ use Rattle.wants.specs.Asked.{ArePaths, HasPath, Holds, IsPin, IsPrefixAt, IsRef
 use Rattle.wants.specs.Cases.{IsCase, IsClosingCase, Seen}
 use Rattle.wants.specs.Laws.{base_of}
 use Rattle.wants.specs.Plans.{copied, copied_page}
-use Rattle.wants.specs.Rows.{Change, Demand, Location, AtName, AtNode, births_in, closed_row, cuts, moves, no_demand, row_of, stays}
+use Rattle.wants.specs.Rows.{Change, Demand, Location, AtName, AtNode, births_in, closed_row, cuts, hidden_in, moves, no_demand, row_of, stays}
 
 -- ---- refusals
 
@@ -274,6 +274,7 @@ abbrev pub IsEntryAt : Lookup → List Location → Case → Type 0
 IsEntryAt at ls cases.Plain = All (IsTaken at) ls
 IsEntryAt at ls cases.Absent = Any (IsVacant at) ls
 IsEntryAt at ls cases.Pathless = ⊥
+IsEntryAt at ls (cases.Hiding number counter) = ⊥
 
 -- a birth is promised for a name at which no node stands
 abbrev pub entered_case : Bool → Bool → Case
@@ -313,6 +314,6 @@ IsWithoutPath r = (r ≡ refusal.Stale) ⊎ (r ≡ refusal.TooLong)
 
 -- the record of a request with that want and those terms
 pub record IsRecord (want : Want) (t : Terms) (p : Plan) : Type 0 where
-  pub work : p.work ≡ record { want = want; case = t.case; copy = copied want; copies = copied_page want; held = t.held; promise = t.promise; answer = t.answer }
+  pub work : p.work ≡ record { want = want; case = t.case; copy = copied want; candidates = hidden_in t.case; copies = copied_page want t.case; held = t.held; promise = t.promise; answer = t.answer }
   pub pins : p.pins ≡ t.pins
   pub paths : p.paths ≡ t.paths

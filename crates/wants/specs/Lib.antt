@@ -5,3 +5,4 @@ pub mod Laws
 pub mod Plans
 pub mod Drafts
 pub mod Pages
+pub mod Removals

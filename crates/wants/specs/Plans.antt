@@ -8,7 +8,8 @@ use Rattle.flights.specs.Roomy.{Pinned}
 use Rattle.wants.specs.declared.data.Plan.{Plan}
 use Rattle.wants.specs.Asked.{ArePaths, Holds, IsPin, IsSound, IsUnsound, promise_of}
 use Rattle.wants.specs.Cases.{IsCase, IsDemand, Seen}
-use Rattle.wants.specs.Rows.{Demand, row_of}
+use Rattle.flights.specs.declared.data.Case.{Case}
+use Rattle.wants.specs.Rows.{hidden_in, Demand, row_of}
 
 -- the row of a request that is worked on
 abbrev pub row_in : Work → Demand
@@ -18,29 +19,30 @@ row_in work = row_of work.want work.case
 abbrev pub copied : Want → Option Name
 copied (wants.Node number handle) = None
 copied (wants.Name parent name) = Some name
-copied (wants.Remove parent name) = None
+copied (wants.Remove parent name may_hide) = None
 copied (wants.Move parent name new_parent new_name) = Some new_name
 copied (wants.Page folder names) = None
 copied (wants.Open number access) = None
 copied (wants.Create parent name access) = Some name
 copied (wants.Release number fh) = None
 
--- the same of the names of a page
-abbrev pub copied_page : Want → List Name
-copied_page (wants.Node number handle) = []
-copied_page (wants.Name parent name) = []
-copied_page (wants.Remove parent name) = []
-copied_page (wants.Move parent name new_parent new_name) = []
-copied_page (wants.Page folder names) = names
-copied_page (wants.Open number access) = []
-copied_page (wants.Create parent name access) = []
-copied_page (wants.Release number fh) = []
+-- the same of the names of a page, and of those that a file may be hidden under
+abbrev pub copied_page : Want → Case → List Name
+copied_page (wants.Node number handle) c = []
+copied_page (wants.Name parent name) c = []
+copied_page (wants.Remove parent name may_hide) c = hidden_in c
+copied_page (wants.Move parent name new_parent new_name) c = []
+copied_page (wants.Page folder names) c = names
+copied_page (wants.Open number access) c = []
+copied_page (wants.Create parent name access) c = []
+copied_page (wants.Release number fh) c = []
 
 -- its end takes no memory: there is room for what it may pin and answer
 pub record IsProvided (work : Work) (pins : Pinned) : Type 0 where
   pub promise : work.promise ≡ promise_of (row_in work)
   pub copy : work.copy ≡ copied work.want
-  pub copies : work.copies ≡ copied_page work.want
+  pub candidates : work.candidates ≡ hidden_in work.case
+  pub copies : work.copies ≡ copied_page work.want work.case
   pub pin_room : length (row_in work).entries ≤ pins.room
   pub answer_room : length (row_in work).entries ≤ work.answer.room
   pub unanswered : work.answer.items ≡ []

@@ -1,8 +1,9 @@
 -- What a want asks of a table: one row for each want. What a beginning tests, holds, pins and promises, and what an
 -- outcome does, follow from the row alone.
-use Rattle.std.specs.Prelude.{ℕ, ◌==◌, ◌&&◌, Bool, true, false, List, [], ◌∷◌, Option, Some, None, length, map}
+use Rattle.std.specs.Prelude.{ℕ, zero, suc, ◌++◌, ◌==◌, ◌&&◌, Bool, true, false, List, [], ◌∷◌, Option, Some, None, length, map}
 use Rattle.files.specs.declared.data.Access.{Access}
 use Rattle.files.specs.declared.data.Need.TheVariants.{Any}
+use Rattle.hidden.specs.Hidden.{candidate, hidden_name}
 use Rattle.paths.specs.Prefixes.{Name, is_name}
 use Rattle.tree.specs.declared.nodes.Key.{Key}
 use Rattle.flights.specs.declared.data.Case.{Case}
@@ -77,6 +78,7 @@ abbrev pub births_in : Case → ℕ
 births_in cases.Plain = 0
 births_in cases.Absent = 1
 births_in cases.Pathless = 0
+births_in (cases.Hiding number counter) = 0
 
 -- ---- one row for each want
 
@@ -92,12 +94,29 @@ name_row parent name c = record no_demand {
   births = births_in c;
 }
 
-abbrev pub removal_row : ℕ → Name → Demand
-removal_row parent name = record no_demand {
+-- the names from that counter on that a file of the node may be hidden under, so many of them
+unfoldable pub hidden_names : ℕ → ℕ → ℕ → List Name
+hidden_names number counter zero = []
+hidden_names number counter (suc k) = hidden_names number counter k ++ hidden_name number (candidate counter k) ∷ []
+
+-- ten of them, where a file may have to be hidden
+abbrev pub hidden_in : Case → List Name
+hidden_in cases.Plain = []
+hidden_in cases.Absent = []
+hidden_in cases.Pathless = []
+hidden_in (cases.Hiding number counter) = hidden_names number counter 10
+
+-- names in a folder
+abbrev pub names_under : ℕ → List Name → List Location
+names_under folder names = map (λ name. AtName folder name) names
+
+abbrev pub removal_row : ℕ → Name → List Name → Demand
+removal_row parent name hidden = record no_demand {
   given = parent ∷ [];
-  paths = AtName parent name ∷ [];
-  alone = AtName parent name ∷ [];
+  paths = AtName parent name ∷ names_under parent hidden;
+  alone = AtName parent name ∷ names_under parent hidden;
   done = cuts (AtName parent name);
+  candidates = names_under parent hidden;
 }
 
 abbrev pub move_row : ℕ → Name → ℕ → Name → Demand
@@ -133,11 +152,13 @@ abbrev pub closed_on : ℕ → Case → List ℕ
 closed_on number cases.Plain = number ∷ []
 closed_on number cases.Absent = number ∷ []
 closed_on number cases.Pathless = []
+closed_on number (cases.Hiding n counter) = []
 
 abbrev pub closed_at : ℕ → Case → List Location
 closed_at number cases.Plain = AtNode number ∷ []
 closed_at number cases.Absent = AtNode number ∷ []
 closed_at number cases.Pathless = []
+closed_at number (cases.Hiding n counter) = []
 
 -- a file that is closed: what its node asks for, or nothing
 abbrev pub closed_row : ℕ → Case → Demand
@@ -150,7 +171,7 @@ closing number fh = record { number = number; handle = record { fh = fh; need = 
 abbrev pub row_of : Want → Case → Demand
 row_of (wants.Node number handle) c = record (node_row number) { used = used_on number handle }
 row_of (wants.Name parent name) c = name_row parent name c
-row_of (wants.Remove parent name) c = removal_row parent name
+row_of (wants.Remove parent name may_hide) c = removal_row parent name (hidden_in c)
 row_of (wants.Move parent name new_parent new_name) c = move_row parent name new_parent new_name
 row_of (wants.Page folder names) c = page_row folder names
 row_of (wants.Open number access) c = record (node_row number) { opens = Some (record { target = AtNode number; access = access }) }

@@ -35,7 +35,7 @@ pub(crate) struct Terms {
 pub(crate) struct Draft {
     given: Vec<GivenPath>,
     shared: Vec<Path>,
-    exclusive: Vec<Path>,
+    pub(crate) exclusive: Vec<Path>,
     pub(crate) pins: Pins,
     pub(crate) paths: Vec<Path>,
     /// Whether no node stands at one of the locations.
@@ -83,7 +83,7 @@ fn births_in(case: Case) -> u64
     ensures { result ≡ births_in case }
 {
     match case {
-        Case::Plain | Case::Pathless => 0,
+        Case::Plain | Case::Pathless | Case::Hiding { .. } => 0,
         Case::Absent => 1,
     }
 }

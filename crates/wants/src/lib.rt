@@ -7,6 +7,7 @@ mod drafts;
 mod found;
 mod pages;
 mod refusal;
+mod removals;
 mod rows;
 
 ghost use Rattle.std.specs.Prelude.{◌≡◌, IfOk, IfErr};
@@ -14,13 +15,15 @@ ghost use Rattle.wants.specs.Cases.{seen_of};
 ghost use Rattle.wants.specs.Laws.{AreDemandsFixed, AreRows};
 ghost use Rattle.wants.specs.Plans.{IsPlan, IsRefusedPlan, copied as name_copied, copied_page};
 ghost use Rattle.wants.specs.Drafts.{IsRecord};
+ghost use Rattle.wants.specs.Rows.{hidden_in};
 
 pub use data::Plan;
 use drafts::Terms;
 use errno::ENOMEM;
 use files::Files;
-use flights::{Names, Want, Work};
+use flights::{Case, Names, Want, Work};
 use paths::Name;
+use removals::candidates;
 use rows::terms_for;
 use std::alloc::{AllocError, Global};
 use tree::Tree;
@@ -78,15 +81,15 @@ fn copied(want: &Want) -> Result<Option<Name>, AllocError>
     }
 }
 
-/// A copy of the names of a page.
-fn copies(alloc: Global, want: &Want) -> Result<Names, AllocError>
-    ensures { IfOk result (λ copies. copies ≡ copied_page want.now) }
+/// A copy of the names of a page, or of those that a file may be hidden under.
+fn copies(alloc: Global, want: &Want, case: Case) -> Result<Names, AllocError>
+    ensures { IfOk result (λ copies. copies ≡ copied_page want.now case) }
 {
     match want {
         Want::Page { names, .. } => names.copy(),
+        Want::Remove { .. } => candidates(alloc, case),
         Want::Node { .. }
         | Want::Name { .. }
-        | Want::Remove { .. }
         | Want::Move { .. }
         | Want::Open { .. }
         | Want::Create { .. }
@@ -99,7 +102,8 @@ fn recorded(alloc: Global, want: Want, terms: Terms) -> Result<Plan, AllocError>
     ensures { IfOk result (IsRecord want terms) }
 {
     let copy = copied(&want)?;
-    let copies = copies(alloc, &want)?;
+    let copies = copies(alloc, &want, terms.case)?;
+    let candidates = candidates(alloc, terms.case)?;
     let Terms {
         case,
         held,
@@ -112,6 +116,7 @@ fn recorded(alloc: Global, want: Want, terms: Terms) -> Result<Plan, AllocError>
         want,
         case,
         copy,
+        candidates,
         copies,
         held,
         promise,

@@ -17,7 +17,7 @@ use std::alloc::{AllocError, Global};
 use tree::Tree;
 
 /// Pins the node that was found.
-fn pin_found(pins: &mut Pins, found: Option<u64>)
+pub(crate) fn pin_found(pins: &mut Pins, found: Option<u64>)
     requires { 1 ≤ pins.old.room }
     ensures room { pins.old.room ≤ pins.new.room + 1 }
     ensures pins { (n : ℕ) → Contains pins.new.numbers n ↔ (Contains pins.old.numbers n ⊎ (found ≡ Some n)) }

@@ -10,6 +10,7 @@ use crate::closing::closing_terms;
 use crate::drafts::{Terms, terms_of, terms_with_file};
 use crate::pages::page_terms;
 use crate::refusal::Refusal;
+use crate::removals::removal_terms;
 use files::Files;
 use flights::Want;
 use paths::Name;
@@ -71,12 +72,12 @@ pub(crate) struct Row<'a> {
 pub(crate) fn terms_for(
     alloc: Global,
     tree: &Tree,
-    _files: &Files,
-    _counter: u32,
+    files: &Files,
+    counter: u32,
     want: &Want,
 ) -> Result<Terms, Refusal>
-    ensures ok { IfOk result (IsWanted (seen_of tree.now _files.now _counter) want.now) }
-    ensures err { IfErr result (λ refusal. IsRefusedPlan (seen_of tree.now _files.now _counter) want.now (errno_of refusal)) }
+    ensures ok { IfOk result (IsWanted (seen_of tree.now files.now counter) want.now) }
+    ensures err { IfErr result (λ refusal. IsRefusedPlan (seen_of tree.now files.now counter) want.now (errno_of refusal)) }
 {
     match want {
         Want::Node { number, handle: _ } => {
@@ -97,15 +98,11 @@ pub(crate) fn terms_for(
             };
             terms_of(alloc, tree, &row)
         }
-        Want::Remove { parent, name } => {
-            let row = Row {
-                locations: &[Location::AtName(*parent, name)],
-                hold: Hold::Alone,
-                enters: false,
-                change: Change::Cuts,
-            };
-            terms_of(alloc, tree, &row)
-        }
+        Want::Remove {
+            parent,
+            name,
+            may_hide,
+        } => removal_terms(alloc, tree, files, counter, *parent, name, *may_hide),
         Want::Move {
             parent,
             name,
