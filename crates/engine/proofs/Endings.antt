@@ -52,6 +52,7 @@ plain node (findings.NewFile found) h = (refl, refl)
 plain node findings.Opening h = (refl, refl)
 plain node (findings.Bytes bytes) h = (refl, refl)
 plain node (findings.Written size) h = (refl, refl)
+plain node (findings.Hid candidate) h = (refl, refl)
 
 abbrev ended : Finding → End
 ended finding = record { outcome = outcome_of finding; findings = finding }
@@ -67,6 +68,7 @@ plain_end (findings.NewFile found) h = refl
 plain_end findings.Opening h = refl
 plain_end (findings.Bytes bytes) h = refl
 plain_end (findings.Written size) h = refl
+plain_end (findings.Hid candidate) h = refl
 
 none_given_up : (taken : Bool) → GivesUp taken None []
 none_given_up true = refl
@@ -83,6 +85,7 @@ is_plain (findings.NewFile found) h k = tt
 is_plain findings.Opening h k = tt
 is_plain (findings.Bytes bytes) h k = tt
 is_plain (findings.Written size) h k = tt
+is_plain (findings.Hid candidate) h k = tt
 
 played : (refused : Option Place) (meant said : ReplyBody) (operation : Operation) (ticket : Claim) (made : List Made) (end : End) → IsSaid refused meant said → Follows (plan_of operation ticket) made end → Plays refused operation ticket made end
 played None meant said operation ticket made end is f = f

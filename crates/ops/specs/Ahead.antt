@@ -1,12 +1,13 @@
 -- What a script in its code still asks.
-use Rattle.std.specs.Prelude.{ℕ, ℤ, ◌+◌, is_some, length, map, Option, Some, None}
+use Rattle.std.specs.Prelude.{ℕ, ℤ, ◌+◌, is_some, List, [], ◌∷◌, length, map, Option, Some, None}
+use Rattle.paths.specs.Prefixes.{Names}
 use Rattle.backing.specs.Calls.{asked}
 use Rattle.backing.specs.declared.call.Call.{Call}
 use Rattle.steps.specs.declared.data.Outcome.{Outcome}
-use Rattle.steps.specs.declared.data.Outcome.TheVariants.{Failed, Done, Entry, Entries}
+use Rattle.steps.specs.declared.data.Outcome.TheVariants.{Failed, Done, Entry, Entries, Hidden}
 use Rattle.ops.specs.declared.findings.Found.{Found}
 use Rattle.ops.specs.declared.findings.Finding.{Finding}
-use Rattle.ops.specs.declared.findings.Finding.TheVariants.{Error, Nothing, NewEntry, NewFile, Attributes, Opening, Bytes, Written, Listed, Looked}
+use Rattle.ops.specs.declared.findings.Finding.TheVariants.{Error, Nothing, NewEntry, NewFile, Attributes, Opening, Bytes, Written, Listed, Looked, Hid}
 use Rattle.ops.specs.declared.script.Ending.{Ending}
 use Rattle.ops.specs.declared.script.Ending.TheVariants as ending
 use Rattle.ops.specs.declared.script.Script.{Script}
@@ -15,7 +16,7 @@ use Rattle.ops.specs.declared.telling.Telling.TheVariants as telling
 use Rattle.wire.specs.declared.request.Operation.{Operation}
 use Rattle.wire.specs.declared.request.Operation.TheVariants as ops
 use Rattle.ops.specs.Looking.{plan_looking}
-use Rattle.ops.specs.Scripts.{Plan, Over, End, failed, list, listed_end, make, look, open_end, read, write}
+use Rattle.ops.specs.Scripts.{Plan, Over, End, failed, hide, list, listed_end, make, look, open_end, read, write}
 
 abbrev pub outcome_of : Finding → Outcome
 outcome_of (Error errno) = Failed
@@ -28,6 +29,7 @@ outcome_of (Bytes bytes) = Done
 outcome_of (Written count) = Done
 outcome_of (Listed children) = Done
 outcome_of (Looked founds) = Entries (map (λ found. is_some found) founds)
+outcome_of (Hid candidate) = Hidden candidate
 
 -- names that are lawless are an error
 abbrev pub end_of : Finding → End
@@ -58,6 +60,7 @@ plan_ending (ending.List p) = list p.now
 plan_ending (ending.Read p offset size) = read p.now offset size
 plan_ending (ending.Write p offset piece) = write p.now offset piece.now
 plan_ending (ending.Each looks) = plan_looking looks
+plan_ending (ending.Hide p left) = hide p.now left.now
 plan_ending (ending.Over finding) = Over (end_of finding)
 
 abbrev pub plan_from : Option Call → Plan → Plan
@@ -74,12 +77,18 @@ plan_ahead script = plan_from script.change (plan_ending script.ending)
 
 -- how many calls it makes at most
 
+-- a look at each, and a move
+abbrev pub calls_hiding : List Names → ℕ
+calls_hiding [] = 0
+calls_hiding (c ∷ cs) = length cs + 2
+
 abbrev pub calls_ending : Ending → ℕ
 calls_ending (ending.Look p tells) = 1
 calls_ending (ending.List p) = 1
 calls_ending (ending.Read p offset size) = 1
 calls_ending (ending.Write p offset piece) = 1
 calls_ending (ending.Each looks) = length looks.left
+calls_ending (ending.Hide p left) = calls_hiding left.now
 calls_ending (ending.Over finding) = 0
 
 abbrev pub calls_from : Option Call → ℕ

@@ -1,6 +1,7 @@
 -- What each request asks of the directory, and what it comes to.
-use Rattle.std.specs.Prelude.{ℕ, ℤ, ◌≡◌, Bool, true, false, if◌then◌else◌, is_some, List, [], ◌∷◌, map, Option, Some, None}
-use Rattle.errno.specs.declared.TheConstants.{EIO, EISDIR}
+use Rattle.std.specs.Prelude.{ℕ, ℤ, ◌≡◌, ◌-◌, length, Bool, true, false, if◌then◌else◌, is_some, List, [], ◌∷◌, map, Option, Some, None}
+use Rattle.errno.specs.declared.TheConstants.{EBUSY, EIO, EISDIR, ENOENT}
+use Rattle.std.specs.Ordering.{int_eq}
 use Rattle.paths.specs.Prefixes.{Names}
 use Rattle.backing.specs.declared.call.Kind.{Kind}
 use Rattle.backing.specs.declared.call.Kind.TheVariants as kinds
@@ -12,12 +13,12 @@ use Rattle.handles.specs.Listings.{are_lawful}
 use Rattle.backing.specs.Calls.{Asked, asked, AskStat, AskList, AskMake, AskMakeDir, AskRemove, AskRemoveDir, AskRename, AskRead, AskWrite, AskSetLen, AskSync}
 use Rattle.steps.specs.Answers.{Claim}
 use Rattle.steps.specs.declared.data.Outcome.{Outcome}
-use Rattle.steps.specs.declared.data.Outcome.TheVariants.{Failed, Done, Entry, Entries}
+use Rattle.steps.specs.declared.data.Outcome.TheVariants.{Failed, Done, Entry, Entries, Hidden}
 use Rattle.wire.specs.declared.request.Operation.{Operation}
 use Rattle.wire.specs.declared.request.Operation.TheVariants as ops
 use Rattle.ops.specs.declared.findings.Found.{Found}
 use Rattle.ops.specs.declared.findings.Finding.{Finding}
-use Rattle.ops.specs.declared.findings.Finding.TheVariants.{Error, Nothing, NewEntry, NewFile, Attributes, Opening, Bytes, Written, Listed, Looked}
+use Rattle.ops.specs.declared.findings.Finding.TheVariants.{Error, Nothing, NewEntry, NewFile, Attributes, Opening, Bytes, Written, Listed, Looked, Hid}
 use Rattle.ops.specs.Intents.{sets_size}
 use Rattle.ops.specs.Judged.{errno_in, judged}
 
@@ -92,6 +93,11 @@ abbrev pub at_paths : List Names → (Names → Names → Plan) → Plan
 at_paths [] plan = failed EIO
 at_paths (s ∷ ps) plan = at_path ps (λ t. plan s t)
 
+-- the name's, and those that its file may be hidden under
+abbrev pub at_candidates : List Names → (Names → List Names → Plan) → Plan
+at_candidates [] plan = failed EIO
+at_candidates (p ∷ ps) plan = plan p ps
+
 -- ---- how scripts end
 
 abbrev pub give_entry : Names → Plan
@@ -119,6 +125,20 @@ done = over Done Nothing
 abbrev pub set_size : Bool → Names → ℕ → Plan → Plan
 set_size true p size rest = make (AskSetLen p size) rest
 set_size false p size rest = rest
+
+-- A look at a name that may be free: nothing stands there, something does, or the script ends with another error.
+abbrev pub if_free : (free taken : Plan) → Answer → Plan
+if_free free taken (told.Stat kind size) = taken
+if_free free taken answer = if int_eq (errno_in answer) ENOENT then free else failed (errno_in answer)
+
+-- A file that may be hidden is moved to the first of its candidates where nothing stands. There are ten of them, counted from 0.
+abbrev pub hide : Names → List Names → Plan
+hide p [] = failed EBUSY
+hide p (c ∷ cs) = Ask (AskStat c) (λ answer. if_free (make (AskRename p c) (over (Hidden (10 - length (c ∷ cs))) (Hid (10 - length (c ∷ cs))))) (hide p cs) answer)
+
+abbrev pub unlink : (hides : Bool) → Names → List Names → Plan
+unlink true p candidates = hide p candidates
+unlink false p candidates = make (AskRemove p) done
 
 -- A move of a path to itself only needs something to stand there.
 abbrev pub rename : (same : Bool) → Names → Names → Plan
@@ -151,7 +171,7 @@ plan_of (ops.Lookup name) ticket = at_path ticket.paths (λ p. give_entry p)
 plan_of ops.GetAttr ticket = at_path ticket.paths (λ p. tell_attributes p)
 plan_of (ops.SetAttr valid fh size) ticket = at_path ticket.paths (λ p. set_size (sets_size valid) p size (tell_attributes p))
 plan_of (ops.MakeDir name) ticket = at_path ticket.paths (λ p. make (AskMakeDir p) (give_entry p))
-plan_of (ops.Unlink name) ticket = at_path ticket.paths (λ p. make (AskRemove p) done)
+plan_of (ops.Unlink name) ticket = at_candidates ticket.paths (λ p candidates. unlink ticket.hide p candidates)
 plan_of (ops.RemoveDir name) ticket = at_path ticket.paths (λ p. make (AskRemoveDir p) done)
 plan_of (ops.Rename name new_parent new_name) ticket = at_paths ticket.paths (λ s t. rename ticket.same s t)
 plan_of (ops.Open flags) ticket = at_path ticket.paths (λ p. open_file p)

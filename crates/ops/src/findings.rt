@@ -38,6 +38,8 @@ pub enum Finding {
     Listed(Children),
     /// What stands at each name of a page. Entries of those that stand there are to be given.
     Looked(Looked),
+    /// A file was moved to the candidate of that index, counted from 0.
+    Hid { candidate: u8 },
 }
 
 impl Finding {
@@ -55,6 +57,7 @@ impl Finding {
             | Finding::Written { .. }
             | Finding::Listed(_) => Outcome::Done,
             Finding::NewEntry(_) | Finding::NewFile(_) => Outcome::Entry,
+            Finding::Hid { candidate } => Outcome::Hidden(*candidate),
             Finding::Looked(_) => unreachable!(),
         }
     }

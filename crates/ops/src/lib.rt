@@ -7,6 +7,7 @@
 mod entries;
 mod findings;
 mod folders;
+mod hiding;
 mod intents;
 mod judging;
 mod looks;

@@ -134,7 +134,7 @@ pub fn reply_to(
 {
     match finding {
         Finding::Error { errno } => ReplyBody::Failed { errno },
-        Finding::Nothing => ReplyBody::Done,
+        Finding::Nothing | Finding::Hid { .. } => ReplyBody::Done,
         Finding::NewEntry(found) => entry_reply(settings, found, first_given(answered)),
         Finding::NewFile(found) => {
             created_reply(settings, found, first_given(answered), answered.opened())

@@ -8,6 +8,7 @@ ghost use Rattle.ops.specs.Intents.{sets_size};
 ghost use Rattle.ops.specs.Scripts.{after, at_names, at_paths, if_done, look, next_of, plan_of, rename, set_size, AsksNext, End, Over, Plan};
 
 use crate::findings::Finding;
+use crate::hiding::{hide_on, start_unlink, unhidden};
 use crate::intents::sets_size;
 use crate::judging::{errno_in, judge};
 use crate::looks::Looks;
@@ -45,6 +46,11 @@ pub enum Ending<'a> {
     },
     /// It asks what stands at each of some paths, and tells that.
     Each(Looks<'a>),
+    /// It looks for the first of these candidates where nothing stands, and moves the file at the path there.
+    Hide {
+        path: &'a Path,
+        left: &'a [Path],
+    },
     /// It has nothing more to ask.
     Over(Finding),
 }
@@ -53,15 +59,15 @@ pub enum Ending<'a> {
 #[derive(Drop)]
 pub struct Script<'a> {
     /// What is changed first.
-    change: Option<Call<'a>>,
-    ending: Ending<'a>,
+    pub(crate) change: Option<Call<'a>>,
+    pub(crate) ending: Ending<'a>,
 }
 
 /// Nothing more is asked, and there is no more to say.
-const DONE: Ending<'static> = Ending::Over(Finding::Nothing);
+pub(crate) const DONE: Ending<'static> = Ending::Over(Finding::Nothing);
 
 /// A ticket that has not the paths of its request, or a request that has no script.
-const UNFIT: Ending<'static> = Ending::Over(Finding::Error { errno: EIO });
+pub(crate) const UNFIT: Ending<'static> = Ending::Over(Finding::Error { errno: EIO });
 
 /// The error with which a script ends after the answer to its change, if it does.
 fn refused(answer: &Answer) -> Option<i32>
@@ -163,7 +169,7 @@ impl<'a> Script<'a> {
             Operation::Sync { .. } => (Some(Call::Sync(path)), DONE),
             Operation::Release { .. } => (None, DONE),
             Operation::OpenDir => (None, Ending::List { path }),
-            Operation::Unlink { .. } => (Some(Call::Remove(path)), DONE),
+            Operation::Unlink { .. } => return Ok(start_unlink(ticket)),
             Operation::RemoveDir { .. } => (Some(Call::RemoveDir(path)), DONE),
             Operation::Rename { .. } => return Ok(start_rename(ticket)),
             Operation::ReadDirPlus { .. } => (None, end_with_looks(alloc, ticket)?),
@@ -200,6 +206,7 @@ impl<'a> Script<'a> {
                 data,
             }),
             (None, Ending::Each(looks)) => looks.next(),
+            (None, Ending::Hide { left, .. }) => left.first().map(Call::Stat),
             (None, Ending::Over(_)) => None,
         }
     }
@@ -232,6 +239,10 @@ impl<'a> Script<'a> {
             }
             Ending::Write { path, offset, data } => written(path, *offset, data, answer),
             Ending::Each(looks) => return looks.feed(answer),
+            Ending::Hide { path, left } => {
+                *self = hide_on(path, left, answer);
+                return;
+            }
             Ending::Over(_) => return,
         };
         self.ending = Ending::Over(finding);
@@ -245,6 +256,7 @@ impl<'a> Script<'a> {
         match ending {
             Ending::Over(finding) => finding,
             Ending::Each(looks) => looks.into_finding(),
+            Ending::Hide { left, .. } => unhidden(left),
             Ending::Look { .. }
             | Ending::List { .. }
             | Ending::Read { .. }

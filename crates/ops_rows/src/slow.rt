@@ -51,6 +51,8 @@ pub enum Ends {
     Written(u32),
     /// So many names are listed.
     Listed(usize),
+    /// A file was hidden under the candidate of that index.
+    Hid(u8),
     /// What stands at the two names of a page, and whether something does.
     Looked([Option<Found>; 2], [bool; 2]),
 }
@@ -78,6 +80,7 @@ pub fn ends_of(finding: Finding) -> Ends {
         Finding::Bytes(bytes) => Ends::Bytes(bytes.len()),
         Finding::Written { size } => Ends::Written(size),
         Finding::Listed(names) => Ends::Listed(names.as_slice().len()),
+        Finding::Hid { candidate } => Ends::Hid(candidate),
         Finding::Looked(looked) => {
             let (there, founds) = looked.into_parts();
             match (founds.as_slice(), there.as_slice()) {

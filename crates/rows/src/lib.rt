@@ -24,6 +24,8 @@ mod frames;
 #[cfg(test)]
 mod greetings;
 #[cfg(test)]
+mod hidden_files;
+#[cfg(test)]
 mod lines;
 #[cfg(test)]
 mod listings;

@@ -6,9 +6,9 @@ use Rattle.ops.specs.declared.script.Ending.{Ending}
 use Rattle.ops.specs.declared.script.Ending.TheVariants as endings
 use Rattle.backing.specs.Calls.{asked}
 use Rattle.engine.specs.Playing.{Playing}
-use Rattle.ops.specs.Ahead.{calls_ending, calls_from, end_of, plan_ahead, plan_ending, plan_from}
+use Rattle.ops.specs.Ahead.{calls_ending, calls_from, calls_hiding, end_of, plan_ahead, plan_ending, plan_from}
 use Rattle.ops.specs.Looking.{plan_looking}
-use Rattle.ops.specs.Scripts.{Plan, next_of}
+use Rattle.ops.specs.Scripts.{Plan, hide, next_of}
 use Rattle.ops.specs.declared.findings.Found.{Found}
 use Rattle.paths.specs.Prefixes.{Names}
 use Rattle.engine.proofs.Runs.{played_on, played}
@@ -18,6 +18,10 @@ looks_left : (left : List Names) (found : List (Option Found)) (call : Asked) �
 looks_left [] found call e = absurd (none-some call e)
 looks_left (p ∷ ps) found call e = omega arith
 
+hides_left : (p : Names) (left : List Names) (call : Asked) → next_of (hide p left) ≡ Some call → 0 < calls_hiding left
+hides_left p [] call e = absurd (none-some call e)
+hides_left p (c ∷ cs) call e = omega arith
+
 -- a script that asks has a call left
 asks_left : (change : Option Call) (ending : Ending) (call : Asked) → next_of (plan_from change (plan_ending ending)) ≡ Some call → 0 < calls_from change + calls_ending ending
 asks_left (Some first) ending call e = omega arith
@@ -26,6 +30,7 @@ asks_left None (endings.List p) call e = lit< tt
 asks_left None (endings.Read p offset size) call e = lit< tt
 asks_left None (endings.Write p offset piece) call e = lit< tt
 asks_left None (endings.Each looks) call e = omega (arith, looks_left looks.left looks.found call e)
+asks_left None (endings.Hide p left) call e = omega (arith, hides_left p.now left.now call e)
 asks_left None (endings.Over finding) call e = absurd (none-some call e)
 
 pub loop-call-smaller : goal.loop-call-smaller
