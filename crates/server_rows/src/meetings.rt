@@ -4,7 +4,7 @@ use crate::frames::{
     AGREED, ARE_FIVE, ARE_OF_A, ATTRIBUTES, CREATE_N, CREATED_N, DESTROY, DESTROYED, ENTRY_A,
     ENTRY_M, ENTRY_OF_M_ALONE, FORGET_A, FSYNC, INIT, LAST_ENTRY, LOOKUP_A, MAKE_M, NO_ENTRY,
     ONE_ENTRY, OPEN_ROOT, OPENED, READ_MORE, READ_ON, READ_ONE, READ_TEN, RENAME_A, RENAME_N,
-    RENAMED, WRITE_DE, WROTE_DE, bytes_of,
+    RENAMED, UNLINK_N, WRITE_DE, WROTE_DE, bytes_of,
 };
 use crate::host::Host;
 use crate::places::{Shown, expect, new_folder, place_of};
@@ -146,6 +146,24 @@ const MEETINGS: &[Meeting] = &[
             ("a", Shown::File(3)),
             ("n", Shown::Nothing),
             ("k", Shown::File(5)),
+        ],
+    },
+    Meeting {
+        says: "a file that is removed while it is open is read still, and is gone at the end",
+        turns: &[
+            (INIT, AGREED),
+            (CREATE_N, CREATED_N),
+            (WRITE_DE, WROTE_DE),
+            (UNLINK_N, RENAMED),
+            (READ_TEN, ARE_FIVE),
+            (DESTROY, DESTROYED),
+        ],
+        status: 0,
+        fault: "",
+        after: &[
+            ("a", Shown::File(3)),
+            ("n", Shown::Nothing),
+            (".fuse_hidden0000000200000000", Shown::Nothing),
         ],
     },
     Meeting {
