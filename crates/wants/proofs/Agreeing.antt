@@ -62,7 +62,7 @@ module _ (at : Lookup) (tree : IsTree at) where
     };
   }
 
-  aboves_forth : (p : Names) (ls : List Location) → AreNames ls → Any (IsSharedAt at Alone p) ls → Any (IsAboveAt at p) ls
+  pub aboves_forth : (p : Names) (ls : List Location) → AreNames ls → Any (IsSharedAt at Alone p) ls → Any (IsAboveAt at p) ls
   aboves_forth p [] names h = absurd (any_none (IsSharedAt at Alone p) h)
   aboves_forth p (AtNode n ∷ ls) names h = absurd names
   aboves_forth p (AtName parent name ∷ ls) names h = elim (any_cases (IsSharedAt at Alone p) (AtName parent name) ls h) [
@@ -70,7 +70,7 @@ module _ (at : Lookup) (tree : IsTree at) where
     | inr more ↦ any_later (IsAboveAt at p) (AtName parent name) ls (aboves_forth p ls names more)
   ]
 
-  aboves_back : (p : Names) (ls : List Location) → AreNames ls → Any (IsAboveAt at p) ls → Any (IsSharedAt at Alone p) ls
+  pub aboves_back : (p : Names) (ls : List Location) → AreNames ls → Any (IsAboveAt at p) ls → Any (IsSharedAt at Alone p) ls
   aboves_back p [] names h = absurd (any_none (IsAboveAt at p) h)
   aboves_back p (AtNode n ∷ ls) names h = absurd names
   aboves_back p (AtName parent name ∷ ls) names h = elim (any_cases (IsAboveAt at p) (AtName parent name) ls h) [
@@ -93,7 +93,7 @@ module _ (at : Lookup) (tree : IsTree at) where
         let over = s.long in
         absurd (omega arith)
 
-  not_misplaced : (change : told_change.Change) (ls : List Location) (paths : List Names) → AllZip (IsShortPath at) ls paths → MayChange change paths → (e : ℤ) → IsMisplaced at (change_in change ls) e → ⊥
+  pub not_misplaced : (change : told_change.Change) (ls : List Location) (paths : List Names) → AllZip (IsShortPath at) ls paths → MayChange change paths → (e : ℤ) → IsMisplaced at (change_in change ls) e → ⊥
   not_misplaced Stays ls paths zip may e bad = bad
   not_misplaced Cuts [] paths zip may e bad = bad
   not_misplaced Cuts (l ∷ ls) paths zip may e bad = bad
@@ -129,7 +129,7 @@ module _ (at : Lookup) (tree : IsTree at) where
   bad_refused ls hold enters change c rooted refusal.OntoFolder bad = absurd bad
   bad_refused ls hold enters change c rooted refusal.Memory bad = no_memory refl (not_stale ls hold enters change c rooted)
 
-  changed_wrong : (change : told_change.Change) (ls : List Location) (paths : List Names) → AllZip (IsShortPath at) ls paths → (e : ℤ) → IsWrongChange change paths e → IsMisplaced at (change_in change ls) e
+  pub changed_wrong : (change : told_change.Change) (ls : List Location) (paths : List Names) → AllZip (IsShortPath at) ls paths → (e : ℤ) → IsWrongChange change paths e → IsMisplaced at (change_in change ls) e
   changed_wrong Stays ls paths zip e wrong = absurd wrong
   changed_wrong Cuts ls paths zip e wrong = absurd wrong
   changed_wrong Moves ls [] zip e wrong = absurd wrong
@@ -225,6 +225,11 @@ pub wrong_move : (paths : List Names) (p q : Names) (e : ℤ) → 2 ≤ length p
 wrong_move [] p q e two a b bad = absurd (omega (arith, two))
 wrong_move (x ∷ []) p q e two a b bad = absurd (omega (arith, two))
 wrong_move (x ∷ y ∷ paths) p q e two a b bad = subst (λ (r : Names). IsRefusedMove x r e) b (subst (λ (r : Names). IsRefusedMove r q e) a bad)
+
+pub enough_more : (change : told_change.Change) (m n : ℕ) → m ≤ n → AreEnough change m → AreEnough change n
+enough_more Stays m n more h = tt
+enough_more Cuts m n more h = tt
+enough_more Moves m n more h = omega (arith, more, h)
 
 pub enough_paths : (change : told_change.Change) (m n : ℕ) → m ≡ n → AreEnough change m → AreEnough change n
 enough_paths change m n e h = subst (λ k. AreEnough change k) e h

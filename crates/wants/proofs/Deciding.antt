@@ -1,13 +1,13 @@
 -- A want has one case, and so one row.
-use Rattle.std.proofs.Common.{ℕ, ◌≡◌, Bool, refl, sym, ap, ◌∙◌}
+use Rattle.std.proofs.Common.{ℕ, ◌≡◌, Bool, not, refl, sym, ap, ◌∙◌}
 use Rattle.paths.specs.Prefixes.{Name}
 use Rattle.flights.specs.declared.data.Case.{Case}
 use Rattle.flights.specs.declared.data.Case.TheVariants as cases
 use Rattle.flights.specs.declared.data.Want.{Want}
 use Rattle.flights.specs.declared.data.Want.TheVariants as wants
 use Rattle.tree.specs.Places.{Lookup, IsTree}
-use Rattle.wants.specs.Cases.{IsCase, IsClosingCase, IsDemand, IsEntryCase, IsRemovalCase, Seen}
-use Rattle.wants.specs.Rows.{Demand, row_of}
+use Rattle.wants.specs.Cases.{IsCase, IsClosingCase, IsDemand, IsEntryCase, IsHidingCase, Seen}
+use Rattle.wants.specs.Rows.{Demand, AtName, are_same, row_of}
 
 entry_once : (at : Lookup) (parent : ℕ) (name : Name) (c d : Case) → IsEntryCase at parent name c → IsEntryCase at parent name d → c ≡ d
 entry_once at parent name cases.Plain cases.Plain a b = refl
@@ -33,24 +33,24 @@ closing_once at number (cases.Hiding n k) d a b = absurd a
 closing_once at number cases.Plain (cases.Hiding n k) a b = absurd b
 closing_once at number cases.Pathless (cases.Hiding n k) a b = absurd b
 
-removal_once : (seen : Seen) → IsTree seen.at → (parent : ℕ) (name : Name) (may_hide : Bool) (c d : Case) → IsRemovalCase seen parent name may_hide c → IsRemovalCase seen parent name may_hide d → c ≡ d
-removal_once seen tree parent name may_hide cases.Plain cases.Plain a b = refl
-removal_once seen tree parent name may_hide cases.Plain cases.Absent a b = absurd b
-removal_once seen tree parent name may_hide cases.Plain (cases.Hiding n k) a b = absurd (a b.0 n b.2 b.3)
-removal_once seen tree parent name may_hide cases.Absent d a b = absurd a
-removal_once seen tree parent name may_hide (cases.Hiding n k) cases.Plain a b = absurd (b a.0 n a.2 a.3)
-removal_once seen tree parent name may_hide (cases.Hiding n k) cases.Absent a b = absurd b
-removal_once seen tree parent name may_hide (cases.Hiding n k) (cases.Hiding m j) a b =
+hiding_once : (seen : Seen) → IsTree seen.at → (parent : ℕ) (name : Name) (may_hide : Bool) (c d : Case) → IsHidingCase seen parent name may_hide c → IsHidingCase seen parent name may_hide d → c ≡ d
+hiding_once seen tree parent name may_hide cases.Plain cases.Plain a b = refl
+hiding_once seen tree parent name may_hide cases.Plain cases.Absent a b = absurd b
+hiding_once seen tree parent name may_hide cases.Plain (cases.Hiding n k) a b = absurd (a b.0 n b.2 b.3)
+hiding_once seen tree parent name may_hide cases.Absent d a b = absurd a
+hiding_once seen tree parent name may_hide (cases.Hiding n k) cases.Plain a b = absurd (b a.0 n a.2 a.3)
+hiding_once seen tree parent name may_hide (cases.Hiding n k) cases.Absent a b = absurd b
+hiding_once seen tree parent name may_hide (cases.Hiding n k) (cases.Hiding m j) a b =
     ap (λ i. cases.Hiding i k) (tree.apart n m parent name a.2 b.2) ∙ ap (λ i. cases.Hiding m i) (a.1 ∙ sym b.1)
-removal_once seen tree parent name may_hide cases.Pathless d a b = absurd a
-removal_once seen tree parent name may_hide cases.Plain cases.Pathless a b = absurd b
-removal_once seen tree parent name may_hide (cases.Hiding n k) cases.Pathless a b = absurd b
+hiding_once seen tree parent name may_hide cases.Pathless d a b = absurd a
+hiding_once seen tree parent name may_hide cases.Plain cases.Pathless a b = absurd b
+hiding_once seen tree parent name may_hide (cases.Hiding n k) cases.Pathless a b = absurd b
 
 case_once : (seen : Seen) → IsTree seen.at → (want : Want) (c d : Case) → IsCase seen want c → IsCase seen want d → c ≡ d
 case_once seen tree (wants.Node number handle) c d a b = a ∙ sym b
 case_once seen tree (wants.Name parent name) c d a b = entry_once seen.at parent name c d a b
-case_once seen tree (wants.Remove parent name may_hide) c d a b = removal_once seen tree parent name may_hide c d a b
-case_once seen tree (wants.Move parent name new_parent new_name) c d a b = a ∙ sym b
+case_once seen tree (wants.Remove parent name may_hide) c d a b = hiding_once seen tree parent name may_hide c d a b
+case_once seen tree (wants.Move parent name new_parent new_name) c d a b = hiding_once seen tree new_parent new_name (not (are_same (AtName parent name) (AtName new_parent new_name))) c d a b
 case_once seen tree (wants.Page folder names) c d a b = a ∙ sym b
 case_once seen tree (wants.Open number access) c d a b = a ∙ sym b
 case_once seen tree (wants.Create parent name access) c d a b = entry_once seen.at parent name c d a b

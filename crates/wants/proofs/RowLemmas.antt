@@ -1,16 +1,30 @@
 -- Each row has its locations at or under the nodes that it names.
-use Rattle.std.proofs.Common.{ℕ, ◌≡◌, List, [], ◌∷◌, Contains, Option, None, Some, refl, sym, ap, ◌∙◌, subst, inl, inr}
+use Rattle.std.proofs.Common.{ℕ, ◌≡◌, ◌&&◌, ◌↔◌, Bool, true, false, List, [], ◌∷◌, Contains, Option, None, Some, refl, sym, ap, ◌∙◌, subst, inl, inr}
 use Rattle.std.specs.Prelude.{Any}
+use Rattle.std.proofs.lemmas.Bool.{cases_Bool, eq-eqb}
 use Rattle.std.proofs.lemmas.List.{length-map}
-use Rattle.paths.specs.Prefixes.{Name}
+use Rattle.paths.specs.Prefixes.{Name, is_name}
+use Rattle.paths.proofs.PrefixLemmas.{is_name-true, is_name-yes}
 use Rattle.tree.specs.declared.nodes.Key.{Key}
 use Rattle.flights.specs.declared.data.Case.{Case}
 use Rattle.flights.specs.declared.data.Case.TheVariants as cases
 use Rattle.flights.specs.declared.data.Want.{Want}
 use Rattle.flights.specs.declared.data.Want.TheVariants as wants
 use Rattle.wants.specs.Laws.{AreSiblings, IsRow, base_of}
-use Rattle.wants.specs.Rows.{Location, AtNode, AtName, Opening, Used, closed_at, closed_on, closed_row, closing, used_on, move_row, name_row, node_row, page_names, page_row, hidden_in, names_under, removal_row, row_of}
+use Rattle.wants.specs.Rows.{Location, AtNode, AtName, Opening, Used, are_same, closed_at, closed_on, closed_row, closing, used_on, move_row, name_row, node_row, page_names, page_row, hidden_in, names_under, removal_row, row_of}
 use Rattle.wants.proofs.Members.{any_first, any_later, cases_in, first_in, in_map, later_in, none_in, only_in}
+
+-- a test of two names tells whether they are spelt the same
+spelt_same : (b : Bool) (name other : Name) → (b ≡ true) ↔ (name ≡ other) → b ≡ is_name name other
+spelt_same true name other h = sym (is_name-yes name other (h.0 refl))
+spelt_same false name other h = elim (cases_Bool (is_name name other)) [
+  | inl same ↦ h.1 (is_name-true name other same) ∙ sym same
+  | inr apart ↦ sym apart
+]
+
+-- two names under one node
+pub name_same : (parent under : ℕ) (name other : Name) (b : Bool) → parent ≡ under → (b ≡ true) ↔ (name ≡ other) → b ≡ are_same (AtName parent name) (AtName under other)
+name_same parent under name other b e h = spelt_same b name other h ∙ ap (λ p. p && is_name name other) (sym (eq-eqb parent under e))
 
 -- the one location at or under the one node
 under_only : (n : ℕ) (l m : Location) → base_of l ≡ n → Contains (l ∷ []) m → Contains (n ∷ []) (base_of m)
@@ -64,31 +78,32 @@ removal_is_row parent name others = record {
   beside = λ l h. let it = in_map (λ (x : Name). AtName parent x) others l h in subst (λ m. AreSiblings (AtName parent name) m) it.2 refl;
 }
 
-module _ (parent : ℕ) (name : Name) (new_parent : ℕ) (new_name : Name) where
-  pair_under : (l : Location) → Contains (AtName parent name ∷ AtName new_parent new_name ∷ []) l → Contains (parent ∷ new_parent ∷ []) (base_of l)
-  pair_under l h =
-      let second : Contains (parent ∷ new_parent ∷ []) new_parent = later_in parent (new_parent ∷ []) new_parent (first_in new_parent []) in
-      elim (cases_in (AtName parent name) (AtName new_parent new_name ∷ []) l h) [
-        | inl e ↦ subst (λ k. Contains (parent ∷ new_parent ∷ []) k) (ap base_of e) (first_in parent (new_parent ∷ []))
-        | inr more ↦ subst (λ k. Contains (parent ∷ new_parent ∷ []) k) (ap base_of (only_in (AtName new_parent new_name) l more)) second
-      ]
+module _ (parent : ℕ) (name : Name) (new_parent : ℕ) (new_name : Name) (hidden : List Name) where
+  abbrev others : List Location
+  others = names_under new_parent hidden
 
-  pair_covered : (n : ℕ) → Contains (parent ∷ new_parent ∷ []) n → Any (λ l. base_of l ≡ n) (AtName parent name ∷ AtName new_parent new_name ∷ [])
-  pair_covered n h = elim (cases_in parent (new_parent ∷ []) n h) [
-    | inl e ↦ any_first (λ l. base_of l ≡ n) (AtName parent name) (AtName new_parent new_name ∷ []) e
-    | inr more ↦ any_later (λ l. base_of l ≡ n) (AtName parent name) (AtName new_parent new_name ∷ []) (any_first (λ l. base_of l ≡ n) (AtName new_parent new_name) [] (only_in new_parent n more))
+  pair_under : (l : Location) → Contains (AtName parent name ∷ AtName new_parent new_name ∷ others) l → Contains (parent ∷ new_parent ∷ []) (base_of l)
+  pair_under l h = elim (cases_in (AtName parent name) (AtName new_parent new_name ∷ others) l h) [
+    | inl e ↦ subst (λ k. Contains (parent ∷ new_parent ∷ []) k) (ap base_of e) (first_in parent (new_parent ∷ []))
+    | inr more ↦ later_in parent (new_parent ∷ []) (base_of l) (beside_under new_parent new_name hidden l more)
   ]
 
-  move_is_row : IsRow (move_row parent name new_parent new_name)
+  pair_covered : (n : ℕ) → Contains (parent ∷ new_parent ∷ []) n → Any (λ l. base_of l ≡ n) (AtName parent name ∷ AtName new_parent new_name ∷ others)
+  pair_covered n h = elim (cases_in parent (new_parent ∷ []) n h) [
+    | inl e ↦ any_first (λ l. base_of l ≡ n) (AtName parent name) (AtName new_parent new_name ∷ others) e
+    | inr more ↦ any_later (λ l. base_of l ≡ n) (AtName parent name) (AtName new_parent new_name ∷ others) (any_first (λ l. base_of l ≡ n) (AtName new_parent new_name) others (only_in new_parent n more))
+  ]
+
+  move_is_row : IsRow (move_row parent name new_parent new_name hidden)
   move_is_row = record {
     shared = λ l h. absurd (none_in l h);
     alone = pair_under;
     paths = pair_under;
     covered = λ n h. inr (pair_covered n h);
     entered = inl refl;
-    own = (first_in (AtName parent name) (AtName new_parent new_name ∷ []), later_in (AtName parent name) (AtName new_parent new_name ∷ []) (AtName new_parent new_name) (first_in (AtName new_parent new_name) []));
-    hidden = λ l h. absurd (none_in l h);
-    beside = λ l h. absurd (none_in l h);
+    own = (first_in (AtName parent name) (AtName new_parent new_name ∷ others), later_in (AtName parent name) (AtName new_parent new_name ∷ others) (AtName new_parent new_name) (first_in (AtName new_parent new_name) others));
+    hidden = λ l h. later_in (AtName parent name) (AtName new_parent new_name ∷ others) l (later_in (AtName new_parent new_name) others l h);
+    beside = λ l h. let it = in_map (λ (x : Name). AtName new_parent x) hidden l h in subst (λ m. AreSiblings (AtName new_parent new_name) m) it.2 refl;
   }
 
 -- each name of a page is under its folder
@@ -141,7 +156,7 @@ pub are_rows : (want : Want) (case : Case) → IsRow (row_of want case)
 are_rows (wants.Node number handle) c = node_is_row number (used_on number handle) None
 are_rows (wants.Name parent name) c = name_is_row parent name c None
 are_rows (wants.Remove parent name may_hide) c = removal_is_row parent name (hidden_in c)
-are_rows (wants.Move parent name new_parent new_name) c = move_is_row parent name new_parent new_name
+are_rows (wants.Move parent name new_parent new_name) c = move_is_row parent name new_parent new_name (hidden_in c)
 are_rows (wants.Page folder names) c = page_is_row folder names
 are_rows (wants.Open number access) c = node_is_row number None (Some (record { target = AtNode number; access = access }))
 are_rows (wants.Create parent name access) c = name_is_row parent name c (Some (record { target = AtName parent name; access = access }))

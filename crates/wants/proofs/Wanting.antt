@@ -1,5 +1,5 @@
 -- What a want's row asks for, and why it is refused.
-use Rattle.std.proofs.Common.{ℕ, ℤ, ◌≡◌, Bool, List, [], ◌∷◌, Option, Some, Contains, refl, sym, ap, ◌∙◌, subst, ◌⊎◌, inl, inr}
+use Rattle.std.proofs.Common.{ℕ, ℤ, ◌≡◌, Bool, not, List, [], ◌∷◌, Option, Some, Contains, refl, sym, ap, ◌∙◌, subst, ◌⊎◌, inl, inr}
 use Rattle.std.specs.Prelude.{IsSome}
 use Rattle.std.proofs.lemmas.Bool.{cases_Bool, cases_eq, false≢true}
 use Rattle.std.proofs.lemmas.Option.{none-some, same_Some}
@@ -21,13 +21,12 @@ use Rattle.files.specs.declared.data.Access.{Access}
 use Rattle.flights.specs.declared.data.Handle.{Handle}
 use Rattle.flights.specs.declared.data.Promise.{Promise}
 use Rattle.wants.specs.Asked.{IsLong, IsSound, IsStale, IsUnsound, long, misplaced, no_memory, stale}
-use Rattle.wants.specs.Cases.{IsCase, IsEntryCase, Seen}
+use Rattle.wants.specs.Cases.{IsCase, IsEntryCase, IsHidingCase, Seen}
 use Rattle.wants.specs.declared.data.Plan.{Plan}
 use Rattle.wants.specs.declared.drafts.Terms.{Terms}
 use Rattle.wants.specs.Drafts.{IsEntryAt, IsTaken, IsRecord, IsTerms, IsVacant, IsWanted}
 use Rattle.wants.specs.Plans.{IsPlan, IsRefusedPlan, copied, copied_page}
-use Rattle.wants.specs.Removals.{AreRemovalTerms, IsRefusedRemoval}
-use Rattle.wants.specs.Rows.{Demand, AtName, AtNode, Opening, Used, hidden_in, name_row, node_row, page_row, removal_row, row_of, used_on}
+use Rattle.wants.specs.Rows.{Demand, AtName, AtNode, Opening, Used, are_same, hidden_in, move_row, name_row, node_row, page_row, removal_row, row_of, used_on}
 use Rattle.wants.proofs.Members.{all_in, any_only, cases_in, first_in, later_in, none_in}
 
 -- ---- whether a node stands at a name
@@ -187,12 +186,28 @@ pub page_refused_as : (seen : Seen) (want : Want) (folder : ℕ) (names : List N
 page_refused_as seen want folder names e is unsound =
     subst (λ (v : Want). IsRefusedPlan seen v e) (sym is) (record { demand = page_row folder names; demanded = record { case = cases.Plain; fits = refl; row = refl }; unsound = unsound })
 
-pub removal_wanted : (seen : Seen) (want : Want) (parent : ℕ) (name : Name) (may_hide : Bool) (t : Terms) → want ≡ wants.Remove parent name may_hide → AreRemovalTerms seen parent name may_hide t → IsWanted seen want t
-removal_wanted seen want parent name may_hide t is are = subst (λ (v : Want). IsWanted seen v t) (sym is) (record { fits = are.fits; terms = are.terms })
+pub removal_wanted : (seen : Seen) (want : Want) (parent : ℕ) (name : Name) (may_hide : Bool) (t : Terms) → want ≡ wants.Remove parent name may_hide
+    → IsHidingCase seen parent name may_hide t.case → IsTerms seen.at (removal_row parent name (hidden_in t.case)) t → IsWanted seen want t
+removal_wanted seen want parent name may_hide t is fits terms = subst (λ (v : Want). IsWanted seen v t) (sym is) (record { fits = fits; terms = terms })
 
-pub removal_refused : (seen : Seen) (want : Want) (parent : ℕ) (name : Name) (may_hide : Bool) (e : ℤ) → want ≡ wants.Remove parent name may_hide → IsRefusedRemoval seen parent name may_hide e → IsRefusedPlan seen want e
-removal_refused seen want parent name may_hide e is bad =
-    subst (λ (v : Want). IsRefusedPlan seen v e) (sym is) (record { demand = removal_row parent name (hidden_in bad.case); demanded = record { case = bad.case; fits = bad.fits; row = refl }; unsound = bad.unsound })
+pub removal_refused : (seen : Seen) (want : Want) (parent : ℕ) (name : Name) (may_hide : Bool) (e : ℤ) (c : Case) → want ≡ wants.Remove parent name may_hide
+    → IsHidingCase seen parent name may_hide c → IsUnsound seen.at (removal_row parent name (hidden_in c)) e → IsRefusedPlan seen want e
+removal_refused seen want parent name may_hide e c is fits unsound =
+    subst (λ (v : Want). IsRefusedPlan seen v e) (sym is) (record { demand = removal_row parent name (hidden_in c); demanded = record { case = c; fits = fits; row = refl }; unsound = unsound })
+
+-- what stands at the target of a move may be hidden, where the source is elsewhere
+module _ (seen : Seen) (want : Want) (parent : ℕ) (name : Name) (new_parent : ℕ) (new_name : Name) (may_hide : Bool)
+    (is : want ≡ wants.Move parent name new_parent new_name) (apart : may_hide ≡ not (are_same (AtName parent name) (AtName new_parent new_name))) where
+  pub move_wanted : (t : Terms) → IsHidingCase seen new_parent new_name may_hide t.case → IsTerms seen.at (move_row parent name new_parent new_name (hidden_in t.case)) t → IsWanted seen want t
+  move_wanted t fits terms =
+      subst (λ (v : Want). IsWanted seen v t) (sym is) (record { fits = subst (λ (b : Bool). IsHidingCase seen new_parent new_name b t.case) apart fits; terms = terms })
+
+  pub move_refused : (e : ℤ) (c : Case) → IsHidingCase seen new_parent new_name may_hide c → IsUnsound seen.at (move_row parent name new_parent new_name (hidden_in c)) e → IsRefusedPlan seen want e
+  move_refused e c fits unsound = subst (λ (v : Want). IsRefusedPlan seen v e) (sym is) (record {
+    demand = move_row parent name new_parent new_name (hidden_in c);
+    demanded = record { case = c; fits = subst (λ (b : Bool). IsHidingCase seen new_parent new_name b c) apart fits; row = refl };
+    unsound = unsound;
+  })
 
 -- the record of a request as its want's row asks for it
 pub planned : (seen : Seen) (want : Want) (t : Terms) (p : Plan) → IsWanted seen want t → IsRecord want t p → IsPlan seen want p

@@ -1,5 +1,5 @@
 -- Which case of its row a want is, as the table stands. Beside the table of rows this alone looks at wants.
-use Rattle.std.specs.Prelude.{ℕ, ◌≡◌, ◌≤◌, Bool, true}
+use Rattle.std.specs.Prelude.{ℕ, ◌≡◌, ◌≤◌, Bool, not, true}
 use Rattle.files.specs.Filed.{Filing, files_of}
 use Rattle.files.specs.Handles.{Files, IsOpen}
 use Rattle.flights.specs.declared.data.Case.{Case}
@@ -8,7 +8,7 @@ use Rattle.flights.specs.declared.data.Want.{Want}
 use Rattle.flights.specs.declared.data.Want.TheVariants as wants
 use Rattle.paths.specs.Prefixes.{Name, Names, path_bytes}
 use Rattle.tree.specs.Places.{Lookup, Nodes, IsFree, IsNamed, IsPathOf, at_in}
-use Rattle.wants.specs.Rows.{Demand, row_of}
+use Rattle.wants.specs.Rows.{Demand, AtName, are_same, row_of}
 
 -- all that a case may look at: the nodes, the open files, and the counter of the next hidden name
 pub record Seen : Type 0 where
@@ -37,18 +37,18 @@ IsClosingCase at number cases.Absent = ⊥
 IsClosingCase at number cases.Pathless = HasShortPath at number → ⊥
 IsClosingCase at number (cases.Hiding n counter) = ⊥
 
--- a name that goes: the node that stands there may have an open file, which may have to be hidden
-abbrev pub IsRemovalCase : Seen → ℕ → Name → Bool → Case → Type 0
-IsRemovalCase seen parent name may_hide cases.Plain = may_hide ≡ true → (n : ℕ) → IsNamed seen.at n parent name → IsOpen seen.files n → ⊥
-IsRemovalCase seen parent name may_hide cases.Absent = ⊥
-IsRemovalCase seen parent name may_hide cases.Pathless = ⊥
-IsRemovalCase seen parent name may_hide (cases.Hiding number counter) = (may_hide ≡ true) × (counter ≡ seen.counter) × IsNamed seen.at number parent name × IsOpen seen.files number
+-- a name that goes, since it is removed or replaced: the node that stands there may have an open file, which may have to be hidden
+abbrev pub IsHidingCase : Seen → ℕ → Name → Bool → Case → Type 0
+IsHidingCase seen parent name may_hide cases.Plain = may_hide ≡ true → (n : ℕ) → IsNamed seen.at n parent name → IsOpen seen.files n → ⊥
+IsHidingCase seen parent name may_hide cases.Absent = ⊥
+IsHidingCase seen parent name may_hide cases.Pathless = ⊥
+IsHidingCase seen parent name may_hide (cases.Hiding number counter) = (may_hide ≡ true) × (counter ≡ seen.counter) × IsNamed seen.at number parent name × IsOpen seen.files number
 
 abbrev pub IsCase : Seen → Want → Case → Type 0
 IsCase seen (wants.Node number handle) c = c ≡ cases.Plain
 IsCase seen (wants.Name parent name) c = IsEntryCase seen.at parent name c
-IsCase seen (wants.Remove parent name may_hide) c = IsRemovalCase seen parent name may_hide c
-IsCase seen (wants.Move parent name new_parent new_name) c = c ≡ cases.Plain
+IsCase seen (wants.Remove parent name may_hide) c = IsHidingCase seen parent name may_hide c
+IsCase seen (wants.Move parent name new_parent new_name) c = IsHidingCase seen new_parent new_name (not (are_same (AtName parent name) (AtName new_parent new_name))) c
 IsCase seen (wants.Page folder names) c = c ≡ cases.Plain
 IsCase seen (wants.Open number access) c = c ≡ cases.Plain
 IsCase seen (wants.Create parent name access) c = IsEntryCase seen.at parent name c

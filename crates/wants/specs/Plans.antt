@@ -31,7 +31,7 @@ abbrev pub copied_page : Want → Case → List Name
 copied_page (wants.Node number handle) c = []
 copied_page (wants.Name parent name) c = []
 copied_page (wants.Remove parent name may_hide) c = hidden_in c
-copied_page (wants.Move parent name new_parent new_name) c = []
+copied_page (wants.Move parent name new_parent new_name) c = hidden_in c
 copied_page (wants.Page folder names) c = names
 copied_page (wants.Open number access) c = []
 copied_page (wants.Create parent name access) c = []

@@ -119,12 +119,13 @@ removal_row parent name hidden = record no_demand {
   candidates = names_under parent hidden;
 }
 
-abbrev pub move_row : ℕ → Name → ℕ → Name → Demand
-move_row parent name new_parent new_name = record no_demand {
+abbrev pub move_row : ℕ → Name → ℕ → Name → List Name → Demand
+move_row parent name new_parent new_name hidden = record no_demand {
   given = parent ∷ new_parent ∷ [];
-  paths = AtName parent name ∷ AtName new_parent new_name ∷ [];
-  alone = AtName parent name ∷ AtName new_parent new_name ∷ [];
+  paths = AtName parent name ∷ AtName new_parent new_name ∷ names_under new_parent hidden;
+  alone = AtName parent name ∷ AtName new_parent new_name ∷ names_under new_parent hidden;
   done = moves (AtName parent name) (AtName new_parent new_name);
+  candidates = names_under new_parent hidden;
 }
 
 -- the handle of the node, if one is used
@@ -172,7 +173,7 @@ abbrev pub row_of : Want → Case → Demand
 row_of (wants.Node number handle) c = record (node_row number) { used = used_on number handle }
 row_of (wants.Name parent name) c = name_row parent name c
 row_of (wants.Remove parent name may_hide) c = removal_row parent name (hidden_in c)
-row_of (wants.Move parent name new_parent new_name) c = move_row parent name new_parent new_name
+row_of (wants.Move parent name new_parent new_name) c = move_row parent name new_parent new_name (hidden_in c)
 row_of (wants.Page folder names) c = page_row folder names
 row_of (wants.Open number access) c = record (node_row number) { opens = Some (record { target = AtNode number; access = access }) }
 row_of (wants.Create parent name access) c = record (name_row parent name c) { opens = Some (record { target = AtName parent name; access = access }) }

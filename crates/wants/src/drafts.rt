@@ -215,17 +215,18 @@ fn with_file(terms: Terms) -> Terms
     }
 }
 
-/// What is found at the row's locations, which lead to the root.
-fn draft_of(alloc: Global, tree: &Tree, row: &Row) -> Result<Draft, Refusal>
+/// What is found at the row's locations, which lead to the root, with room for so many pins more.
+pub(crate) fn draft_of(alloc: Global, tree: &Tree, row: &Row, more: usize) -> Result<Draft, Refusal>
     requires tree { IsTree (at_in tree.now) }
     requires rooted { AreRooted (at_in tree.now) (locations_of row.now) }
     requires few { length row.now.locations.now ≤ 2 }
+    requires short { more + 5 < 2 ^ 64 }
     ensures ok { IfOk result (IsDraft (at_in tree.now) row.now.hold (locations_of row.now)) }
-    ensures room { IfOk result (λ draft. entries_of row.now ≤ draft.pins.room) }
+    ensures room { IfOk result (λ draft. entries_of row.now + more ≤ draft.pins.room) }
     ensures err { IfErr result (IsBadRow (at_in tree.now) (locations_of row.now)) }
 {
     let entries = usize::from(row.enters);
-    let mut draft = Draft::new(alloc, 2 * row.locations.len() + entries)?;
+    let mut draft = Draft::new(alloc, 2 * row.locations.len() + entries + more)?;
     for location in row.locations {
         let found = find(alloc, tree, location)?;
         draft.add(alloc, location.base(), found, row.hold)?;
@@ -242,7 +243,7 @@ pub(crate) fn terms_of(alloc: Global, tree: &Tree, row: &Row) -> Result<Terms, R
     ensures tree { IsTree (at_in tree.now) }
 {
     expect_rooted(tree, row.locations)?;
-    let draft = draft_of(alloc, tree, row)?;
+    let draft = draft_of(alloc, tree, row, 0)?;
     expect_change(row.change, draft.paths.as_slice())?;
     let case = entered_case(draft.absent, row.enters);
     let terms = draft.into_terms(alloc, case, births_in(case), usize::from(row.enters))?;

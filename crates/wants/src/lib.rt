@@ -87,10 +87,9 @@ fn copies(alloc: Global, want: &Want, case: Case) -> Result<Names, AllocError>
 {
     match want {
         Want::Page { names, .. } => names.copy(),
-        Want::Remove { .. } => candidates(alloc, case),
+        Want::Remove { .. } | Want::Move { .. } => candidates(alloc, case),
         Want::Node { .. }
         | Want::Name { .. }
-        | Want::Move { .. }
         | Want::Open { .. }
         | Want::Create { .. }
         | Want::Release { .. } => Ok(Names::new(alloc)),

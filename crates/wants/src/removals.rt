@@ -1,32 +1,53 @@
-//! What a removal asks for: a name, and those that its file may be hidden under, beside it.
+//! What a name that goes asks for, since it is removed or replaced: it, and the names that its file may be hidden under, beside it.
 
-ghost use Rattle.std.specs.Prelude.{ℕ, ◌+◌, ◌^◌, ◌≡◌, ◌<◌, ◌≤◌, ◌↔◌, ◌⊎◌, ◌∷◌, [], Some, Contains, IfOk, IfErr, OnOk, length};
+ghost use Rattle.std.specs.Prelude.{ℕ, ◌+◌, ◌++◌, ◌^◌, ◌≡◌, ◌<◌, ◌≤◌, ◌↔◌, ◌⊎◌, Some, Contains, IfOk, IfErr, OnOk, length, map};
 ghost use Rattle.files.specs.Filed.{files_of};
-ghost use Rattle.tree.specs.Places.{IsNamed, IsTree, Leads, Lookup, at_in};
+ghost use Rattle.tree.specs.Places.{IsNamed, IsTree, Lookup, at_in};
 ghost use Rattle.paths.specs.Prefixes.{Name as Spelt};
-ghost use Rattle.wants.specs.Cases.{IsRemovalCase, seen_of};
-ghost use Rattle.wants.specs.Drafts.{IsBadRow, IsFound, errno_of};
-ghost use Rattle.wants.specs.Removals.{AddsBeside, AreRemovalTerms, IsRefusedRemoval, IsRemoval};
-ghost use Rattle.wants.specs.Rows.{AtName, hidden_in, hidden_names, names_under};
+ghost use Rattle.wants.specs.Cases.{IsHidingCase, seen_of};
+ghost use Rattle.wants.specs.Drafts.{AreRooted, IsBadRow, errno_of, locations_of};
+ghost use Rattle.wants.specs.Laws.{base_of};
+ghost use Rattle.wants.specs.Removals.{AddsBeside, AreGoingTerms, IsGathered, IsGoing, IsRefusedGoing};
+ghost use Rattle.wants.specs.Rows.{hidden_in, hidden_names, names_under};
 
-use crate::drafts::{Draft, Terms};
-use crate::found::{Found, expect_rooted, find};
+use crate::drafts::{Draft, Terms, draft_of};
+use crate::found::{Found, expect_change, expect_rooted, find};
 use crate::pages::pin_found;
 use crate::refusal::Refusal;
-use crate::rows::{Hold, Location};
+use crate::rows::{Hold, Location, Row};
 use files::Files;
 use flights::{Case, Names};
 use hidden::{candidate, hidden_name};
 use paths::Name;
 use std::alloc::{AllocError, Global};
-use tree::Tree;
+use tree::{Key, Tree};
+
+/// A name that goes, since it is removed or replaced.
+#[derive(Clone, Copy)]
+pub(crate) struct Gone<'a> {
+    pub(crate) parent: u64,
+    pub(crate) name: &'a Name,
+    /// Whether the file of the node that stands there is hidden while it is open.
+    pub(crate) may_hide: bool,
+}
 
 /// How many names a file may be hidden under.
 const CANDIDATES: u32 = 10;
 
-/// The case of a removal, by the node that was found at its name.
-fn removal_case(files: &Files, counter: u32, may_hide: bool, found: Option<u64>) -> Case
-    ensures { (at : Lookup) (parent : ℕ) (name : Spelt) → IsTree at → ((n : ℕ) → (found ≡ Some n) ↔ IsNamed at n parent name) → IsRemovalCase (record { at = at; files = (files_of files.now).at; counter = counter }) parent name may_hide result }
+/// The node that stands at the name.
+fn standing(tree: &Tree, gone: &Gone) -> Result<Option<u64>, AllocError>
+    ensures { IfOk result (λ node. (n : ℕ) → (node ≡ Some n) ↔ IsNamed (at_in tree.now) n gone.now.parent gone.now.name.now) }
+{
+    let key = Key {
+        parent: gone.parent,
+        name: gone.name.copy()?,
+    };
+    Ok(tree.find(&key))
+}
+
+/// The case of a name that goes, by the node that was found there.
+fn hiding_case(files: &Files, counter: u32, may_hide: bool, found: Option<u64>) -> Case
+    ensures { (at : Lookup) (parent : ℕ) (name : Spelt) → IsTree at → ((n : ℕ) → (found ≡ Some n) ↔ IsNamed at n parent name) → IsHidingCase (record { at = at; files = (files_of files.now).at; counter = counter }) parent name may_hide result }
 {
     let Some(number) = found else {
         return Case::Plain;
@@ -76,65 +97,50 @@ fn add_beside(draft: &mut Draft, found: Found) -> Result<(), AllocError>
     Ok(())
 }
 
-/// What was found at the name that goes, with room for so many pins more.
-fn first_draft(
-    alloc: Global,
-    parent: u64,
-    found: Found,
-    _name: &Name,
-    more: usize,
-) -> Result<Draft, AllocError>
-    requires { more + 2 < 2 ^ 64 }
-    ensures removal { (at : Lookup) → IsTree at → IsFound at (AtName parent _name.now) found → IfOk result (IsRemoval at parent (AtName parent _name.now ∷ [])) }
-    ensures room { IfOk result (λ draft. more ≤ draft.pins.room) }
-{
-    let mut draft = Draft::new(alloc, more + 2)?;
-    draft.add(alloc, parent, found, Hold::Alone)?;
-    Ok(draft)
-}
-
-/// What is found at the name and at those beside it.
-fn removal_draft(
+/// What is found at the row's locations, and at the names beside the one that goes.
+fn gathered(
     alloc: Global,
     tree: &Tree,
-    parent: u64,
-    found: Found,
-    name: &Name,
+    row: &Row,
+    folder: u64,
     beside: &[Name],
 ) -> Result<Draft, Refusal>
     requires tree { IsTree (at_in tree.now) }
-    requires rooted { Leads (at_in tree.now) parent }
-    requires found { IsFound (at_in tree.now) (AtName parent name.now) found }
-    ensures ok { IfOk result (IsRemoval (at_in tree.now) parent (AtName parent name.now ∷ names_under parent beside.now)) }
-    ensures err { IfErr result (IsBadRow (at_in tree.now) (AtName parent name.now ∷ names_under parent beside.now)) }
+    requires rooted { AreRooted (at_in tree.now) (locations_of row.now) }
+    requires few { length row.now.locations.now ≤ 2 }
+    requires alone { row.now.hold ≡ Hold.Alone }
+    requires under { Contains (map (λ l. base_of l) (locations_of row.now)) folder }
+    ensures ok { IfOk result (IsGathered (at_in tree.now) (locations_of row.now) (locations_of row.now ++ names_under folder beside.now)) }
+    ensures err { IfErr result (IsBadRow (at_in tree.now) (locations_of row.now ++ names_under folder beside.now)) }
 {
-    let mut draft = first_draft(alloc, parent, found, name, beside.len())?;
+    let mut draft = draft_of(alloc, tree, row, beside.len())?;
     for other in beside {
-        let found = find(alloc, tree, &Location::AtName(parent, other))?;
+        let found = find(alloc, tree, &Location::AtName(folder, other))?;
         add_beside(&mut draft, found)?;
     }
     Ok(draft)
 }
 
-/// What the removal of a name asks for, if the tests of the nodes allow it.
-pub(crate) fn removal_terms(
+/// What the row of a name that goes asks for, if the tests of the nodes allow it.
+pub(crate) fn going_terms(
     alloc: Global,
     tree: &Tree,
     files: &Files,
     counter: u32,
-    parent: u64,
-    name: &Name,
-    may_hide: bool,
+    row: &Row,
+    gone: &Gone,
 ) -> Result<Terms, Refusal>
-    ensures ok { IfOk result (AreRemovalTerms (seen_of tree.now files.now counter) parent name.now may_hide) }
-    ensures err { IfErr result (λ refusal. IsRefusedRemoval (seen_of tree.now files.now counter) parent name.now may_hide (errno_of refusal)) }
+    requires { IsGoing row.now gone.now }
+    ensures ok { IfOk result (AreGoingTerms (seen_of tree.now files.now counter) row.now gone.now) }
+    ensures err { IfErr result (λ refusal. IsRefusedGoing (seen_of tree.now files.now counter) row.now gone.now (errno_of refusal)) }
 {
     let _files = files.len();
-    expect_rooted(tree, &[Location::AtName(parent, name)])?;
-    let found = find(alloc, tree, &Location::AtName(parent, name))?;
-    let case = removal_case(files, counter, may_hide, found.node);
+    expect_rooted(tree, row.locations)?;
+    let found = standing(tree, gone)?;
+    let case = hiding_case(files, counter, gone.may_hide, found);
     let beside = candidates(alloc, case)?;
-    let draft = removal_draft(alloc, tree, parent, found, name, beside.as_slice())?;
+    let draft = gathered(alloc, tree, row, gone.parent, beside.as_slice())?;
+    expect_change(row.change, draft.paths.as_slice())?;
     let terms = draft.into_terms(alloc, case, 0, 0)?;
     Ok(terms)
 }

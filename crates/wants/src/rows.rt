@@ -5,12 +5,13 @@ ghost use Rattle.wants.specs.Cases.{seen_of};
 ghost use Rattle.wants.specs.Drafts.{IsWanted, errno_of, location_of};
 ghost use Rattle.wants.specs.Laws.{base_of};
 ghost use Rattle.wants.specs.Plans.{IsRefusedPlan};
+ghost use Rattle.wants.specs.Rows.{are_same};
 
 use crate::closing::closing_terms;
 use crate::drafts::{Terms, terms_of, terms_with_file};
 use crate::pages::page_terms;
 use crate::refusal::Refusal;
-use crate::removals::removal_terms;
+use crate::removals::{Gone, going_terms};
 use files::Files;
 use flights::Want;
 use paths::Name;
@@ -34,6 +35,20 @@ impl Location<'_> {
         match self {
             Location::AtNode(number) => *number,
             Location::AtName(parent, _) => *parent,
+        }
+    }
+
+    /// Whether both are that of one node, or that of one name under one node.
+    fn is(&self, other: &Location) -> bool
+        ensures { result ≡ are_same (location_of self.now) (location_of other.now) }
+    {
+        match (self, other) {
+            (Location::AtName(parent, name), Location::AtName(other_parent, other_name)) => {
+                parent == other_parent && name.is(other_name)
+            }
+            (Location::AtNode(number), Location::AtNode(other_number)) => number == other_number,
+            (Location::AtNode(_), Location::AtName(_, _))
+            | (Location::AtName(_, _), Location::AtNode(_)) => false,
         }
     }
 }
@@ -102,7 +117,20 @@ pub(crate) fn terms_for(
             parent,
             name,
             may_hide,
-        } => removal_terms(alloc, tree, files, counter, *parent, name, *may_hide),
+        } => {
+            let row = Row {
+                locations: &[Location::AtName(*parent, name)],
+                hold: Hold::Alone,
+                enters: false,
+                change: Change::Cuts,
+            };
+            let gone = Gone {
+                parent: *parent,
+                name,
+                may_hide: *may_hide,
+            };
+            going_terms(alloc, tree, files, counter, &row, &gone)
+        }
         Want::Move {
             parent,
             name,
@@ -117,7 +145,12 @@ pub(crate) fn terms_for(
                 enters: false,
                 change: Change::Moves,
             };
-            terms_of(alloc, tree, &row)
+            let gone = Gone {
+                parent: *new_parent,
+                name: new_name,
+                may_hide: !source.is(&target),
+            };
+            going_terms(alloc, tree, files, counter, &row, &gone)
         }
         Want::Page { folder, names } => page_terms(alloc, tree, *folder, names.as_slice()),
         Want::Open { number, access: _ } => {

@@ -1,4 +1,4 @@
-use Rattle.std.proofs.Common.{◌≡◌, List, length, sym, subst, ap, ◌∙◌, rules}
+use Rattle.std.proofs.Common.{◌≡◌, List, length, sym, subst, ap, ◌∙◌, arith, rules}
 use Rattle.std.proofs.lemmas.List.{length-map}
 use Rattle.std.proofs.lemmas.Result.{err_from_is_err_and}
 use Rattle.paths.specs.Prefixes.{Names}
@@ -54,4 +54,4 @@ returns-clause-ok c =
     let drawn : IsDrawn x (entered_case x.absent row.enters) c.births_in.result c.from.result c.in_ok-terms.terms
     = subst (λ k. IsDrawn x k c.births_in.result c.from.result c.in_ok-terms.terms) case c.in_ok-terms.ensures in
     agreed (at_in c.args.tree.now) c.expect_rooted.ensures.tree row x c.births_in.result c.from.result c.in_ok-terms.terms c.requires c.in_ok-expect_rooted.ensures.ok c.in_ok-draft.ensures.ok
-    (rw c.as_slice.ensures.value at c.in_ok-expect_change.ensures.ok) (search rules) births c.in_ok-draft.ensures.room drawn
+    (rw c.as_slice.ensures.value at c.in_ok-expect_change.ensures.ok) (search rules) births (omega (arith, c.in_ok-draft.ensures.room)) drawn

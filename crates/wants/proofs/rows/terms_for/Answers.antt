@@ -1,4 +1,4 @@
-use Rattle.std.proofs.Common.{refl}
+use Rattle.std.proofs.Common.{not, refl, ap}
 use Rattle.std.proofs.lemmas.Result.{IfErr-weaker, IfOk-weaker}
 use Rattle.flights.specs.declared.data.Case.TheVariants as cases
 use Rattle.wants.specs.declared.refusal.Refusal.{Refusal}
@@ -7,7 +7,7 @@ use Rattle.wants.specs.Drafts.{IsWanted, errno_of}
 use Rattle.wants.specs.Plans.{IsRefusedPlan}
 use Rattle.wants.specs.Rows.{name_row, node_row}
 use Rattle.wants.proofs.Pathless.{closing_refused, closing_wanted}
-use Rattle.wants.proofs.Wanting.{entry_there, name_opened, named_wanted, node_opened, node_refused, node_wanted, refused_as, removal_refused, removal_wanted, unsound_opening}
+use Rattle.wants.proofs.Wanting.{entry_there, move_refused, move_wanted, name_opened, named_wanted, node_opened, node_refused, node_wanted, refused_as, removal_refused, removal_wanted, unsound_opening}
 use Rattle.wants.proofs.rows.terms_for.Goals as goal
 
 pub returns-in-Node-clause-err : goal.returns-in-Node-clause-err
@@ -36,18 +36,24 @@ returns-in-Name-clause-err c =
 pub returns-in-Remove-clause-ok : goal.returns-in-Remove-clause-ok
 returns-in-Remove-clause-ok c =
     let seen = seen_of c.args.tree.now c.args.files.now c.args.counter in
-    IfOk-weaker c.removal_terms.result _ (λ t. IsWanted seen c.args.want.now t) (λ t are. removal_wanted seen c.args.want.now _ _ _ t c.in-Remove.is are) c.removal_terms.ensures.ok
+    IfOk-weaker c.going_terms.result _ (λ t. IsWanted seen c.args.want.now t) (λ t are. removal_wanted seen c.args.want.now _ _ _ t c.in-Remove.is are.fits are.terms) c.going_terms.ensures.ok
 
 pub returns-in-Remove-clause-err : goal.returns-in-Remove-clause-err
 returns-in-Remove-clause-err c =
     let seen = seen_of c.args.tree.now c.args.files.now c.args.counter in
-    IfErr-weaker c.removal_terms.result _ (λ (r : Refusal). IsRefusedPlan seen c.args.want.now (errno_of r)) (λ r bad. removal_refused seen c.args.want.now _ _ _ (errno_of r) c.in-Remove.is bad) c.removal_terms.ensures.err
+    IfErr-weaker c.going_terms.result _ (λ (r : Refusal). IsRefusedPlan seen c.args.want.now (errno_of r)) (λ r bad. removal_refused seen c.args.want.now _ _ _ (errno_of r) bad.case c.in-Remove.is bad.fits bad.unsound) c.going_terms.ensures.err
+
+pub returns-in-Move-clause-ok : goal.returns-in-Move-clause-ok
+returns-in-Move-clause-ok c =
+    let seen = seen_of c.args.tree.now c.args.files.now c.args.counter in
+    let apart = ap not c.is.ensures in
+    IfOk-weaker c.going_terms-in-Move.result _ (λ t. IsWanted seen c.args.want.now t) (λ t are. move_wanted seen c.args.want.now _ _ _ _ _ c.in-Move.is apart t are.fits are.terms) c.going_terms-in-Move.ensures.ok
 
 pub returns-in-Move-clause-err : goal.returns-in-Move-clause-err
 returns-in-Move-clause-err c =
     let seen = seen_of c.args.tree.now c.args.files.now c.args.counter in
-    let t = c.terms_of-in-Move.ensures in
-    IfErr-weaker c.terms_of-in-Move.result _ (λ (r : Refusal). IsRefusedPlan seen c.args.want.now (errno_of r)) (λ r unsound. refused_as seen c.args.want.now _ (errno_of r) c.in-Move.is (cases.Plain, refl) unsound) t.err
+    let apart = ap not c.is.ensures in
+    IfErr-weaker c.going_terms-in-Move.result _ (λ (r : Refusal). IsRefusedPlan seen c.args.want.now (errno_of r)) (λ r bad. move_refused seen c.args.want.now _ _ _ _ _ c.in-Move.is apart (errno_of r) bad.case bad.fits bad.unsound) c.going_terms-in-Move.ensures.err
 
 pub returns-in-Open-clause-ok : goal.returns-in-Open-clause-ok
 returns-in-Open-clause-ok c =

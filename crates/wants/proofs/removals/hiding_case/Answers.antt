@@ -1,10 +1,9 @@
-use Rattle.std.proofs.Common.{Some, false, true, refl, sym, ap, ◌∙◌, subst, inl, inr}
+use Rattle.std.proofs.Common.{refl, sym, ◌∙◌}
 use Rattle.std.proofs.lemmas.Bool.{false≢true}
-use Rattle.std.proofs.lemmas.Option.{none-some, same_Some}
 use Rattle.files.specs.Filed.{files_of}
-use Rattle.wants.proofs.Removing.{plain_removal}
-use Rattle.wants.proofs.removals.removal_case.Goals as goal
-use Rattle.wants.proofs.removals.removal_case.Goals.{else-may_hide-via-then-may_hide+else-is_open, else-may_hide-via-else-may_hide}
+use Rattle.wants.proofs.Removing.{plain_case}
+use Rattle.wants.proofs.removals.hiding_case.Goals as goal
+use Rattle.wants.proofs.removals.hiding_case.Goals.{else-may_hide-via-then-may_hide+else-is_open, else-may_hide-via-else-may_hide}
 
 pub returns-in_default : goal.returns-in_default
 returns-in_default c at parent name tree found may n named is_open = c.in_default.not-Some n ((found n).1 named)
@@ -16,7 +15,7 @@ returns-then-is_open c at parent name tree found =
 pub returns-else-may_hide : goal.returns-else-may_hide
 returns-else-may_hide c at parent name tree found may n named is_open = elim c.else-may_hide.branch [
   | else-may_hide-via-then-may_hide+else-is_open w ↦
-      plain_removal at tree (files_of c.args.files.now) w.is_open.ensures.law c.args.counter parent name c.args.may_hide c.in-Some.number ((found c.in-Some.number).0 c.in-Some.is)
+      plain_case at tree (files_of c.args.files.now) w.is_open.ensures.law c.args.counter parent name c.args.may_hide c.in-Some.number ((found c.in-Some.number).0 c.in-Some.is)
       (λ both. false≢true (sym w.if-is_open.false ∙ (w.is_open.ensures.opened ∙ both.1))) may n named is_open
   | else-may_hide-via-else-may_hide w ↦ absurd (false≢true (sym w.if-may_hide.false ∙ may))
 ]
