@@ -74,18 +74,21 @@ page_births (wants.Release number fh) c page = refl
 name_else : (parent : ℕ) (name : Name) → AtName parent name ≡ AtNode 1 → ⊥
 name_else parent name e = cc
 
+beside_else : (parent : ℕ) (name : Name) (hidden : List Name) → Contains (AtName parent name ∷ names_under parent hidden) (AtNode 1) → ⊥
+beside_else parent name hidden h = elim (cases_in (AtName parent name) (names_under parent hidden) (AtNode 1) h) [
+  | inl e ↦ name_else parent name e
+  | inr more ↦ let it = in_map (λ (x : Name). AtName parent x) hidden (AtNode 1) more in name_else parent it.0 it.2
+]
+
 -- the root's path is not held alone
 pub rows_placed : (want : Want) (c : Case) → IsPlaced (row_of want c).alone
 rows_placed (wants.Node number handle) c h = none_in (AtNode 1) h
 rows_placed (wants.Name parent name) c h = none_in (AtNode 1) h
-rows_placed (wants.Remove parent name may_hide) c h = elim (cases_in (AtName parent name) (names_under parent (hidden_in c)) (AtNode 1) h) [
-  | inl e ↦ name_else parent name e
-  | inr more ↦ let it = in_map (λ (x : Name). AtName parent x) (hidden_in c) (AtNode 1) more in name_else parent it.0 it.2
-]
+rows_placed (wants.Remove parent name may_hide) c h = beside_else parent name (hidden_in c) h
 rows_placed (wants.Page folder names) c h = none_in (AtNode 1) h
-rows_placed (wants.Move parent name new_parent new_name) c h = elim (cases_in (AtName parent name) (AtName new_parent new_name ∷ []) (AtNode 1) h) [
+rows_placed (wants.Move parent name new_parent new_name) c h = elim (cases_in (AtName parent name) (AtName new_parent new_name ∷ names_under new_parent (hidden_in c)) (AtNode 1) h) [
   | inl e ↦ name_else parent name e
-  | inr more ↦ name_else new_parent new_name (only_in (AtName new_parent new_name) (AtNode 1) more)
+  | inr more ↦ beside_else new_parent new_name (hidden_in c) more
 ]
 rows_placed (wants.Open number access) c h = none_in (AtNode 1) h
 rows_placed (wants.Create parent name access) c h = none_in (AtNode 1) h

@@ -102,7 +102,7 @@ pub hides_so : (seen : Seen) (want : Want) (c : Case) → IsCase seen want c →
 hides_so seen (wants.Node number handle) c fits kept is = none_fit kept (is ∙ ap (λ (k : Case). hidden_in k) fits)
 hides_so seen (wants.Name parent name) c fits kept is = none_fit kept (is ∙ entry_fits seen.at parent name c fits)
 hides_so seen (wants.Remove parent name may) c fits kept is = names_fit parent (hidden_in c) kept is
-hides_so seen (wants.Move parent name new_parent new_name) c fits kept is = none_fit kept (is ∙ ap (λ (k : Case). hidden_in k) fits)
+hides_so seen (wants.Move parent name new_parent new_name) c fits kept is = names_fit new_parent (hidden_in c) kept is
 hides_so seen (wants.Page folder names) c fits kept is = none_fit kept (is ∙ ap (λ (k : Case). hidden_in k) fits)
 hides_so seen (wants.Open number access) c fits kept is = none_fit kept (is ∙ ap (λ (k : Case). hidden_in k) fits)
 hides_so seen (wants.Create parent name access) c fits kept is = none_fit kept (is ∙ entry_fits seen.at parent name c fits)

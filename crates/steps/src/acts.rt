@@ -104,7 +104,11 @@ pub(crate) fn acts_of(
         } => Acts {
             entries: Entries::Nothing,
             change: Change::Moves(Key { parent, name }, Keys::new(new_parent, new_name, copy)),
-            candidates: None,
+            candidates: Some(FolderKeys {
+                folder: new_parent,
+                names: beside,
+                copies,
+            }),
             opens: Opens::Nothing,
         },
         Want::Page { folder, names } => Acts {
