@@ -76,6 +76,8 @@ pub enum Case {
     Absent,
     /// The node whose file is closed has no path, or one that is longer than 4,096 bytes.
     Pathless,
+    /// The node whose file is closed has a hidden mark and a path that is not longer, and no other file of it is open: it is removed.
+    Last,
     /// The node that stands at the name which goes has an open file, which may be hidden.
     Hiding {
         number: u64,

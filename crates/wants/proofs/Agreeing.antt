@@ -29,7 +29,7 @@ use Rattle.wants.proofs.Members.{all_in, any_cases, any_first, any_in, any_later
 -- ---- prefixes above a name
 
 -- a prefix of a path that is not the whole path is one of the path above it
-prefix_above : (p up : Names) (name : Name) → is_prefix p (up ++ name ∷ []) ≡ true → (p ≡ up ++ name ∷ [] → ⊥) → is_prefix p up ≡ true
+pub prefix_above : (p up : Names) (name : Name) → is_prefix p (up ++ name ∷ []) ≡ true → (p ≡ up ++ name ∷ [] → ⊥) → is_prefix p up ≡ true
 prefix_above [] up name begins other = refl
 prefix_above (x ∷ []) [] name begins other =
     let both = and_parts (is_name x name) true begins in

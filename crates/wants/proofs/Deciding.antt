@@ -6,6 +6,7 @@ use Rattle.flights.specs.declared.data.Case.TheVariants as cases
 use Rattle.flights.specs.declared.data.Want.{Want}
 use Rattle.flights.specs.declared.data.Want.TheVariants as wants
 use Rattle.tree.specs.Places.{Lookup, IsTree}
+use Rattle.files.specs.Handles.{Files}
 use Rattle.wants.specs.Cases.{IsCase, IsClosingCase, IsDemand, IsEntryCase, IsHidingCase, Seen}
 use Rattle.wants.specs.Rows.{Demand, AtName, are_same, row_of}
 
@@ -17,21 +18,31 @@ entry_once at parent name cases.Absent cases.Absent a b = refl
 entry_once at parent name cases.Pathless d a b = absurd a
 entry_once at parent name cases.Plain cases.Pathless a b = absurd b
 entry_once at parent name cases.Absent cases.Pathless a b = absurd b
+entry_once at parent name cases.Last d a b = absurd a
+entry_once at parent name cases.Plain cases.Last a b = absurd b
+entry_once at parent name cases.Absent cases.Last a b = absurd b
 entry_once at parent name (cases.Hiding n k) d a b = absurd a
 entry_once at parent name cases.Plain (cases.Hiding n k) a b = absurd b
 entry_once at parent name cases.Absent (cases.Hiding n k) a b = absurd b
 
-closing_once : (at : Lookup) (number : ℕ) (c d : Case) → IsClosingCase at number c → IsClosingCase at number d → c ≡ d
-closing_once at number cases.Plain cases.Plain a b = refl
-closing_once at number cases.Plain cases.Pathless a b = absurd (b a)
-closing_once at number cases.Pathless cases.Plain a b = absurd (a b)
-closing_once at number cases.Pathless cases.Pathless a b = refl
-closing_once at number cases.Absent d a b = absurd a
-closing_once at number cases.Plain cases.Absent a b = absurd b
-closing_once at number cases.Pathless cases.Absent a b = absurd b
-closing_once at number (cases.Hiding n k) d a b = absurd a
-closing_once at number cases.Plain (cases.Hiding n k) a b = absurd b
-closing_once at number cases.Pathless (cases.Hiding n k) a b = absurd b
+closing_once : (at : Lookup) (files : Files) (number : ℕ) (c d : Case) → IsClosingCase at files number c → IsClosingCase at files number d → c ≡ d
+closing_once at files number cases.Plain cases.Plain a b = refl
+closing_once at files number cases.Plain cases.Pathless a b = absurd (b a.0)
+closing_once at files number cases.Plain cases.Last a b = absurd (a.1 b.1)
+closing_once at files number cases.Pathless cases.Plain a b = absurd (a b.0)
+closing_once at files number cases.Pathless cases.Pathless a b = refl
+closing_once at files number cases.Pathless cases.Last a b = absurd (a b.0)
+closing_once at files number cases.Last cases.Plain a b = absurd (b.1 a.1)
+closing_once at files number cases.Last cases.Pathless a b = absurd (b a.0)
+closing_once at files number cases.Last cases.Last a b = refl
+closing_once at files number cases.Absent d a b = absurd a
+closing_once at files number cases.Plain cases.Absent a b = absurd b
+closing_once at files number cases.Pathless cases.Absent a b = absurd b
+closing_once at files number cases.Last cases.Absent a b = absurd b
+closing_once at files number (cases.Hiding n k) d a b = absurd a
+closing_once at files number cases.Plain (cases.Hiding n k) a b = absurd b
+closing_once at files number cases.Pathless (cases.Hiding n k) a b = absurd b
+closing_once at files number cases.Last (cases.Hiding n k) a b = absurd b
 
 hiding_once : (seen : Seen) → IsTree seen.at → (parent : ℕ) (name : Name) (may_hide : Bool) (c d : Case) → IsHidingCase seen parent name may_hide c → IsHidingCase seen parent name may_hide d → c ≡ d
 hiding_once seen tree parent name may_hide cases.Plain cases.Plain a b = refl
@@ -45,6 +56,9 @@ hiding_once seen tree parent name may_hide (cases.Hiding n k) (cases.Hiding m j)
 hiding_once seen tree parent name may_hide cases.Pathless d a b = absurd a
 hiding_once seen tree parent name may_hide cases.Plain cases.Pathless a b = absurd b
 hiding_once seen tree parent name may_hide (cases.Hiding n k) cases.Pathless a b = absurd b
+hiding_once seen tree parent name may_hide cases.Last d a b = absurd a
+hiding_once seen tree parent name may_hide cases.Plain cases.Last a b = absurd b
+hiding_once seen tree parent name may_hide (cases.Hiding n k) cases.Last a b = absurd b
 
 case_once : (seen : Seen) → IsTree seen.at → (want : Want) (c d : Case) → IsCase seen want c → IsCase seen want d → c ≡ d
 case_once seen tree (wants.Node number handle) c d a b = a ∙ sym b
@@ -54,7 +68,7 @@ case_once seen tree (wants.Move parent name new_parent new_name) c d a b = hidin
 case_once seen tree (wants.Page folder names) c d a b = a ∙ sym b
 case_once seen tree (wants.Open number access) c d a b = a ∙ sym b
 case_once seen tree (wants.Create parent name access) c d a b = entry_once seen.at parent name c d a b
-case_once seen tree (wants.Release number fh) c d a b = closing_once seen.at number c d a b
+case_once seen tree (wants.Release number fh) c d a b = closing_once seen.at seen.files number c d a b
 
 pub demand_once : (seen : Seen) (want : Want) (d e : Demand) → IsTree seen.at → IsDemand seen want d → IsDemand seen want e → d ≡ e
 demand_once seen want d e tree a b = a.row ∙ (ap (λ c. row_of want c) (case_once seen tree want a.case b.case a.fits b.fits) ∙ sym b.row)

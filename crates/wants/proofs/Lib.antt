@@ -1,4 +1,5 @@
 pub mod Pathless
+mod Lasting
 pub mod Members
 pub mod RowLemmas
 pub mod Deciding

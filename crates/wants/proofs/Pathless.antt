@@ -1,19 +1,26 @@
 -- What the closing of a file asks for.
-use Rattle.std.proofs.Common.{ℕ, true, ◌≤◌, ◌≡◌, ◌⊎◌, [], Some, reverse, refl, sym, ◌∙◌, subst, inl, inr, arith}
-use Rattle.std.proofs.lemmas.Bool.{cases_lt}
-use Rattle.std.proofs.lemmas.Option.{none-some}
+use Rattle.std.proofs.Common.{ℕ, Bool, false, true, ◌↔◌, ◌≤◌, ◌≡◌, ◌⊎◌, [], Some, reverse, refl, sym, ap, ◌∙◌, subst, inl, inr, arith}
+use Rattle.std.proofs.lemmas.Bool.{cases_Bool, cases_eq, cases_lt}
+use Rattle.std.proofs.lemmas.Option.{none-some, same_Some}
 use Rattle.std.proofs.lemmas.Bool.{false≢true}
 use Rattle.std.proofs.lemmas.Bool.Decides.{Decides-int_eq}
 use Rattle.std.specs.Ordering.{int_eq}
+use Rattle.std.specs.Prelude.{option_map, sum_by, unwrap_or}
 use Rattle.errno.specs.declared.TheConstants.{ENAMETOOLONG, ENOMEM, ESTALE}
+use Rattle.files.specs.Handles.{Files, of_node}
 use Rattle.flights.specs.declared.data.Case.{Case}
 use Rattle.flights.specs.declared.data.Case.TheVariants as cases
 use Rattle.flights.specs.declared.data.Want.{Want}
 use Rattle.flights.specs.declared.data.Want.TheVariants as wants
 use Rattle.paths.specs.Prefixes.{Names, path_bytes}
+use Rattle.sums.specs.Sum.{IsSum}
+use Rattle.sums.proofs.Once.{sum_once}
 use Rattle.tree.specs.declared.nodes.Node.{Node}
 use Rattle.tree.specs.declared.nodes.Place.{Place}
 use Rattle.tree.specs.declared.nodes.Place.TheVariants as place
+use Rattle.tree.specs.declared.nodes.TreeFault.{TreeFault}
+use Rattle.tree.specs.declared.nodes.TreeFault.TheVariants as fault
+use Rattle.tree.specs.Moves.{IsPathFault}
 use Rattle.tree.specs.Places.{Lookup, IsPathOf, IsTree, Leads}
 use Rattle.tree.proofs.Climbing.{climbs_alive, path_of_lead}
 use Rattle.tree.proofs.LookupLemmas.{cases_option}
@@ -21,8 +28,8 @@ use Rattle.wants.specs.declared.drafts.Terms.{Terms}
 use Rattle.wants.specs.declared.refusal.Refusal.{Refusal}
 use Rattle.wants.specs.declared.refusal.Refusal.TheVariants as refusal
 use Rattle.wants.specs.Asked.{HasPath, IsStale, IsUnsound, long, misplaced, no_memory, stale}
-use Rattle.wants.specs.Cases.{HasShortPath, IsClosingCase, Seen}
-use Rattle.wants.specs.Drafts.{IsClosing, IsNothing, IsTerms, IsWanted, IsWithoutPath, errno_of}
+use Rattle.wants.specs.Cases.{HasShortPath, IsClosingCase, IsLastOpening, Seen}
+use Rattle.wants.specs.Drafts.{IsClosing, IsClosingPath, IsNothing, IsTerms, IsWanted, IsWithoutPath, TellsPath, errno_of, refusal_of}
 use Rattle.wants.specs.Plans.{IsRefusedPlan}
 use Rattle.wants.specs.Rows.{AtNode, closed_row, node_row, row_of}
 use Rattle.wants.proofs.Finding.{location_once, way_or_cut}
@@ -54,8 +61,36 @@ module _ (at : Lookup) (tree : IsTree at) (number : ℕ) where
     | inr (x, here) ↦ by_place x here x.place refl
   ]
 
-  pub closing_there : (c : Case) × IsClosingCase at number c
-  closing_there = elim short_or_not [ inl short ↦ (cases.Plain, short) | inr none ↦ (cases.Pathless, none) ]
+  -- ---- whether it is the last opening of a hidden file
+
+  other_count : (files : Files) (total : ℕ) → IsSum files (of_node number) total → (total ≡ 1 → ⊥) → IsLastOpening at files number → ⊥
+  other_count files total sum other last = other (sum_once files (of_node number) total 1 sum last.one)
+
+  by_mark : (files : Files) → (number ≡ 1 → ⊥) → (total : ℕ) → IsSum files (of_node number) total → (x : Node) → at number ≡ Some x → IsLastOpening at files number ⊎ (IsLastOpening at files number → ⊥)
+  by_mark files below total sum x here = elim (cases_Bool x.hidden) [
+    | inl marked ↦ elim (cases_eq total 1) [
+      | inl one ↦ inl (record { node = x; here = here; hidden = marked; not_root = below; one = subst (λ n. IsSum files (of_node number) n) one sum })
+      | inr other ↦ inr (other_count files total sum other)
+    ]
+    | inr bare ↦ inr (λ last. false≢true (sym bare ∙ (ap (λ (y : Node). y.hidden) (same_Some x last.node (sym here ∙ last.here)) ∙ last.hidden)))
+  ]
+
+  last_or_not : (files : Files) (many : ℕ) → IsSum files (λ file. 1) many → IsLastOpening at files number ⊎ (IsLastOpening at files number → ⊥)
+  last_or_not files many sum = elim (cases_eq number 1) [
+    | inl root ↦ inr (λ last. last.not_root root)
+    | inr below ↦ elim (cases_option (at number)) [
+      | inl none ↦ inr (λ last. none-some last.node (sym none ∙ last.here))
+      | inr (x, here) ↦
+          let total = sum_by (λ k. unwrap_or (option_map (of_node number) (files k)) 0) sum.keys in
+          by_mark files below total (record { keys = sum.keys; apart = sum.apart; exact = sum.exact; total_is = refl }) x here
+    ]
+  ]
+
+  pub closing_there : (files : Files) (many : ℕ) → IsSum files (λ file. 1) many → (c : Case) × IsClosingCase at files number c
+  closing_there files many sum = elim short_or_not [
+    | inl short ↦ elim (last_or_not files many sum) [ inl last ↦ (cases.Last, (short, last)) | inr other ↦ (cases.Plain, (short, other)) ]
+    | inr none ↦ (cases.Pathless, none)
+  ]
 
   -- ---- why it is refused
 
@@ -83,31 +118,56 @@ module _ (at : Lookup) (tree : IsTree at) (number : ℕ) where
   no_short r (inl e) unsound = no_stale (subst (λ (q : Refusal). IsUnsound at (node_row number) (errno_of q)) e unsound)
   no_short r (inr e) unsound = no_long (subst (λ (q : Refusal). IsUnsound at (node_row number) (errno_of q)) e unsound)
 
-  starved : (fh : ℕ) (c : Case) → IsClosingCase at number c → IsUnsound at (row_of (wants.Release number fh) c) (errno_of refusal.Memory)
-  starved fh cases.Plain short = no_memory refl (λ s. rooted short (record { number = s.number; named = s.named; lost = s.lost }))
-  starved fh cases.Absent bad = absurd bad
-  starved fh cases.Pathless none = no_memory refl (λ s. none_in s.number s.named)
-  starved fh (cases.Hiding n k) bad = absurd bad
+  -- the same of the fault of the tree
+  pub no_fault : (e : TreeFault) → IsPathFault at number e → TellsPath at number (refusal_of e)
+  no_fault fault.Unknown bad told short = let it = climbs_alive at tree.rooted (reverse short.0) number short.1 in none-some it.0 (sym bad ∙ it.1)
+  no_fault fault.Cut bad told short = way_or_cut at number tree (reverse short.0) short.1 bad.0 bad.1 bad.2
+  no_fault fault.Full bad told short = bad
+  no_fault fault.Memory bad (inl e) short = let f : refusal.Memory ≡ refusal.Stale = e in cc
+  no_fault fault.Memory bad (inr e) short = let f : refusal.Memory ≡ refusal.TooLong = e in cc
+  no_fault fault.PathLong bad told short =
+      let same : bad.0 ≡ short.0 = location_once at tree (AtNode number) bad.0 short.0 bad.1 short.1 in
+      let few : path_bytes bad.0 ≤ 4096 = subst (λ (p : Names). path_bytes p ≤ 4096) (sym same) short.2 in
+      let over = bad.2 in
+      omega (arith, over, few)
+
+  starved : (files : Files) (fh : ℕ) (c : Case) → IsClosingCase at files number c → IsUnsound at (row_of (wants.Release number fh) c) (errno_of refusal.Memory)
+  starved files fh cases.Plain fits = no_memory refl (λ s. rooted fits.0 (record { number = s.number; named = s.named; lost = s.lost }))
+  starved files fh cases.Absent bad = absurd bad
+  starved files fh cases.Pathless none = no_memory refl (λ s. none_in s.number s.named)
+  starved files fh cases.Last fits = no_memory refl (λ s. rooted fits.0 (record { number = s.number; named = s.named; lost = s.lost }))
+  starved files fh (cases.Hiding n k) bad = absurd bad
+
+-- where memory is refused nothing is told of a path
+pub untold : (at : Lookup) (number : ℕ) → TellsPath at number refusal.Memory
+untold at number (inl e) short = let f : refusal.Memory ≡ refusal.Stale = e in cc
+untold at number (inr e) short = let f : refusal.Memory ≡ refusal.TooLong = e in cc
 
 -- want of memory
-pub closing_refused : (seen : Seen) → IsTree seen.at → (want : Want) (number fh : ℕ) (r : Refusal) → want ≡ wants.Release number fh → r ≡ refusal.Memory → IsRefusedPlan seen want (errno_of r)
-closing_refused seen tree want number fh r is starving =
-    let it = closing_there seen.at tree number in
+pub closing_refused : (seen : Seen) → IsTree seen.at → (many : ℕ) → IsSum seen.files (λ file. 1) many → (want : Want) (number fh : ℕ) (r : Refusal) → want ≡ wants.Release number fh → r ≡ refusal.Memory → IsRefusedPlan seen want (errno_of r)
+closing_refused seen tree many sum want number fh r is starving =
+    let it = closing_there seen.at tree number seen.files many sum in
     subst (λ (q : Refusal). IsRefusedPlan seen want (errno_of q)) (sym starving) (subst (λ (v : Want). IsRefusedPlan seen v (errno_of refusal.Memory)) (sym is)
-    (record { demand = row_of (wants.Release number fh) it.0; demanded = record { case = it.0; fits = it.1; row = refl }; unsound = starved seen.at tree number fh it.0 it.1 }))
+    (record { demand = row_of (wants.Release number fh) it.0; demanded = record { case = it.0; fits = it.1; row = refl }; unsound = starved seen.at tree number seen.files fh it.0 it.1 }))
 
 -- ---- what it asks for
 
 -- the node's path, as that of any node
-pub closing_plain : (at : Lookup) (number : ℕ) (t : Terms) → t.case ≡ cases.Plain → HasShortPath at number → IsTerms at (node_row number) t → IsClosing at number t
+pub closing_plain : (at : Lookup) (number : ℕ) (t : Terms) → t.case ≡ cases.Plain → HasShortPath at number → IsTerms at (node_row number) t → IsClosingPath at number false t
 closing_plain at number t is short terms = record {
-  fits = subst (λ (c : Case). IsClosingCase at number c) (sym is) short;
+  case_is = is;
+  short = short;
   terms = subst (λ (c : Case). IsTerms at (closed_row number c) t) (sym is) terms;
 }
 
-pub closing_nothing : (at : Lookup) (number : ℕ) (t : Terms) → IsNothing t → (HasShortPath at number → ⊥) → IsClosing at number t
-closing_nothing at number t is none = record {
-  fits = subst (λ (c : Case). IsClosingCase at number c) (sym is.case_is) none;
+-- or its removal, where it is the last opening
+pub closing_path : (at : Lookup) (files : Files) (number : ℕ) (last : Bool) (t : Terms) → (last ≡ true) ↔ IsLastOpening at files number → IsClosingPath at number last t → IsClosing at files number t
+closing_path at files number true t whether is = record { fits = subst (λ (c : Case). IsClosingCase at files number c) (sym is.case_is) (is.short, whether.0 refl); terms = is.terms }
+closing_path at files number false t whether is = record { fits = subst (λ (c : Case). IsClosingCase at files number c) (sym is.case_is) (is.short, λ last. false≢true (whether.1 last)); terms = is.terms }
+
+pub closing_nothing : (at : Lookup) (files : Files) (number : ℕ) (t : Terms) → IsNothing t → (HasShortPath at number → ⊥) → IsClosing at files number t
+closing_nothing at files number t is none = record {
+  fits = subst (λ (c : Case). IsClosingCase at files number c) (sym is.case_is) none;
   terms = subst (λ (c : Case). IsTerms at (closed_row number c) t) (sym is.case_is) (is.terms at);
 }
 
@@ -120,7 +180,7 @@ short_of at number t terms =
       | inr fits ↦ (it.0, it.3, omega (arith, fits))
     ]
 
-pub closing_wanted : (seen : Seen) (want : Want) (number fh : ℕ) (t : Terms) → want ≡ wants.Release number fh → IsClosing seen.at number t → IsWanted seen want t
+pub closing_wanted : (seen : Seen) (want : Want) (number fh : ℕ) (t : Terms) → want ≡ wants.Release number fh → IsClosing seen.at seen.files number t → IsWanted seen want t
 closing_wanted seen want number fh t is it = subst (λ (v : Want). IsWanted seen v t) (sym is) (record {
   fits = it.fits;
   terms = record {

@@ -1,5 +1,5 @@
 -- Each row has its locations at or under the nodes that it names.
-use Rattle.std.proofs.Common.{ℕ, ◌≡◌, ◌&&◌, ◌↔◌, Bool, true, false, List, [], ◌∷◌, Contains, Option, None, Some, refl, sym, ap, ◌∙◌, subst, inl, inr}
+use Rattle.std.proofs.Common.{ℕ, ◌≡◌, ◌&&◌, ◌↔◌, ◌⊎◌, Bool, true, false, List, [], ◌∷◌, Contains, Option, None, Some, refl, sym, ap, ◌∙◌, subst, inl, inr}
 use Rattle.std.specs.Prelude.{Any}
 use Rattle.std.proofs.lemmas.Bool.{cases_Bool, eq-eqb}
 use Rattle.std.proofs.lemmas.List.{length-map}
@@ -10,8 +10,8 @@ use Rattle.flights.specs.declared.data.Case.{Case}
 use Rattle.flights.specs.declared.data.Case.TheVariants as cases
 use Rattle.flights.specs.declared.data.Want.{Want}
 use Rattle.flights.specs.declared.data.Want.TheVariants as wants
-use Rattle.wants.specs.Laws.{AreSiblings, IsRow, base_of}
-use Rattle.wants.specs.Rows.{Location, AtNode, AtName, Opening, Used, are_same, closed_at, closed_on, closed_row, closing, used_on, move_row, name_row, node_row, page_names, page_row, hidden_in, names_under, removal_row, row_of}
+use Rattle.wants.specs.Laws.{AreOwn, AreSiblings, IsRow, base_of}
+use Rattle.wants.specs.Rows.{Location, AtNode, AtName, Opening, Used, are_same, closed_alone, closed_at, closed_change, closed_on, closed_row, closed_shared, closing, used_on, move_row, name_row, node_row, page_names, page_row, hidden_in, names_under, removal_row, row_of}
 use Rattle.wants.proofs.Members.{any_first, any_later, cases_in, first_in, in_map, later_in, none_in, only_in}
 
 -- a test of two names tells whether they are spelt the same
@@ -131,23 +131,46 @@ closed_under : (number : ℕ) (c : Case) (l : Location) → Contains (closed_at 
 closed_under number cases.Plain l h = under_only number (AtNode number) l refl h
 closed_under number cases.Absent l h = under_only number (AtNode number) l refl h
 closed_under number cases.Pathless l h = absurd (none_in l h)
+closed_under number cases.Last l h = under_only number (AtNode number) l refl h
 closed_under number (cases.Hiding m k) l h = absurd (none_in l h)
 
-closed_covered : (number : ℕ) (c : Case) (n : ℕ) → Contains (closed_on number c) n → Any (λ l. base_of l ≡ n) (closed_at number c)
-closed_covered number cases.Plain n h = any_first (λ l. base_of l ≡ n) (AtNode number) [] (only_in number n h)
-closed_covered number cases.Absent n h = any_first (λ l. base_of l ≡ n) (AtNode number) [] (only_in number n h)
+closed_sharing : (number : ℕ) (c : Case) (l : Location) → Contains (closed_shared number c) l → Contains (closed_on number c) (base_of l)
+closed_sharing number cases.Plain l h = under_only number (AtNode number) l refl h
+closed_sharing number cases.Absent l h = under_only number (AtNode number) l refl h
+closed_sharing number cases.Pathless l h = absurd (none_in l h)
+closed_sharing number cases.Last l h = absurd (none_in l h)
+closed_sharing number (cases.Hiding m k) l h = absurd (none_in l h)
+
+closed_owning : (number : ℕ) (c : Case) (l : Location) → Contains (closed_alone number c) l → Contains (closed_on number c) (base_of l)
+closed_owning number cases.Plain l h = absurd (none_in l h)
+closed_owning number cases.Absent l h = absurd (none_in l h)
+closed_owning number cases.Pathless l h = absurd (none_in l h)
+closed_owning number cases.Last l h = under_only number (AtNode number) l refl h
+closed_owning number (cases.Hiding m k) l h = absurd (none_in l h)
+
+closed_own : (number : ℕ) (c : Case) → AreOwn (closed_alone number c) (closed_change number c)
+closed_own number cases.Plain = tt
+closed_own number cases.Absent = tt
+closed_own number cases.Pathless = tt
+closed_own number cases.Last = first_in (AtNode number) []
+closed_own number (cases.Hiding m k) = tt
+
+closed_covered : (number : ℕ) (c : Case) (n : ℕ) → Contains (closed_on number c) n → Any (λ l. base_of l ≡ n) (closed_shared number c) ⊎ Any (λ l. base_of l ≡ n) (closed_alone number c)
+closed_covered number cases.Plain n h = inl (any_first (λ l. base_of l ≡ n) (AtNode number) [] (only_in number n h))
+closed_covered number cases.Absent n h = inl (any_first (λ l. base_of l ≡ n) (AtNode number) [] (only_in number n h))
 closed_covered number cases.Pathless n h = absurd (none_in n h)
+closed_covered number cases.Last n h = inr (any_first (λ l. base_of l ≡ n) (AtNode number) [] (only_in number n h))
 closed_covered number (cases.Hiding m k) n h = absurd (none_in n h)
 
--- a file that is closed asks for what its node does, or for nothing
+-- a file that is closed asks for what its node does, for its removal, or for nothing
 closed_is_row : (number : ℕ) (c : Case) (used : Option Used) (closes : Option ℕ) → IsRow (record (closed_row number c) { used = used; closes = closes })
 closed_is_row number c used closes = record {
-  shared = closed_under number c;
-  alone = λ l h. absurd (none_in l h);
+  shared = closed_sharing number c;
+  alone = closed_owning number c;
   paths = closed_under number c;
-  covered = λ n h. inl (closed_covered number c n h);
+  covered = closed_covered number c;
   entered = inl refl;
-  own = tt;
+  own = closed_own number c;
   hidden = λ l h. absurd (none_in l h);
   beside = λ l h. absurd (none_in l h);
 }

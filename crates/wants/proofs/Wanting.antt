@@ -81,6 +81,7 @@ pub entry_case : (at : Lookup) (parent : ℕ) (name : Name) (c : Case) → IsEnt
 entry_case at parent name cases.Plain all = all_in (IsTaken at) (AtName parent name ∷ []) (AtName parent name) all (first_in (AtName parent name) [])
 entry_case at parent name cases.Absent any = any_only (IsVacant at) (AtName parent name) any
 entry_case at parent name cases.Pathless bad = absurd bad
+entry_case at parent name cases.Last bad = absurd bad
 entry_case at parent name (cases.Hiding n k) bad = absurd bad
 
 -- a name for which an entry may be given has a case

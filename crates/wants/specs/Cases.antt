@@ -1,12 +1,14 @@
 -- Which case of its row a want is, as the table stands. Beside the table of rows this alone looks at wants.
-use Rattle.std.specs.Prelude.{ℕ, ◌≡◌, ◌≤◌, Bool, not, true}
+use Rattle.std.specs.Prelude.{ℕ, ◌≡◌, ◌≢◌, ◌≤◌, Bool, Some, not, true}
 use Rattle.files.specs.Filed.{Filing, files_of}
-use Rattle.files.specs.Handles.{Files, IsOpen}
+use Rattle.files.specs.Handles.{Files, IsOpen, of_node}
 use Rattle.flights.specs.declared.data.Case.{Case}
 use Rattle.flights.specs.declared.data.Case.TheVariants as cases
 use Rattle.flights.specs.declared.data.Want.{Want}
 use Rattle.flights.specs.declared.data.Want.TheVariants as wants
 use Rattle.paths.specs.Prefixes.{Name, Names, path_bytes}
+use Rattle.sums.specs.Sum.{IsSum}
+use Rattle.tree.specs.declared.nodes.Node.{Node}
 use Rattle.tree.specs.Places.{Lookup, Nodes, IsFree, IsNamed, IsPathOf, at_in}
 use Rattle.wants.specs.Rows.{Demand, AtName, are_same, row_of}
 
@@ -24,24 +26,35 @@ abbrev pub IsEntryCase : Lookup → ℕ → Name → Case → Type 0
 IsEntryCase at parent name cases.Plain = (n : ℕ) × IsNamed at n parent name
 IsEntryCase at parent name cases.Absent = IsFree at parent name
 IsEntryCase at parent name cases.Pathless = ⊥
+IsEntryCase at parent name cases.Last = ⊥
 IsEntryCase at parent name (cases.Hiding number counter) = ⊥
 
 -- a path leads to the node that is not too long
 abbrev pub HasShortPath : Lookup → ℕ → Type 0
 HasShortPath at n = (path : Names) × IsPathOf at n path × (path_bytes path ≤ 4096)
 
--- an open file that is closed: its node has such a path, or it has none
-abbrev pub IsClosingCase : Lookup → ℕ → Case → Type 0
-IsClosingCase at number cases.Plain = HasShortPath at number
-IsClosingCase at number cases.Absent = ⊥
-IsClosingCase at number cases.Pathless = HasShortPath at number → ⊥
-IsClosingCase at number (cases.Hiding n counter) = ⊥
+-- the node, which is not the root, has a hidden mark, and one file of it is open
+pub record IsLastOpening (at : Lookup) (files : Files) (number : ℕ) : Type 0 where
+  pub node : Node
+  pub here : at number ≡ Some node
+  pub hidden : node.hidden ≡ true
+  pub not_root : number ≢ 1
+  pub one : IsSum files (of_node number) 1
+
+-- an open file that is closed: its node has such a path, and it is the last opening of a hidden file or not; or it has none
+abbrev pub IsClosingCase : Lookup → Files → ℕ → Case → Type 0
+IsClosingCase at files number cases.Plain = HasShortPath at number × (IsLastOpening at files number → ⊥)
+IsClosingCase at files number cases.Absent = ⊥
+IsClosingCase at files number cases.Pathless = HasShortPath at number → ⊥
+IsClosingCase at files number cases.Last = HasShortPath at number × IsLastOpening at files number
+IsClosingCase at files number (cases.Hiding n counter) = ⊥
 
 -- a name that goes, since it is removed or replaced: the node that stands there may have an open file, which may have to be hidden
 abbrev pub IsHidingCase : Seen → ℕ → Name → Bool → Case → Type 0
 IsHidingCase seen parent name may_hide cases.Plain = may_hide ≡ true → (n : ℕ) → IsNamed seen.at n parent name → IsOpen seen.files n → ⊥
 IsHidingCase seen parent name may_hide cases.Absent = ⊥
 IsHidingCase seen parent name may_hide cases.Pathless = ⊥
+IsHidingCase seen parent name may_hide cases.Last = ⊥
 IsHidingCase seen parent name may_hide (cases.Hiding number counter) = (may_hide ≡ true) × (counter ≡ seen.counter) × IsNamed seen.at number parent name × IsOpen seen.files number
 
 abbrev pub IsCase : Seen → Want → Case → Type 0
@@ -52,7 +65,7 @@ IsCase seen (wants.Move parent name new_parent new_name) c = IsHidingCase seen n
 IsCase seen (wants.Page folder names) c = c ≡ cases.Plain
 IsCase seen (wants.Open number access) c = c ≡ cases.Plain
 IsCase seen (wants.Create parent name access) c = IsEntryCase seen.at parent name c
-IsCase seen (wants.Release number fh) c = IsClosingCase seen.at number c
+IsCase seen (wants.Release number fh) c = IsClosingCase seen.at seen.files number c
 
 -- what the want asks of the table as it stands
 pub record IsDemand (seen : Seen) (want : Want) (d : Demand) : Type 0 where

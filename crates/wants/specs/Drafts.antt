@@ -3,7 +3,9 @@ use Rattle.std.specs.Prelude.{ℕ, ℤ, ◌+◌, ◌*◌, ◌<◌, ◌≤◌, �
 use Rattle.std.specs.List.{AllZip}
 use Rattle.errno.specs.declared.TheConstants.{EINVAL, ENAMETOOLONG, ENOMEM, ENOTEMPTY, ESTALE}
 use Rattle.paths.specs.Prefixes.{Names, prefixes, path_bytes}
+use Rattle.files.specs.Handles.{Files}
 use Rattle.holds.specs.declared.held.GivenPath.{GivenPath}
+use Rattle.holds.specs.declared.held.Held.{Held}
 use Rattle.flights.specs.declared.data.Case.{Case}
 use Rattle.flights.specs.declared.data.Case.TheVariants as cases
 use Rattle.flights.specs.declared.data.Want.{Want}
@@ -24,8 +26,8 @@ use Rattle.wants.specs.declared.rows.Hold.TheVariants.{Shared, Alone}
 use Rattle.wants.specs.declared.rows.Location as told_location
 use Rattle.wants.specs.declared.rows.Location.TheVariants as locations
 use Rattle.wants.specs.declared.rows.Row.{Row}
-use Rattle.wants.specs.Asked.{ArePaths, HasPath, Holds, IsPin, IsPrefixAt, IsRefusedMove, IsSound, IsThere, promise_of}
-use Rattle.wants.specs.Cases.{IsCase, IsClosingCase, Seen}
+use Rattle.wants.specs.Asked.{ArePaths, HasPath, Holds, IsAboveAt, IsPin, IsPrefixAt, IsRefusedMove, IsSound, IsThere, promise_of}
+use Rattle.wants.specs.Cases.{HasShortPath, IsCase, IsClosingCase, Seen}
 use Rattle.wants.specs.Laws.{base_of}
 use Rattle.wants.specs.Plans.{copied, copied_page}
 use Rattle.wants.specs.Rows.{Change, Demand, Location, AtName, AtNode, births_in, closed_row, cuts, hidden_in, moves, no_demand, row_of, stays}
@@ -274,6 +276,7 @@ abbrev pub IsEntryAt : Lookup → List Location → Case → Type 0
 IsEntryAt at ls cases.Plain = All (IsTaken at) ls
 IsEntryAt at ls cases.Absent = Any (IsVacant at) ls
 IsEntryAt at ls cases.Pathless = ⊥
+IsEntryAt at ls cases.Last = ⊥
 IsEntryAt at ls (cases.Hiding number counter) = ⊥
 
 -- a birth is promised for a name at which no node stands
@@ -299,18 +302,34 @@ pub record IsWanted (seen : Seen) (want : Want) (t : Terms) : Type 0 where
   pub terms : IsTerms seen.at (row_of want t.case) t
 
 -- what the closing of a file of the node asks for
-pub record IsClosing (at : Lookup) (number : ℕ) (t : Terms) : Type 0 where
-  pub fits : IsClosingCase at number t.case
+pub record IsClosing (at : Lookup) (files : Files) (number : ℕ) (t : Terms) : Type 0 where
+  pub fits : IsClosingCase at files number t.case
   pub terms : IsTerms at (closed_row number t.case) t
+
+-- the same where the node has a path that is not too long, by whether it is the last opening of a hidden file
+pub record IsClosingPath (at : Lookup) (number : ℕ) (last : Bool) (t : Terms) : Type 0 where
+  pub case_is : t.case ≡ (if last then cases.Last else cases.Plain)
+  pub short : HasShortPath at number
+  pub terms : IsTerms at (closed_row number t.case) t
+
+-- the node has no path, or one that is too long
+abbrev pub IsWithoutPath : Refusal → Type 0
+IsWithoutPath r = (r ≡ refusal.Stale) ⊎ (r ≡ refusal.TooLong)
+
+-- where it says that a node has no path, or one that is too long, the node has no other
+abbrev pub TellsPath : Lookup → ℕ → Refusal → Type 0
+TellsPath at number r = IsWithoutPath r → HasShortPath at number → ⊥
+
+-- the path of the node is held alone, and each nonempty prefix of that of its parent is shared
+pub record IsHeldAlone (at : Lookup) (number : ℕ) (path : Names) (held : Held) : Type 0 where
+  pub given : held.given ≡ record { number = number; path = path } ∷ []
+  pub shared : (p : Names) → Contains held.shared p ↔ IsAboveAt at p (AtNode number)
+  pub exclusive : held.exclusive ≡ path ∷ []
 
 -- nothing is asked for
 pub record IsNothing (t : Terms) : Type 0 where
   pub case_is : t.case ≡ cases.Pathless
   pub terms : (at : Lookup) → IsTerms at no_demand t
-
--- the node has no path, or one that is too long
-abbrev pub IsWithoutPath : Refusal → Type 0
-IsWithoutPath r = (r ≡ refusal.Stale) ⊎ (r ≡ refusal.TooLong)
 
 -- the record of a request with that want and those terms
 pub record IsRecord (want : Want) (t : Terms) (p : Plan) : Type 0 where

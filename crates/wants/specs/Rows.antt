@@ -78,6 +78,7 @@ abbrev pub births_in : Case → ℕ
 births_in cases.Plain = 0
 births_in cases.Absent = 1
 births_in cases.Pathless = 0
+births_in cases.Last = 0
 births_in (cases.Hiding number counter) = 0
 
 -- ---- one row for each want
@@ -104,6 +105,7 @@ abbrev pub hidden_in : Case → List Name
 hidden_in cases.Plain = []
 hidden_in cases.Absent = []
 hidden_in cases.Pathless = []
+hidden_in cases.Last = []
 hidden_in (cases.Hiding number counter) = hidden_names number counter 10
 
 -- names in a folder
@@ -153,17 +155,47 @@ abbrev pub closed_on : ℕ → Case → List ℕ
 closed_on number cases.Plain = number ∷ []
 closed_on number cases.Absent = number ∷ []
 closed_on number cases.Pathless = []
+closed_on number cases.Last = number ∷ []
 closed_on number (cases.Hiding n counter) = []
 
 abbrev pub closed_at : ℕ → Case → List Location
 closed_at number cases.Plain = AtNode number ∷ []
 closed_at number cases.Absent = AtNode number ∷ []
 closed_at number cases.Pathless = []
+closed_at number cases.Last = AtNode number ∷ []
 closed_at number (cases.Hiding n counter) = []
 
--- a file that is closed: what its node asks for, or nothing
+-- whose path is shared, or is held alone where the file goes with its last opening
+abbrev pub closed_shared : ℕ → Case → List Location
+closed_shared number cases.Plain = AtNode number ∷ []
+closed_shared number cases.Absent = AtNode number ∷ []
+closed_shared number cases.Pathless = []
+closed_shared number cases.Last = []
+closed_shared number (cases.Hiding n counter) = []
+
+abbrev pub closed_alone : ℕ → Case → List Location
+closed_alone number cases.Plain = []
+closed_alone number cases.Absent = []
+closed_alone number cases.Pathless = []
+closed_alone number cases.Last = AtNode number ∷ []
+closed_alone number (cases.Hiding n counter) = []
+
+abbrev pub closed_change : ℕ → Case → Change
+closed_change number cases.Plain = stays
+closed_change number cases.Absent = stays
+closed_change number cases.Pathless = stays
+closed_change number cases.Last = cuts (AtNode number)
+closed_change number (cases.Hiding n counter) = stays
+
+-- a file that is closed: what its node asks for, the removal of its node, or nothing
 abbrev pub closed_row : ℕ → Case → Demand
-closed_row number c = record no_demand { given = closed_on number c; paths = closed_at number c; shared = closed_at number c }
+closed_row number c = record no_demand {
+  given = closed_on number c;
+  paths = closed_at number c;
+  shared = closed_shared number c;
+  alone = closed_alone number c;
+  done = closed_change number c;
+}
 
 -- a handle that is closed may be open for anything
 abbrev pub closing : ℕ → ℕ → Used

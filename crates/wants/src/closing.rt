@@ -1,14 +1,21 @@
-//! What the closing of a file asks for: its node's path, if it has one.
+//! What the closing of a file asks for: its node's path, if it has one, which is held alone where a hidden file goes with its last opening.
 
-ghost use Rattle.std.specs.Prelude.{◌≡◌, ◌↔◌, IfErr, IfOk, IsTrue};
-ghost use Rattle.tree.specs.Places.{IsTree, at_in};
-ghost use Rattle.wants.specs.Drafts.{IsClosing, IsNothing, IsWithoutPath};
+ghost use Rattle.std.specs.Prelude.{true, false, ◌≡◌, ◌≢◌, ◌↔◌, ◌∷◌, [], IfErr, IfOk, IsTrue};
+ghost use Rattle.files.specs.Filed.{files_of};
+ghost use Rattle.files.specs.Handles.{IsFiled};
+ghost use Rattle.tree.specs.Places.{IsPathOf, IsTree, at_in};
+ghost use Rattle.wants.specs.Cases.{IsLastOpening};
+ghost use Rattle.wants.specs.Drafts.{IsClosing, IsClosingPath, IsHeldAlone, IsNothing, IsWithoutPath, TellsPath};
 
 use crate::drafts::{Draft, Terms, terms_of};
+use crate::found::above;
 use crate::refusal::Refusal;
 use crate::rows::{Change, Hold, Location, Row};
-use flights::Case;
-use std::alloc::Global;
+use files::Files;
+use flights::{Case, Givens, Pins, Promise};
+use holds::{GivenPath, GivenPaths, Held, Paths, prefixes_of};
+use paths::Path;
+use std::alloc::{AllocError, Global};
 use tree::Tree;
 
 /// Nothing is held, pinned or told.
@@ -31,11 +38,83 @@ fn is_without_path(refusal: Refusal) -> bool
     }
 }
 
-/// What the closing of a file of the node asks for. Want of memory alone refuses it.
-pub(crate) fn closing_terms(alloc: Global, tree: &Tree, number: u64) -> Result<Terms, Refusal>
-    ensures ok { IfOk result (IsClosing (at_in tree.now) number) }
-    ensures err { IfErr result (λ refusal. refusal ≡ Refusal.Memory) }
-    ensures tree { IsTree (at_in tree.now) }
+/// Whether the node, which is not the root, has a hidden mark, and one file of it is open.
+fn is_last(tree: &Tree, files: &Files, number: u64) -> bool
+    ensures { IsTrue result ↔ IsLastOpening (at_in tree.now) (files_of files.now).at number }
+{
+    if number == 1 {
+        return false;
+    }
+    if files.openings(number) != 1 {
+        return false;
+    }
+    match tree.at(number) {
+        Some(node) => node.hidden,
+        None => false,
+    }
+}
+
+/// That path alone.
+fn one_path(alloc: Global, path: Path) -> Result<Paths, AllocError>
+    ensures { IfOk result (λ paths. paths ≡ path ∷ []) }
+{
+    let mut paths = Vec::new(alloc);
+    paths.push(path)?;
+    Ok(Paths::from_vec(paths))
+}
+
+/// The path of the node is given for it.
+fn one_given(alloc: Global, number: u64, path: Path) -> Result<GivenPaths, AllocError>
+    ensures { IfOk result (λ given. given ≡ record { number = number; path = path } ∷ []) }
+{
+    let mut given = Vec::new(alloc);
+    given.push(GivenPath { number, path })?;
+    Ok(GivenPaths::from_vec(given))
+}
+
+/// The path of a node is held alone, and each nonempty prefix of its parent's is shared.
+fn held_alone(alloc: Global, _tree: &Tree, number: u64, path: &Path) -> Result<Held, AllocError>
+    requires tree { IsTree (at_in _tree.now) }
+    requires not_root { number ≢ 1 }
+    requires leads { IsPathOf (at_in _tree.now) number path.now }
+    ensures { IfOk result (IsHeldAlone (at_in _tree.now) number path.now) }
+{
+    let above = above(path)?;
+    Ok(Held {
+        given: one_given(alloc, number, path.copy()?)?,
+        shared: prefixes_of(alloc, &above)?,
+        exclusive: one_path(alloc, path.copy()?)?,
+    })
+}
+
+/// What the last opening of a hidden file asks for: its node is removed where its work is done.
+fn last_terms(alloc: Global, tree: &Tree, number: u64) -> Result<Terms, Refusal>
+    requires { number ≢ 1 }
+    ensures ok { IfOk result (IsClosingPath (at_in tree.now) number true) }
+    ensures err { IfErr result (TellsPath (at_in tree.now) number) }
+{
+    let path = tree.path(alloc, number)?;
+    let held = held_alone(alloc, tree, number, &path)?;
+    let mut pins = Pins::with_capacity(alloc, 1)?;
+    pins.add(number);
+    Ok(Terms {
+        case: Case::Last,
+        held,
+        promise: Promise {
+            nodes: 0,
+            postings: 0,
+            files: 0,
+        },
+        answer: Givens::new(alloc),
+        pins,
+        paths: one_path(alloc, path)?,
+    })
+}
+
+/// What any other opening asks for: that the path of its node stays.
+fn plain_terms(alloc: Global, tree: &Tree, number: u64) -> Result<Terms, Refusal>
+    ensures ok { IfOk result (IsClosingPath (at_in tree.now) number false) }
+    ensures err { IfErr result (TellsPath (at_in tree.now) number) }
 {
     let row = Row {
         locations: &[Location::AtNode(number)],
@@ -43,7 +122,38 @@ pub(crate) fn closing_terms(alloc: Global, tree: &Tree, number: u64) -> Result<T
         enters: false,
         change: Change::Stays,
     };
-    let refusal = match terms_of(alloc, tree, &row) {
+    terms_of(alloc, tree, &row)
+}
+
+/// What the closing of a file asks for whose node has a path that is not too long.
+fn path_terms(alloc: Global, tree: &Tree, number: u64, last: bool) -> Result<Terms, Refusal>
+    requires { last ≡ true → number ≢ 1 }
+    ensures ok { IfOk result (IsClosingPath (at_in tree.now) number last) }
+    ensures err { IfErr result (TellsPath (at_in tree.now) number) }
+{
+    if last {
+        last_terms(alloc, tree, number)
+    } else {
+        plain_terms(alloc, tree, number)
+    }
+}
+
+/// What the closing of a file of the node asks for. Want of memory alone refuses it.
+pub(crate) fn closing_terms(
+    alloc: Global,
+    tree: &Tree,
+    files: &Files,
+    number: u64,
+) -> Result<Terms, Refusal>
+    ensures ok { IfOk result (IsClosing (at_in tree.now) (files_of files.now).at number) }
+    ensures err { IfErr result (λ refusal. refusal ≡ Refusal.Memory) }
+    ensures tree { IsTree (at_in tree.now) }
+    ensures files { IsFiled (files_of files.now) }
+{
+    let _nodes = tree.len();
+    let _files = files.len();
+    let last = is_last(tree, files, number);
+    let refusal = match path_terms(alloc, tree, number, last) {
         Ok(terms) => return Ok(terms),
         Err(refusal) => refusal,
     };

@@ -83,7 +83,7 @@ fn births_in(case: Case) -> u64
     ensures { result ≡ births_in case }
 {
     match case {
-        Case::Plain | Case::Pathless | Case::Hiding { .. } => 0,
+        Case::Plain | Case::Pathless | Case::Last | Case::Hiding { .. } => 0,
         Case::Absent => 1,
     }
 }

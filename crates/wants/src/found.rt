@@ -25,7 +25,7 @@ pub(crate) struct Found {
 }
 
 /// The path of the parent of the name with that path.
-fn above(path: &Path) -> Result<Path, AllocError>
+pub(crate) fn above(path: &Path) -> Result<Path, AllocError>
     ensures { IfOk result (λ up. (above : Names) (name : Spelt) → path.now ≡ above ++ name ∷ [] → up ≡ above) }
 {
     let mut names = path.copy()?.into_names();

@@ -76,7 +76,7 @@ pub(crate) fn candidates(alloc: Global, case: Case) -> Result<Names, AllocError>
     ensures { IfOk result (λ names. names ≡ hidden_in case) }
 {
     match case {
-        Case::Plain | Case::Absent | Case::Pathless => Ok(Names::new(alloc)),
+        Case::Plain | Case::Absent | Case::Pathless | Case::Last => Ok(Names::new(alloc)),
         Case::Hiding { number, counter } => candidates_of(alloc, number, counter),
     }
 }

@@ -175,6 +175,6 @@ pub(crate) fn terms_for(
             };
             terms_with_file(alloc, tree, &row)
         }
-        Want::Release { number, fh: _ } => closing_terms(alloc, tree, *number),
+        Want::Release { number, fh: _ } => closing_terms(alloc, tree, files, *number),
     }
 }

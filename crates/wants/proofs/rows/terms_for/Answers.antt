@@ -87,4 +87,4 @@ returns-in-Release-clause-ok c =
 pub returns-in-Release-clause-err : goal.returns-in-Release-clause-err
 returns-in-Release-clause-err c =
     let seen = seen_of c.args.tree.now c.args.files.now c.args.counter in
-    IfErr-weaker c.closing_terms.result _ (λ (r : Refusal). IsRefusedPlan seen c.args.want.now (errno_of r)) (λ r starving. closing_refused seen c.closing_terms.ensures.tree c.args.want.now _ _ r c.in-Release.is starving) c.closing_terms.ensures.err
+    IfErr-weaker c.closing_terms.result _ (λ (r : Refusal). IsRefusedPlan seen c.args.want.now (errno_of r)) (λ r starving. closing_refused seen c.closing_terms.ensures.tree _ c.closing_terms.ensures.files.many c.args.want.now _ _ r c.in-Release.is starving) c.closing_terms.ensures.err
