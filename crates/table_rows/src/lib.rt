@@ -40,6 +40,8 @@ mod release_rows;
 #[cfg(test)]
 mod removal_rows;
 #[cfg(test)]
+mod replacing_rows;
+#[cfg(test)]
 mod run_rows;
 #[cfg(test)]
 mod share_rows;
