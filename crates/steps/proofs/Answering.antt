@@ -104,6 +104,7 @@ module _ (s : State) (kept : IsKept s) (flights : InFlight) (id : ℕ) (work : R
       pinned = was_ready.pinned;
       names = elim was_ready.names [ inl one ↦ inl one | inr all ↦ inr (λ k d within. let it = all k d within in record { number = it.number; named = it.named; pin = it.pin }) ];
       placed = was_ready.placed;
+      below = was_ready.below;
     };
     clear = clear;
     room = record {

@@ -14,9 +14,11 @@ use Rattle.holds.specs.declared.held.Held.{Held}
 use Rattle.wants.specs.Asked.{Holds, IsPin, IsThere}
 use Rattle.wants.specs.Cases.{IsCase, IsDemand, IsEntryCase, Seen}
 use Rattle.wants.specs.Rows.{AtName, Demand, name_row, row_of}
+use Rattle.steps.specs.Laws.{IsPlaced}
 use Rattle.steps.specs.Steps.{GoesOn, MayBegin}
 use Rattle.steps.specs.World.{Flight, IsReady, IsStanding, Working, World, seen_in}
 use Rattle.wants.proofs.Members.{any_first}
+use Rattle.steps.proofs.Rooted.{rows_placed}
 
 module _ (at : Lookup) (f : Flight) where
   entry_known : (parent : ℕ) (name : Name) (c : Case) → IsEntryCase at parent name c → ((n : ℕ) → IsPin at (name_row parent name c) n → Contains f.pins n)
@@ -27,6 +29,7 @@ module _ (at : Lookup) (f : Flight) where
       inr (All-cons (IsStanding at f) key [] stands (λ k d within. absurd (omega (arith, within))))
   entry_known parent name cases.Absent fits pins = inl refl
   entry_known parent name cases.Pathless fits pins = absurd fits
+  entry_known parent name cases.Last fits pins = absurd fits
   entry_known parent name (cases.Hiding n k) fits pins = absurd fits
 
 names_known : (seen : Seen) (f : Flight) (want : Want) (c : Case) → IsCase seen want c → ((n : ℕ) → IsPin seen.at (row_of want c) n → Contains f.pins n)
@@ -53,6 +56,7 @@ ready_begun old unique want d asked may held holds pins pinned =
       pinned = λ n h. (pinned n).1 (inl h);
       names = known (λ n h. (pinned n).1 h);
       placed = may.sound.not_misplaced;
+      below = subst (λ (e : Demand). IsPlaced e.alone) (sym asked.row) (rows_placed (seen_in old) want asked.case asked.fits);
     }
 
 pub begun_ready : (old new : World) (unique : ℕ) (want : Want) (d : Demand) (ticket : Claim) → IsDemand (seen_in old) want d → MayBegin old d → (goes : GoesOn old unique want d ticket new)

@@ -1,7 +1,8 @@
 -- What is kept of a table when names are cut or moved, and what nothing keeps any more goes.
-use Rattle.std.proofs.Common.{ℕ, ◌<◌, ◌≡◌, true, Some, Contains, refl, sym, ap, ◌∙◌, subst, inl, inr, arith}
+use Rattle.std.proofs.Common.{ℕ, ◌<◌, ◌≡◌, true, Option, Some, Contains, refl, sym, ap, ◌∙◌, subst, inl, inr, arith}
 use Rattle.std.proofs.lemmas.Option.{same_Some}
 use Rattle.tree.specs.declared.nodes.Node.{Node}
+use Rattle.tree.specs.declared.nodes.Place.{Place}
 use Rattle.tree.specs.declared.nodes.Place.TheVariants as place
 use Rattle.tree.specs.Places.{Lookup, Nodes, at_in, IsTree}
 use Rattle.tree.specs.Moves.{after_cut, after_move}
@@ -11,11 +12,11 @@ use Rattle.image.specs.Law.{HasReason, HaveReasons}
 use Rattle.wants.specs.Rows as rows
 use Rattle.steps.specs.Keeping.{kept_by}
 use Rattle.steps.specs.declared.state.State.{State}
-use Rattle.steps.specs.Ending.{ChangesNames, IsUnder, KeepsChildren, MayAlter}
+use Rattle.steps.specs.Ending.{ChangesNames, IsUnder, KeepsChildren, MayAlter, loses}
 use Rattle.steps.specs.Kept.{IsKept, flights_in, world_of}
 use Rattle.steps.specs.Steps.{Alters}
 use Rattle.steps.specs.Swept.{IsSwept}
-use Rattle.steps.specs.Sweeping.{HaveReasonsBelow, IsBooked, IsSameRest}
+use Rattle.steps.specs.Sweeping.{HaveReasonsBelow, IsBooked, IsSameRest, parent_at, parent_in}
 use Rattle.steps.specs.World.{AreReady, Flight, Flights, IsAtWork, Work}
 use Rattle.steps.proofs.Booked.{IsBooked-swept}
 use Rattle.steps.proofs.Altering.{AltersNodes, IsAltered, IsBooked-altered, altered_back, alters_by, alters_hidden, alters_then, nodes_altered, nothing_altered}
@@ -44,20 +45,21 @@ altered_by_change s (rows.replaces l t c moved) may new it =
     (λ above. may.not_misplaced _ (inr (record { path = m.path; leads = m.leads; new_path = m.new_path; new_leads = m.new_leads; refused = inr (refl, above) }))) in
     alters_then (at_in s.tree) it.hidden new hidden (alters_follow it.hidden new m.new_path it.path it.new_path moved it.follows)
 
--- the nodes that names change under are given
-under_given : (s : State) (change : rows.Change) (may : MayAlter s change) (n : ℕ) → IsUnder change n → (kept_by s.flights s.files) n ≡ true
-under_given s rows.stays may n bad = absurd bad
-under_given s (rows.cuts l) may n e = may.kept n (subst (λ k. Contains may.demand.given k) (sym e) (may.row.alone l may.own))
-under_given s (rows.moves l m) may n (inl e) = may.kept n (subst (λ k. Contains may.demand.given k) (sym e) (may.row.alone l may.own.0))
-under_given s (rows.moves l m) may n (inr e) = may.kept n (subst (λ k. Contains may.demand.given k) (sym e) (may.row.alone m may.own.1))
-under_given s (rows.hides l c) may n (inl e) = may.kept n (subst (λ k. Contains may.demand.given k) (sym e) (may.row.alone l may.own.0))
-under_given s (rows.hides l c) may n (inr e) = may.kept n (subst (λ k. Contains may.demand.given k) (sym e) (may.row.alone c may.own.1))
-under_given s (rows.replaces l t c m) may n (inl e) = may.kept n (subst (λ k. Contains may.demand.given k) (sym e) (may.row.alone l may.own.0))
-under_given s (rows.replaces l t c m) may n (inr (inl e)) = may.kept n (subst (λ k. Contains may.demand.given k) (sym e) (may.row.alone t may.own.1))
-under_given s (rows.replaces l t c m) may n (inr (inr e)) = may.kept n (subst (λ k. Contains may.demand.given k) (sym e) (may.row.alone c may.own.2))
+-- the nodes that names change under are given, but for the one over a node that is cut by its number
+under_given : (s : State) (change : rows.Change) (may : MayAlter s change) (n : ℕ) → (loses (at_in s.tree) change ≡ Some n → ⊥) → IsUnder (at_in s.tree) change n → (kept_by s.flights s.files) n ≡ true
+under_given s rows.stays may n other bad = absurd bad
+under_given s (rows.cuts (rows.AtName p a)) may n other e = may.kept n (subst (λ k. Contains may.demand.given k) (sym e) (may.row.alone (rows.AtName p a) may.own))
+under_given s (rows.cuts (rows.AtNode m)) may n other (name, (x, here, named)) = absurd (other (ap (λ (o : Option Node). parent_at o) here ∙ ap (λ (p : Place). parent_in p) named))
+under_given s (rows.moves l m) may n other (inl e) = may.kept n (subst (λ k. Contains may.demand.given k) (sym e) (may.row.alone l may.own.0))
+under_given s (rows.moves l m) may n other (inr e) = may.kept n (subst (λ k. Contains may.demand.given k) (sym e) (may.row.alone m may.own.1))
+under_given s (rows.hides l c) may n other (inl e) = may.kept n (subst (λ k. Contains may.demand.given k) (sym e) (may.row.alone l may.own.0))
+under_given s (rows.hides l c) may n other (inr e) = may.kept n (subst (λ k. Contains may.demand.given k) (sym e) (may.row.alone c may.own.1))
+under_given s (rows.replaces l t c m) may n other (inl e) = may.kept n (subst (λ k. Contains may.demand.given k) (sym e) (may.row.alone l may.own.0))
+under_given s (rows.replaces l t c m) may n other (inr (inl e)) = may.kept n (subst (λ k. Contains may.demand.given k) (sym e) (may.row.alone t may.own.1))
+under_given s (rows.replaces l t c m) may n other (inr (inr e)) = may.kept n (subst (λ k. Contains may.demand.given k) (sym e) (may.row.alone c may.own.2))
 
 module _ (s : State) (kept : IsKept s) (change : rows.Change) (may : MayAlter s change) (mid : Nodes) (alters : Alters (at_in s.tree) change (at_in mid))
-    (children : KeepsChildren (at_in s.tree) (IsUnder change) (at_in mid)) (rest : mid ≡ record s.tree { nodes = mid.nodes; next = mid.next }) (tree : IsTree (at_in mid)) where
+    (children : KeepsChildren (at_in s.tree) (IsUnder (at_in s.tree) change) (at_in mid)) (rest : mid ≡ record s.tree { nodes = mid.nodes; next = mid.next }) (tree : IsTree (at_in mid)) where
   abbrev flights : Flights
   flights = flights_in (flying_of s.flights)
 
@@ -73,22 +75,22 @@ module _ (s : State) (kept : IsKept s) (change : rows.Change) (may : MayAlter s 
   mid_booked : IsBooked (at_in mid) s.ledger.made (kept_by s.flights s.files)
   mid_booked = IsBooked-altered (at_in s.tree) (at_in mid) tree it s.ledger.made (kept_by s.flights s.files) (booked_of (at_in s.tree) s.ledger.made (kept_by s.flights s.files) kept.law)
 
-  kept_reason : (n : ℕ) (x y : Node) → IsAltered x y → at_in mid n ≡ Some y → (y.place ≡ place.Cut → ⊥) → HasReason (at_in s.tree) (kept_by s.flights s.files) n x → HasReason (at_in mid) (kept_by s.flights s.files) n y
-  kept_reason n x y altered now whole (inl counted) = inl (subst (λ c. 0 < c) (sym altered.count) counted)
-  kept_reason n x y altered now whole (inr (inl hidden)) = inr (inl (altered.marked whole hidden))
-  kept_reason n x y altered now whole (inr (inr (inl pin))) = inr (inr (inl pin))
-  kept_reason n x y altered now whole (inr (inr (inr child))) = elim (children.child n child) [
+  kept_reason : (n : ℕ) (x y : Node) → (loses (at_in s.tree) change ≡ Some n → ⊥) → IsAltered x y → at_in mid n ≡ Some y → (y.place ≡ place.Cut → ⊥) → HasReason (at_in s.tree) (kept_by s.flights s.files) n x → HasReason (at_in mid) (kept_by s.flights s.files) n y
+  kept_reason n x y other altered now whole (inl counted) = inl (subst (λ c. 0 < c) (sym altered.count) counted)
+  kept_reason n x y other altered now whole (inr (inl hidden)) = inr (inl (altered.marked whole hidden))
+  kept_reason n x y other altered now whole (inr (inr (inl pin))) = inr (inr (inl pin))
+  kept_reason n x y other altered now whole (inr (inr (inr child))) = elim (children.child n child) [
     | inl still ↦ inr (inr (inr still))
     | inr (inl lost) ↦ absurd (whole (ap (λ (w : Node). w.place) (same_Some y lost.0 (sym now ∙ lost.1)) ∙ lost.2))
-    | inr (inr one) ↦ inr (inr (inl (under_given s change may n one)))
+    | inr (inr one) ↦ inr (inr (inl (under_given s change may n other one)))
   ]
 
-  -- but for nodes that are cut, each has a reason
-  pub mid_reasons : HaveReasonsBelow (at_in mid) (kept_by s.flights s.files) 1
+  -- but for nodes that are cut, and the one over a node that was cut by its number, each has a reason
+  pub mid_reasons : HaveReasonsBelow (at_in mid) (kept_by s.flights s.files) (loses (at_in s.tree) change) 1
   mid_reasons = record {
-    reasons = λ n y now not_root below.
+    reasons = λ n y now not_root other below.
         let was = altered_back (at_in s.tree) (at_in mid) it n y now in
-        kept_reason n was.0 y was.2 now (λ lost. let bad = below lost in absurd (omega (arith, bad.0, bad.1))) (kept.law.reasons n was.0 was.1 not_root);
+        kept_reason n was.0 y other was.2 now (λ lost. let bad = below lost in absurd (omega (arith, bad.0, bad.1))) (kept.law.reasons n was.0 was.1 not_root);
   }
 
   module _ (new : Nodes) (tree' : IsTree (at_in new)) (reasons : HaveReasons (at_in new) (kept_by s.flights s.files)) (swept : IsSwept (kept_by s.flights s.files) (at_in mid) (at_in new)) (same : IsSameRest mid new) where

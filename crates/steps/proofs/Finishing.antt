@@ -9,7 +9,7 @@ use Rattle.steps.specs.declared.data.Outcome.{Outcome}
 use Rattle.steps.specs.Answers.{Answer}
 use Rattle.wants.specs.Asked.{Holds}
 use Rattle.wants.specs.Laws.{IsRow}
-use Rattle.steps.specs.Laws.{IsPlaced, LeavesWork}
+use Rattle.steps.specs.Laws.{LeavesWork}
 use Rattle.steps.specs.Steps.{Ends, HoldsUp, act_of, answered}
 use Rattle.steps.specs.World.{Flight, IsAtWork, IsReady, Work, World, with_entry}
 use Rattle.steps.proofs.Guarding.{act_own, all_entered, left_where, path_stays, reaches_swept}
@@ -22,7 +22,7 @@ entry_other at id k x y h = elim (cases_eq id k) [
   | inr ne ↦ cond-false (id == k) x (at k) (ne_eqb id k ne) ∙ (sym (cond-false (id == k) None (at k) (ne_eqb id k ne)) ∙ h)
 ]
 
-module _ (old new : World) (id : ℕ) (f : Flight) (work : Work) (outcome : Outcome) (answer : Answer) (ready : IsReady old.at f work) (placed : IsPlaced work.row.alone)
+module _ (old new : World) (id : ℕ) (f : Flight) (work : Work) (outcome : Outcome) (answer : Answer) (ready : IsReady old.at f work)
     (clear : HoldsUp (with_entry old.flights id None) work.held → ⊥) (e : Ends old id f (act_of work.row outcome) work.row.entries answer new) (tree : IsTree e.entered) (tree' : IsTree new.at) where
   entered : (n : ℕ) (q : Names) → IsPathOf old.at n q → IsPathOf e.entered n q
   entered n q h = all_entered _ old.at e.entered old.postings new.postings work.row.entries (act_of work.row outcome).found answer.given e.enters n q h
@@ -35,7 +35,7 @@ module _ (old new : World) (id : ℕ) (f : Flight) (work : Work) (outcome : Outc
 
   keeps : (k : ℕ) (g : Flight) (v : Work) → IsAtWork (with_entry old.flights id None) k g v → KeepsPaths old.at new.at g.pins v.held
   keeps k g v here n pin q prefixes h =
-      let altered : IsPathOf e.altered n q = path_stays e.entered (with_entry old.flights id None) work.row work.held holds clear placed k g v here q prefixes (act_of work.row outcome).change e.altered (act_own work.row row outcome) e.alters n (entered n q h) in
+      let altered : IsPathOf e.altered n q = path_stays e.entered (with_entry old.flights id None) work.row work.held holds clear ready.below k g v here q prefixes (act_of work.row outcome).change e.altered (act_own work.row row outcome) e.alters n (entered n q h) in
       let there : new.flights k ≡ Some g = ap (λ (w : World). w.flights k) e.new_is ∙ entry_other old.flights id k (Some (answered f answer.given)) g here.here in
       let held : e.sweeps.kept n ≡ true = (e.sweeps.keeps n).1 (inl (record { id = k; flight = g; here = there; pin = pin })) in
       reaches_swept e.sweeps.kept e.altered new.at e.sweeps.swept n (reverse q) (λ x was none. none-some x (sym none ∙ stays_pinned e.sweeps.kept e.altered new.at n x e.sweeps.swept was held)) altered
@@ -43,6 +43,6 @@ module _ (old new : World) (id : ℕ) (f : Flight) (work : Work) (outcome : Outc
   left : LeavesWork old.at new.at (with_entry old.flights id None)
   left = left_where old.at new.at (with_entry old.flights id None) tree' keeps
 
-pub ends_harmless : (old new : World) (id : ℕ) (f : Flight) (work : Work) (outcome : Outcome) (answer : Answer) → IsReady old.at f work → IsPlaced work.row.alone
+pub ends_harmless : (old new : World) (id : ℕ) (f : Flight) (work : Work) (outcome : Outcome) (answer : Answer) → IsReady old.at f work
     → (HoldsUp (with_entry old.flights id None) work.held → ⊥) → (e : Ends old id f (act_of work.row outcome) work.row.entries answer new) → IsTree e.entered → IsTree new.at → LeavesWork old.at new.at (with_entry old.flights id None)
-ends_harmless old new id f work outcome answer ready placed clear e tree tree' = left old new id f work outcome answer ready placed clear e tree tree'
+ends_harmless old new id f work outcome answer ready clear e tree tree' = left old new id f work outcome answer ready clear e tree tree'

@@ -40,8 +40,9 @@ candidate_in (m ∷ ls) (suc i) l e = later_in m ls l (candidate_in ls i l e)
 
 pub hiding_own : (alone : List Location) (change : Change) (o : Option Location) → AreOwn alone change → ((l : Location) → o ≡ Some l → Contains alone l) → AreOwn alone (hiding_at change o)
 hiding_own alone stays o own among = tt
-hiding_own alone (cuts l) None own among = tt
-hiding_own alone (cuts l) (Some c) own among = (own, among c refl)
+hiding_own alone (cuts (AtNode n)) o own among = tt
+hiding_own alone (cuts (AtName p a)) None own among = tt
+hiding_own alone (cuts (AtName p a)) (Some c) own among = (own, among c refl)
 hiding_own alone (moves s t) o own among = tt
 hiding_own alone (hides l c) o own among = tt
 hiding_own alone (replaces s t c m) o own among = tt

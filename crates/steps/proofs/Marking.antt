@@ -48,8 +48,9 @@ siblings_placed at tree (AtName p a) (AtName q b) same e it =
 
 hiding_placed : (at : Lookup) → IsTree at → (change : Change) (o : Option Location) → ((l : Location) → o ≡ Some l → IsBeside change l) → (e : ℤ) → IsMisplaced at (hiding_at change o) e → ⊥
 hiding_placed at tree stays o beside e bad = bad
-hiding_placed at tree (cuts l) None beside e bad = bad
-hiding_placed at tree (cuts l) (Some c) beside e bad = siblings_placed at tree l c (beside c refl) e bad
+hiding_placed at tree (cuts (AtNode n)) o beside e bad = bad
+hiding_placed at tree (cuts (AtName p a)) None beside e bad = bad
+hiding_placed at tree (cuts (AtName p a)) (Some c) beside e bad = siblings_placed at tree (AtName p a) c (beside c refl) e bad
 hiding_placed at tree (moves s t) o beside e bad = bad
 hiding_placed at tree (hides l c) o beside e bad = bad
 hiding_placed at tree (replaces s t c moved) o beside e bad = bad

@@ -1,16 +1,22 @@
 -- What a cut and a move at a name make of a tree.
-use Rattle.std.proofs.Common.{ℕ, ℤ, ◌&&◌, ◌≡◌, ◌≢◌, true, false, [], ◌∷◌, ◌++◌, reverse, refl, sym, ap, ◌∙◌, subst, ◌⊎◌, inl, inr}
+use Rattle.std.proofs.Common.{ℕ, ℤ, ◌&&◌, ◌≡◌, ◌≢◌, Some, true, false, [], ◌∷◌, ◌++◌, reverse, refl, sym, ap, ◌∙◌, subst, ◌⊎◌, inl, inr}
 use Rattle.std.proofs.lemmas.Bool.{cases_Bool, true≢false, and_parts}
 use Rattle.std.proofs.lemmas.List.{reverse-append}
+use Rattle.std.proofs.lemmas.Option.{none-some, same_Some}
 use Rattle.paths.specs.Prefixes.{Name, Names, is_prefix}
 use Rattle.paths.proofs.PrefixLemmas.{is_prefix-append, is_prefix-both, is_prefix-more, is_prefix-same, is_prefix-trans, not_over_parent}
 use Rattle.tree.specs.declared.nodes.Key.{Key}
+use Rattle.tree.specs.declared.nodes.Node.{Node}
+use Rattle.tree.specs.declared.nodes.Place.TheVariants as place
+use Rattle.tree.specs.declared.nodes.TreeFault.{TreeFault}
+use Rattle.tree.specs.declared.nodes.TreeFault.TheVariants as fault
 use Rattle.tree.specs.Places.{Lookup, HasChild, IsAlive, IsFree, IsNamed, IsPathOf, IsTree, Leads, Nodes, Reaches, at_in}
-use Rattle.tree.specs.Moves.{CanRelink, Changes, Cuts, CutsBelow, Moves, Stands, Where, after_cut, after_move, at_path, cut, cut_node}
-use Rattle.tree.proofs.Climbing.{climbs_alive, named_at, named_same, path_of_lead, path_under, reaches_split, root_unnamed}
+use Rattle.tree.specs.Moves.{CanRelink, Changes, Cuts, CutsBelow, IsFault, Moves, Stands, Where, after_cut, after_move, at_path, cut, cut_node}
+use Rattle.tree.proofs.Climbing.{climbs_alive, cut_unnamed, named_at, named_same, path_of_lead, path_under, reaches_split, root_unnamed}
 use Rattle.tree.proofs.Transfers.{can_relink, child_after_cut, child_after_relink, cuts_at, moves_at}
 use Rattle.tree.proofs.Moving.{Changes-free}
-use Rattle.steps.specs.Ending.{KeepsChildren, name_at}
+use Rattle.steps.specs.Ending.{IsOver, KeepsChildren, name_at}
+use Rattle.wants.specs.Rows.{AtNode}
 use Rattle.wants.specs.Asked.{HasPath, IsRefusedAt, IsRefusedMove}
 use Rattle.steps.specs.Steps as steps
 use Rattle.steps.proofs.Lawful.{named_not_root}
@@ -35,6 +41,15 @@ child_alive at tree m (c, name, named) = let lead = tree.reached c m name named 
 pub parent_leads : (at : Lookup) → IsTree at → (n p : ℕ) (name : Name) → IsNamed at n p name → Leads at p
 parent_leads at tree n p name named = let lead = tree.reached n p name named in way_leads at tree n p name named lead.names lead.climb
 
+-- and is not cut
+way_or_cut : (at : Lookup) → IsTree at → (n : ℕ) (names : Names) → Reaches at 1 n names → (x : Node) → at n ≡ Some x → x.place ≡ place.Cut → ⊥
+way_or_cut at tree n [] e x stood lost =
+    let r = tree.rooted in
+    let same : x ≡ r.node = same_Some x r.node (sym stood ∙ (ap at e ∙ r.here)) in
+    let bad : place.Cut ≡ place.Root = sym lost ∙ (ap (λ (w : Node). w.place) same ∙ r.root) in
+    cc
+way_or_cut at tree n (name ∷ up) h x stood lost = cut_unnamed at n x stood lost h.0 name h.1
+
 -- ---- a cut
 
 pub cut_children : (old new : Lookup) → IsTree old → (number parent : ℕ) (name : Name) → IsNamed old number parent name → CutsBelow old new number → KeepsChildren old (λ n. n ≡ parent) new
@@ -45,6 +60,24 @@ cut_children old new tree number parent name named below = record {
     | inr (inr (called, named')) ↦ inr (inr (named_same old number n parent called name named' named).0)
   ];
 }
+
+-- the node that is cut by its number is lost to the one that it is under
+pub cut_children_node : (old new : Lookup) → IsTree old → (number : ℕ) → CutsBelow old new number → KeepsChildren old (IsOver old (AtNode number)) new
+cut_children_node old new tree number below = record {
+  child = λ n child. elim (child_after_cut old new number below n child) [
+    | inl still ↦ inl still
+    | inr (inl under) ↦ let alive = child_alive old tree n child in inr (inl (cut_node alive.0, below.all n under alive.0 alive.1, refl))
+    | inr (inr over) ↦ inr (inr over)
+  ];
+}
+
+-- a node that leads to the root is there, and is not cut
+pub no_fault : (at : Lookup) → IsTree at → (number : ℕ) → Leads at number → (e : TreeFault) → IsFault at number e → ⊥
+no_fault at tree number way fault.Unknown bad = let it = climbs_alive at tree.rooted way.names number way.climb in none-some it.0 (sym bad ∙ it.1)
+no_fault at tree number way fault.Cut bad = way_or_cut at tree number way.names way.climb bad.0 bad.1 bad.2
+no_fault at tree number way fault.Full bad = bad
+no_fault at tree number way fault.Memory bad = bad
+no_fault at tree number way fault.PathLong bad = bad
 
 -- ---- a move
 

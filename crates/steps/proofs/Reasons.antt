@@ -1,6 +1,6 @@
 -- Who has a reason to stay after a node was dropped or changed, and what a sweep leaves.
-use Rattle.std.proofs.Common.{ℕ, ◌+◌, ◌≤◌, ◌<◌, ◌≡◌, ◌≢◌, Bool, true, List, [], ◌∷◌, Option, Some, None, MatchOption, refl, sym, ap, ◌∙◌, subst, ◌⊎◌, inl, inr, arith}
-use Rattle.std.proofs.lemmas.Bool.{cases_eq, cases_lt}
+use Rattle.std.proofs.Common.{ℕ, ◌+◌, ◌≤◌, ◌≡◌, ◌≢◌, Bool, true, List, [], ◌∷◌, Option, Some, None, MatchOption, refl, sym, ap, ◌∙◌, subst, ◌⊎◌, inl, inr, arith}
+use Rattle.std.proofs.lemmas.Bool.{cases_eq}
 use Rattle.std.proofs.lemmas.Option.{none-some, same_Some}
 use Rattle.tree.specs.declared.nodes.Key.{Key}
 use Rattle.tree.specs.declared.nodes.Node.{Node}
@@ -11,7 +11,7 @@ use Rattle.tree.proofs.LookupLemmas.{without_some, without_other, with_other, wi
 use Rattle.image.specs.Law.{HasReason, HaveReasons}
 use Rattle.steps.specs.Swept.{IsNeedless, IsSwept}
 use Rattle.tree.proofs.Climbing.{cut_unnamed}
-use Rattle.steps.specs.Sweeping.{HaveReasonsBelow, IsAmong, HaveReasonsBut, IsPruned, IsSameRest, parent_in}
+use Rattle.steps.specs.Sweeping.{HaveReasonsBelow, IsAmong, HaveReasonsBut, IsPruned, IsSameRest, listed, parent_in}
 
 -- ---- dropping
 
@@ -199,40 +199,35 @@ IsSameRest-trans a b c first then = record {
 
 -- ---- nodes that are cut, one number after another
 
--- numbers that no node bears are passed over
-pub below_far : (at : Lookup) (pinned : ℕ → Bool) (a b : ℕ) → ((m : ℕ) → a ≤ m → m < b → at m ≡ None) → HaveReasonsBelow at pinned a → HaveReasonsBelow at pinned b
-below_far at pinned a b none before = record {
-  reasons = λ n x h not_root low. before.reasons n x h not_root (λ lost. elim (cases_lt n a) [
-    | inl less ↦ ((low lost).0, less)
-    | inr le ↦ absurd (none-some x (sym (none n le (low lost).1) ∙ h))
-  ]);
-}
-
 -- the node of that number has a reason
-pub below_needed : (at : Lookup) (pinned : ℕ → Bool) (number : ℕ) (x : Node) → at number ≡ Some x → HasReason at pinned number x ⊎ (number ≡ 1) → HaveReasonsBelow at pinned number → HaveReasonsBelow at pinned (number + 1)
-below_needed at pinned number x stood needed before = record {
-  reasons = λ n y h not_root below. elim (cases_eq n number) [
+pub below_needed : (at : Lookup) (pinned : ℕ → Bool) (but : Option ℕ) (number : ℕ) (x : Node) → at number ≡ Some x → HasReason at pinned number x ⊎ (number ≡ 1) → HaveReasonsBelow at pinned but number → HaveReasonsBelow at pinned but (number + 1)
+below_needed at pinned but number x stood needed before = record {
+  reasons = λ n y h not_root left below. elim (cases_eq n number) [
     | inl e ↦ elim needed [
       | inl reason ↦ subst (λ k. HasReason at pinned k y) (sym e) (subst (λ (z : Node). HasReason at pinned number z) (same_Some x y (sym stood ∙ (ap at (sym e) ∙ h))) reason)
       | inr root ↦ absurd (not_root (e ∙ root))
     ]
-    | inr ne ↦ before.reasons n y h not_root (λ lost. let b = below lost in (b.0, omega (arith, b, ne)))
+    | inr ne ↦ before.reasons n y h not_root left (λ lost. let b = below lost in (b.0, omega (arith, b, ne)))
   ];
 }
 
 -- it was cut, and is dropped
-pub below_dropped : (at new : Lookup) (pinned : ℕ → Bool) (number : ℕ) (x : Node) → at number ≡ Some x → x.place ≡ Cut → new ≡ without at number → HaveReasonsBelow at pinned number → HaveReasonsBelow new pinned (number + 1)
-below_dropped at new pinned number x stood place is before = subst (λ a. HaveReasonsBelow a pinned (number + 1)) (sym is) (record {
-  reasons = λ n y h not_root below.
+pub below_dropped : (at new : Lookup) (pinned : ℕ → Bool) (but : Option ℕ) (number : ℕ) (x : Node) → at number ≡ Some x → x.place ≡ Cut → new ≡ without at number → HaveReasonsBelow at pinned but number → HaveReasonsBelow new pinned but (number + 1)
+below_dropped at new pinned but number x stood place is before = subst (λ a. HaveReasonsBelow a pinned but (number + 1)) (sym is) (record {
+  reasons = λ n y h not_root left below.
       let was = without_some at number n y h in
       let other : (name : List ℕ) → IsNamed at number n name → ⊥ = λ name k. cut_unnamed at number x stood place n name k in
       let ne : number ≢ n = was.0 in
-      stays_kept at pinned number n y other (before.reasons n y was.1 not_root (λ lost. let b = below lost in (b.0, omega (arith, b, ne))));
+      stays_kept at pinned number n y other (before.reasons n y was.1 not_root left (λ lost. let b = below lost in (b.0, omega (arith, b, ne))));
 })
 
+left_out : (but : Option ℕ) (n : ℕ) → (IsAmong n (listed but) → ⊥) → but ≡ Some n → ⊥
+left_out None n left e = none-some n e
+left_out (Some b) n left e = left (inl (sym (same_Some b n e)))
+
 -- all that live were looked at, and none bears the number 0
-pub below_all : (at : Lookup) (pinned : ℕ → Bool) (last : ℕ) → at 0 ≡ None → ((n : ℕ) → IsAlive at n → n ≤ last) → HaveReasonsBelow at pinned (last + 1) → HaveReasons at pinned
-below_all at pinned last none within before n x h not_root = before.reasons n x h not_root (λ lost.
+pub below_all : (at : Lookup) (pinned : ℕ → Bool) (but : Option ℕ) (last : ℕ) → at 0 ≡ None → ((n : ℕ) → IsAlive at n → n ≤ last) → HaveReasonsBelow at pinned but (last + 1) → HaveReasonsBut at pinned (listed but)
+below_all at pinned but last none within before n x h not_root left = before.reasons n x h not_root (left_out but n left) (λ lost.
     let b = within n (x, h) in
     let some : n ≢ 0 = λ e. none-some x (sym none ∙ (ap at (sym e) ∙ h)) in
     (omega arith, omega arith))

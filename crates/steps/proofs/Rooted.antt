@@ -12,7 +12,9 @@ use Rattle.holds.specs.Conflicts.{Conflict}
 use Rattle.holds.specs.declared.held.Held.{Held}
 use Rattle.holds.specs.declared.held.GivenPath.{GivenPath}
 use Rattle.flights.specs.declared.data.Promise.{Promise}
+use Rattle.files.specs.Handles.{Files}
 use Rattle.flights.specs.declared.data.Case.{Case}
+use Rattle.flights.specs.declared.data.Case.TheVariants as cases
 use Rattle.flights.specs.declared.data.Want.{Want}
 use Rattle.flights.specs.declared.data.Want.TheVariants as wants
 use Rattle.flights.specs.declared.data.Work.{Work as RecordedWork}
@@ -20,9 +22,10 @@ use Rattle.flights.specs.Listed.{flying_of}
 use Rattle.tree.specs.declared.nodes.Key.{Key}
 use Rattle.tree.specs.Places.{Lookup, IsNamed, IsPathOf, Leads, at_in}
 use Rattle.wants.specs.Asked.{Holds, IsPrefixAt, promise_of}
+use Rattle.wants.specs.Cases.{IsCase, IsClosingCase, Seen}
 use Rattle.wants.specs.Laws.{AreOwn, IsRow, base_of}
 use Rattle.wants.specs.Plans.{row_in}
-use Rattle.wants.specs.Rows.{AtName, AtNode, Change, Demand, Opening, cuts, hidden_in, hides, moves, names_under, page_keys, replaces, row_of, stays}
+use Rattle.wants.specs.Rows.{AtName, AtNode, Change, Demand, Opening, closed_alone, cuts, hidden_in, hides, moves, names_under, page_keys, replaces, row_of, stays}
 use Rattle.wants.proofs.Members.{any_in, cases_in, first_in, in_map, none_in, only_in}
 use Rattle.wants.proofs.RowLemmas.{are_rows}
 use Rattle.steps.specs.declared.state.State.{State}
@@ -80,19 +83,27 @@ beside_else parent name hidden h = elim (cases_in (AtName parent name) (names_un
   | inr more ↦ let it = in_map (λ (x : Name). AtName parent x) hidden (AtNode 1) more in name_else parent it.0 it.2
 ]
 
+-- a hidden file is not the root
+closing_placed : (at : Lookup) (files : Files) (number : ℕ) (c : Case) → IsClosingCase at files number c → IsPlaced (closed_alone number c)
+closing_placed at files number cases.Plain fits h = none_in (AtNode 1) h
+closing_placed at files number cases.Absent fits h = none_in (AtNode 1) h
+closing_placed at files number cases.Pathless fits h = none_in (AtNode 1) h
+closing_placed at files number cases.Last fits h = fits.1.not_root (ap base_of (only_in (AtNode number) (AtNode 1) h))
+closing_placed at files number (cases.Hiding n k) fits h = none_in (AtNode 1) h
+
 -- the root's path is not held alone
-pub rows_placed : (want : Want) (c : Case) → IsPlaced (row_of want c).alone
-rows_placed (wants.Node number handle) c h = none_in (AtNode 1) h
-rows_placed (wants.Name parent name) c h = none_in (AtNode 1) h
-rows_placed (wants.Remove parent name may_hide) c h = beside_else parent name (hidden_in c) h
-rows_placed (wants.Page folder names) c h = none_in (AtNode 1) h
-rows_placed (wants.Move parent name new_parent new_name) c h = elim (cases_in (AtName parent name) (AtName new_parent new_name ∷ names_under new_parent (hidden_in c)) (AtNode 1) h) [
+pub rows_placed : (seen : Seen) (want : Want) (c : Case) → IsCase seen want c → IsPlaced (row_of want c).alone
+rows_placed seen (wants.Node number handle) c fits h = none_in (AtNode 1) h
+rows_placed seen (wants.Name parent name) c fits h = none_in (AtNode 1) h
+rows_placed seen (wants.Remove parent name may_hide) c fits h = beside_else parent name (hidden_in c) h
+rows_placed seen (wants.Page folder names) c fits h = none_in (AtNode 1) h
+rows_placed seen (wants.Move parent name new_parent new_name) c fits h = elim (cases_in (AtName parent name) (AtName new_parent new_name ∷ names_under new_parent (hidden_in c)) (AtNode 1) h) [
   | inl e ↦ name_else parent name e
   | inr more ↦ beside_else new_parent new_name (hidden_in c) more
 ]
-rows_placed (wants.Open number access) c h = none_in (AtNode 1) h
-rows_placed (wants.Create parent name access) c h = none_in (AtNode 1) h
-rows_placed (wants.Release number fh) c h = none_in (AtNode 1) h
+rows_placed seen (wants.Open number access) c fits h = none_in (AtNode 1) h
+rows_placed seen (wants.Create parent name access) c fits h = none_in (AtNode 1) h
+rows_placed seen (wants.Release number fh) c fits h = closing_placed seen.at seen.files number c fits h
 
 -- where no file is opened, none is opened without an entry
 pub none_alone : (b : Bool) (o : Option Opening) → o ≡ None → (if b then o else None) ≡ None
@@ -226,7 +237,7 @@ module _ (s : State) (id : ℕ) (work : RecordedWork) (kept : IsKept s) (e : IsE
   may_alter = record {
     demand = row;
     row = is_row;
-    placed = rows_placed work.want work.case;
+    placed = e.ready.below;
     own = is_row.own;
     held = work.held;
     holds = e.ready.holds;

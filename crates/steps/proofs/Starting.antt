@@ -6,7 +6,7 @@ use Rattle.std.proofs.lemmas.List.{length-map}
 use Rattle.paths.specs.Prefixes.{Name}
 use Rattle.holds.specs.declared.held.Held.{Held}
 use Rattle.files.specs.Filed.{files_of}
-use Rattle.files.specs.Handles.{Opened}
+use Rattle.files.specs.Handles.{Files, Opened}
 use Rattle.flights.specs.declared.data.Flight.{Flight as Recorded}
 use Rattle.flights.specs.declared.data.Stage.TheVariants as recorded
 use Rattle.flights.specs.declared.data.Case.{Case}
@@ -27,7 +27,7 @@ use Rattle.wants.specs.Asked.{Holds, IsPin, IsThere}
 use Rattle.wants.specs.Cases.{IsClosingCase, IsCase, IsEntryCase, Seen}
 use Rattle.wants.specs.Laws.{IsRow}
 use Rattle.wants.specs.Plans.{IsPlan, IsProvided, row_in}
-use Rattle.wants.specs.Rows.{AtName, AtNode, Demand, Location, hidden_in, is_same, names_under, row_of}
+use Rattle.wants.specs.Rows.{AtName, AtNode, Demand, Location, closed_change, hidden_in, is_same, names_under, row_of}
 use Rattle.wants.proofs.Members.{in_any}
 use Rattle.wants.proofs.RowLemmas.{are_rows}
 use Rattle.steps.specs.declared.data.Limits.{Limits}
@@ -35,7 +35,7 @@ use Rattle.steps.specs.declared.state.State.{State}
 use Rattle.steps.specs.Beginning.{Allows, ClosesFile, IsRoomForOne, IsSameButRoom}
 use Rattle.steps.specs.Keeping.{kept_by}
 use Rattle.steps.specs.Kept.{AreProvided, IsKept, IsLimited, flight_of, flights_in, work_of, world_of}
-use Rattle.steps.specs.Steps.{GoesOn, HoldsUp, Leaves, MayBegin, files_without, may_hide}
+use Rattle.steps.specs.Steps.{GoesOn, HoldsUp, Leaves, MayBegin, files_without, is_last, may_hide}
 use Rattle.steps.specs.World.{AreHeld, AreReady, Flight, Flights, IsAtWork, IsReady, Work, World, seen_in, with_entry}
 use Rattle.steps.proofs.Apart.{AreApart, at_work_more, apart_more, held_up_recorded, known_held}
 use Rattle.steps.proofs.Beginning.{ready_begun}
@@ -90,13 +90,15 @@ entry_fits : (at : Lookup) (parent : ℕ) (name : Name) (c : Case) → IsEntryCa
 entry_fits at parent name cases.Plain fits = refl
 entry_fits at parent name cases.Absent fits = refl
 entry_fits at parent name cases.Pathless fits = absurd fits
+entry_fits at parent name cases.Last fits = absurd fits
 entry_fits at parent name (cases.Hiding n k) fits = absurd fits
 
-closing_fits : (at : Lookup) (number : ℕ) (c : Case) → IsClosingCase at number c → hidden_in c ≡ []
-closing_fits at number cases.Plain fits = refl
-closing_fits at number cases.Absent fits = absurd fits
-closing_fits at number cases.Pathless fits = refl
-closing_fits at number (cases.Hiding n k) fits = absurd fits
+closing_fits : (at : Lookup) (files : Files) (number : ℕ) (c : Case) → IsClosingCase at files number c → hidden_in c ≡ []
+closing_fits at files number cases.Plain fits = refl
+closing_fits at files number cases.Absent fits = absurd fits
+closing_fits at files number cases.Pathless fits = refl
+closing_fits at files number cases.Last fits = refl
+closing_fits at files number (cases.Hiding n k) fits = absurd fits
 
 pub hides_so : (seen : Seen) (want : Want) (c : Case) → IsCase seen want c → (kept : List Name) → kept ≡ hidden_in c → not (length kept == 0) ≡ may_hide (row_of want c)
 hides_so seen (wants.Node number handle) c fits kept is = none_fit kept (is ∙ ap (λ (k : Case). hidden_in k) fits)
@@ -106,7 +108,14 @@ hides_so seen (wants.Move parent name new_parent new_name) c fits kept is = name
 hides_so seen (wants.Page folder names) c fits kept is = none_fit kept (is ∙ ap (λ (k : Case). hidden_in k) fits)
 hides_so seen (wants.Open number access) c fits kept is = none_fit kept (is ∙ ap (λ (k : Case). hidden_in k) fits)
 hides_so seen (wants.Create parent name access) c fits kept is = none_fit kept (is ∙ entry_fits seen.at parent name c fits)
-hides_so seen (wants.Release number fh) c fits kept is = none_fit kept (is ∙ closing_fits seen.at number c fits)
+hides_so seen (wants.Release number fh) c fits kept is = none_fit kept (is ∙ closing_fits seen.at seen.files number c fits)
+
+closing_stays : (number : ℕ) (c : Case) → false ≡ is_same (closed_change number c)
+closing_stays number cases.Plain = refl
+closing_stays number cases.Absent = refl
+closing_stays number cases.Pathless = refl
+closing_stays number cases.Last = refl
+closing_stays number (cases.Hiding n k) = refl
 
 -- whether a name is moved to itself does not hang on the case
 pub same_case : (want : Want) (c : Case) → is_same (row_of want cases.Plain).done ≡ is_same (row_of want c).done
@@ -117,7 +126,7 @@ same_case (wants.Move parent name new_parent new_name) c = refl
 same_case (wants.Page folder names) c = refl
 same_case (wants.Open number access) c = refl
 same_case (wants.Create parent name access) c = refl
-same_case (wants.Release number fh) c = refl
+same_case (wants.Release number fh) c = closing_stays number c
 
 -- nor does the handle that is closed
 pub same_closes : (want : Want) (c : Case) → (row_of want cases.Plain).closes ≡ (row_of want c).closes
@@ -148,16 +157,16 @@ module _ (s mid : State) (unique id : ℕ) (plan : Plan) (is : IsPlan (seen_in (
   mid_is counter = ap (λ (w : World). let v : World = record w { flights = flights_in (flying_of flights); counter = counter } in v) same.world
       ∙ ap (λ (fs : Flights). let v : World = record (world_of s) { flights = fs; counter = counter } in v) (flights_new ∙ ap (λ (fs : Flights). with_entry fs id (Some (flight_of begun))) flights_same)
 
-  abbrev pub goes_on : (same_path hide : Bool) (counter : ℕ) → (flying_of mid.flights).at id ≡ None → same_path ≡ is_same (row_of plan.work.want cases.Plain).done
-      → hide ≡ may_hide (row_in plan.work) → counter ≡ (if hide then (s.counter + 10) % 2 ^ 32 else s.counter)
+  abbrev pub goes_on : (same_path hide last : Bool) (counter : ℕ) → (flying_of mid.flights).at id ≡ None → same_path ≡ is_same (row_of plan.work.want cases.Plain).done
+      → hide ≡ may_hide (row_in plan.work) → last ≡ is_last (row_in plan.work) → counter ≡ (if hide then (s.counter + 10) % 2 ^ 32 else s.counter)
       → (closes : Option ℕ) → closes ≡ (row_of plan.work.want cases.Plain).closes → (new : World) → ClosesFile (world_of (record mid { flights = flights; counter = counter })) closes new
-      → GoesOn (world_of s) unique plan.work.want (row_in plan.work) (record { id = id; paths = plan.paths; same = same_path; hide = hide }) new
-  goes_on same_path hide counter fresh same_is hide_is counter_is closes closes_is new closed =
+      → GoesOn (world_of s) unique plan.work.want (row_in plan.work) (record { id = id; paths = plan.paths; same = same_path; hide = hide; last = last }) new
+  goes_on same_path hide last counter fresh same_is hide_is last_is counter_is closes closes_is new closed =
       let shut : closes ≡ (row_in plan.work).closes = closes_is ∙ same_closes plan.work.want plan.work.case in
       let flying : Flights = with_entry (flights_in (flying_of s.flights)) id (Some (flight_of begun)) in
       record {
         fresh = ap (λ (fs : Flights). fs id) (sym flights_same) ∙ ap (λ (o : Option Recorded). option_map flight_of o) fresh;
-        ticket_is = record { paths = is.paths; same = same_is ∙ same_case plan.work.want plan.work.case; hide = hide_is };
+        ticket_is = record { paths = is.paths; same = same_is ∙ same_case plan.work.want plan.work.case; hide = hide_is; last = last_is };
         held = plan.work.held;
         holds = is.holds;
         pins = plan.pins.numbers;

@@ -186,6 +186,7 @@ module _ (old new : Lookup) (tree' : IsTree new) (f : Flight) (work : Work) (kee
           ]
         ];
         placed = λ e bad. ready.placed e (misplaced_back old new tree' work.row work.held row ready.holds f ready.pinned keeps work.row.done row.own e bad);
+        below = ready.below;
       }
 
   paths_of : (ls : List Location) → ((l : Location) → Contains ls l → Contains work.row.given (base_of l)) → (paths : List Names) → ArePaths old ls paths → ArePaths new ls paths

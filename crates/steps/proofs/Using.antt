@@ -6,6 +6,7 @@ use Rattle.flights.specs.declared.data.Case.{Case}
 use Rattle.flights.specs.declared.data.Case.TheVariants as cases
 use Rattle.flights.specs.declared.data.Want.{Want}
 use Rattle.flights.specs.declared.data.Want.TheVariants as wants
+use Rattle.sums.specs.Sum.{IsSum}
 use Rattle.tree.specs.Places.{IsTree}
 use Rattle.wants.specs.Rows.{Used, row_of}
 use Rattle.wants.specs.Cases.{IsCase, Seen}
@@ -26,15 +27,15 @@ used_same (wants.Create parent name access) c = refl
 used_same (wants.Release number fh) c = refl
 
 -- a want that uses a handle has a case
-case_using : (seen : Seen) → IsTree seen.at → (want : Want) (used : Used) → Some used ≡ (row_of want cases.Plain).used → (c : Case) × IsCase seen want c
-case_using seen tree (wants.Node number handle) used some = (cases.Plain, refl)
-case_using seen tree (wants.Release number fh) used some = closing_there seen.at tree number
-case_using seen tree (wants.Name parent name) used some = absurd (none-some used (sym some))
-case_using seen tree (wants.Remove parent name may_hide) used some = absurd (none-some used (sym some))
-case_using seen tree (wants.Move parent name new_parent new_name) used some = absurd (none-some used (sym some))
-case_using seen tree (wants.Page folder names) used some = absurd (none-some used (sym some))
-case_using seen tree (wants.Open number access) used some = absurd (none-some used (sym some))
-case_using seen tree (wants.Create parent name access) used some = absurd (none-some used (sym some))
+case_using : (seen : Seen) → IsTree seen.at → (many : ℕ) → IsSum seen.files (λ file. 1) many → (want : Want) (used : Used) → Some used ≡ (row_of want cases.Plain).used → (c : Case) × IsCase seen want c
+case_using seen tree many sum (wants.Node number handle) used some = (cases.Plain, refl)
+case_using seen tree many sum (wants.Release number fh) used some = closing_there seen.at tree number seen.files many sum
+case_using seen tree many sum (wants.Name parent name) used some = absurd (none-some used (sym some))
+case_using seen tree many sum (wants.Remove parent name may_hide) used some = absurd (none-some used (sym some))
+case_using seen tree many sum (wants.Move parent name new_parent new_name) used some = absurd (none-some used (sym some))
+case_using seen tree many sum (wants.Page folder names) used some = absurd (none-some used (sym some))
+case_using seen tree many sum (wants.Open number access) used some = absurd (none-some used (sym some))
+case_using seen tree many sum (wants.Create parent name access) used some = absurd (none-some used (sym some))
 
 module _ (w : World) (want : Want) where
   pub none_used : None ≡ (row_of want cases.Plain).used → IsHandleUsable w want
@@ -43,9 +44,9 @@ module _ (w : World) (want : Want) where
   pub used_well : (used : Used) → Some used ≡ (row_of want cases.Plain).used → IsUsable w.files used → IsHandleUsable w want
   used_well used some usable c bad = bad.unusable (subst (λ (u : Used). IsUsable w.files u) (same_Some used bad.used (some ∙ (used_same want c ∙ bad.asked))) usable)
 
-  pub used_badly : (used : Used) → Some used ≡ (row_of want cases.Plain).used → IsTree w.at → (IsUsable w.files used → ⊥) → IsRefusedHandle w want EBADF
-  used_badly used some tree unusable =
-      let it = case_using (seen_in w) tree want used some in
+  pub used_badly : (used : Used) → Some used ≡ (row_of want cases.Plain).used → IsTree w.at → (many : ℕ) → IsSum w.files (λ file. 1) many → (IsUsable w.files used → ⊥) → IsRefusedHandle w want EBADF
+  used_badly used some tree many sum unusable =
+      let it = case_using (seen_in w) tree many sum want used some in
       record {
         demand = row_of want it.0;
         demanded = record { case = it.0; fits = it.1; row = refl };

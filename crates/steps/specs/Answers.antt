@@ -4,12 +4,13 @@ use Rattle.flights.specs.declared.data.Given.{Given}
 use Rattle.paths.specs.Prefixes.{Names}
 
 -- a request that goes on: its id, its paths when it began, whether a name is moved to itself, and whether an open file may have to be
--- hidden, under one of the last ten paths
+-- hidden, under one of the last ten paths, and whether its end removes a hidden file whose last opening it closed
 pub record Claim : Type 0 where
   pub id : ℕ
   pub paths : List Names
   pub same : Bool
   pub hide : Bool
+  pub last : Bool
 
 -- what a finished request gives: a node or none for each of its names, and the file that it opened
 pub record Answer : Type 0 where

@@ -19,7 +19,7 @@ use Rattle.wants.specs.Laws.{AreOwn, IsRow, base_of}
 use Rattle.wants.specs.Plans.{IsProvided}
 use Rattle.wants.specs.Rows.{Change, Demand, AtName, AtNode, Location, Opening, cuts, hides, moves, page_keys, page_names, replaces, stays}
 use Rattle.steps.specs.declared.acts.Change.{Change as Changing}
-use Rattle.steps.specs.declared.acts.Change.TheVariants.{Stays, Cuts, Moves, Hides, Replaces}
+use Rattle.steps.specs.declared.acts.Change.TheVariants.{Stays, Cuts, CutsNode, Moves, Hides, Replaces}
 use Rattle.steps.specs.declared.acts.Entries.{Entries}
 use Rattle.steps.specs.declared.acts.Entries.TheVariants.{Nothing, One, Page}
 use Rattle.steps.specs.declared.keys.Keys.{Keys}
@@ -31,6 +31,8 @@ use Rattle.steps.specs.Entries.{Enters}
 use Rattle.steps.specs.Keeping.{kept_by}
 use Rattle.steps.specs.Kept.{IsRoomFor, flight_of, flights_in, work_of}
 use Rattle.steps.specs.Laws.{IsPlaced}
+use Rattle.paths.specs.Prefixes.{Name}
+use Rattle.steps.specs.Sweeping.{parent_at}
 use Rattle.steps.specs.Steps.{Alters, EntersAll, HoldsUp, IsOwned, Sweeps, answered}
 use Rattle.steps.specs.World.{Flight, IsReady, World, with_entry}
 
@@ -61,6 +63,7 @@ name_at key = AtName key.parent key.name
 abbrev pub change_in : Changing → Change
 change_in Stays = stays
 change_in (Cuts key) = cuts (name_at key)
+change_in (CutsNode number) = cuts (AtNode number)
 change_in (Moves key target) = moves (name_at key) (name_at target.key)
 change_in (Hides key candidate) = hides (name_at key) (name_at candidate.key)
 change_in (Replaces key target candidate moved) = replaces (name_at key) (name_at target.key) (name_at candidate.key) moved
@@ -200,12 +203,26 @@ AreUnder P (moves source target) = P (base_of source) × P (base_of target)
 AreUnder P (hides l candidate) = P (base_of l) × P (base_of candidate)
 AreUnder P (replaces source target candidate moved) = P (base_of source) × P (base_of target) × P (base_of candidate)
 
-abbrev pub IsUnder : Change → ℕ → Type 0
-IsUnder stays n = ⊥
-IsUnder (cuts l) n = n ≡ base_of l
-IsUnder (moves source target) n = (n ≡ base_of source) ⊎ (n ≡ base_of target)
-IsUnder (hides l candidate) n = (n ≡ base_of l) ⊎ (n ≡ base_of candidate)
-IsUnder (replaces source target candidate moved) n = (n ≡ base_of source) ⊎ ((n ≡ base_of target) ⊎ (n ≡ base_of candidate))
+-- what stands there is named under the node
+abbrev pub IsOver : Lookup → Location → ℕ → Type 0
+IsOver at (AtName parent name) n = n ≡ parent
+IsOver at (AtNode number) n = (name : Name) × IsNamed at number n name
+
+abbrev pub IsUnder : Lookup → Change → ℕ → Type 0
+IsUnder at stays n = ⊥
+IsUnder at (cuts l) n = IsOver at l n
+IsUnder at (moves source target) n = (n ≡ base_of source) ⊎ (n ≡ base_of target)
+IsUnder at (hides l candidate) n = (n ≡ base_of l) ⊎ (n ≡ base_of candidate)
+IsUnder at (replaces source target candidate moved) n = (n ≡ base_of source) ⊎ ((n ≡ base_of target) ⊎ (n ≡ base_of candidate))
+
+-- the node that is not given and may lose its last child: that over a node which is cut by its number
+abbrev pub loses : Lookup → Change → Option ℕ
+loses at stays = None
+loses at (cuts (AtName parent name)) = None
+loses at (cuts (AtNode number)) = parent_at (at number)
+loses at (moves source target) = None
+loses at (hides l candidate) = None
+loses at (replaces source target candidate moved) = None
 
 -- an entry of the name is given, and the request pins its node
 pub record EntersName (old : World) (id : ℕ) (f : Flight) (key : Key) (g : Given) (new : World) : Type 0 where

@@ -56,7 +56,7 @@ AreSweepsHarmless = (flights : Flights) (files : Files) (old new : Lookup) (kept
 
 -- so does the end of a request's work, whatever its want and its outcome
 abbrev pub AreEndsHarmless : Type 0
-AreEndsHarmless = (old new : World) (id : ℕ) (f : Flight) (work : Work) (outcome : Outcome) (answer : Answer) → IsReady old.at f work → IsPlaced work.row.alone
+AreEndsHarmless = (old new : World) (id : ℕ) (f : Flight) (work : Work) (outcome : Outcome) (answer : Answer) → IsReady old.at f work
     → (HoldsUp (with_entry old.flights id None) work.held → ⊥)
     → (e : Ends old id f (act_of work.row outcome) work.row.entries answer new) → IsTree e.entered → IsTree new.at
     → LeavesWork old.at new.at (with_entry old.flights id None)

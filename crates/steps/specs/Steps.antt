@@ -1,5 +1,5 @@
 -- The steps of a table. Each says the whole new world.
-use Rattle.std.specs.Prelude.{ℕ, ℤ, ◌+◌, ◌-◌, ◌%◌, ◌^◌, ◌<◌, ◌≡◌, ◌==◌, ◌&&◌, ◌↔◌, not, if◌then◌else◌, Bool, true, false, List, [], ◌∷◌, ◌++◌, Option, Some, None, Contains, length, drop, map, min}
+use Rattle.std.specs.Prelude.{ℕ, ℤ, is_some, ◌+◌, ◌-◌, ◌%◌, ◌^◌, ◌<◌, ◌≡◌, ◌==◌, ◌&&◌, ◌↔◌, not, if◌then◌else◌, Bool, true, false, List, [], ◌∷◌, ◌++◌, Option, Some, None, Contains, length, drop, map, min}
 use Rattle.errno.specs.declared.TheConstants.{EAGAIN, EBADF, ENFILE}
 use Rattle.std.specs.List.{slice_get}
 use Rattle.files.specs.declared.data.OpenFile.{OpenFile}
@@ -17,7 +17,7 @@ use Rattle.tree.specs.Moves.{Changes, IsPathOfName, Where, after_cut, after_move
 use Rattle.tree.specs.Places.{Lookup, with_node}
 use Rattle.wants.specs.Asked.{ArePaths, HasPath, Holds, IsPin, IsSound, IsThere, IsUnsound, promise_of}
 use Rattle.wants.specs.Cases.{IsDemand}
-use Rattle.wants.specs.Rows.{Change, Demand, Location, Opening, Used, cuts, hides, is_same, moves, replaces, stays}
+use Rattle.wants.specs.Rows.{AtName, AtNode, Change, Demand, Location, Opening, Used, cuts, hides, is_same, moves, replaces, stays}
 use Rattle.steps.specs.declared.data.Begin.{Begin}
 use Rattle.steps.specs.declared.data.Begin.TheVariants.{Go, Busy, Refused}
 use Rattle.steps.specs.declared.data.Outcome.{Outcome}
@@ -126,11 +126,23 @@ may_hide d = not (length d.candidates == 0)
 abbrev pub counter_after : Demand → ℕ → ℕ
 counter_after d counter = if may_hide d then (counter + 10) % 2 ^ 32 else counter
 
--- the ticket tells the paths, and whether a name is moved to itself, or may have to be hidden
+abbrev pub is_cut : Change → Bool
+is_cut stays = false
+is_cut (cuts l) = true
+is_cut (moves source target) = false
+is_cut (hides l candidate) = false
+is_cut (replaces source target candidate moved) = false
+
+-- whether a file is closed whose node is removed by the end of the work
+abbrev pub is_last : Demand → Bool
+is_last d = is_some d.closes && is_cut d.done
+
+-- the ticket tells the paths, whether a name is moved to itself, or may have to be hidden, and whether a last opening removes a file
 pub record IsTicket (at : Lookup) (d : Demand) (ticket : Claim) : Type 0 where
   pub paths : ArePaths at d.paths ticket.paths
   pub same : ticket.same ≡ is_same d.done
   pub hide : ticket.hide ≡ may_hide d
+  pub last : ticket.last ≡ is_last d
 
 -- where a file is closed what nothing keeps any more goes, else all nodes stay
 abbrev pub Leaves : Lookup → Option ℕ → World → Type 0
@@ -193,11 +205,12 @@ opened_alone d = if length d.entries == 0 then d.opens else None
 abbrev pub opened_with : Demand → Option Opening
 opened_with d = if length d.entries == 0 then None else d.opens
 
--- what was to be cut is hidden under the candidate, if there is one
+-- what was to be cut at a name is hidden under the candidate, if there is one
 abbrev pub hiding_at : Change → Option Location → Change
 hiding_at stays candidate = stays
-hiding_at (cuts l) None = stays
-hiding_at (cuts l) (Some candidate) = hides l candidate
+hiding_at (cuts (AtNode number)) candidate = stays
+hiding_at (cuts (AtName parent name)) None = stays
+hiding_at (cuts (AtName parent name)) (Some candidate) = hides (AtName parent name) candidate
 hiding_at (moves source target) candidate = stays
 hiding_at (hides l other) candidate = stays
 hiding_at (replaces source target other moved) candidate = stays

@@ -27,9 +27,14 @@ pub record IsBooked (at : Lookup) (ps : List Posting) (kept : ℕ → Bool) : Ty
 abbrev pub HaveReasonsBut : Lookup → (ℕ → Bool) → List ℕ → Type 0
 HaveReasonsBut at kept but = (n : ℕ) (x : Node) → at n ≡ Some x → n ≢ 1 → (IsAmong n but → ⊥) → HasReason at kept n x
 
--- each node but the root has a reason, those aside that are cut and whose number is 0 or not below that one
-pub record HaveReasonsBelow (at : Lookup) (kept : ℕ → Bool) (bound : ℕ) : Type 0 where
-  pub reasons : (n : ℕ) (x : Node) → at n ≡ Some x → n ≢ 1 → (x.place ≡ Cut → (0 < n) × (n < bound)) → HasReason at kept n x
+-- each node but the root has a reason, those aside that are cut and whose number is 0 or not below that one, and one that may be left out
+pub record HaveReasonsBelow (at : Lookup) (kept : ℕ → Bool) (but : Option ℕ) (bound : ℕ) : Type 0 where
+  pub reasons : (n : ℕ) (x : Node) → at n ≡ Some x → n ≢ 1 → (but ≡ Some n → ⊥) → (x.place ≡ Cut → (0 < n) × (n < bound)) → HasReason at kept n x
+
+-- the one that may be left out
+abbrev pub listed : Option ℕ → List ℕ
+listed None = []
+listed (Some n) = n ∷ []
 
 -- the nodes are a tree in which all have a reason, those that are left out aside
 pub record IsPruned (at : Lookup) (kept : ℕ → Bool) (but : List ℕ) : Type 0 where
@@ -46,6 +51,11 @@ abbrev pub parent_in : Place → Option ℕ
 parent_in Root = None
 parent_in (Named key) = Some key.parent
 parent_in Cut = None
+
+-- the same of a node, if there is one
+abbrev pub parent_at : Option Node → Option ℕ
+parent_at None = None
+parent_at (Some x) = parent_in x.place
 
 -- nodes with a count of 0 went: the sum of the counts and the limit are the same, and there is no less room
 pub record IsSameRest (old new : Nodes) : Type 0 where

@@ -16,7 +16,7 @@ use Rattle.sums.specs.Sum.{IsSum}
 use Rattle.steps.specs.declared.data.Limits.{Limits}
 use Rattle.wants.specs.Asked.{Holds, IsMisplaced, promise_of}
 use Rattle.wants.specs.Cases.{Seen}
-use Rattle.wants.specs.Rows.{Demand, row_of}
+use Rattle.wants.specs.Rows.{AtNode, Demand, row_of}
 
 -- ---- what a table keeps
 
@@ -145,6 +145,8 @@ pub record IsReady (at : Lookup) (f : Flight) (work : Work) : Type 0 where
   -- a birth was promised for each of its names, or a node stands there
   pub names : (work.row.births ≡ length work.row.entries) ⊎ All (IsStanding at f) work.row.entries
   pub placed : (e : ℤ) → IsMisplaced at work.row.done e → ⊥
+  -- it holds not the root alone
+  pub below : Contains work.row.alone (AtNode 1) → ⊥
 
 -- ---- the law
 

@@ -4,7 +4,7 @@ ghost use Rattle.std.specs.Prelude.{◌≡◌};
 ghost use Rattle.steps.specs.Ending.{alone_in, candidates_in, change_in, folders_in, folders_of, is_page, keys_in, with_in};
 ghost use Rattle.steps.specs.Steps.{opened_alone, opened_with};
 ghost use Rattle.wants.specs.Plans.{copied, copied_page};
-ghost use Rattle.wants.specs.Rows.{hidden_in, row_of};
+ghost use Rattle.wants.specs.Rows.{closed_change, hidden_in, row_of};
 
 use crate::keys::{FolderKeys, Keys};
 use files::Access;
@@ -26,6 +26,8 @@ pub(crate) enum Change {
     Stays,
     /// What stands there is cut.
     Cuts(Key),
+    /// The node is cut.
+    CutsNode(u64),
     /// What stands at the first is moved to the second, where what stood is cut.
     Moves(Key, Keys),
     /// What stands at the first is moved to the second, where what stood is cut, and marked.
@@ -54,24 +56,34 @@ pub(crate) struct Acts {
     pub(crate) opens: Opens,
 }
 
+/// What becomes of the node whose file was closed when the request began: it goes with its last opening, if it is hidden.
+fn closing_change(number: u64, case: Case) -> Change
+    ensures { change_in result ≡ closed_change number case }
+{
+    match case {
+        Case::Last => Change::CutsNode(number),
+        Case::Plain | Case::Absent | Case::Pathless | Case::Hiding { .. } => Change::Stays,
+    }
+}
+
 /// What the row of the want says in that case.
 pub(crate) fn acts_of(
     want: Want,
-    _case: Case,
+    case: Case,
     copy: Option<Name>,
     beside: Names,
     copies: Names,
 ) -> Acts
     requires copy { copy ≡ copied want }
-    requires beside { beside ≡ hidden_in _case }
-    requires copies { copies ≡ copied_page want _case }
-    ensures entries { keys_in result.entries ≡ (row_of want _case).entries }
-    ensures page { is_page result.entries ≡ (row_of want _case).page }
-    ensures folders { folders_in result.entries ≡ folders_of (row_of want _case) }
-    ensures change { change_in result.change ≡ (row_of want _case).done }
-    ensures candidates { candidates_in result.candidates ≡ (row_of want _case).candidates }
-    ensures alone { alone_in result.opens ≡ opened_alone (row_of want _case) }
-    ensures entered { with_in result.opens result.entries ≡ opened_with (row_of want _case) }
+    requires beside { beside ≡ hidden_in case }
+    requires copies { copies ≡ copied_page want case }
+    ensures entries { keys_in result.entries ≡ (row_of want case).entries }
+    ensures page { is_page result.entries ≡ (row_of want case).page }
+    ensures folders { folders_in result.entries ≡ folders_of (row_of want case) }
+    ensures change { change_in result.change ≡ (row_of want case).done }
+    ensures candidates { candidates_in result.candidates ≡ (row_of want case).candidates }
+    ensures alone { alone_in result.opens ≡ opened_alone (row_of want case) }
+    ensures entered { with_in result.opens result.entries ≡ opened_with (row_of want case) }
 {
     match want {
         Want::Node { .. } => Acts {
@@ -137,9 +149,9 @@ pub(crate) fn acts_of(
             candidates: None,
             opens: Opens::Entry(access),
         },
-        Want::Release { .. } => Acts {
+        Want::Release { number, .. } => Acts {
             entries: Entries::Nothing,
-            change: Change::Stays,
+            change: closing_change(number, case),
             candidates: None,
             opens: Opens::Nothing,
         },

@@ -1,14 +1,14 @@
 //! The beginning of a request.
 
-ghost use Rattle.std.specs.Prelude.{◌≡◌, ◌≤◌, ◌<◌, ◌+◌, ◌%◌, ◌^◌, if◌then◌else◌, ◌==◌, not, length, ◌↔◌, true, IfErr, IsTrue, OnOk};
+ghost use Rattle.std.specs.Prelude.{ℕ, ◌≡◌, ◌≤◌, ◌<◌, ◌+◌, ◌%◌, ◌^◌, if◌then◌else◌, ◌==◌, not, length, ◌↔◌, true, IfErr, IsTrue, OnOk};
 ghost use Rattle.files.specs.Filed.{files_of};
 ghost use Rattle.steps.specs.Beginning.{Allows, Forbids, HasHandles, IsHandleUsable, IsRefusedHandle, IsRoomForOne, IsSameButRoom, used_in};
 ghost use Rattle.steps.specs.Kept.{IsKept, tally_of, world_of};
-ghost use Rattle.steps.specs.Steps.{Begins, IsUsable};
+ghost use Rattle.steps.specs.Steps.{Begins, IsUsable, is_cut, is_last};
 ghost use Rattle.steps.specs.World.{IsTally};
 ghost use Rattle.wants.specs.Plans.{IsPlan};
 ghost use Rattle.wants.specs.Cases.{seen_of};
-ghost use Rattle.wants.specs.Rows.{is_same, row_of};
+ghost use Rattle.wants.specs.Rows.{closed_change, is_same, row_of};
 
 use crate::data::{Begin, Ticket};
 use crate::state::State;
@@ -97,6 +97,32 @@ fn may_hide(work: &Work) -> bool
     !work.candidates.as_slice().is_empty()
 }
 
+/// Whether the end of the work removes the node whose file is closed.
+fn removes_closed(case: Case) -> bool
+    ensures { (number : ℕ) → result ≡ is_cut (closed_change number case) }
+{
+    match case {
+        Case::Last => true,
+        Case::Plain | Case::Absent | Case::Pathless | Case::Hiding { .. } => false,
+    }
+}
+
+/// Whether a hidden file is closed for the last time, which the end of the work removes.
+fn is_last(want: &Want, case: Case) -> bool
+    ensures { result ≡ is_last (row_of want.now case) }
+{
+    match want {
+        Want::Release { .. } => removes_closed(case),
+        Want::Node { .. }
+        | Want::Name { .. }
+        | Want::Remove { .. }
+        | Want::Move { .. }
+        | Want::Page { .. }
+        | Want::Open { .. }
+        | Want::Create { .. } => false,
+    }
+}
+
 /// How many names are taken where a file may have to be hidden.
 const CANDIDATES: u32 = 10;
 
@@ -169,6 +195,7 @@ impl State {
         }
         let same = is_same(&work.want);
         let hide = may_hide(&work);
+        let last = is_last(&work.want, work.case);
         let closes = closed_by(&work.want);
         let id = self.flights.free_id();
         self.flights.add(Flight {
@@ -184,6 +211,7 @@ impl State {
             paths,
             same,
             hide,
+            last,
         })
     }
 

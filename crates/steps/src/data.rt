@@ -41,6 +41,7 @@ pub struct Ticket {
     pub(crate) paths: Paths,
     pub(crate) same: bool,
     pub(crate) hide: bool,
+    pub(crate) last: bool,
 }
 
 impl Model for Ticket {
@@ -48,7 +49,7 @@ impl Model for Ticket {
 
     ghost Value = { Claim };
 
-    ghost view = { λ t. record { id = t.id; paths = t.paths; same = t.same; hide = t.hide } };
+    ghost view = { λ t. record { id = t.id; paths = t.paths; same = t.same; hide = t.hide; last = t.last } };
 }
 
 impl Ticket {
@@ -79,6 +80,13 @@ impl Ticket {
         ensures { result ≡ self.now.hide }
     {
         self.hide
+    }
+
+    /// Whether it closed the last opening of a hidden file, which the end of its work removes: the one path is that of the file.
+    pub fn last(&self) -> bool
+        ensures { result ≡ self.now.last }
+    {
+        self.last
     }
 }
 

@@ -10,9 +10,9 @@ use crate::acts::{Acts, Change, acts_of};
 use crate::data::{Answered, Outcome, Ticket};
 use crate::give::give_none;
 use crate::hiding::{hide, replace};
-use crate::places::alter;
+use crate::places::{alter, losing};
 use crate::state::State;
-use crate::sweep::sweep_cut;
+use crate::sweep::sweep_change;
 use flights::{Givens, Work};
 
 /// The same answer with the handle of the file that was opened.
@@ -45,8 +45,9 @@ impl State {
         if matches!(change, Change::Stays) {
             return;
         }
+        let losing = losing(&self.tree, &change);
         alter(&mut self.tree, change);
-        sweep_cut(&mut self.tree, &self.flights, &self.files);
+        sweep_change(&mut self.tree, &self.flights, &self.files, losing);
     }
 
     /// What the outcome of a request does, whose work has ended. One that does not fit its want does nothing.
@@ -107,6 +108,7 @@ impl State {
             paths: _,
             same: _,
             hide: _,
+            last: _,
         } = ticket;
         let Some(work) = self.flights.answer(id) else {
             return Answered {

@@ -1,13 +1,15 @@
 //! Names that are taken away or moved in the tree.
 
-ghost use Rattle.std.specs.Prelude.{◌≡◌, ◌⊎◌, ℤ};
-ghost use Rattle.steps.specs.Ending.{AreUnder, IsUnder, KeepsChildren, change_in, name_at};
+ghost use Rattle.std.specs.Prelude.{◌≡◌, ◌≢◌, ◌⊎◌, ℤ};
+ghost use Rattle.steps.specs.Ending.{AreUnder, IsOver, IsUnder, KeepsChildren, change_in, loses, name_at};
 ghost use Rattle.steps.specs.Steps.{Alters, Cuts, Hides, Moves, Replaces};
 ghost use Rattle.tree.specs.Places.{at_in, IsTree, Leads};
 ghost use Rattle.wants.specs.Asked.{IsMisplaced, IsRefusedAt};
+ghost use Rattle.wants.specs.Rows.{AtNode, cuts};
 
 use crate::acts::Change;
 use crate::keys::Keys;
+use crate::sweep::parent_of_node;
 use tree::{Key, Tree};
 
 /// Cuts what stands at the name, with all below it.
@@ -21,6 +23,21 @@ fn cut_at(tree: &mut Tree, key: &Key)
     let Some(number) = tree.find(key) else {
         return;
     };
+    let Ok(()) = tree.cut(number) else {
+        unreachable!();
+    };
+}
+
+/// Cuts the node, with all below it.
+fn cut_node(tree: &mut Tree, number: u64)
+    requires leads { Leads (at_in tree.old) number }
+    requires not_root { number ≢ 1 }
+    ensures cuts { Cuts (at_in tree.old) (AtNode number) (at_in tree.new) }
+    ensures children { KeepsChildren (at_in tree.old) (IsOver (at_in tree.old) (AtNode number)) (at_in tree.new) }
+    ensures rest { tree.new ≡ record tree.old { nodes = tree.new.nodes; next = tree.new.next } }
+    ensures tree { IsTree (at_in tree.new) }
+{
+    let _nodes = tree.len();
     let Ok(()) = tree.cut(number) else {
         unreachable!();
     };
@@ -80,19 +97,35 @@ fn replace_at(tree: &mut Tree, key: &Key, target: Keys, candidate: Keys, moved: 
     }
 }
 
+/// The node that may lose its last child by the change, and need not be pinned: the parent of a node that is cut by its number.
+pub(crate) fn losing(tree: &Tree, change: &Change) -> Option<u64>
+    ensures { result ≡ loses (at_in tree.now) (change_in change.now) }
+{
+    match change {
+        Change::CutsNode(number) => parent_of_node(tree, *number),
+        Change::Stays
+        | Change::Cuts(_)
+        | Change::Moves(_, _)
+        | Change::Hides(_, _)
+        | Change::Replaces(_, _, _, _) => None,
+    }
+}
+
 /// Cuts, moves, hides or replaces names, with all below them.
 pub(crate) fn alter(tree: &mut Tree, change: Change)
     requires tree { IsTree (at_in tree.old) }
     requires leads { AreUnder (Leads (at_in tree.old)) (change_in change) }
+    requires below { change_in change ≡ cuts (AtNode 1) → ⊥ }
     requires may { (e : ℤ) → IsMisplaced (at_in tree.old) (change_in change) e → ⊥ }
     ensures alters { Alters (at_in tree.old) (change_in change) (at_in tree.new) }
-    ensures children { KeepsChildren (at_in tree.old) (IsUnder (change_in change)) (at_in tree.new) }
+    ensures children { KeepsChildren (at_in tree.old) (IsUnder (at_in tree.old) (change_in change)) (at_in tree.new) }
     ensures rest { tree.new ≡ record tree.old { nodes = tree.new.nodes; next = tree.new.next } }
     ensures tree { IsTree (at_in tree.new) }
 {
     match change {
         Change::Stays => {}
         Change::Cuts(key) => cut_at(tree, &key),
+        Change::CutsNode(number) => cut_node(tree, number),
         Change::Moves(key, target) => move_at(tree, &key, target),
         Change::Hides(key, candidate) => hide_at(tree, &key, candidate),
         Change::Replaces(key, target, candidate, moved) => {

@@ -4,7 +4,7 @@ ghost use Rattle.std.specs.Prelude.{true, false, ◌≡◌, ◌≤◌, ◌<◌, 
 ghost use Rattle.image.specs.Law.{HasReason, HaveReasons};
 ghost use Rattle.steps.specs.Keeping.{kept_by};
 ghost use Rattle.steps.specs.Swept.{IsNeedless, IsSwept};
-ghost use Rattle.steps.specs.Sweeping.{HaveReasonsBelow, IsPruned, IsSameRest, parent_in};
+ghost use Rattle.steps.specs.Sweeping.{HaveReasonsBelow, HaveReasonsBut, IsPruned, IsSameRest, listed, parent_at, parent_in};
 ghost use Rattle.steps.specs.Steps.{numbers_of};
 ghost use Rattle.tree.specs.Places.{at_in, IsTree};
 
@@ -47,6 +47,16 @@ fn parent_of(place: &Place) -> Option<u64>
     match place {
         Place::Named(key) => Some(key.parent),
         _ => None,
+    }
+}
+
+/// The same of the node of that number, if it lives.
+pub(crate) fn parent_of_node(tree: &Tree, number: u64) -> Option<u64>
+    ensures { result ≡ parent_at (at_in tree.now number) }
+{
+    match tree.at(number) {
+        Some(node) => parent_of(&node.place),
+        None => None,
     }
 }
 
@@ -134,11 +144,11 @@ pub fn sweep_pins(tree: &mut Tree, flights: &Flights, files: &Files, pins: &[u64
 }
 
 /// Drops the node if it is cut and nothing keeps it.
-fn drop_cut(tree: &mut Tree, flights: &Flights, files: &Files, number: u64)
+fn drop_cut(tree: &mut Tree, flights: &Flights, files: &Files, number: u64, _but: Option<u64>)
     requires tree { IsTree (at_in tree.old) }
-    requires below { HaveReasonsBelow (at_in tree.old) (kept_by flights.now files.now) number }
+    requires below { HaveReasonsBelow (at_in tree.old) (kept_by flights.now files.now) _but number }
     ensures tree { IsTree (at_in tree.new) }
-    ensures below { HaveReasonsBelow (at_in tree.new) (kept_by flights.now files.now) (number + 1) }
+    ensures below { HaveReasonsBelow (at_in tree.new) (kept_by flights.now files.now) _but (number + 1) }
     ensures swept { IsSwept (kept_by flights.now files.now) (at_in tree.old) (at_in tree.new) }
     ensures rest { IsSameRest tree.old tree.new }
 {
@@ -155,18 +165,35 @@ fn drop_cut(tree: &mut Tree, flights: &Flights, files: &Files, number: u64)
     tree.drop_node(number);
 }
 
-/// Drops each node that is cut and that nothing keeps. No node loses a child by it.
-pub fn sweep_cut(tree: &mut Tree, flights: &Flights, files: &Files)
+/// Drops each node that is cut and that nothing keeps. No node loses a child by it. One node may lack a reason.
+fn sweep_cut(tree: &mut Tree, flights: &Flights, files: &Files, but: Option<u64>)
     requires tree { IsTree (at_in tree.old) }
-    requires below { HaveReasonsBelow (at_in tree.old) (kept_by flights.now files.now) 1 }
+    requires below { HaveReasonsBelow (at_in tree.old) (kept_by flights.now files.now) but 1 }
     ensures tree { IsTree (at_in tree.new) }
-    ensures reasons { HaveReasons (at_in tree.new) (kept_by flights.now files.now) }
+    ensures reasons { HaveReasonsBut (at_in tree.new) (kept_by flights.now files.now) (listed but) }
     ensures swept { IsSwept (kept_by flights.now files.now) (at_in tree.old) (at_in tree.new) }
     ensures rest { IsSameRest tree.old tree.new }
 {
     let mut number = 0;
     while let Some(next) = tree.after(number) {
-        drop_cut(tree, flights, files, next);
+        drop_cut(tree, flights, files, next, but);
         number = next;
+    }
+}
+
+/// Drops each node that is cut and that nothing keeps, and then the one that may have lost its last child, if there is one, its
+/// parent, and so on.
+pub fn sweep_change(tree: &mut Tree, flights: &Flights, files: &Files, losing: Option<u64>)
+    requires tree { IsTree (at_in tree.old) }
+    requires below { HaveReasonsBelow (at_in tree.old) (kept_by flights.now files.now) losing 1 }
+    ensures tree { IsTree (at_in tree.new) }
+    ensures reasons { HaveReasons (at_in tree.new) (kept_by flights.now files.now) }
+    ensures swept { IsSwept (kept_by flights.now files.now) (at_in tree.old) (at_in tree.new) }
+    ensures rest { IsSameRest tree.old tree.new }
+{
+    sweep_cut(tree, flights, files, losing);
+    match losing {
+        Some(number) => sweep(tree, flights, files, number, &[], &[]),
+        None => {}
     }
 }

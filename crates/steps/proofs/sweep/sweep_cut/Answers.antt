@@ -13,4 +13,4 @@ loop-next-preserved c = record {
 
 pub returns-clause-reasons : goal.returns-clause-reasons
 returns-clause-reasons c =
-    below_all (at_in c.loop-next.tree) (kept_by c.args.flights.now c.args.files.now) c.loop-next.number c.in_default.ensures.positive c.in_default.ensures.none c.loop-next.invariant.below
+    below_all (at_in c.loop-next.tree) (kept_by c.args.flights.now c.args.files.now) c.args.but c.loop-next.number c.in_default.ensures.positive c.in_default.ensures.none c.loop-next.invariant.below

@@ -8,7 +8,7 @@ use Rattle.steps.proofs.sweep.sweep_cut.Given as goal
 abbrev pub invariant-loop-next : goal.invariant-loop-next
 invariant-loop-next l = record {
   tree : IsTree (at_in l.tree);
-  below : HaveReasonsBelow (at_in l.tree) (kept_by l.flights l.files) (l.number + 1);
+  below : HaveReasonsBelow (at_in l.tree) (kept_by l.flights l.files) l.but (l.number + 1);
   swept : IsSwept (kept_by l.flights l.files) (at_in l.fn.tree) (at_in l.tree);
   rest : IsSameRest l.fn.tree l.tree;
 }

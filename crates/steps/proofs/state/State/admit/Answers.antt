@@ -48,8 +48,9 @@ returns-clause-begins c =
       demanded = demanded (seen_in (world_of s)) plan c.requires.plan;
       begins = (
         may_begin s plan.work.want plan c.requires.plan (c.requires.handle plan.work.case) c.expect_within.ensures.tally (λ up. false≢true (sym c.if-holds_up.false ∙ c.holds_up.ensures.held.1 up)) c.in-Ok.ensures.ok,
-        goes_on s c.reserve.new.self c.args.unique c.free_id-id.result plan c.requires.plan c.reserve.ensures.same c.add.new.self c.add.ensures.adds c.is_same-same.result c.may_hide-hide.result c.next_counter-self.result c.free_id-id.ensures.free c.is_same-same.ensures
+        goes_on s c.reserve.new.self c.args.unique c.free_id-id.result plan c.requires.plan c.reserve.ensures.same c.add.new.self c.add.ensures.adds c.is_same-same.result c.may_hide-hide.result c.is_last-last.result c.next_counter-self.result c.free_id-id.ensures.free c.is_same-same.ensures
             (c.may_hide-hide.ensures ∙ hides_so (seen_in (world_of s)) plan.work.want plan.work.case c.requires.plan.fits plan.work.candidates c.requires.plan.provided.candidates)
+            c.is_last-last.ensures
             (c.next_counter-self.ensures ∙ ap (λ (k : ℕ). if c.may_hide-hide.result then (k + 10) % 2 ^ 32 else k) c.reserve.ensures.same.counter)
             c.closed_by-closes.result c.closed_by-closes.ensures (world_of c.close_file.new.self) c.close_file.ensures.closes,
       );

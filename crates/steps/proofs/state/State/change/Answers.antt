@@ -1,7 +1,9 @@
-use Rattle.std.proofs.Common.{subst, sym, ap, ◌∙◌}
+use Rattle.std.proofs.Common.{ℕ, Option, subst, sym, ap, ◌∙◌}
 use Rattle.std.proofs.lemmas.Bool.{true≢false}
 use Rattle.tree.specs.Places.{at_in}
+use Rattle.wants.specs.Laws.{AreOwn}
 use Rattle.wants.specs.Rows.{Change}
+use Rattle.steps.specs.Sweeping.{HaveReasonsBelow}
 use Rattle.steps.specs.Keeping.{kept_by}
 use Rattle.steps.specs.Ending.{ChangesNames, change_in}
 use Rattle.steps.specs.Kept.{world_of}
@@ -15,9 +17,13 @@ use Rattle.steps.proofs.state.State.change.Goals.{in-Stays, in_default}
 pub alter-requires-clause-leads : goal.alter-requires-clause-leads
 alter-requires-clause-leads c = let may = c.requires.may in own_leads (at_in c.args.self.now.tree) may.demand may.held may.row may.holds (change_in c.args.change) may.own
 
-pub sweep_cut-requires-clause-below : goal.sweep_cut-requires-clause-below
-sweep_cut-requires-clause-below c =
-    mid_reasons c.args.self.now c.requires.kept (change_in c.args.change) c.requires.may c.alter.new.tree c.alter.ensures.alters c.alter.ensures.children c.alter.ensures.rest c.alter.ensures.tree
+pub alter-requires-clause-below : goal.alter-requires-clause-below
+alter-requires-clause-below c e = let may = c.requires.may in may.placed (subst (λ (change : Change). AreOwn may.demand.alone change) e may.own)
+
+pub sweep_change-requires-clause-below : goal.sweep_change-requires-clause-below
+sweep_change-requires-clause-below c =
+    subst (λ (losing : Option ℕ). HaveReasonsBelow (at_in c.alter.new.tree) (kept_by c.args.self.now.flights c.args.self.now.files) losing 1) (sym c.losing-losing.ensures)
+    (mid_reasons c.args.self.now c.requires.kept (change_in c.args.change) c.requires.may c.alter.new.tree c.alter.ensures.alters c.alter.ensures.children c.alter.ensures.rest c.alter.ensures.tree)
 
 pub returns-then-matches-clause-changes : goal.returns-then-matches-clause-changes
 returns-then-matches-clause-changes c = elim c.match-matches.branch [
@@ -30,9 +36,9 @@ returns-then-matches-clause-changes c = elim c.match-matches.branch [
 pub returns-clause-changes : goal.returns-clause-changes
 returns-clause-changes c =
     changes_names c.args.self.now c.requires.kept (change_in c.args.change) c.requires.may c.alter.new.tree c.alter.ensures.alters c.alter.ensures.children c.alter.ensures.rest c.alter.ensures.tree
-    c.sweep_cut.new.tree c.sweep_cut.ensures.tree c.sweep_cut.ensures.reasons c.sweep_cut.ensures.swept c.sweep_cut.ensures.rest
+    c.sweep_change.new.tree c.sweep_change.ensures.tree c.sweep_change.ensures.reasons c.sweep_change.ensures.swept c.sweep_change.ensures.rest
 
 pub returns-clause-kept : goal.returns-clause-kept
 returns-clause-kept c =
     change_kept c.args.self.now c.requires.kept (change_in c.args.change) c.requires.may c.alter.new.tree c.alter.ensures.alters c.alter.ensures.children c.alter.ensures.rest c.alter.ensures.tree
-    c.sweep_cut.new.tree c.sweep_cut.ensures.tree c.sweep_cut.ensures.reasons c.sweep_cut.ensures.swept c.sweep_cut.ensures.rest
+    c.sweep_change.new.tree c.sweep_change.ensures.tree c.sweep_change.ensures.reasons c.sweep_change.ensures.swept c.sweep_change.ensures.rest
