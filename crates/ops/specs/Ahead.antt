@@ -1,13 +1,14 @@
 -- What a script in its code still asks.
-use Rattle.std.specs.Prelude.{ℕ, ℤ, ◌+◌, is_some, List, [], ◌∷◌, length, map, Option, Some, None}
+use Rattle.std.specs.Prelude.{ℕ, ℤ, ◌+◌, is_some, List, [], ◌∷◌, length, map, true, false, Option, Some, None, option_map}
 use Rattle.paths.specs.Prefixes.{Names}
 use Rattle.backing.specs.Calls.{asked}
 use Rattle.backing.specs.declared.call.Call.{Call}
 use Rattle.steps.specs.declared.data.Outcome.{Outcome}
-use Rattle.steps.specs.declared.data.Outcome.TheVariants.{Failed, Done, Entry, Entries, Hidden}
+use Rattle.steps.specs.declared.data.Outcome.TheVariants.{Failed, Done, Entry, Entries, Hidden, HiddenMove}
 use Rattle.ops.specs.declared.findings.Found.{Found}
 use Rattle.ops.specs.declared.findings.Finding.{Finding}
-use Rattle.ops.specs.declared.findings.Finding.TheVariants.{Error, Nothing, NewEntry, NewFile, Attributes, Opening, Bytes, Written, Listed, Looked, Hid}
+use Rattle.ops.specs.declared.findings.Finding.TheVariants.{Error, Nothing, NewEntry, NewFile, Attributes, Opening, Bytes, Written, Listed, Looked, Hid, Replaced, Unmoved, Kept}
+use Rattle.ops.specs.declared.hiding.Hiding.{Hiding}
 use Rattle.ops.specs.declared.script.Ending.{Ending}
 use Rattle.ops.specs.declared.script.Ending.TheVariants as ending
 use Rattle.ops.specs.declared.script.Script.{Script}
@@ -16,7 +17,7 @@ use Rattle.ops.specs.declared.telling.Telling.TheVariants as telling
 use Rattle.wire.specs.declared.request.Operation.{Operation}
 use Rattle.wire.specs.declared.request.Operation.TheVariants as ops
 use Rattle.ops.specs.Looking.{plan_looking}
-use Rattle.ops.specs.Scripts.{Plan, Over, End, failed, hide, list, listed_end, make, look, open_end, read, write}
+use Rattle.ops.specs.Scripts.{Plan, Over, End, failed, hide, list, listed_end, make, move_after, look, open_end, over, read, remove_closed, replace, write}
 
 abbrev pub outcome_of : Finding → Outcome
 outcome_of (Error errno) = Failed
@@ -30,6 +31,9 @@ outcome_of (Written count) = Done
 outcome_of (Listed children) = Done
 outcome_of (Looked founds) = Entries (map (λ found. is_some found) founds)
 outcome_of (Hid candidate) = Hidden candidate
+outcome_of (Replaced candidate) = HiddenMove candidate true
+outcome_of (Unmoved candidate errno) = HiddenMove candidate false
+outcome_of Kept = Failed
 
 -- names that are lawless are an error
 abbrev pub end_of : Finding → End
@@ -54,13 +58,24 @@ told_of telling.NewFile found = end_of (NewFile found)
 told_of telling.Attributes found = end_of (Attributes found)
 told_of telling.Opening found = open_end found.kind
 
+-- what comes after a file was hidden: nothing more, or a move to its place
+abbrev pub after_hide : Names → (source : Option Names) → ℕ → Plan
+after_hide p None i = over (Hidden i) (Hid i)
+after_hide p (Some s) i = move_after s p i
+
+abbrev pub plan_hiding : Hiding → Plan
+plan_hiding h = hide h.path.now h.left.now (after_hide h.path.now (option_map (λ s. s.now) h.source))
+
 abbrev pub plan_ending : Ending → Plan
 plan_ending (ending.Look p tells) = look p.now (λ found. Over (told_of tells found))
 plan_ending (ending.List p) = list p.now
 plan_ending (ending.Read p offset size) = read p.now offset size
 plan_ending (ending.Write p offset piece) = write p.now offset piece.now
 plan_ending (ending.Each looks) = plan_looking looks
-plan_ending (ending.Hide p left) = hide p.now left.now
+plan_ending (ending.Replace s t left) = replace s.now t.now left.now
+plan_ending (ending.Hide hiding) = plan_hiding hiding
+plan_ending (ending.MoveAfter s t candidate) = move_after s.now t.now candidate
+plan_ending (ending.Remove p) = remove_closed p.now
 plan_ending (ending.Over finding) = Over (end_of finding)
 
 abbrev pub plan_from : Option Call → Plan → Plan
@@ -77,10 +92,18 @@ plan_ahead script = plan_from script.change (plan_ending script.ending)
 
 -- how many calls it makes at most
 
--- a look at each, and a move
-abbrev pub calls_hiding : List Names → ℕ
-calls_hiding [] = 0
-calls_hiding (c ∷ cs) = length cs + 2
+-- one where a move comes after a hide
+abbrev pub calls_after : Option Names → ℕ
+calls_after None = 0
+calls_after (Some s) = 1
+
+-- a look at each, a move, and so many after it
+abbrev pub calls_hiding : List Names → (after : ℕ) → ℕ
+calls_hiding [] after = 0
+calls_hiding (c ∷ cs) after = length cs + 2 + after
+
+abbrev pub calls_in : Hiding → ℕ
+calls_in h = calls_hiding h.left.now (calls_after (option_map (λ s. s.now) h.source))
 
 abbrev pub calls_ending : Ending → ℕ
 calls_ending (ending.Look p tells) = 1
@@ -88,7 +111,10 @@ calls_ending (ending.List p) = 1
 calls_ending (ending.Read p offset size) = 1
 calls_ending (ending.Write p offset piece) = 1
 calls_ending (ending.Each looks) = length looks.left
-calls_ending (ending.Hide p left) = calls_hiding left.now
+calls_ending (ending.Replace s t left) = calls_hiding left.now 1 + 1
+calls_ending (ending.Hide hiding) = calls_in hiding
+calls_ending (ending.MoveAfter s t candidate) = 1
+calls_ending (ending.Remove p) = 1
 calls_ending (ending.Over finding) = 0
 
 abbrev pub calls_from : Option Call → ℕ

@@ -89,4 +89,7 @@ reply_to s node page (findings.Bytes bytes) put answer = body.Data bytes
 reply_to s node page (findings.Written size) put answer = body.Wrote size
 reply_to s node page (findings.Listed children) put answer = opened_reply put
 reply_to s node page (findings.Hid candidate) put answer = body.Done
+reply_to s node page (findings.Replaced candidate) put answer = body.Done
+reply_to s node page (findings.Unmoved candidate errno) put answer = body.Failed errno
+reply_to s node page findings.Kept put answer = body.Done
 reply_to s node page (findings.Looked founds) put answer = body.Data (entries_bytes s page.from page.entries founds answer.given)

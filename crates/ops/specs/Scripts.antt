@@ -1,6 +1,6 @@
 -- What each request asks of the directory, and what it comes to.
 use Rattle.std.specs.Prelude.{ℕ, ℤ, ◌≡◌, ◌-◌, length, Bool, true, false, if◌then◌else◌, is_some, List, [], ◌∷◌, map, Option, Some, None}
-use Rattle.errno.specs.declared.TheConstants.{EBUSY, EIO, EISDIR, ENOENT}
+use Rattle.errno.specs.declared.TheConstants.{EBUSY, EIO, EISDIR, ENOENT, ENOTDIR}
 use Rattle.std.specs.Ordering.{int_eq}
 use Rattle.paths.specs.Prefixes.{Names}
 use Rattle.backing.specs.declared.call.Kind.{Kind}
@@ -13,12 +13,12 @@ use Rattle.handles.specs.Listings.{are_lawful}
 use Rattle.backing.specs.Calls.{Asked, asked, AskStat, AskList, AskMake, AskMakeDir, AskRemove, AskRemoveDir, AskRename, AskRead, AskWrite, AskSetLen, AskSync}
 use Rattle.steps.specs.Answers.{Claim}
 use Rattle.steps.specs.declared.data.Outcome.{Outcome}
-use Rattle.steps.specs.declared.data.Outcome.TheVariants.{Failed, Done, Entry, Entries, Hidden}
+use Rattle.steps.specs.declared.data.Outcome.TheVariants.{Failed, Done, Entry, Entries, Hidden, HiddenMove}
 use Rattle.wire.specs.declared.request.Operation.{Operation}
 use Rattle.wire.specs.declared.request.Operation.TheVariants as ops
 use Rattle.ops.specs.declared.findings.Found.{Found}
 use Rattle.ops.specs.declared.findings.Finding.{Finding}
-use Rattle.ops.specs.declared.findings.Finding.TheVariants.{Error, Nothing, NewEntry, NewFile, Attributes, Opening, Bytes, Written, Listed, Looked, Hid}
+use Rattle.ops.specs.declared.findings.Finding.TheVariants.{Error, Nothing, NewEntry, NewFile, Attributes, Opening, Bytes, Written, Listed, Looked, Hid, Replaced, Unmoved, Kept}
 use Rattle.ops.specs.Intents.{sets_size}
 use Rattle.ops.specs.Judged.{errno_in, judged}
 
@@ -88,15 +88,15 @@ abbrev pub at_path : List Names → (Names → Plan) → Plan
 at_path [] plan = failed EIO
 at_path (p ∷ ps) plan = plan p
 
--- the source of a move, and its target
-abbrev pub at_paths : List Names → (Names → Names → Plan) → Plan
-at_paths [] plan = failed EIO
-at_paths (s ∷ ps) plan = at_path ps (λ t. plan s t)
-
 -- the name's, and those that its file may be hidden under
 abbrev pub at_candidates : List Names → (Names → List Names → Plan) → Plan
 at_candidates [] plan = failed EIO
 at_candidates (p ∷ ps) plan = plan p ps
+
+-- the source of a move, its target, and those that the file at the target may be hidden under
+abbrev pub at_paths : List Names → (Names → Names → List Names → Plan) → Plan
+at_paths [] plan = failed EIO
+at_paths (s ∷ ps) plan = at_candidates ps (λ t candidates. plan s t candidates)
 
 -- ---- how scripts end
 
@@ -131,19 +131,51 @@ abbrev pub if_free : (free taken : Plan) → Answer → Plan
 if_free free taken (told.Stat kind size) = taken
 if_free free taken answer = if int_eq (errno_in answer) ENOENT then free else failed (errno_in answer)
 
--- A file that may be hidden is moved to the first of its candidates where nothing stands. There are ten of them, counted from 0.
-abbrev pub hide : Names → List Names → Plan
-hide p [] = failed EBUSY
-hide p (c ∷ cs) = Ask (AskStat c) (λ answer. if_free (make (AskRename p c) (over (Hidden (10 - length (c ∷ cs))) (Hid (10 - length (c ∷ cs))))) (hide p cs) answer)
+-- A file that is open is moved to the first of its candidates where nothing stands, and what comes after is told the index of that. There
+-- are ten of them, counted from 0.
+abbrev pub hide : Names → List Names → (ℕ → Plan) → Plan
+hide p [] rest = failed EBUSY
+hide p (c ∷ cs) rest = Ask (AskStat c) (λ answer. if_free (make (AskRename p c) (rest (10 - length (c ∷ cs)))) (hide p cs rest) answer)
 
 abbrev pub unlink : (hides : Bool) → Names → List Names → Plan
-unlink true p candidates = hide p candidates
+unlink true p candidates = hide p candidates (λ i. over (Hidden i) (Hid i))
 unlink false p candidates = make (AskRemove p) done
 
+-- The move to the place of a file that was hidden. Where it fails the file stays hidden, and nothing stands at its place.
+abbrev pub if_moved : ℕ → Answer → Plan
+if_moved i told.Done = over (HiddenMove i true) (Replaced i)
+if_moved i answer = over (HiddenMove i false) (Unmoved i (errno_in answer))
+
+abbrev pub move_after : Names → Names → ℕ → Plan
+move_after s t i = Ask (AskRename s t) (λ answer. if_moved i answer)
+
+-- a folder takes the place of no file
+abbrev pub unless_folder : Kind → Plan → Plan
+unless_folder kinds.Folder rest = failed ENOTDIR
+unless_folder kinds.File rest = rest
+
+-- A file is moved to the place of one that is open, which is hidden first.
+abbrev pub replace : Names → Names → List Names → Plan
+replace s t candidates = look s (λ found. unless_folder found.kind (hide t candidates (λ i. move_after s t i)))
+
 -- A move of a path to itself only needs something to stand there.
-abbrev pub rename : (same : Bool) → Names → Names → Plan
-rename true s t = look s (λ found. done)
-rename false s t = make (AskRename s t) done
+abbrev pub rename : (same hides : Bool) → Names → Names → List Names → Plan
+rename true hides s t candidates = look s (λ found. done)
+rename false true s t candidates = replace s t candidates
+rename false false s t candidates = make (AskRename s t) done
+
+-- The client has closed a file that is removed then, and is not told where that fails: the file is kept.
+abbrev pub if_removed : Answer → Plan
+if_removed told.Done = done
+if_removed answer = over Failed Kept
+
+abbrev pub remove_closed : Names → Plan
+remove_closed p = Ask (AskRemove p) if_removed
+
+-- The handle was closed when it began. The last one of a hidden file removes it; else no call is made, also of a node that has no path.
+abbrev pub release : (last : Bool) → List Names → Plan
+release true paths = at_path paths (λ p. remove_closed p)
+release false paths = done
 
 -- ---- what stands at each of some paths: a fault is nothing, and does not end the script
 
@@ -173,12 +205,11 @@ plan_of (ops.SetAttr valid fh size) ticket = at_path ticket.paths (λ p. set_siz
 plan_of (ops.MakeDir name) ticket = at_path ticket.paths (λ p. make (AskMakeDir p) (give_entry p))
 plan_of (ops.Unlink name) ticket = at_candidates ticket.paths (λ p candidates. unlink ticket.hide p candidates)
 plan_of (ops.RemoveDir name) ticket = at_path ticket.paths (λ p. make (AskRemoveDir p) done)
-plan_of (ops.Rename name new_parent new_name) ticket = at_paths ticket.paths (λ s t. rename ticket.same s t)
+plan_of (ops.Rename name new_parent new_name) ticket = at_paths ticket.paths (λ s t candidates. rename ticket.same ticket.hide s t candidates)
 plan_of (ops.Open flags) ticket = at_path ticket.paths (λ p. open_file p)
 plan_of (ops.Read fh offset size) ticket = at_path ticket.paths (λ p. read p offset size)
 plan_of (ops.Write fh offset piece) ticket = at_path ticket.paths (λ p. write p offset piece.now)
--- The handle is closed when it begins, also of a node that has no path.
-plan_of (ops.Release fh) ticket = done
+plan_of (ops.Release fh) ticket = release ticket.last ticket.paths
 plan_of (ops.Sync fh) ticket = at_path ticket.paths (λ p. make (AskSync p) done)
 plan_of (ops.Create name flags) ticket = at_path ticket.paths (λ p. make (AskMake p) (give_file p))
 plan_of ops.OpenDir ticket = at_path ticket.paths (λ p. list p)

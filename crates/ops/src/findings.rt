@@ -40,6 +40,13 @@ pub enum Finding {
     Looked(Looked),
     /// A file was moved to the candidate of that index, counted from 0.
     Hid { candidate: u8 },
+    /// A file was moved to the candidate of that index, and then another to its place.
+    Replaced { candidate: u8 },
+    /// A file was moved to the candidate of that index, and then the move of another to its place failed by that error number, from 1 to
+    /// 4,095.
+    Unmoved { candidate: u8, errno: i32 },
+    /// A file that was closed could not be removed, which the reply does not tell.
+    Kept,
 }
 
 impl Finding {
@@ -49,7 +56,7 @@ impl Finding {
         ensures { result ≡ outcome_of self.now }
     {
         match self {
-            Finding::Error { .. } => Outcome::Failed,
+            Finding::Error { .. } | Finding::Kept => Outcome::Failed,
             Finding::Nothing
             | Finding::Attributes(_)
             | Finding::Opening
@@ -58,6 +65,14 @@ impl Finding {
             | Finding::Listed(_) => Outcome::Done,
             Finding::NewEntry(_) | Finding::NewFile(_) => Outcome::Entry,
             Finding::Hid { candidate } => Outcome::Hidden(*candidate),
+            Finding::Replaced { candidate } => Outcome::HiddenMove {
+                candidate: *candidate,
+                moved: true,
+            },
+            Finding::Unmoved { candidate, .. } => Outcome::HiddenMove {
+                candidate: *candidate,
+                moved: false,
+            },
             Finding::Looked(_) => unreachable!(),
         }
     }

@@ -1,9 +1,9 @@
-//! The script of an UNLINK, which hides a file that is open.
+//! How a file that is open is hidden, by an UNLINK, or by a RENAME that moves another file to its place.
 
-ghost use Rattle.std.specs.Prelude.{◌≡◌, ◌<◌, ◌-◌, length};
+ghost use Rattle.std.specs.Prelude.{◌≡◌, ◌-◌, ℕ, length, option_map};
 ghost use Rattle.paths.specs.Prefixes.{Names};
-ghost use Rattle.ops.specs.Ahead.{calls_hiding, calls_left, end_of, plan_ahead};
-ghost use Rattle.ops.specs.Scripts.{after, at_candidates, hide, unlink, End, Over};
+ghost use Rattle.ops.specs.Ahead.{after_hide, calls_after, calls_ending, end_of, plan_ahead, plan_ending};
+ghost use Rattle.ops.specs.Scripts.{at_candidates, hide, unlink, End, Over, Plan};
 
 use crate::findings::Finding;
 use crate::judging::{errno_in, judge};
@@ -15,6 +15,16 @@ use table::Ticket;
 
 /// How many names a file may be hidden under.
 const CANDIDATES: usize = 10;
+
+/// A file that is to be moved to the first of some candidates where nothing stands.
+#[derive(Clone, Copy, Drop)]
+pub struct Hiding<'a> {
+    pub path: &'a Path,
+    /// What is moved to its place then, if something is.
+    pub source: Option<&'a Path>,
+    /// The candidates that are left.
+    pub left: &'a [Path],
+}
 
 /// The index of the first candidate that is left, counted from 0.
 fn index_of(left: &[Path]) -> u8
@@ -28,7 +38,10 @@ pub(crate) fn start_unlink(ticket: &Ticket) -> Script<'_>
     ensures { plan_ahead result ≡ at_candidates ticket.now.paths (λ p candidates. unlink ticket.now.hide p candidates) }
 {
     let (change, ending) = match ticket.paths() {
-        [path, left @ ..] if ticket.hide() => (None, Ending::Hide { path, left }),
+        [path, left @ ..] if ticket.hide() => {
+            let source = None;
+            (None, Ending::Hide(Hiding { path, source, left }))
+        }
         [path, ..] => (Some(Call::Remove(path)), DONE),
         [] => (None, UNFIT),
     };
@@ -37,7 +50,7 @@ pub(crate) fn start_unlink(ticket: &Ticket) -> Script<'_>
 
 /// What is told where no candidate is left.
 pub(crate) fn unhidden(left: &[Path]) -> Finding
-    ensures { (path : Names) (end : End) → hide path left.now ≡ Over end → end_of result ≡ end }
+    ensures { (path : Names) (rest : ℕ → Plan) (end : End) → hide path left.now rest ≡ Over end → end_of result ≡ end }
 {
     match left {
         [] => Finding::Error { errno: EBUSY },
@@ -45,39 +58,60 @@ pub(crate) fn unhidden(left: &[Path]) -> Finding
     }
 }
 
-/// What is still to do after the answer to a look at the first candidate that is left.
-pub(crate) fn hide_on<'a>(path: &'a Path, left: &'a [Path], answer: Answer) -> Script<'a>
-    ensures plan { plan_ahead result ≡ after (hide path.now left.now) answer }
-    ensures fewer { 0 < calls_hiding left.now → calls_left result < calls_hiding left.now }
+/// What is still to do after the file at the path was moved to that candidate.
+fn after_hide<'a>(path: &'a Path, source: Option<&'a Path>, candidate: u8) -> Ending<'a>
+    ensures plan { plan_ending result ≡ after_hide path.now (option_map (λ s. s.now) source.entry) candidate }
+    ensures calls { calls_ending result ≡ calls_after (option_map (λ s. s.now) source.entry) }
 {
-    let [candidate, rest @ ..] = left else {
-        return Script {
-            change: None,
-            ending: Ending::Hide { path, left },
-        };
-    };
-    let errno = match judge(Call::Stat(candidate), answer) {
-        Answer::Stat { .. } => {
+    match source {
+        Some(from) => Ending::MoveAfter {
+            from,
+            to: path,
+            candidate,
+        },
+        None => Ending::Over(Finding::Hid { candidate }),
+    }
+}
+
+impl<'a> Hiding<'a> {
+    ghost use Rattle.std.specs.Prelude.{◌≡◌, ◌<◌};
+    ghost use Rattle.ops.specs.Ahead.{calls_in, calls_left, plan_ahead, plan_hiding};
+    ghost use Rattle.ops.specs.Scripts.{after};
+
+    /// What is still to do after the answer to a look at the first candidate that is left.
+    pub fn on(self, answer: Answer) -> Script<'a>
+        ensures plan { plan_ahead result ≡ after (plan_hiding self.entry) answer }
+        ensures fewer { 0 < calls_in self.entry → calls_left result < calls_in self.entry }
+    {
+        let Hiding { path, source, left } = self;
+        let [candidate, rest @ ..] = left else {
             return Script {
                 change: None,
-                ending: Ending::Hide { path, left: rest },
+                ending: Ending::Hide(self),
+            };
+        };
+        let errno = match judge(Call::Stat(candidate), answer) {
+            Answer::Stat { .. } => {
+                let left = rest;
+                return Script {
+                    change: None,
+                    ending: Ending::Hide(Hiding { path, source, left }),
+                };
+            }
+            other => errno_in(&other),
+        };
+        if errno == ENOENT {
+            return Script {
+                change: Some(Call::Rename {
+                    from: path,
+                    to: candidate,
+                }),
+                ending: after_hide(path, source, index_of(left)),
             };
         }
-        other => errno_in(&other),
-    };
-    if errno == ENOENT {
-        return Script {
-            change: Some(Call::Rename {
-                from: path,
-                to: candidate,
-            }),
-            ending: Ending::Over(Finding::Hid {
-                candidate: index_of(left),
-            }),
-        };
-    }
-    Script {
-        change: None,
-        ending: Ending::Over(Finding::Error { errno }),
+        Script {
+            change: None,
+            ending: Ending::Over(Finding::Error { errno }),
+        }
     }
 }

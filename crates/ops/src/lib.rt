@@ -11,6 +11,7 @@ mod hiding;
 mod intents;
 mod judging;
 mod looks;
+mod moving;
 mod opening;
 mod replies;
 mod script;

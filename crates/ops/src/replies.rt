@@ -120,7 +120,7 @@ pub fn file_reply(node: u64, file: Option<OpenFile>) -> ReplyBody
 /// What a request about a node is answered, by what its script found, the handle under which its listing was stored, if it was, and
 /// what its table gave.
 ///
-/// An error that its script found is told as it is. An entry or a handle that the table did not give is EIO (own), and a listing that
+/// An error that its script found is told as it is, and a file that was kept is told as done. An entry or a handle that the table did not give is EIO (own), and a listing that
 /// was not stored ENFILE (own). It takes no memory: bytes that were read become the reply. A page is told by `entries_reply`.
 pub fn reply_to(
     settings: Settings,
@@ -134,7 +134,10 @@ pub fn reply_to(
 {
     match finding {
         Finding::Error { errno } => ReplyBody::Failed { errno },
-        Finding::Nothing | Finding::Hid { .. } => ReplyBody::Done,
+        Finding::Unmoved { errno, .. } => ReplyBody::Failed { errno },
+        Finding::Nothing | Finding::Hid { .. } | Finding::Replaced { .. } | Finding::Kept => {
+            ReplyBody::Done
+        }
         Finding::NewEntry(found) => entry_reply(settings, found, first_given(answered)),
         Finding::NewFile(found) => {
             created_reply(settings, found, first_given(answered), answered.opened())

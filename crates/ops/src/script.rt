@@ -1,18 +1,18 @@
 //! The calls of one request: at most one that changes something, and then at most one whose answer the reply tells, or one at each name
-//! of a page.
+//! of a page. A RENAME that hides changes two names, one after the other.
 
 ghost use Rattle.std.specs.Prelude.{◌≡◌, ◌<◌, [], IfOk, OnErr};
-ghost use Rattle.steps.specs.Answers.{Claim};
 ghost use Rattle.ops.specs.Ahead.{calls_left, end_of, plan_ahead, plan_ending, plan_from, told_of, unless, LooksAtEach};
 ghost use Rattle.ops.specs.Intents.{sets_size};
-ghost use Rattle.ops.specs.Scripts.{after, at_names, at_paths, if_done, look, next_of, plan_of, rename, set_size, AsksNext, End, Over, Plan};
+ghost use Rattle.ops.specs.Scripts.{after, at_names, if_done, look, next_of, plan_of, release, set_size, AsksNext, End, Over, Plan};
 
 use crate::findings::Finding;
-use crate::hiding::{hide_on, start_unlink, unhidden};
+use crate::hiding::{Hiding, start_unlink, unhidden};
 use crate::intents::sets_size;
 use crate::judging::{errno_in, judge};
 use crate::looks::Looks;
-use crate::telling::{Telling, bytes_of, listed, looked, written};
+use crate::moving::{moved, replace_on, start_rename};
+use crate::telling::{Telling, listed, looked, read, removed, written};
 use backing::{Answer, Call};
 use errno::EIO;
 use paths::Path;
@@ -46,10 +46,24 @@ pub enum Ending<'a> {
     },
     /// It asks what stands at each of some paths, and tells that.
     Each(Looks<'a>),
-    /// It looks for the first of these candidates where nothing stands, and moves the file at the path there.
-    Hide {
-        path: &'a Path,
+    /// It asks whether a file stands at the source, then hides the file at the target under one of these candidates, and then moves the
+    /// source there.
+    Replace {
+        from: &'a Path,
+        to: &'a Path,
         left: &'a [Path],
+    },
+    /// It looks for the first candidate where nothing stands, moves a file there, and then another to its place, if there is one.
+    Hide(Hiding<'a>),
+    /// It moves the source to the target, the file of which was moved to the candidate of that index before.
+    MoveAfter {
+        from: &'a Path,
+        to: &'a Path,
+        candidate: u8,
+    },
+    /// It removes the file at the path, and is done whatever comes of that.
+    Remove {
+        path: &'a Path,
     },
     /// It has nothing more to ask.
     Over(Finding),
@@ -97,22 +111,19 @@ fn size_change(valid: u32, path: &Path, size: u64) -> Option<Call<'_>>
     }
 }
 
-/// The script of a RENAME, from the first path of its ticket to the second.
-fn start_rename(ticket: &Ticket) -> Script<'_>
-    ensures { plan_ahead result ≡ at_paths ticket.now.paths (λ s t. rename ticket.now.same s t) }
+/// The script of a RELEASE, which removes a hidden file with its last handle.
+fn start_release(ticket: &Ticket) -> Script<'_>
+    ensures { plan_ahead result ≡ release ticket.now.last ticket.now.paths }
 {
-    let (change, ending) = match ticket.paths() {
-        [path, _, ..] if ticket.same() => (
-            None,
-            Ending::Look {
-                path,
-                tells: Telling::Nothing,
-            },
-        ),
-        [from, to, ..] => (Some(Call::Rename { from, to }), DONE),
-        _ => (None, UNFIT),
+    let ending = match ticket.paths() {
+        [path, ..] if ticket.last() => Ending::Remove { path },
+        [] if ticket.last() => UNFIT,
+        _ => DONE,
     };
-    Script { change, ending }
+    Script {
+        change: None,
+        ending,
+    }
 }
 
 /// How the script of a READDIRPLUS ends, whose ticket has the path of its folder and then that of each name.
@@ -126,16 +137,16 @@ fn end_with_looks(alloc: Global, ticket: &Ticket) -> Result<Ending<'_>, AllocErr
 }
 
 /// The script of a request whose ticket has no path.
-fn without_path<'a>(operation: Operation<'_>) -> Script<'a>
-    ensures { (ticket : Claim) → ticket.paths ≡ [] → plan_ahead result ≡ plan_of operation.entry ticket }
+fn without_path<'a>(operation: Operation<'_>, ticket: &'a Ticket) -> Script<'a>
+    requires { ticket.now.paths ≡ [] }
+    ensures { plan_ahead result ≡ plan_of operation.entry ticket.now }
 {
-    let ending = match operation {
-        Operation::Release { .. } => DONE,
-        _ => UNFIT,
-    };
-    Script {
-        change: None,
-        ending,
+    match operation {
+        Operation::Release { .. } => start_release(ticket),
+        _ => Script {
+            change: None,
+            ending: UNFIT,
+        },
     }
 }
 
@@ -152,7 +163,7 @@ impl<'a> Script<'a> {
         ensures err { OnErr result (LooksAtEach operation.entry) }
     {
         let Some(path) = ticket.paths().first() else {
-            return Ok(without_path(operation));
+            return Ok(without_path(operation, ticket));
         };
         let (change, ending) = match operation {
             Operation::Lookup { .. } => (None, look(path, Telling::Entry)),
@@ -167,7 +178,7 @@ impl<'a> Script<'a> {
             Operation::Read { offset, size, .. } => (None, Ending::Read { path, offset, size }),
             Operation::Write { offset, data, .. } => (None, Ending::Write { path, offset, data }),
             Operation::Sync { .. } => (Some(Call::Sync(path)), DONE),
-            Operation::Release { .. } => (None, DONE),
+            Operation::Release { .. } => return Ok(start_release(ticket)),
             Operation::OpenDir => (None, Ending::List { path }),
             Operation::Unlink { .. } => return Ok(start_unlink(ticket)),
             Operation::RemoveDir { .. } => (Some(Call::RemoveDir(path)), DONE),
@@ -206,7 +217,10 @@ impl<'a> Script<'a> {
                 data,
             }),
             (None, Ending::Each(looks)) => looks.next(),
-            (None, Ending::Hide { left, .. }) => left.first().map(Call::Stat),
+            (None, Ending::Replace { from, .. }) => Some(Call::Stat(from)),
+            (None, Ending::Hide(hiding)) => hiding.left.first().map(Call::Stat),
+            (None, Ending::MoveAfter { from, to, .. }) => Some(Call::Rename { from, to }),
+            (None, Ending::Remove { path }) => Some(Call::Remove(path)),
             (None, Ending::Over(_)) => None,
         }
     }
@@ -229,20 +243,23 @@ impl<'a> Script<'a> {
         let finding = match &mut self.ending {
             Ending::Look { path, tells } => looked(*tells, &judge(Call::Stat(path), answer)),
             Ending::List { path } => listed(judge(Call::List(path), answer)),
-            Ending::Read { path, offset, size } => {
-                let call = Call::Read {
-                    path,
-                    offset: *offset,
-                    size: *size,
-                };
-                bytes_of(judge(call, answer))
-            }
+            Ending::Read { path, offset, size } => read(path, *offset, *size, answer),
             Ending::Write { path, offset, data } => written(path, *offset, data, answer),
             Ending::Each(looks) => return looks.feed(answer),
-            Ending::Hide { path, left } => {
-                *self = hide_on(path, left, answer);
+            Ending::Replace { from, to, left } => {
+                self.ending = replace_on(from, to, left, answer);
                 return;
             }
+            Ending::Hide(hiding) => {
+                *self = hiding.on(answer);
+                return;
+            }
+            Ending::MoveAfter {
+                from,
+                to,
+                candidate,
+            } => moved(from, to, *candidate, answer),
+            Ending::Remove { path } => removed(path, answer),
             Ending::Over(_) => return,
         };
         self.ending = Ending::Over(finding);
@@ -256,11 +273,14 @@ impl<'a> Script<'a> {
         match ending {
             Ending::Over(finding) => finding,
             Ending::Each(looks) => looks.into_finding(),
-            Ending::Hide { left, .. } => unhidden(left),
+            Ending::Hide(hiding) => unhidden(hiding.left),
             Ending::Look { .. }
             | Ending::List { .. }
             | Ending::Read { .. }
-            | Ending::Write { .. } => Finding::Error { errno: EIO },
+            | Ending::Write { .. }
+            | Ending::Replace { .. }
+            | Ending::MoveAfter { .. }
+            | Ending::Remove { .. } => Finding::Error { errno: EIO },
         }
     }
 }

@@ -1,10 +1,10 @@
 //! What is told of the answer with which a script ends.
 
 ghost use Rattle.std.specs.Prelude.{◌≡◌};
-ghost use Rattle.backing.specs.Calls.{AskWrite};
+ghost use Rattle.backing.specs.Calls.{AskRead, AskRemove, AskWrite};
 ghost use Rattle.ops.specs.Ahead.{end_of, told_of};
 ghost use Rattle.ops.specs.Judged.{judged};
-ghost use Rattle.ops.specs.Scripts.{if_found, if_listed, if_read, if_written, open_end, Over};
+ghost use Rattle.ops.specs.Scripts.{if_found, if_listed, if_read, if_removed, if_written, open_end, Over};
 
 use crate::findings::{Finding, Found};
 use crate::judging::{errno_in, judge};
@@ -77,10 +77,10 @@ pub(crate) fn listed(answer: Answer) -> Finding
 }
 
 /// What is told of an answer to a read.
-pub(crate) fn bytes_of(answer: Answer) -> Finding
-    ensures { Over (end_of result) ≡ if_read answer }
+pub(crate) fn read(path: &Path, offset: u64, size: u32, answer: Answer) -> Finding
+    ensures { Over (end_of result) ≡ if_read (judged (AskRead path.now offset size) answer) }
 {
-    match answer {
+    match judge(Call::Read { path, offset, size }, answer) {
         Answer::Bytes(bytes) => Finding::Bytes(bytes),
         other => Finding::Error {
             errno: errno_in(&other),
@@ -102,5 +102,15 @@ pub(crate) fn written(path: &Path, offset: u64, piece: &[u8], answer: Answer) ->
         other => Finding::Error {
             errno: errno_in(&other),
         },
+    }
+}
+
+/// What is told of an answer to the removal of a file that was closed: it is done, and where it failed the file is kept.
+pub(crate) fn removed(path: &Path, answer: Answer) -> Finding
+    ensures { Over (end_of result) ≡ if_removed (judged (AskRemove path.now) answer) }
+{
+    match judge(Call::Remove(path), answer) {
+        Answer::Done => Finding::Nothing,
+        _ => Finding::Kept,
     }
 }

@@ -1,0 +1,79 @@
+//! The script of a RENAME, which hides a file that is open and stands at its target.
+
+ghost use Rattle.std.specs.Prelude.{◌≡◌, ◌≤◌};
+ghost use Rattle.backing.specs.Calls.{AskRename, AskStat};
+ghost use Rattle.ops.specs.Ahead.{calls_ending, calls_hiding, end_of, plan_ahead, plan_ending};
+ghost use Rattle.ops.specs.Judged.{judged};
+ghost use Rattle.ops.specs.Scripts.{at_paths, hide, if_found, if_moved, move_after, rename, unless_folder, Over};
+
+use crate::findings::Finding;
+use crate::hiding::Hiding;
+use crate::judging::{errno_in, judge};
+use crate::script::{DONE, Ending, Script, UNFIT};
+use crate::telling::Telling;
+use backing::{Answer, Call, Kind};
+use errno::ENOTDIR;
+use paths::Path;
+use table::Ticket;
+
+/// The script of a RENAME, from the first path of its ticket to the second.
+pub(crate) fn start_rename(ticket: &Ticket) -> Script<'_>
+    ensures { plan_ahead result ≡ at_paths ticket.now.paths (λ s t candidates. rename ticket.now.same ticket.now.hide s t candidates) }
+{
+    let (change, ending) = match ticket.paths() {
+        [path, _, ..] if ticket.same() => (
+            None,
+            Ending::Look {
+                path,
+                tells: Telling::Nothing,
+            },
+        ),
+        [from, to, left @ ..] if ticket.hide() => (None, Ending::Replace { from, to, left }),
+        [from, to, ..] => (Some(Call::Rename { from, to }), DONE),
+        _ => (None, UNFIT),
+    };
+    Script { change, ending }
+}
+
+/// What is still to do after the answer to the look at the source: a folder ends the script, since it takes the place of no file.
+pub(crate) fn replace_on<'a>(
+    from: &'a Path,
+    to: &'a Path,
+    left: &'a [Path],
+    answer: Answer,
+) -> Ending<'a>
+    ensures plan { plan_ending result ≡ if_found (λ found. unless_folder found.kind (hide to.now left.now (λ i. move_after from.now to.now i))) (judged (AskStat from.now) answer) }
+    ensures fewer { calls_ending result ≤ calls_hiding left.now 1 }
+{
+    let errno = match judge(Call::Stat(from), answer) {
+        Answer::Stat {
+            kind: Kind::File,
+            ..
+        } => {
+            return Ending::Hide(Hiding {
+                path: to,
+                source: Some(from),
+                left,
+            });
+        }
+        Answer::Stat {
+            kind: Kind::Folder,
+            ..
+        } => ENOTDIR,
+        other => errno_in(&other),
+    };
+    Ending::Over(Finding::Error { errno })
+}
+
+/// What is told of the move to the place of a file that was moved to that candidate before.
+pub(crate) fn moved(from: &Path, to: &Path, candidate: u8, answer: Answer) -> Finding
+    ensures { Over (end_of result) ≡ if_moved candidate (judged (AskRename from.now to.now) answer) }
+{
+    match judge(Call::Rename { from, to }, answer) {
+        Answer::Done => Finding::Replaced { candidate },
+        other => Finding::Unmoved {
+            candidate,
+            errno: errno_in(&other),
+        },
+    }
+}
