@@ -1,7 +1,7 @@
 //! Frames of requests about open files, read and written.
 
 use crate::bytes::SIXTEEN;
-use crate::requests::{ONES, Row, are_read, are_written};
+use crate::frames::{ONES, Row, are_read, are_written};
 use std::test::Fail;
 use wire::Operation::{Create, Flush, Open, Read, Release, Sync, Write};
 

@@ -13,6 +13,10 @@ mod faults;
 #[cfg(test)]
 mod files;
 #[cfg(test)]
+mod frames;
+#[cfg(test)]
 mod replies;
 #[cfg(test)]
 mod requests;
+#[cfg(test)]
+mod unread;

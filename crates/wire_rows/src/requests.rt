@@ -1,27 +1,13 @@
 //! Frames of requests, read and written.
 
-use crate::bytes::{SIXTEEN, bytes_of};
-use std::alloc::Global;
+use crate::bytes::SIXTEEN;
+use crate::frames::{Row, are_read, are_written};
+use crate::unread::READ;
 use std::test::Fail;
 use wire::Operation::{
     BatchForget, Destroy, Forget, GetAttr, Init, Interrupt, Lookup, MakeDir, OpenDir, ReadDir,
     ReadDirPlus, ReleaseDir, RemoveDir, Rename, SetAttr, StatFs, SyncDir, Unlink,
 };
-use wire::{Operation, Request, decode, encode_request};
-
-/// A frame in digits, and the request that it is: its number, its node and its operation.
-#[derive(Clone, Copy)]
-pub struct Row<'a>(pub &'a [&'a str], pub u64, pub u64, pub Operation<'a>);
-
-/// What was not as a row says.
-#[derive(Debug, Drop)]
-enum Otherwise<'a> {
-    Read(Request<'a>),
-    Written(Request<'a>),
-}
-
-/// What is not read.
-pub const ONES: &str = "ffffffff ffffffff ffffffff ffffffff";
 
 /// Frames whose bytes that are not read are zero.
 const WRITTEN: &[Row] = &[
@@ -257,154 +243,6 @@ const WRITTEN: &[Row] = &[
         },
     ),
 ];
-
-/// Frames in which bytes that are not read are something else: uid, gid, pid and padding; of GETATTR the flags and the
-/// handle, of SETATTR its padding and what follows its size, of MKDIR the mode and the umask, of INIT what follows its
-/// flags, of INTERRUPT all, and of the requests about open folders flags and owners of locks.
-const READ: &[Row] = &[
-    Row(
-        &[
-            "38000000 03000000 0300000000000000 0200000000000000",
-            ONES,
-            ONES,
-        ],
-        3,
-        2,
-        GetAttr,
-    ),
-    Row(
-        &[
-            "80000000 04000000 0900000000000000 0200000000000000",
-            ONES,
-            "01000000 ffffffff 0500000000000000 5802000000000000",
-            ONES,
-            ONES,
-            ONES,
-            ONES,
-        ],
-        9,
-        2,
-        SetAttr {
-            valid: 1,
-            fh: 5,
-            size: 600,
-        },
-    ),
-    Row(
-        &[
-            "32000000 09000000 0400000000000000 0100000000000000",
-            ONES,
-            "ed410000 12000000 6d00",
-        ],
-        4,
-        1,
-        MakeDir { name: "m" },
-    ),
-    Row(
-        &[
-            "39000000 1a000000 0100000000000000 0000000000000000",
-            ONES,
-            "08000000 00000000 00000000 01000000 ff",
-        ],
-        1,
-        0,
-        Init {
-            major: 8,
-            minor: 0,
-            max_readahead: 0,
-            flags: 1,
-        },
-    ),
-    Row(
-        &[
-            "31000000 24000000 0600000000000000 0200000000000000",
-            ONES,
-            "0700000000000000 ff",
-        ],
-        6,
-        2,
-        Interrupt,
-    ),
-    Row(
-        &[
-            "30000000 1b000000 0200000000000000 0100000000000000",
-            ONES,
-            "ffffffff ffffffff",
-        ],
-        2,
-        1,
-        OpenDir,
-    ),
-    Row(
-        &[
-            "50000000 1c000000 0300000000000000 0100000000000000",
-            ONES,
-            "0500000000000000 0200000000000000 00000000 ffffffff",
-            ONES,
-        ],
-        3,
-        1,
-        ReadDir {
-            fh: 5,
-            offset: 2,
-            size: 0,
-        },
-    ),
-    Row(
-        &[
-            "38000000 1e000000 0500000000000000 0100000000000000",
-            ONES,
-            "0500000000000000 ffffffff ffffffff",
-        ],
-        5,
-        1,
-        SyncDir { fh: 5 },
-    ),
-    Row(
-        &[
-            "30000000 2a000000 0600000000000000 0000000000000000",
-            ONES,
-            "00000000 ffffffff",
-        ],
-        6,
-        0,
-        BatchForget { pairs: b"" },
-    ),
-];
-
-pub fn are_read<'a>(alloc: Global, rows: &[Row<'a>]) -> Result<(), Fail> {
-    for row in rows {
-        let Row(frame, unique, node, operation) = *row;
-        let request = Request {
-            unique,
-            node,
-            operation,
-        };
-        let frame = bytes_of(alloc, frame)?;
-        if decode(&frame) != Ok(request) {
-            return Err(Otherwise::Read(request).into());
-        }
-    }
-    Ok(())
-}
-
-pub fn are_written<'a>(alloc: Global, rows: &[Row<'a>]) -> Result<(), Fail> {
-    for row in rows {
-        let Row(frame, unique, node, operation) = *row;
-        let request = Request {
-            unique,
-            node,
-            operation,
-        };
-        let frame = bytes_of(alloc, frame)?;
-        let mut out = Vec::new(alloc);
-        encode_request(&request, &mut out)?;
-        if out.as_slice() != frame.as_slice() {
-            return Err(Otherwise::Written(request).into());
-        }
-    }
-    Ok(())
-}
 
 #[test]
 fn frames_of_requests(rt: HostRuntime) -> Result<(), Fail> {

@@ -1,0 +1,56 @@
+//! Frames of requests beside what they are.
+
+use crate::bytes::bytes_of;
+use std::alloc::Global;
+use std::test::Fail;
+use wire::{Operation, Request, decode, encode_request};
+
+/// A frame in digits, and the request that it is: its number, its node and its operation.
+#[derive(Clone, Copy)]
+pub struct Row<'a>(pub &'a [&'a str], pub u64, pub u64, pub Operation<'a>);
+
+/// What was not as a row says.
+#[derive(Debug, Drop)]
+enum Otherwise<'a> {
+    Read(Request<'a>),
+    Written(Request<'a>),
+}
+
+/// What is not read.
+pub const ONES: &str = "ffffffff ffffffff ffffffff ffffffff";
+
+/// Each frame is read as its request.
+pub fn are_read<'a>(alloc: Global, rows: &[Row<'a>]) -> Result<(), Fail> {
+    for row in rows {
+        let Row(frame, unique, node, operation) = *row;
+        let request = Request {
+            unique,
+            node,
+            operation,
+        };
+        let frame = bytes_of(alloc, frame)?;
+        if decode(&frame) != Ok(request) {
+            return Err(Otherwise::Read(request).into());
+        }
+    }
+    Ok(())
+}
+
+/// Each request is written as its frame.
+pub fn are_written<'a>(alloc: Global, rows: &[Row<'a>]) -> Result<(), Fail> {
+    for row in rows {
+        let Row(frame, unique, node, operation) = *row;
+        let request = Request {
+            unique,
+            node,
+            operation,
+        };
+        let frame = bytes_of(alloc, frame)?;
+        let mut out = Vec::new(alloc);
+        encode_request(&request, &mut out)?;
+        if out.as_slice() != frame.as_slice() {
+            return Err(Otherwise::Written(request).into());
+        }
+    }
+    Ok(())
+}

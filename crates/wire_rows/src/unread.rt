@@ -1,0 +1,120 @@
+//! Frames of requests with bytes that are not read.
+
+use crate::frames::{ONES, Row};
+use wire::Operation::{
+    BatchForget, GetAttr, Init, Interrupt, MakeDir, OpenDir, ReadDir, SetAttr, SyncDir,
+};
+
+/// Frames in which bytes that are not read are something else: uid, gid, pid and padding; of GETATTR the flags and the
+/// handle, of SETATTR its padding and what follows its size, of MKDIR the mode and the umask, of INIT what follows its
+/// flags, of INTERRUPT all, and of the requests about open folders flags and owners of locks.
+pub const READ: &[Row] = &[
+    Row(
+        &[
+            "38000000 03000000 0300000000000000 0200000000000000",
+            ONES,
+            ONES,
+        ],
+        3,
+        2,
+        GetAttr,
+    ),
+    Row(
+        &[
+            "80000000 04000000 0900000000000000 0200000000000000",
+            ONES,
+            "01000000 ffffffff 0500000000000000 5802000000000000",
+            ONES,
+            ONES,
+            ONES,
+            ONES,
+        ],
+        9,
+        2,
+        SetAttr {
+            valid: 1,
+            fh: 5,
+            size: 600,
+        },
+    ),
+    Row(
+        &[
+            "32000000 09000000 0400000000000000 0100000000000000",
+            ONES,
+            "ed410000 12000000 6d00",
+        ],
+        4,
+        1,
+        MakeDir { name: "m" },
+    ),
+    Row(
+        &[
+            "39000000 1a000000 0100000000000000 0000000000000000",
+            ONES,
+            "08000000 00000000 00000000 01000000 ff",
+        ],
+        1,
+        0,
+        Init {
+            major: 8,
+            minor: 0,
+            max_readahead: 0,
+            flags: 1,
+        },
+    ),
+    Row(
+        &[
+            "31000000 24000000 0600000000000000 0200000000000000",
+            ONES,
+            "0700000000000000 ff",
+        ],
+        6,
+        2,
+        Interrupt,
+    ),
+    Row(
+        &[
+            "30000000 1b000000 0200000000000000 0100000000000000",
+            ONES,
+            "ffffffff ffffffff",
+        ],
+        2,
+        1,
+        OpenDir,
+    ),
+    Row(
+        &[
+            "50000000 1c000000 0300000000000000 0100000000000000",
+            ONES,
+            "0500000000000000 0200000000000000 00000000 ffffffff",
+            ONES,
+        ],
+        3,
+        1,
+        ReadDir {
+            fh: 5,
+            offset: 2,
+            size: 0,
+        },
+    ),
+    Row(
+        &[
+            "38000000 1e000000 0500000000000000 0100000000000000",
+            ONES,
+            "0500000000000000 ffffffff ffffffff",
+        ],
+        5,
+        1,
+        SyncDir { fh: 5 },
+    ),
+    Row(
+        &[
+            "30000000 2a000000 0600000000000000 0000000000000000",
+            ONES,
+            "00000000 ffffffff",
+        ],
+        6,
+        0,
+        BatchForget { pairs: b"" },
+    ),
+];
