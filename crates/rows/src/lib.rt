@@ -42,6 +42,8 @@ mod names;
 #[cfg(test)]
 mod open_files;
 #[cfg(test)]
+mod recorded;
+#[cfg(test)]
 mod renames;
 #[cfg(test)]
 mod row;

@@ -19,7 +19,7 @@ use std::test::Fail;
 use table::Limits;
 
 // Serves the sample names. The first call of their tree fails, if a fault is planned.
-fn serve_samples<H: Wait, L: Ledgers>(
+pub fn serve_samples<H: Wait, L: Ledgers>(
     rt: &H,
     alloc: Global,
     blanks: Blanks,
@@ -36,7 +36,7 @@ fn serve_samples<H: Wait, L: Ledgers>(
     serve_client::<H, L>(rt, alloc, blanks, Limits::default(), &mut tree, client)
 }
 
-fn bytes_of(alloc: Global, line: &str) -> Result<Vec<u8>, Fail> {
+pub fn bytes_of(alloc: Global, line: &str) -> Result<Vec<u8>, Fail> {
     let digits = lines_of(alloc, &[line])?;
     let end = digits.len().saturating_sub(1);
     Ok(hex::decode(alloc, &digits[..end])?)
