@@ -221,6 +221,7 @@ const MEETINGS: &[Meeting] = &[
             Sees(".fuse_hidden0000000200000000", Shown::File(5)),
             Asks(READ_TEN, ARE_FIVE),
             Asks(RELEASE, RENAMED),
+            Sees(".fuse_hidden0000000200000000", Shown::Nothing),
             Asks(DESTROY, DESTROYED),
         ],
         status: 0,
