@@ -2,7 +2,7 @@
 import struct
 
 LOOKUP, FORGET, GETATTR, MKDIR, UNLINK, RMDIR, RENAME, STATFS, INIT, DESTROY = 1, 2, 3, 9, 10, 11, 12, 17, 26, 38
-OPEN, READ, WRITE, FSYNC, FLUSH, CREATE = 14, 15, 16, 20, 25, 35
+OPEN, READ, WRITE, RELEASE, FSYNC, FLUSH, CREATE = 14, 15, 16, 18, 20, 25, 35
 OPENDIR, READDIR, RELEASEDIR, READDIRPLUS = 27, 28, 29, 44
 ROOT = 1
 HEADER = struct.Struct("<IIQQIIII")
@@ -37,6 +37,18 @@ def rename(unique, parent, name, new_parent, new_name):
     return request(RENAME, unique, parent, struct.pack("<Q", new_parent) + name.encode() + b"\0" + new_name.encode() + b"\0")
 
 
+def unlink(unique, parent, name):
+    return request(UNLINK, unique, parent, name.encode() + b"\0")
+
+
+def rmdir(unique, parent, name):
+    return request(RMDIR, unique, parent, name.encode() + b"\0")
+
+
+def statfs(unique, node):
+    return request(STATFS, unique, node)
+
+
 def open_file(unique, node, flags):
     return request(OPEN, unique, node, struct.pack("<II", flags, 0))
 
@@ -59,6 +71,10 @@ def fsync(unique, node, handle):
 
 def flush(unique, node, handle):
     return request(FLUSH, unique, node, struct.pack("<QIIQ", handle, 0, 0, 0))
+
+
+def release(unique, node, handle):
+    return request(RELEASE, unique, node, struct.pack("<QIIQ", handle, 0, 0, 0))
 
 
 def opendir(unique, node):

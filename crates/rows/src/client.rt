@@ -6,12 +6,14 @@ use backing::MemTree;
 use engine::{Link, LinkIn, LinkOut, Received, Sent, SessionEnd, serve};
 use handles::Dirs;
 use ledger::{Blanks, Ledgers, Totals};
+use log::info;
+use log::sink::{Lines, Memory};
 use ops::Settings;
 use std::alloc::{AllocError, Global};
 use std::sync::Wait;
 use table::{Limits, Table};
 
-/// Gives its frames one after another, and takes all replies but one.
+/// Gives its frames one after another, and takes all replies but one. It records what passes.
 #[derive(Drop)]
 pub struct Client {
     frames: Vec<Vec<u8>>,
@@ -24,6 +26,7 @@ pub struct Client {
     /// The replies that were taken, one after another.
     pub taken: Vec<u8>,
     failures: u64,
+    log: Memory,
 }
 
 impl Client {
@@ -37,6 +40,7 @@ impl Client {
             breaks: false,
             taken: Vec::new(alloc),
             failures: 0,
+            log: Memory::new(alloc),
         }
     }
 
@@ -46,6 +50,11 @@ impl Client {
             breaks: true,
             ..self
         }
+    }
+
+    /// What passed, a line each.
+    pub fn into_record(self) -> Lines {
+        self.log.into_lines()
     }
 }
 
@@ -60,6 +69,7 @@ impl LinkIn for Client {
 
     fn receive(&mut self, room: &mut [u8]) -> Received {
         let Some(frame) = self.frames.get(self.given) else {
+            info!(self.log; target: "link", "the end is heard");
             return Received::End;
         };
         self.given = self.given.saturating_add(1);
@@ -68,6 +78,7 @@ impl LinkIn for Client {
             return Received::Broken;
         }
         room[..frame.len()].copy_from_slice(frame);
+        info!(self.log; target: "link", "{} bytes are heard", frame.len());
         Received::Bytes(frame.len())
     }
 }
@@ -83,6 +94,7 @@ impl LinkOut for Client {
 
     fn send(&mut self, frame: &[u8]) -> Sent {
         self.sends = self.sends.saturating_add(1);
+        info!(self.log; target: "link", "{} bytes are offered", frame.len());
         if self.sends == self.declined {
             self.failures = self.failures.saturating_add(1);
             return if self.breaks {

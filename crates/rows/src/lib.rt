@@ -2,7 +2,11 @@
 #![tactic(auto)]
 
 #[cfg(test)]
+mod answers;
+#[cfg(test)]
 mod attributes;
+#[cfg(test)]
+mod batches;
 #[cfg(test)]
 mod client;
 #[cfg(test)]
@@ -17,6 +21,8 @@ mod file_bytes;
 mod file_frames;
 #[cfg(test)]
 mod file_handles;
+#[cfg(test)]
+mod folder_lines;
 #[cfg(test)]
 mod folders;
 #[cfg(test)]
@@ -35,6 +41,8 @@ mod lookups;
 mod names;
 #[cfg(test)]
 mod open_files;
+#[cfg(test)]
+mod recorded;
 #[cfg(test)]
 mod renames;
 #[cfg(test)]

@@ -1,8 +1,6 @@
-//! Open folders, and lookups that are given back in batches.
+//! Open folders: what a client reads of them, and handles that are none.
 
-use crate::frames::{ABSENT, ENTRY_A, ENTRY_E_REBORN, LOOKUP_A, LOOKUP_E, LOOKUP_ZZ};
-use crate::row::{NOTHING as NO_LINES, Row, run_rows};
-use crate::stories::Says::{Done, Entry, Failed, Names, NoReply, Opened};
+use crate::stories::Says::{Done, Entry, Failed, Names, Opened};
 use crate::stories::Stands::{File, Folder};
 use crate::stories::{NOTHING, Story, tell};
 use backing::Fault::{After, Before};
@@ -10,9 +8,7 @@ use errno::{EACCES, EBADF, EINVAL, EIO, ENOTDIR, ESTALE};
 use ledger::Blanks;
 use std::marker::Brand;
 use std::test::Fail;
-use wire::Operation::{
-    BatchForget, Lookup, MakeDir, OpenDir, ReadDir, ReleaseDir, RemoveDir, SyncDir,
-};
+use wire::Operation::{Lookup, MakeDir, OpenDir, ReadDir, ReleaseDir, RemoveDir, SyncDir};
 
 /// What a client reads of an open folder.
 const PAGES: &[Story] = &[
@@ -262,116 +258,4 @@ fn handles_of_folders(rt: HostRuntime) -> Result<(), Fail> {
         tell::<HostRuntime, Brand>(&rt, rt.alloc(), Blanks::new(1), story)?;
     }
     Ok(())
-}
-
-/// Lookups that are given back of two nodes at once: both numbers are free again, and the least is taken first.
-const BATCHES: &[Story] = &[Story {
-    says: "two nodes, one more that is unknown, the root, and no pair",
-    asks: &[
-        (1, Lookup { name: "d" }),
-        (1, Lookup { name: "a" }),
-        (
-            0,
-            BatchForget {
-                pairs: b"\x03\0\0\0\0\0\0\0\x01\0\0\0\0\0\0\0\x09\0\0\0\0\0\0\0\x01\0\0\0\0\0\0\0\x01\0\0\0\0\0\0\0\x01\0\0\0\0\0\0\0",
-            },
-        ),
-        (0, BatchForget { pairs: b"" }),
-        (3, OpenDir),
-        (2, OpenDir),
-        (1, OpenDir),
-    ],
-    replies: &[
-        Entry(2, Folder),
-        Entry(3, File(3)),
-        NoReply,
-        NoReply,
-        Failed(ESTALE),
-        Opened(1),
-        Opened(2),
-    ],
-    ..NOTHING
-}];
-
-#[test]
-fn batches_of_lookups(rt: HostRuntime) -> Result<(), Fail> {
-    for story in BATCHES {
-        tell::<HostRuntime, Brand>(&rt, rt.alloc(), Blanks::new(1), story)?;
-    }
-    Ok(())
-}
-
-/// OPENDIR of the root, unique 3, and the handle 1.
-const OPEN_ROOT: &str =
-    "30000000 1b000000 0300000000000000 0100000000000000 00000000 00000000 00000000 00000000 00000000 00000000";
-
-const OPENED: &str = "20000000 00000000 0300000000000000 0100000000000000 00000000 00000000";
-
-/// Each run is byte for byte.
-const LINES: &[Row] = &[
-    Row {
-        says: "the first entry of a folder, in 32 bytes",
-        lines: &[
-            OPEN_ROOT,
-            "50000000 1c000000 0400000000000000 0100000000000000 00000000 00000000 00000000 00000000 \
-            0100000000000000 0000000000000000 20000000 00000000 0000000000000000 00000000 00000000",
-        ],
-        replies: &[
-            OPENED,
-            "30000000 00000000 0400000000000000 \
-            ffffffff00000000 0100000000000000 01000000 04000000 2e00000000000000",
-        ],
-        ..NO_LINES
-    },
-    Row {
-        says: "the three names of the root in 96 bytes, and none in 31",
-        lines: &[
-            OPEN_ROOT,
-            "50000000 1c000000 0400000000000000 0100000000000000 00000000 00000000 00000000 00000000 \
-            0100000000000000 0200000000000000 60000000 00000000 0000000000000000 00000000 00000000",
-            "50000000 1c000000 0500000000000000 0100000000000000 00000000 00000000 00000000 00000000 \
-            0100000000000000 0200000000000000 1f000000 00000000 0000000000000000 00000000 00000000",
-        ],
-        replies: &[
-            OPENED,
-            "70000000 00000000 0400000000000000 \
-            ffffffff00000000 0300000000000000 01000000 08000000 6100000000000000 \
-            ffffffff00000000 0400000000000000 01000000 04000000 6400000000000000 \
-            ffffffff00000000 0500000000000000 01000000 08000000 6500000000000000",
-            "10000000 eaffffff 0500000000000000",
-        ],
-        ..NO_LINES
-    },
-    Row {
-        says: "a BATCH_FORGET of (2, 1), (2, 5) and (9, 1) where node 2 has count 3: it is gone",
-        lines: &[
-            LOOKUP_A,
-            LOOKUP_A,
-            LOOKUP_A,
-            "60000000 2a000000 0900000000000000 0000000000000000 00000000 00000000 00000000 00000000 \
-            03000000 00000000 0200000000000000 0100000000000000 0200000000000000 0500000000000000 \
-            0900000000000000 0100000000000000",
-            LOOKUP_E,
-        ],
-        replies: &[ENTRY_A, ENTRY_A, ENTRY_A, ENTRY_E_REBORN],
-        ..NO_LINES
-    },
-    Row {
-        says: "the same with the count 4 does nothing",
-        lines: &[
-            LOOKUP_A,
-            "60000000 2a000000 0900000000000000 0000000000000000 00000000 00000000 00000000 00000000 \
-            04000000 00000000 0200000000000000 0100000000000000 0200000000000000 0500000000000000 \
-            0900000000000000 0100000000000000",
-            LOOKUP_A,
-            LOOKUP_ZZ,
-        ],
-        replies: &[ENTRY_A, ENTRY_A, ABSENT],
-        ..NO_LINES
-    },
-];
-
-#[test]
-fn first_dirent_and_batch_forget(rt: HostRuntime) -> Result<(), Fail> {
-    run_rows(&rt, rt.alloc(), LINES)
 }

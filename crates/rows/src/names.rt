@@ -1,6 +1,6 @@
 //! Names and attributes from bytes to bytes: frames and replies as the protocol writes them.
 
-use crate::row::{NOTHING, Row, run_rows};
+use crate::row::{NOTHING, Row, run_row, run_rows};
 use std::test::Fail;
 
 /// MKDIR `m` in the root, unique 4.
@@ -81,7 +81,29 @@ const UNLINK_A: &str =
 const RMDIR_D: &str =
     "2a000000 0b000000 0b00000000000000 0100000000000000 00000000 00000000 00000000 00000000 6400";
 
-/// Each request of the stage, byte for byte.
+#[test]
+fn unknown_node(rt: HostRuntime) -> Result<(), Fail> {
+    let row = Row {
+        says: "attributes of an unknown node",
+        lines: &[GETATTR_NINE],
+        replies: &[STALE],
+        ..NOTHING
+    };
+    run_row(&rt, rt.alloc(), &row)
+}
+
+#[test]
+fn setattr(rt: HostRuntime) -> Result<(), Fail> {
+    let row = Row {
+        says: "a mode, and a size",
+        lines: &[LOOKUP_A, SETATTR_MODE, SETATTR_SIZE],
+        replies: &[ENTRY_A, DENIED, ATTRIBUTES],
+        ..NOTHING
+    };
+    run_row(&rt, rt.alloc(), &row)
+}
+
+/// Each further request that names or removes, and the sizes of the file system.
 #[test]
 fn names_and_attributes(rt: HostRuntime) -> Result<(), Fail> {
     let rows = [
@@ -101,18 +123,6 @@ fn names_and_attributes(rt: HostRuntime) -> Result<(), Fail> {
             says: "sizes of the file system",
             lines: &[STATFS],
             replies: &[SIZES],
-            ..NOTHING
-        },
-        Row {
-            says: "an unknown node",
-            lines: &[GETATTR_NINE],
-            replies: &[STALE],
-            ..NOTHING
-        },
-        Row {
-            says: "a mode, and a size",
-            lines: &[LOOKUP_A, SETATTR_MODE, SETATTR_SIZE],
-            replies: &[ENTRY_A, DENIED, ATTRIBUTES],
             ..NOTHING
         },
         Row {

@@ -2,6 +2,7 @@
 
 ghost use Rattle.std.specs.Prelude.{◌≡◌};
 
+use crate::answers::replies_of;
 use crate::client::{Client, serve_client};
 use backing::{Answer, Call, Calls, Fault, Kind, MemTree};
 use ledger::{Blanks, Ledgers};
@@ -11,10 +12,7 @@ use std::alloc::{AllocError, Global};
 use std::sync::Wait;
 use std::test::Fail;
 use table::Limits;
-use wire::{
-    Attributes, Data, Entry, InitOut, NO_INO, Operation, Reply, ReplyBody, Request, encode_dirent,
-    encode_plus_dirent, encode_reply, encode_request,
-};
+use wire::{Operation, Request, encode_request};
 
 /// A session over the sample names.
 #[derive(Clone, Copy)]
@@ -92,87 +90,6 @@ pub enum Says<'a> {
     NoReply,
 }
 
-fn attributes_of(stands: Stands) -> Attributes {
-    let (kind, size) = match stands {
-        Stands::File(size) => (wire::Kind::File, size),
-        Stands::Folder | Stands::Nothing => (wire::Kind::Folder, 0),
-    };
-    Attributes {
-        kind,
-        size,
-        uid: 0,
-        gid: 0,
-    }
-}
-
-fn entry_of(node: u64, stands: Stands) -> Entry {
-    Entry {
-        node,
-        generation: 0,
-        attributes: attributes_of(stands),
-    }
-}
-
-fn kind_of(stands: Stands) -> wire::Kind {
-    match stands {
-        Stands::File(_) => wire::Kind::File,
-        Stands::Folder | Stands::Nothing => wire::Kind::Folder,
-    }
-}
-
-fn names_of(alloc: Global, from: u64, names: &[(&str, Stands)]) -> Result<ReplyBody, AllocError> {
-    let mut bytes = Vec::new(alloc);
-    let mut next = from;
-    for (name, stands) in names {
-        next = next.saturating_add(1);
-        encode_dirent(&mut bytes, NO_INO, next, kind_of(*stands), name)?;
-    }
-    Ok(ReplyBody::Data(Data::new(bytes)))
-}
-
-fn entries_of(
-    alloc: Global,
-    from: u64,
-    entries: &[(&str, Stands, u64)],
-) -> Result<ReplyBody, AllocError> {
-    let mut bytes = Vec::new(alloc);
-    let mut next = from;
-    for (name, stands, node) in entries {
-        next = next.saturating_add(1);
-        let entry = if *node == 0 {
-            None
-        } else {
-            Some(entry_of(*node, *stands))
-        };
-        encode_plus_dirent(&mut bytes, entry, next, kind_of(*stands), name)?;
-    }
-    Ok(ReplyBody::Data(Data::new(bytes)))
-}
-
-/// Nothing, where it gets no reply.
-fn body_of(alloc: Global, says: Says) -> Result<Option<ReplyBody>, AllocError> {
-    Ok(Some(match says {
-        Says::Failed(errno) => ReplyBody::Failed { errno },
-        Says::Done => ReplyBody::Done,
-        Says::Entry(node, stands) => ReplyBody::Entry(entry_of(node, stands)),
-        Says::Attributes(node, stands) => ReplyBody::Attributes {
-            node,
-            attributes: attributes_of(stands),
-        },
-        Says::Sizes => ReplyBody::StatFs,
-        Says::Opened(fh) => ReplyBody::Opened { fh },
-        Says::Created(node, fh) => ReplyBody::Created {
-            entry: entry_of(node, Stands::File(0)),
-            fh,
-        },
-        Says::Bytes(bytes) => ReplyBody::Data(Data::new(Vec::from_slice(alloc, bytes)?)),
-        Says::Wrote(size) => ReplyBody::Wrote { size },
-        Says::Names(from, names) => names_of(alloc, from, names)?,
-        Says::Entries(from, entries) => entries_of(alloc, from, entries)?,
-        Says::NoReply => return Ok(None),
-    }))
-}
-
 /// INIT 7.31, unique 0.
 fn greeting_of(alloc: Global) -> Result<Vec<u8>, AllocError> {
     let request = Request {
@@ -190,19 +107,6 @@ fn greeting_of(alloc: Global) -> Result<Vec<u8>, AllocError> {
     Ok(frame)
 }
 
-/// What is agreed on with it.
-const AGREED: ReplyBody = ReplyBody::Init(InitOut {
-    major: 7,
-    minor: 31,
-    max_readahead: 65536,
-    flags: 0,
-    max_background: 12,
-    congestion_threshold: 9,
-    max_write: 65536,
-    time_gran: 1,
-    max_pages: 0,
-});
-
 fn frames_of(alloc: Global, asks: &[(u64, Operation<'_>)]) -> Result<Vec<Vec<u8>>, AllocError> {
     let mut frames = Vec::new(alloc);
     frames.push(greeting_of(alloc)?)?;
@@ -219,24 +123,6 @@ fn frames_of(alloc: Global, asks: &[(u64, Operation<'_>)]) -> Result<Vec<Vec<u8>
         frames.push(frame)?;
     }
     Ok(frames)
-}
-
-fn replies_of(alloc: Global, replies: &[Says]) -> Result<Vec<u8>, AllocError> {
-    let mut bytes = Vec::new(alloc);
-    let mut unique = 0u64;
-    let greeting = Reply {
-        unique,
-        body: AGREED,
-    };
-    encode_reply(&greeting, &mut bytes)?;
-    for says in replies {
-        unique = unique.saturating_add(1);
-        let Some(body) = body_of(alloc, *says)? else {
-            continue;
-        };
-        encode_reply(&Reply { unique, body }, &mut bytes)?;
-    }
-    Ok(bytes)
 }
 
 fn path_of(alloc: Global, names: &[&str]) -> Result<Path, AllocError> {

@@ -1,4 +1,4 @@
-//! Clients that do not take a reply, directories that answer strangely, and what is left of the input at the end.
+//! Clients that do not take a reply, or begin too early, directories that answer strangely, and what is left of the input at the end.
 
 ghost use Rattle.std.specs.Prelude.{◌≡◌};
 
@@ -9,6 +9,7 @@ use crate::frames::{
 };
 use backing::Fault;
 use engine::SessionEnd;
+use errno::EACCES;
 use ledger::{Blanks, Ledgers, Totals};
 use programs::new_tree;
 use std::alloc::{AllocError, Global};
@@ -18,7 +19,7 @@ use std::test::Fail;
 use table::Limits;
 
 // Serves the sample names. The first call of their tree fails, if a fault is planned.
-fn serve_samples<H: Wait, L: Ledgers>(
+pub fn serve_samples<H: Wait, L: Ledgers>(
     rt: &H,
     alloc: Global,
     blanks: Blanks,
@@ -35,20 +36,25 @@ fn serve_samples<H: Wait, L: Ledgers>(
     serve_client::<H, L>(rt, alloc, blanks, Limits::default(), &mut tree, client)
 }
 
-fn bytes_of(alloc: Global, line: &str) -> Result<Vec<u8>, Fail> {
+pub fn bytes_of(alloc: Global, line: &str) -> Result<Vec<u8>, Fail> {
     let digits = lines_of(alloc, &[line])?;
     let end = digits.len().saturating_sub(1);
     Ok(hex::decode(alloc, &digits[..end])?)
 }
 
-// A client that sends INIT and these frames.
-fn client_of(alloc: Global, lines: &[&str], declined: u32) -> Result<Client, Fail> {
+// A client that sends these frames after another one.
+fn client_from(alloc: Global, first: &str, lines: &[&str], declined: u32) -> Result<Client, Fail> {
     let mut frames = Vec::new(alloc);
-    frames.push(bytes_of(alloc, INIT)?)?;
+    frames.push(bytes_of(alloc, first)?)?;
     for line in lines {
         frames.push(bytes_of(alloc, line)?)?;
     }
     Ok(Client::new(alloc, frames, declined))
+}
+
+// A client that sends INIT and these frames.
+fn client_of(alloc: Global, lines: &[&str], declined: u32) -> Result<Client, Fail> {
+    client_from(alloc, INIT, lines, declined)
 }
 
 // Whether these replies were taken, after INIT's.
@@ -209,6 +215,27 @@ fn untaken_init(rt: HostRuntime) -> Result<(), Fail> {
     let over = serve_samples::<HostRuntime, Brand>(&rt, alloc, Blanks::new(1), None, &mut client)?;
     assert_eq!(rt; over.end, SessionEnd::Closed { rest: 0 });
     assert!(rt; client.taken.as_slice() == bytes_of(alloc, ABSENT)?.as_slice());
+    Ok(())
+}
+
+// A LOOKUP before INIT is EIO and makes no call: the first call is that of the LOOKUP after it, and fails with EACCES.
+#[test]
+fn no_call_before_init(rt: HostRuntime) -> Result<(), Fail> {
+    let alloc = rt.alloc();
+    let planned = Some(Fault::Before(EACCES));
+    let mut client = client_from(alloc, LOOKUP_A, &[INIT, LOOKUP_A], 0)?;
+    let over = serve_samples::<HostRuntime, Brand>(
+        &rt,
+        alloc,
+        Blanks::new(1),
+        planned,
+        &mut client,
+    )?;
+    let mut replies = bytes_of(alloc, "10000000 fbffffff 0700000000000000")?;
+    replies.extend_from_slice(&bytes_of(alloc, AGREED)?)?;
+    replies.extend_from_slice(&bytes_of(alloc, "10000000 f3ffffff 0700000000000000")?)?;
+    assert_eq!(rt; over.end, SessionEnd::Closed { rest: 0 });
+    assert!(rt; client.taken.as_slice() == replies.as_slice());
     Ok(())
 }
 

@@ -1,13 +1,14 @@
 //! The program `serve` with a client of its own, in one process: two threads and a socket between them.
 
 use crate::frames::{
-    AGREED, ARE_FIVE, ARE_OF_A, ATTRIBUTES, CREATE_N, CREATED_N, DESTROY, DESTROYED, ENTRY_A,
-    ENTRY_M, ENTRY_OF_M_ALONE, FORGET_A, FSYNC, INIT, LAST_ENTRY, LOOKUP_A, MAKE_M, NO_ENTRY,
-    ONE_ENTRY, OPEN_ROOT, OPENED, READ_MORE, READ_ON, READ_ONE, READ_TEN, RENAME_A, RENAME_N,
-    RENAMED, UNLINK_N, WRITE_DE, WROTE_DE, bytes_of,
+    AGREED, ARE_FIVE, ARE_OF_A, ATTRIBUTES, ATTRIBUTES_OF_THREE, CREATE_N, CREATED_N, DESTROY,
+    DESTROYED, ENTRY_A, ENTRY_M, ENTRY_OF_K, ENTRY_OF_M_ALONE, ENTRY_OF_THREE, FORGET_A,
+    FORGET_THREE, FSYNC, INIT, LAST_ENTRY, LOOKUP_A, MAKE_M, NO_ENTRY, ONE_ENTRY, OPEN_ROOT,
+    OPENED, READ_MORE, READ_ON, READ_ONE, READ_TEN, RELEASE, RENAME_A, RENAME_N, RENAMED, STALE,
+    UNLINK_K, UNLINK_N, WRITE_DE, WROTE_DE, bytes_of,
 };
 use crate::host::Host;
-use crate::places::{Shown, expect, new_folder, place_of};
+use crate::places::{Shown, expect, new_folder, place_of, shown_at};
 use programs::run;
 use std::io::{Read, Write};
 use std::os::unix::net::UnixStream;
@@ -15,12 +16,23 @@ use std::test::Fail;
 use std::time::Duration;
 use std::{io, thread};
 
+/// What a client does next.
+#[derive(Clone, Copy)]
+enum Turn<'a> {
+    /// It writes this, and then waits for that.
+    Asks(&'a str, &'a str),
+    /// It looks into the folder that is served: what stands at a name.
+    Sees(&'a str, Shown),
+}
+
+use Turn::{Asks, Sees};
+
 /// A client: what it does in turn, and what must come of it.
 #[derive(Clone, Copy)]
 struct Meeting<'a> {
     says: &'a str,
-    /// What it writes, each with what it then waits for. It leaves after the last of them.
-    turns: &'a [(&'a str, &'a str)],
+    /// What it does, one after another. It leaves after the last of them.
+    turns: &'a [Turn<'a>],
     status: u8,
     fault: &'a str,
     after: &'a [(&'a str, Shown)],
@@ -38,7 +50,7 @@ fn connect(rt: &impl Host, path: &str) -> io::Result<UnixStream> {
 }
 
 /// Writes what is asked, and reads as many bytes as are waited for. True says that they came.
-fn turn(rt: &impl Host, stream: &mut UnixStream, asked: &str, told: &str) -> io::Result<bool> {
+fn ask(rt: &impl Host, stream: &mut UnixStream, asked: &str, told: &str) -> io::Result<bool> {
     let asked = bytes_of(rt.alloc(), &[asked])?;
     let told = bytes_of(rt.alloc(), &[told])?;
     stream.write_all(&asked)?;
@@ -48,17 +60,25 @@ fn turn(rt: &impl Host, stream: &mut UnixStream, asked: &str, told: &str) -> io:
     Ok(came.as_slice() == told.as_slice())
 }
 
+/// Whether a turn came out as it should.
+fn is_right(rt: &impl Host, root: &str, stream: &mut UnixStream, turn: Turn) -> bool {
+    match turn {
+        Asks(asked, told) => matches!(ask(rt, stream, asked, told), Ok(true)),
+        Sees(name, shown) => matches!(shown_at(rt, root, name), Ok(found) if found == shown),
+    }
+}
+
 /// How many of its turns came out as they should.
-fn be_client(rt: &impl Host, path: &str, turns: &[(&str, &str)]) -> u64 {
+fn be_client(rt: &impl Host, root: &str, path: &str, turns: &[Turn]) -> u64 {
     let mut right = 0u64;
     let Ok(mut stream) = connect(rt, path) else {
         return right;
     };
-    for (asked, told) in turns {
-        match turn(rt, &mut stream, asked, told) {
-            Ok(true) => right = right.saturating_add(1),
-            Ok(false) | Err(_) => return right,
+    for turn in turns {
+        if !is_right(rt, root, &mut stream, *turn) {
+            return right;
         }
+        right = right.saturating_add(1);
     }
     right
 }
@@ -114,13 +134,13 @@ const MEETINGS: &[Meeting] = &[
     Meeting {
         says: "a whole session",
         turns: &[
-            (INIT, AGREED),
-            (LOOKUP_A, ENTRY_A),
-            (MAKE_M, ENTRY_M),
-            (RENAME_A, RENAMED),
-            (ATTRIBUTES, ARE_OF_A),
-            (FORGET_A, ""),
-            (DESTROY, DESTROYED),
+            Asks(INIT, AGREED),
+            Asks(LOOKUP_A, ENTRY_A),
+            Asks(MAKE_M, ENTRY_M),
+            Asks(RENAME_A, RENAMED),
+            Asks(ATTRIBUTES, ARE_OF_A),
+            Asks(FORGET_A, ""),
+            Asks(DESTROY, DESTROYED),
         ],
         status: 0,
         fault: "",
@@ -133,12 +153,12 @@ const MEETINGS: &[Meeting] = &[
     Meeting {
         says: "a file is made, written, moved and read",
         turns: &[
-            (INIT, AGREED),
-            (CREATE_N, CREATED_N),
-            (WRITE_DE, WROTE_DE),
-            (RENAME_N, RENAMED),
-            (READ_TEN, ARE_FIVE),
-            (FSYNC, RENAMED),
+            Asks(INIT, AGREED),
+            Asks(CREATE_N, CREATED_N),
+            Asks(WRITE_DE, WROTE_DE),
+            Asks(RENAME_N, RENAMED),
+            Asks(READ_TEN, ARE_FIVE),
+            Asks(FSYNC, RENAMED),
         ],
         status: 0,
         fault: "",
@@ -151,12 +171,12 @@ const MEETINGS: &[Meeting] = &[
     Meeting {
         says: "a file that is removed while it is open is read still, and is gone at the end",
         turns: &[
-            (INIT, AGREED),
-            (CREATE_N, CREATED_N),
-            (WRITE_DE, WROTE_DE),
-            (UNLINK_N, RENAMED),
-            (READ_TEN, ARE_FIVE),
-            (DESTROY, DESTROYED),
+            Asks(INIT, AGREED),
+            Asks(CREATE_N, CREATED_N),
+            Asks(WRITE_DE, WROTE_DE),
+            Asks(UNLINK_N, RENAMED),
+            Asks(READ_TEN, ARE_FIVE),
+            Asks(DESTROY, DESTROYED),
         ],
         status: 0,
         fault: "",
@@ -169,17 +189,49 @@ const MEETINGS: &[Meeting] = &[
     Meeting {
         says: "it reads a folder by pages, with the nodes of its names",
         turns: &[
-            (INIT, AGREED),
-            (MAKE_M, ENTRY_OF_M_ALONE),
-            (OPEN_ROOT, OPENED),
-            (READ_ONE, ONE_ENTRY),
-            (READ_MORE, LAST_ENTRY),
-            (READ_ON, NO_ENTRY),
-            (DESTROY, DESTROYED),
+            Asks(INIT, AGREED),
+            Asks(MAKE_M, ENTRY_OF_M_ALONE),
+            Asks(OPEN_ROOT, OPENED),
+            Asks(READ_ONE, ONE_ENTRY),
+            Asks(READ_MORE, LAST_ENTRY),
+            Asks(READ_ON, NO_ENTRY),
+            Asks(DESTROY, DESTROYED),
         ],
         status: 0,
         fault: "",
         after: &[("a", Shown::File(3)), ("m", Shown::Folder)],
+    },
+    Meeting {
+        says: "files are made, moved, listed, forgotten and removed while they are open",
+        turns: &[
+            Asks(INIT, AGREED),
+            Asks(CREATE_N, CREATED_N),
+            Asks(WRITE_DE, WROTE_DE),
+            Asks(RENAME_N, RENAMED),
+            Asks(READ_TEN, ARE_FIVE),
+            Asks(OPEN_ROOT, OPENED),
+            Asks(READ_ONE, ONE_ENTRY),
+            Asks(READ_MORE, ENTRY_OF_K),
+            Asks(READ_ON, NO_ENTRY),
+            Asks(LOOKUP_A, ENTRY_OF_THREE),
+            Asks(FORGET_THREE, ""),
+            Asks(ATTRIBUTES_OF_THREE, STALE),
+            Asks(UNLINK_K, RENAMED),
+            Sees("k", Shown::Nothing),
+            Sees(".fuse_hidden0000000200000000", Shown::File(5)),
+            Asks(READ_TEN, ARE_FIVE),
+            Asks(RELEASE, RENAMED),
+            Sees(".fuse_hidden0000000200000000", Shown::Nothing),
+            Asks(DESTROY, DESTROYED),
+        ],
+        status: 0,
+        fault: "",
+        after: &[
+            ("a", Shown::File(3)),
+            ("n", Shown::Nothing),
+            ("k", Shown::Nothing),
+            (".fuse_hidden0000000200000000", Shown::Nothing),
+        ],
     },
     Meeting {
         says: "it leaves at once",
@@ -190,28 +242,28 @@ const MEETINGS: &[Meeting] = &[
     },
     Meeting {
         says: "it leaves in the middle of a frame",
-        turns: &[(INIT, AGREED), ("2a000000 01000000 07", "")],
+        turns: &[Asks(INIT, AGREED), Asks("2a000000 01000000 07", "")],
         status: 0,
         fault: "",
         after: UNTOUCHED,
     },
     Meeting {
         says: "it leaves in the middle of a reply",
-        turns: &[(INIT, "50000000 00000000")],
+        turns: &[Asks(INIT, "50000000 00000000")],
         status: 4,
         fault: "mirrord: the link failed\n",
         after: UNTOUCHED,
     },
     Meeting {
         says: "it leaves before its reply comes",
-        turns: &[(INIT, AGREED), (MAKE_M, "")],
+        turns: &[Asks(INIT, AGREED), Asks(MAKE_M, "")],
         status: 4,
         fault: "mirrord: the link failed\n",
         after: &[("m", Shown::Folder)],
     },
     Meeting {
         says: "a frame length of 39",
-        turns: &[(INIT, AGREED), ("27000000", "")],
+        turns: &[Asks(INIT, AGREED), Asks("27000000", "")],
         status: 3,
         fault: "mirrord: frame length 39 is not between 40 and 69632\n",
         after: UNTOUCHED,
@@ -227,7 +279,7 @@ fn clients_over_a_socket(rt: HostRuntime) -> Result<(), Fail> {
         let (served, right) = thread::join(
             &rt,
             || be_server(&rt, there, place, row.fault),
-            || be_client(&rt, place, row.turns),
+            || be_client(&rt, there, place, row.turns),
         );
         judge(&rt, there, row, served, right)?;
     }

@@ -37,19 +37,20 @@ pub enum Shown {
     File(u64),
 }
 
-fn shown_at(rt: &impl Host, place: &str) -> Shown {
-    match fs::metadata(rt, place) {
+/// What stands at a name of the folder.
+pub fn shown_at(rt: &impl Host, root: &str, name: &str) -> Result<Shown, AllocError> {
+    let place = place_of(rt.alloc(), root, name)?;
+    Ok(match fs::metadata(rt, place.as_str()) {
         Ok(found) if found.is_dir() => Shown::Folder,
         Ok(found) => Shown::File(found.len()),
         Err(_) => Shown::Nothing,
-    }
+    })
 }
 
 /// Each name of the folder is as said.
 pub fn expect(rt: &impl Host, root: &str, after: &[(&str, Shown)]) -> Result<(), Fail> {
     for (name, wanted) in after {
-        let place = place_of(rt.alloc(), root, name)?;
-        if shown_at(rt, place.as_str()) != *wanted {
+        if shown_at(rt, root, name)? != *wanted {
             return Err(Fail::from(("it looks otherwise", *wanted)));
         }
     }

@@ -1,4 +1,4 @@
-use Rattle.rows.proofs.listings.batches_of_lookups.Given as goal
+use Rattle.rows.proofs.batches.batches_of_lookups.Given as goal
 
 -- the table's four ledgers are those of the blanks
 abbrev pub ghosts-tell : goal.ghosts-tell

@@ -1,0 +1,121 @@
+//! What stories are answered, as bytes.
+
+use crate::stories::{Says, Stands};
+use std::alloc::{AllocError, Global};
+use wire::{
+    Attributes, Data, Entry, InitOut, NO_INO, Reply, ReplyBody, encode_dirent, encode_plus_dirent,
+    encode_reply,
+};
+
+fn attributes_of(stands: Stands) -> Attributes {
+    let (kind, size) = match stands {
+        Stands::File(size) => (wire::Kind::File, size),
+        Stands::Folder | Stands::Nothing => (wire::Kind::Folder, 0),
+    };
+    Attributes {
+        kind,
+        size,
+        uid: 0,
+        gid: 0,
+    }
+}
+
+fn entry_of(node: u64, stands: Stands) -> Entry {
+    Entry {
+        node,
+        generation: 0,
+        attributes: attributes_of(stands),
+    }
+}
+
+fn kind_of(stands: Stands) -> wire::Kind {
+    match stands {
+        Stands::File(_) => wire::Kind::File,
+        Stands::Folder | Stands::Nothing => wire::Kind::Folder,
+    }
+}
+
+fn names_of(alloc: Global, from: u64, names: &[(&str, Stands)]) -> Result<ReplyBody, AllocError> {
+    let mut bytes = Vec::new(alloc);
+    let mut next = from;
+    for (name, stands) in names {
+        next = next.saturating_add(1);
+        encode_dirent(&mut bytes, NO_INO, next, kind_of(*stands), name)?;
+    }
+    Ok(ReplyBody::Data(Data::new(bytes)))
+}
+
+fn entries_of(
+    alloc: Global,
+    from: u64,
+    entries: &[(&str, Stands, u64)],
+) -> Result<ReplyBody, AllocError> {
+    let mut bytes = Vec::new(alloc);
+    let mut next = from;
+    for (name, stands, node) in entries {
+        next = next.saturating_add(1);
+        let entry = if *node == 0 {
+            None
+        } else {
+            Some(entry_of(*node, *stands))
+        };
+        encode_plus_dirent(&mut bytes, entry, next, kind_of(*stands), name)?;
+    }
+    Ok(ReplyBody::Data(Data::new(bytes)))
+}
+
+/// Nothing, where it gets no reply.
+fn body_of(alloc: Global, says: Says) -> Result<Option<ReplyBody>, AllocError> {
+    Ok(Some(match says {
+        Says::Failed(errno) => ReplyBody::Failed { errno },
+        Says::Done => ReplyBody::Done,
+        Says::Entry(node, stands) => ReplyBody::Entry(entry_of(node, stands)),
+        Says::Attributes(node, stands) => ReplyBody::Attributes {
+            node,
+            attributes: attributes_of(stands),
+        },
+        Says::Sizes => ReplyBody::StatFs,
+        Says::Opened(fh) => ReplyBody::Opened { fh },
+        Says::Created(node, fh) => ReplyBody::Created {
+            entry: entry_of(node, Stands::File(0)),
+            fh,
+        },
+        Says::Bytes(bytes) => ReplyBody::Data(Data::new(Vec::from_slice(alloc, bytes)?)),
+        Says::Wrote(size) => ReplyBody::Wrote { size },
+        Says::Names(from, names) => names_of(alloc, from, names)?,
+        Says::Entries(from, entries) => entries_of(alloc, from, entries)?,
+        Says::NoReply => return Ok(None),
+    }))
+}
+
+/// What is agreed on with INIT 7.31.
+const AGREED: ReplyBody = ReplyBody::Init(InitOut {
+    major: 7,
+    minor: 31,
+    max_readahead: 65536,
+    flags: 0,
+    max_background: 12,
+    congestion_threshold: 9,
+    max_write: 65536,
+    time_gran: 1,
+    max_pages: 0,
+});
+
+/// The reply to INIT, unique 0, and what the requests are answered, which are numbered from 1.
+pub fn replies_of(alloc: Global, replies: &[Says]) -> Result<Vec<u8>, AllocError> {
+    let mut bytes = Vec::new(alloc);
+    let mut unique = 0u64;
+    let greeting = Reply {
+        unique,
+        body: AGREED,
+    };
+    encode_reply(&greeting, &mut bytes)?;
+    for says in replies {
+        unique = unique.saturating_add(1);
+        let Some(body) = body_of(alloc, *says)? else {
+            continue;
+        };
+        encode_reply(&Reply { unique, body }, &mut bytes)?;
+    }
+    Ok(bytes)
+}

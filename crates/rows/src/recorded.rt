@@ -1,0 +1,38 @@
+//! What passes over a link, in its order.
+
+use crate::client::Client;
+use crate::frames::{INIT, LOOKUP_A, LOOKUP_ZZ};
+use crate::untaken::{bytes_of, serve_samples};
+use ledger::Blanks;
+use std::marker::Brand;
+use std::test::Fail;
+
+/// Two requests and the beginning of a third are heard at once: the two are answered before the rest of the third is heard.
+const RECORD: &[&str] = &[
+    "[INFO  link] 118 bytes are heard",
+    "[INFO  link] 80 bytes are offered",
+    "[INFO  link] 144 bytes are offered",
+    "[INFO  link] 23 bytes are heard",
+    "[INFO  link] 16 bytes are offered",
+    "[INFO  link] the end is heard",
+];
+
+#[test]
+fn no_reply_waits_for_later_bytes(rt: HostRuntime) -> Result<(), Fail> {
+    let alloc = rt.alloc();
+    let third = bytes_of(alloc, LOOKUP_ZZ)?;
+    let mut first = bytes_of(alloc, INIT)?;
+    first.extend_from_slice(&bytes_of(alloc, LOOKUP_A)?)?;
+    first.extend_from_slice(&third[..20])?;
+    let mut pieces = Vec::new(alloc);
+    pieces.push(first)?;
+    pieces.push(Vec::from_slice(alloc, &third[20..])?)?;
+    let mut client = Client::new(alloc, pieces, 0);
+    serve_samples::<HostRuntime, Brand>(&rt, alloc, Blanks::new(1), None, &mut client)?;
+    let record = client.into_record();
+    assert_eq!(rt; record.len(), RECORD.len());
+    for (line, wanted) in record.as_slice().iter().zip(RECORD) {
+        assert_eq!(rt; line.as_str(), *wanted);
+    }
+    Ok(())
+}
