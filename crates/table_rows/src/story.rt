@@ -169,6 +169,8 @@ pub enum Step<'a> {
     Stranger(u64),
     /// The ticket of that request has these paths, of a move the old one and then the new one.
     Paths(u64, &'a [&'a str]),
+    /// The ticket of that request says whether its end removes a hidden file whose last opening it closed.
+    Last(u64, bool),
     /// The answer of that request lists these nodes, by number and generation, or none, name by name.
     Lists(u64, &'a [Option<(u64, u64)>]),
     /// The handle is that of an open file of the node, or of none.

@@ -93,6 +93,14 @@ impl<L: Ledgers> Desk<L> {
         }
     }
 
+    /// Whether the ticket of the request tells that it closed the last opening of a hidden file, or that it did not.
+    fn has_last(&self, unique: u64, last: bool) -> bool {
+        match self.tickets.iter().find(|begun| begun.unique == unique) {
+            Some(begun) => begun.ticket.last() == last,
+            None => false,
+        }
+    }
+
     fn has_listed(&self, unique: u64, said: &[Option<(u64, u64)>]) -> bool {
         match self.answers.iter().find(|ended| ended.unique == unique) {
             Some(ended) => lists(&ended.answered, said),
@@ -109,6 +117,7 @@ impl<L: Ledgers> Desk<L> {
     fn is_as(&self, step: &Step) -> Result<bool, AllocError> {
         match *step {
             Step::Paths(unique, paths) => self.has_paths(unique, paths),
+            Step::Last(unique, last) => Ok(self.has_last(unique, last)),
             Step::Lists(unique, said) => Ok(self.has_listed(unique, said)),
             Step::Share(index, sum) => Ok(self.has_share(index, sum)),
             Step::File(handle, number) => Ok(
