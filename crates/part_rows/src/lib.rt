@@ -13,6 +13,8 @@ mod name_rows;
 #[cfg(test)]
 mod path_rows;
 #[cfg(test)]
+mod sketch;
+#[cfg(test)]
 mod spelling;
 #[cfg(test)]
 mod tree_rows;

@@ -1,5 +1,6 @@
 //! How a table differs from what it was.
 
+use crate::looks::same_in;
 use image::Image;
 use tree::{Node, Place};
 
@@ -16,22 +17,40 @@ pub struct Change {
     pub moved: usize,
     /// Nodes that lost their name.
     pub cut: usize,
+    /// Named nodes that got a hidden mark, or lost it.
+    pub marked: usize,
+    /// Files that were opened.
+    pub opened: usize,
+    /// Files that were closed.
+    pub closed: usize,
+    /// By how much the counter of hidden names rose.
+    pub counted: u32,
 }
 
-/// The node that bears the same number in the same generation.
-fn same_in<'a>(nodes: &'a [Node], node: &Node) -> Option<&'a Node> {
-    nodes.iter().find(|other| (other.number, other.generation) == (node.number, node.generation))
-}
+/// Nothing changed.
+pub const NONE: Change = Change {
+    posted: 0,
+    born: 0,
+    gone: 0,
+    moved: 0,
+    cut: 0,
+    marked: 0,
+    opened: 0,
+    closed: 0,
+    counted: 0,
+};
 
 /// How many nodes of the first image are not in the second.
 fn missing(from: &Image, image: &Image) -> usize {
-    let mut count = 0usize;
-    for node in from.nodes.as_slice() {
-        if same_in(image.nodes.as_slice(), node).is_none() {
-            count = count.saturating_add(1);
-        }
-    }
-    count
+    let nodes = from.nodes.as_slice().iter();
+    nodes.filter(|node| same_in(image, node).is_none()).count()
+}
+
+/// How many open files of the first image are not in the second.
+fn missing_files(from: &Image, image: &Image) -> usize {
+    let there = image.files.as_slice();
+    let files = from.files.as_slice().iter();
+    files.filter(|filed| !there.contains(filed)).count()
 }
 
 fn is_moved(old: &Node, new: &Node) -> bool {
@@ -47,6 +66,10 @@ fn is_cut(old: &Node, new: &Node) -> bool {
     matches!(&old.place, Place::Named(_)) && matches!(&new.place, Place::Cut)
 }
 
+fn is_marked(old: &Node, new: &Node) -> bool {
+    old.hidden != new.hidden && matches!(&new.place, Place::Named(_))
+}
+
 impl Change {
     /// What changed between two images.
     pub fn between(old: &Image, new: &Image) -> Change {
@@ -58,28 +81,18 @@ impl Change {
                 .saturating_sub(old.postings.as_slice().len()),
             born: missing(new, old),
             gone: missing(old, new),
-            moved: 0,
-            cut: 0,
+            opened: missing_files(new, old),
+            closed: missing_files(old, new),
+            counted: new.counter.wrapping_sub(old.counter),
+            ..NONE
         };
         for node in new.nodes.as_slice() {
-            if let Some(was) = same_in(old.nodes.as_slice(), node) {
+            if let Some(was) = same_in(old, node) {
                 change.moved = change.moved.saturating_add(is_moved(was, node) as usize);
                 change.cut = change.cut.saturating_add(is_cut(was, node) as usize);
+                change.marked = change.marked.saturating_add(is_marked(was, node) as usize);
             }
         }
         change
-    }
-}
-
-/// The count of the node that bears the number, or 0.
-pub fn count_of(image: &Image, number: u64) -> u64 {
-    match image
-        .nodes
-        .as_slice()
-        .iter()
-        .find(|node| node.number == number)
-    {
-        Some(node) => node.count,
-        None => 0,
     }
 }

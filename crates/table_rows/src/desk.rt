@@ -162,6 +162,14 @@ impl<L: Ledgers> Desk<L> {
         }
     }
 
+    /// Whether the ticket of that request, if there is one, says that it may hide.
+    pub fn hides(&self, unique: u64) -> bool {
+        match self.tickets.iter().find(|begun| begun.unique == unique) {
+            Some(begun) => begun.ticket.hide(),
+            None => false,
+        }
+    }
+
     /// Ends the work on a request, and keeps its answer.
     pub fn finish(&mut self, unique: u64, outcome: Outcome) -> Result<Told, AllocError> {
         let place = self.tickets.iter().position(|begun| begun.unique == unique);

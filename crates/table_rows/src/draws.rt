@@ -1,7 +1,5 @@
 //! Numbers at random.
 
-use crate::story::ROOT;
-
 /// Numbers at random, the same in each run.
 #[derive(Drop)]
 pub struct Draws {
@@ -25,14 +23,6 @@ impl Draws {
 
     pub fn place(&mut self, len: usize) -> usize {
         self.among(len as u64) as usize
-    }
-
-    /// The root, or as often a number of so many.
-    pub fn parent(&mut self, n: u64) -> u64 {
-        match self.among(2) {
-            0 => ROOT,
-            _ => self.among(n),
-        }
     }
 
     /// Some names of a page.

@@ -2,13 +2,25 @@
 #![tactic(auto)]
 
 #[cfg(test)]
+mod beginnings;
+#[cfg(test)]
 mod change;
+#[cfg(test)]
+mod choices;
 #[cfg(test)]
 mod desk;
 #[cfg(test)]
 mod draws;
 #[cfg(test)]
+mod endings;
+#[cfg(test)]
 mod event;
+#[cfg(test)]
+mod givings_back;
+#[cfg(test)]
+mod handle_rows;
+#[cfg(test)]
+mod hidden_rows;
 #[cfg(test)]
 mod hiding_rows;
 #[cfg(test)]
@@ -25,6 +37,8 @@ mod limit_rows;
 mod long_rows;
 #[cfg(test)]
 mod long_run;
+#[cfg(test)]
+mod looks;
 #[cfg(test)]
 mod lookup_rows;
 #[cfg(test)]
@@ -51,6 +65,10 @@ mod shows;
 mod story;
 #[cfg(test)]
 mod stranger_rows;
+#[cfg(test)]
+mod tallies;
+#[cfg(test)]
+mod task;
 #[cfg(test)]
 mod teller;
 #[cfg(test)]

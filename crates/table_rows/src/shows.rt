@@ -113,16 +113,20 @@ pub fn shows_holds(alloc: Global, image: &Image, said: &[Holding]) -> Result<boo
     Ok(holds.len() == said.len())
 }
 
-/// Whether these are the paths of a ticket. It tells of a move to the same path, and of nothing else, that it is one.
-pub fn shows_paths(alloc: Global, ticket: &Ticket, said: &[&str]) -> Result<bool, AllocError> {
-    let paths = ticket.paths();
-    if paths.len() != said.len() {
-        return Ok(false);
-    }
+/// Whether these are the paths, in their order.
+pub fn are_paths(alloc: Global, paths: &[Path], said: &[&str]) -> Result<bool, AllocError> {
     for (path, text) in paths.iter().zip(said) {
         if !path.is(&path_of(alloc, text)?) {
             return Ok(false);
         }
+    }
+    Ok(paths.len() == said.len())
+}
+
+/// Whether these are the paths of a ticket. It tells of a move to the same path, and of nothing else, that it is one.
+pub fn shows_paths(alloc: Global, ticket: &Ticket, said: &[&str]) -> Result<bool, AllocError> {
+    if !are_paths(alloc, ticket.paths(), said)? {
+        return Ok(false);
     }
     Ok(match said {
         [old, new] => ticket.same() == (*old == *new),

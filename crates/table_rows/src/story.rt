@@ -175,6 +175,8 @@ pub enum Step<'a> {
     Lists(u64, &'a [Option<(u64, u64)>]),
     /// The handle is that of an open file of the node, or of none.
     File(u64, Option<u64>),
+    /// The paths of the files that are hidden, by rising number of their nodes.
+    Leftover(&'a [&'a str]),
     /// The living nodes, all of them.
     Nodes(&'a [Living<'a>]),
     /// The postings, all of them, the oldest first.

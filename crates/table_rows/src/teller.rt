@@ -3,7 +3,9 @@
 ghost use Rattle.std.specs.Prelude.{◌≡◌, ◌≤◌};
 
 use crate::desk::{Begun, Desk};
-use crate::shows::{lists, shows_holds, shows_ledger, shows_nodes, shows_paths, shows_requests};
+use crate::shows::{
+    are_paths, lists, shows_holds, shows_ledger, shows_nodes, shows_paths, shows_requests,
+};
 use crate::story::{Asks, DEFAULT, Outcome, ROOT, Reply, Step, Story, Sum, Told};
 use image::Image;
 use ledger::{Blanks, Ledgers};
@@ -32,7 +34,7 @@ impl From<bool> for Told {
 }
 
 /// The image keeps the law, after the step at that place.
-fn expect_lawful(image: &Image, place: usize) -> Result<(), Fail> {
+pub fn expect_lawful(image: &Image, place: usize) -> Result<(), Fail> {
     if image.lawful() {
         return Ok(());
     }
@@ -101,6 +103,10 @@ impl<L: Ledgers> Desk<L> {
         }
     }
 
+    fn has_leftover(&self, paths: &[&str]) -> Result<bool, AllocError> {
+        are_paths(self.alloc, self.table.leftover()?.as_slice(), paths)
+    }
+
     fn has_listed(&self, unique: u64, said: &[Option<(u64, u64)>]) -> bool {
         match self.answers.iter().find(|ended| ended.unique == unique) {
             Some(ended) => lists(&ended.answered, said),
@@ -118,6 +124,7 @@ impl<L: Ledgers> Desk<L> {
         match *step {
             Step::Paths(unique, paths) => self.has_paths(unique, paths),
             Step::Last(unique, last) => Ok(self.has_last(unique, last)),
+            Step::Leftover(paths) => self.has_leftover(paths),
             Step::Lists(unique, said) => Ok(self.has_listed(unique, said)),
             Step::Share(index, sum) => Ok(self.has_share(index, sum)),
             Step::File(handle, number) => Ok(

@@ -1,0 +1,191 @@
+//! What a long run does next, by numbers at random and by what the table shows.
+
+use crate::draws::Draws;
+use crate::looks::{node_of, place_of};
+use crate::story::{Asks, Outcome, ROOT, Reply, Step, Told};
+use crate::task::Task;
+use image::Image;
+use tree::Node;
+
+/// So many numbers are drawn from where a node need not live.
+const NUMBERS: u64 = 8;
+
+/// So many handles are drawn from where no file need be open.
+const HANDLES: u64 = 20;
+
+/// The name of a node that has no mark.
+fn plain_name(node: &Node) -> Option<(u64, &str)> {
+    if node.hidden { None } else { place_of(node) }
+}
+
+/// The name of a node that has an open file and no mark: that of the open file at that place, or of one after it.
+fn open_name(image: &Image, place: usize) -> Option<(u64, &str)> {
+    let files = image.files.as_slice();
+    for filed in files.iter().skip(place).chain(files.iter()) {
+        let node = node_of(image, filed.file.number)?;
+        if let Some(name) = plain_name(node) {
+            return Some(name);
+        }
+    }
+    None
+}
+
+/// The name of a hidden file.
+pub fn hidden_name(image: &Image) -> Option<(u64, &str)> {
+    let node = image.nodes.as_slice().iter().find(|node| node.hidden)?;
+    place_of(node)
+}
+
+impl Draws {
+    /// The number of a living node three times out of four, or any.
+    fn living(&mut self, image: &Image) -> u64 {
+        let place = self.place(image.nodes.as_slice().len());
+        match (image.nodes.as_slice().get(place), self.among(4)) {
+            (Some(node), 1..) => node.number,
+            _ => self.among(NUMBERS),
+        }
+    }
+
+    /// The number of a named node two times out of three, or any.
+    fn number(&mut self, image: &Image) -> u64 {
+        let place = self.place(image.nodes.as_slice().len());
+        match (image.nodes.as_slice().get(place), self.among(3)) {
+            (Some(node), 1..) if place_of(node).is_some() => node.number,
+            _ => self.living(image),
+        }
+    }
+
+    /// The number of a named node that has no mark half the time, or any.
+    fn plain(&mut self, image: &Image) -> u64 {
+        let place = self.place(image.nodes.as_slice().len());
+        match (image.nodes.as_slice().get(place), self.among(2)) {
+            (Some(node), 1..) if plain_name(node).is_some() => node.number,
+            _ => self.number(image),
+        }
+    }
+
+    /// The root, or as often a number.
+    fn parent(&mut self, image: &Image) -> u64 {
+        match self.among(2) {
+            0 => ROOT,
+            _ => self.number(image),
+        }
+    }
+
+    /// The name of a node that has no mark half the time, or any.
+    fn source<'a>(&mut self, image: &'a Image) -> (u64, &'a str) {
+        let place = self.place(image.nodes.as_slice().len());
+        match (image.nodes.as_slice().get(place), self.among(2)) {
+            (Some(node), 1..) => match plain_name(node) {
+                Some(source) => source,
+                None => (self.parent(image), self.name()),
+            },
+            _ => (self.parent(image), self.name()),
+        }
+    }
+
+    /// The name of an open file three times out of four, or any.
+    fn target<'a>(&mut self, image: &'a Image) -> (u64, &'a str) {
+        let place = self.place(image.files.as_slice().len());
+        match (open_name(image, place), self.among(4)) {
+            (Some(target), 1..) => target,
+            _ => (self.parent(image), self.name()),
+        }
+    }
+
+    fn removal<'a>(&mut self, image: &'a Image) -> Asks<'a> {
+        let (parent, name) = self.target(image);
+        match self.among(6) {
+            0 => Asks::Remove(parent, name),
+            _ => Asks::Unlink(parent, name),
+        }
+    }
+
+    fn move_onto<'a>(&mut self, image: &'a Image) -> Asks<'a> {
+        let (parent, name) = self.source(image);
+        let (new_parent, new_name) = match self.among(4) {
+            0 => (self.parent(image), self.name()),
+            _ => self.target(image),
+        };
+        Asks::Move(parent, name, new_parent, new_name)
+    }
+
+    /// A node and the handle of an open file, three times out of four, or any.
+    fn handle(&mut self, image: &Image) -> (u64, u64) {
+        let place = self.place(image.files.as_slice().len());
+        match (image.files.as_slice().get(place), self.among(4)) {
+            (Some(filed), 1..) => (filed.file.number, filed.handle),
+            _ => (self.number(image), self.among(HANDLES)),
+        }
+    }
+
+    /// The removal of a hidden file, which makes room for others, or of any name.
+    fn unhiding<'a>(&mut self, image: &'a Image) -> Asks<'a> {
+        match hidden_name(image) {
+            Some((parent, name)) => Asks::Remove(parent, name),
+            None => Asks::Remove(self.parent(image), self.name()),
+        }
+    }
+
+    /// What a request asks for.
+    pub fn asks<'a>(&mut self, image: &'a Image) -> Asks<'a> {
+        match self.among(38) {
+            0..=2 => Asks::Node(self.number(image)),
+            3..=7 => Asks::Page(self.parent(image), self.page()),
+            8..=13 => self.removal(image),
+            14..=15 => self.unhiding(image),
+            16..=20 => self.move_onto(image),
+            21..=25 => Asks::Open(self.plain(image)),
+            26..=27 => Asks::Create(self.parent(image), self.name()),
+            28..=31 => {
+                let (number, handle) = self.handle(image);
+                Asks::Release(number, handle)
+            }
+            32 => {
+                let (number, handle) = self.handle(image);
+                Asks::Read(number, handle)
+            }
+            _ => Asks::Name(self.parent(image), self.name()),
+        }
+    }
+
+    /// A candidate that a file is hidden under, or, one time in five, an index that is none.
+    fn candidate(&mut self) -> u8 {
+        match self.among(5) {
+            0 => 10,
+            _ => self.among(10) as u8,
+        }
+    }
+
+    /// What a request comes to: mostly to what fits it.
+    pub fn outcome(&mut self, task: Task) -> Outcome<'static> {
+        match (task, self.among(8)) {
+            (_, 0) => Outcome::Failed,
+            (Task::Page(_), 1) => Outcome::Entry,
+            (Task::Page(names), draw) => Outcome::Entries(self.found(names, draw)),
+            (Task::Name | Task::Create, 1) => Outcome::Done,
+            (Task::Name | Task::Create, _) => Outcome::Entry,
+            (_, 1) => Outcome::Entry,
+            (Task::Removal { hides: true }, 4..) => Outcome::Hidden(self.candidate()),
+            (Task::Removal { hides: false }, 2) => Outcome::Hidden(self.candidate()),
+            (Task::Move { hides: true, .. }, 4..) => {
+                Outcome::HiddenMove(self.candidate(), self.among(2) == 0)
+            }
+            (Task::Move { hides: false, .. }, 2) => Outcome::HiddenMove(self.candidate(), true),
+            _ => Outcome::Done,
+        }
+    }
+
+    pub fn reply(&mut self) -> Reply {
+        match self.among(4) {
+            0 => Reply::Untaken,
+            _ => Reply::Taken,
+        }
+    }
+
+    /// Lookups of a node that are given back.
+    pub fn forget(&mut self, image: &Image) -> Step<'static> {
+        let number = self.living(image);
+        Step::Forget(number, self.among(6), Told::Shown)
+    }
+}
