@@ -127,25 +127,44 @@ impl Draws {
         }
     }
 
-    /// What a request asks for.
-    pub fn asks<'a>(&mut self, image: &'a Image) -> Asks<'a> {
-        match self.among(38) {
-            0..=2 => Asks::Node(self.number(image)),
-            3..=7 => Asks::Page(self.parent(image), self.page()),
+    /// What changes names, by a choice of 8 to 20.
+    fn change<'a>(&mut self, choice: u64, image: &'a Image) -> Asks<'a> {
+        match choice {
             8..=13 => self.removal(image),
             14..=15 => self.unhiding(image),
-            16..=20 => self.move_onto(image),
+            _ => self.move_onto(image),
+        }
+    }
+
+    fn release(&mut self, image: &Image) -> Asks<'static> {
+        let (number, handle) = self.handle(image);
+        Asks::Release(number, handle)
+    }
+
+    fn reading(&mut self, image: &Image) -> Asks<'static> {
+        let (number, handle) = self.handle(image);
+        Asks::Read(number, handle)
+    }
+
+    /// What leaves names as they are, by another choice.
+    fn use_of<'a>(&mut self, choice: u64, image: &'a Image) -> Asks<'a> {
+        match choice {
+            0..=2 => Asks::Node(self.number(image)),
+            3..=7 => Asks::Page(self.parent(image), self.page()),
             21..=25 => Asks::Open(self.plain(image)),
             26..=27 => Asks::Create(self.parent(image), self.name()),
-            28..=31 => {
-                let (number, handle) = self.handle(image);
-                Asks::Release(number, handle)
-            }
-            32 => {
-                let (number, handle) = self.handle(image);
-                Asks::Read(number, handle)
-            }
+            28..=31 => self.release(image),
+            32 => self.reading(image),
             _ => Asks::Name(self.parent(image), self.name()),
+        }
+    }
+
+    /// What a request asks for.
+    pub fn asks<'a>(&mut self, image: &'a Image) -> Asks<'a> {
+        let choice = self.among(38);
+        match choice {
+            8..=20 => self.change(choice, image),
+            _ => self.use_of(choice, image),
         }
     }
 
