@@ -185,12 +185,12 @@ impl Draws {
             (Task::Name | Task::Create, 1) => Outcome::Done,
             (Task::Name | Task::Create, _) => Outcome::Entry,
             (_, 1) => Outcome::Entry,
-            (Task::Removal { hides: true }, 4..) => Outcome::Hidden(self.candidate()),
-            (Task::Removal { hides: false }, 2) => Outcome::Hidden(self.candidate()),
-            (Task::Move { hides: true, .. }, 4..) => {
+            (Task::Removal { hides }, 4..) if hides => Outcome::Hidden(self.candidate()),
+            (Task::Removal { hides }, 2) if !hides => Outcome::Hidden(self.candidate()),
+            (Task::Move { hides, .. }, 4..) if hides => {
                 Outcome::HiddenMove(self.candidate(), self.among(2) == 0)
             }
-            (Task::Move { hides: false, .. }, 2) => Outcome::HiddenMove(self.candidate(), true),
+            (Task::Move { hides, .. }, 2) if !hides => Outcome::HiddenMove(self.candidate(), true),
             _ => Outcome::Done,
         }
     }
