@@ -127,25 +127,44 @@ impl Draws {
         }
     }
 
-    /// What a request asks for.
-    pub fn asks<'a>(&mut self, image: &'a Image) -> Asks<'a> {
-        match self.among(38) {
-            0..=2 => Asks::Node(self.number(image)),
-            3..=7 => Asks::Page(self.parent(image), self.page()),
+    /// What changes names, by a choice of 8 to 20.
+    fn change<'a>(&mut self, choice: u64, image: &'a Image) -> Asks<'a> {
+        match choice {
             8..=13 => self.removal(image),
             14..=15 => self.unhiding(image),
-            16..=20 => self.move_onto(image),
+            _ => self.move_onto(image),
+        }
+    }
+
+    fn release(&mut self, image: &Image) -> Asks<'static> {
+        let (number, handle) = self.handle(image);
+        Asks::Release(number, handle)
+    }
+
+    fn reading(&mut self, image: &Image) -> Asks<'static> {
+        let (number, handle) = self.handle(image);
+        Asks::Read(number, handle)
+    }
+
+    /// What leaves names as they are, by another choice.
+    fn use_of<'a>(&mut self, choice: u64, image: &'a Image) -> Asks<'a> {
+        match choice {
+            0..=2 => Asks::Node(self.number(image)),
+            3..=7 => Asks::Page(self.parent(image), self.page()),
             21..=25 => Asks::Open(self.plain(image)),
             26..=27 => Asks::Create(self.parent(image), self.name()),
-            28..=31 => {
-                let (number, handle) = self.handle(image);
-                Asks::Release(number, handle)
-            }
-            32 => {
-                let (number, handle) = self.handle(image);
-                Asks::Read(number, handle)
-            }
+            28..=31 => self.release(image),
+            32 => self.reading(image),
             _ => Asks::Name(self.parent(image), self.name()),
+        }
+    }
+
+    /// What a request asks for.
+    pub fn asks<'a>(&mut self, image: &'a Image) -> Asks<'a> {
+        let choice = self.among(38);
+        match choice {
+            8..=20 => self.change(choice, image),
+            _ => self.use_of(choice, image),
         }
     }
 
@@ -166,12 +185,12 @@ impl Draws {
             (Task::Name | Task::Create, 1) => Outcome::Done,
             (Task::Name | Task::Create, _) => Outcome::Entry,
             (_, 1) => Outcome::Entry,
-            (Task::Removal { hides: true }, 4..) => Outcome::Hidden(self.candidate()),
-            (Task::Removal { hides: false }, 2) => Outcome::Hidden(self.candidate()),
-            (Task::Move { hides: true, .. }, 4..) => {
+            (Task::Removal { hides }, 4..) if hides => Outcome::Hidden(self.candidate()),
+            (Task::Removal { hides }, 2) if !hides => Outcome::Hidden(self.candidate()),
+            (Task::Move { hides, .. }, 4..) if hides => {
                 Outcome::HiddenMove(self.candidate(), self.among(2) == 0)
             }
-            (Task::Move { hides: false, .. }, 2) => Outcome::HiddenMove(self.candidate(), true),
+            (Task::Move { hides, .. }, 2) if !hides => Outcome::HiddenMove(self.candidate(), true),
             _ => Outcome::Done,
         }
     }

@@ -127,7 +127,7 @@ fn removed(hides: bool, outcome: Outcome, change: Change) -> Option<Event> {
         ..NONE
     };
     match outcome {
-        Outcome::Hidden(0..=9) if hides => only(hidden, change, Event::Hidden),
+        Outcome::Hidden(index) if hides && index < 10 => only(hidden, change, Event::Hidden),
         Outcome::Hidden(_) if hides => still(change, Event::MisfitHidden),
         Outcome::Done if cuts(change) => {
             Some(if hides {
@@ -177,7 +177,9 @@ fn hidden_move(known: bool, moved: bool, change: Change) -> Option<Event> {
 /// What the end of a move came to.
 fn moved(hides: bool, known: bool, outcome: Outcome, change: Change) -> Option<Event> {
     match outcome {
-        Outcome::HiddenMove(0..=9, moved) if hides => hidden_move(known, moved, change),
+        Outcome::HiddenMove(index, moved) if hides && index < 10 => hidden_move(
+            known, moved, change,
+        ),
         Outcome::HiddenMove(..) if hides => still(change, Event::MisfitHiddenMove),
         Outcome::Done => replaced(known, change),
         _ => still(change, Event::FailedMove),
@@ -206,7 +208,7 @@ pub fn finished(task: Task, outcome: Outcome, told: Told, change: Change) -> Opt
         Task::Node => still(change, Event::Node),
         Task::Open => opened(outcome, change),
         Task::Removal { hides } => removed(hides, outcome, change),
-        Task::Move { same: true, .. } => still(change, Event::MovedToItself),
+        Task::Move { same, .. } if same => still(change, Event::MovedToItself),
         Task::Move { hides, known, .. } => moved(hides, known, outcome, change),
         Task::Release { last } => released(last, outcome, change),
     }

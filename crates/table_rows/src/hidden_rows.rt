@@ -1,6 +1,6 @@
 //! Names that open files are hidden under, the counter that tells them apart, and what is left of hidden files.
 
-use crate::long_rows::long_name;
+use crate::long_rows::{first, long_name};
 use crate::story::Asks::{Move, Name, Node, Open, Remove, Unlink};
 use crate::story::Told::{Busy, Ended, Given, Go, NotGiven, Refused, Settled};
 use crate::story::{
@@ -207,11 +207,13 @@ fn leftovers_by_number(rt: HostRuntime) -> Result<(), Fail> {
 /// of the file is short enough, before any request in the way.
 #[test]
 fn candidate_is_too_long(rt: HostRuntime) -> Result<(), Fail> {
-    let (fits, above) = (long_name(rt.alloc(), 4_066)?, long_name(rt.alloc(), 4_067)?);
+    let name = long_name(rt.alloc(), 4_067)?;
+    let above = name.as_str();
+    let fits = first(above, 4_066);
     let steps = [
-        Step::LookUp(ROOT, fits.as_str(), Given(2, 0)),
+        Step::LookUp(ROOT, fits, Given(2, 0)),
         Step::LookUp(2, "a", Given(3, 0)),
-        Step::LookUp(ROOT, above.as_str(), Given(4, 0)),
+        Step::LookUp(ROOT, above, Given(4, 0)),
         Step::LookUp(4, "a", Given(5, 0)),
         Step::Begin(1, Unlink(4, "a"), Go),
         Step::Finish(1, Outcome::Failed, Ended),

@@ -18,7 +18,7 @@ pub fn long_name(alloc: Global, bytes: usize) -> Result<String, AllocError> {
 }
 
 /// The first bytes of a name.
-fn first(name: &str, bytes: usize) -> &str {
+pub fn first(name: &str, bytes: usize) -> &str {
     name.get(..bytes).unwrap_or("")
 }
 
