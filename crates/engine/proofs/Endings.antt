@@ -53,6 +53,9 @@ plain node findings.Opening h = (refl, refl)
 plain node (findings.Bytes bytes) h = (refl, refl)
 plain node (findings.Written size) h = (refl, refl)
 plain node (findings.Hid candidate) h = (refl, refl)
+plain node (findings.Replaced candidate) h = (refl, refl)
+plain node (findings.Unmoved candidate errno) h = (refl, refl)
+plain node findings.Kept h = (refl, refl)
 
 abbrev ended : Finding → End
 ended finding = record { outcome = outcome_of finding; findings = finding }
@@ -69,6 +72,9 @@ plain_end findings.Opening h = refl
 plain_end (findings.Bytes bytes) h = refl
 plain_end (findings.Written size) h = refl
 plain_end (findings.Hid candidate) h = refl
+plain_end (findings.Replaced candidate) h = refl
+plain_end (findings.Unmoved candidate errno) h = refl
+plain_end findings.Kept h = refl
 
 none_given_up : (taken : Bool) → GivesUp taken None []
 none_given_up true = refl
@@ -86,6 +92,9 @@ is_plain findings.Opening h k = tt
 is_plain (findings.Bytes bytes) h k = tt
 is_plain (findings.Written size) h k = tt
 is_plain (findings.Hid candidate) h k = tt
+is_plain (findings.Replaced candidate) h k = tt
+is_plain (findings.Unmoved candidate errno) h k = tt
+is_plain findings.Kept h k = tt
 
 played : (refused : Option Place) (meant said : ReplyBody) (operation : Operation) (ticket : Claim) (made : List Made) (end : End) → IsSaid refused meant said → Follows (plan_of operation ticket) made end → Plays refused operation ticket made end
 played None meant said operation ticket made end is f = f

@@ -1,4 +1,4 @@
-use Rattle.std.proofs.Common.{◌≡◌, ◌<◌, ◌+◌, Option, Some, None, List, length, refl, sym, subst, [], ◌∷◌, lit<, arith}
+use Rattle.std.proofs.Common.{ℕ, ◌≡◌, ◌<◌, ◌+◌, Option, Some, None, option_map, List, length, refl, sym, subst, [], ◌∷◌, lit<, arith}
 use Rattle.std.proofs.lemmas.Option.{none-some}
 use Rattle.backing.specs.Calls.{Asked}
 use Rattle.backing.specs.declared.call.Call.{Call}
@@ -6,7 +6,7 @@ use Rattle.ops.specs.declared.script.Ending.{Ending}
 use Rattle.ops.specs.declared.script.Ending.TheVariants as endings
 use Rattle.backing.specs.Calls.{asked}
 use Rattle.engine.specs.Playing.{Playing}
-use Rattle.ops.specs.Ahead.{calls_ending, calls_from, calls_hiding, end_of, plan_ahead, plan_ending, plan_from}
+use Rattle.ops.specs.Ahead.{after_hide, calls_after, calls_ending, calls_from, calls_hiding, calls_in, end_of, plan_ahead, plan_ending, plan_from}
 use Rattle.ops.specs.Looking.{plan_looking}
 use Rattle.ops.specs.Scripts.{Plan, hide, next_of}
 use Rattle.ops.specs.declared.findings.Found.{Found}
@@ -18,9 +18,9 @@ looks_left : (left : List Names) (found : List (Option Found)) (call : Asked) �
 looks_left [] found call e = absurd (none-some call e)
 looks_left (p ∷ ps) found call e = omega arith
 
-hides_left : (p : Names) (left : List Names) (call : Asked) → next_of (hide p left) ≡ Some call → 0 < calls_hiding left
-hides_left p [] call e = absurd (none-some call e)
-hides_left p (c ∷ cs) call e = omega arith
+hides_left : (p : Names) (left : List Names) (rest : ℕ → Plan) (more : ℕ) (call : Asked) → next_of (hide p left rest) ≡ Some call → 0 < calls_hiding left more
+hides_left p [] rest more call e = absurd (none-some call e)
+hides_left p (c ∷ cs) rest more call e = omega arith
 
 -- a script that asks has a call left
 asks_left : (change : Option Call) (ending : Ending) (call : Asked) → next_of (plan_from change (plan_ending ending)) ≡ Some call → 0 < calls_from change + calls_ending ending
@@ -30,7 +30,10 @@ asks_left None (endings.List p) call e = lit< tt
 asks_left None (endings.Read p offset size) call e = lit< tt
 asks_left None (endings.Write p offset piece) call e = lit< tt
 asks_left None (endings.Each looks) call e = omega (arith, looks_left looks.left looks.found call e)
-asks_left None (endings.Hide p left) call e = omega (arith, hides_left p.now left.now call e)
+asks_left None (endings.Replace s t left) call e = omega arith
+asks_left None (endings.Hide hiding) call e = omega (arith, hides_left hiding.path.now hiding.left.now (after_hide hiding.path.now (option_map (λ s. s.now) hiding.source)) (calls_after (option_map (λ s. s.now) hiding.source)) call e)
+asks_left None (endings.MoveAfter s t candidate) call e = lit< tt
+asks_left None (endings.Remove p) call e = lit< tt
 asks_left None (endings.Over finding) call e = absurd (none-some call e)
 
 pub loop-call-smaller : goal.loop-call-smaller
