@@ -1,4 +1,4 @@
-//! Files that are removed while they are open: hidden, used by their handles, and gone at the end of the session.
+//! Files that are removed while they are open: hidden, used by their handles, and gone at the end of the session if not before.
 
 use crate::stories::Says::{Attributes, Bytes, Created, Done, Entry, Failed, Opened, Wrote};
 use crate::stories::Stands::{File, Folder, Nothing};
@@ -196,8 +196,6 @@ const HIDDEN: &[Story] = &[
             (2, Release { fh: 1 }),
             (1, Unlink { name: "a" }),
         ],
-        // a removal at the end would be the sixth call
-        faults: &[(5, Before(EIO))],
         replies: &[Entry(2, File(3)), Opened(1), Failed(ENOTDIR), Done, Done],
         after: &[(&["a"], Nothing), (&[FIRST], Nothing)],
         ..NOTHING

@@ -32,6 +32,10 @@ mod greetings;
 #[cfg(test)]
 mod hidden_files;
 #[cfg(test)]
+mod hidden_frames;
+#[cfg(test)]
+mod last_handles;
+#[cfg(test)]
 mod lines;
 #[cfg(test)]
 mod listings;
@@ -45,6 +49,8 @@ mod open_files;
 mod recorded;
 #[cfg(test)]
 mod renames;
+#[cfg(test)]
+mod replaced_files;
 #[cfg(test)]
 mod row;
 #[cfg(test)]
