@@ -2,7 +2,6 @@
 
 use crate::change::{Change, NONE};
 use crate::event::{Event, only, still};
-use crate::least::HIDING_MOVES;
 use crate::looks::{is_cut, is_handle_of, is_hidden, is_open_at, may_read, openings};
 use crate::story::{Asks, Told};
 use errno::{EAGAIN, EBADF, EINVAL, ENFILE, ENOTEMPTY, ESTALE};
@@ -26,8 +25,7 @@ fn tells(asks: Asks, hides: bool, before: &Image) -> bool {
         Asks::Unlink(parent, name) => hides == is_open_at(before, parent, name),
         Asks::Move(parent, name, new_parent, new_name) => {
             let is_same = parent == new_parent && name == new_name;
-            let may = !is_same && is_open_at(before, new_parent, new_name);
-            hides == may || !hides && HIDING_MOVES == 0
+            hides == (!is_same && is_open_at(before, new_parent, new_name))
         }
         _ => !hides,
     }

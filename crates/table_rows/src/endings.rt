@@ -2,7 +2,6 @@
 
 use crate::change::{Change, NONE};
 use crate::event::{Event, only, still};
-use crate::least::REMOVING_RELEASES;
 use crate::story::{Outcome, Told};
 use crate::task::Task;
 
@@ -190,8 +189,7 @@ fn moved(hides: bool, known: bool, outcome: Outcome, change: Change) -> Option<E
 fn released(last: bool, outcome: Outcome, change: Change) -> Option<Event> {
     match (outcome, last) {
         (Outcome::Done, true) if cuts(change) => Some(Event::RemovedHidden),
-        (Outcome::Done, true) if REMOVING_RELEASES > 0 => None,
-        (Outcome::Done, true) => still(change, Event::LeftHidden),
+        (Outcome::Done, true) => None,
         (_, true) => still(change, Event::FailedHidden),
         (Outcome::Done, false) => still(change, Event::Released),
         (_, false) => still(change, Event::FailedRelease),

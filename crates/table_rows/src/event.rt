@@ -93,8 +93,6 @@ pub enum Event {
     FailedRelease,
     /// The last release of a hidden file removes it.
     RemovedHidden,
-    /// It was done, and the file stays hidden.
-    LeftHidden,
     /// The last release of a hidden file failed, so that the mark stays.
     FailedHidden,
     Settled,

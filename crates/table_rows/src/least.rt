@@ -2,12 +2,6 @@
 
 use crate::event::Event;
 
-/// How often a move must hide what stands at its target, in each way. The table tells no move that it may.
-pub const HIDING_MOVES: u64 = 0;
-
-/// How often the last release of a hidden file must remove it. The table lets no release do that.
-pub const REMOVING_RELEASES: u64 = 0;
-
 /// How often each must come at least.
 pub const LEAST: &[(Event, u64)] = &[
     (Event::Begun, 1_000),
@@ -28,7 +22,7 @@ pub const LEAST: &[(Event, u64)] = &[
     (Event::BadHandle, 21),
     (Event::BadRelease, 21),
     (Event::MayHide, 21),
-    (Event::MoveMayHide, HIDING_MOVES),
+    (Event::MoveMayHide, 1),
     (Event::Closed, 21),
     (Event::ClosedLast, 21),
     (Event::ClosedCut, 11),
@@ -59,12 +53,12 @@ pub const LEAST: &[(Event, u64)] = &[
     (Event::MovedNothing, 21),
     (Event::MovedToItself, 21),
     (Event::FailedMove, 21),
-    (Event::HiddenMove, HIDING_MOVES),
-    (Event::HiddenAlone, HIDING_MOVES),
-    (Event::MisfitHiddenMove, HIDING_MOVES),
+    (Event::HiddenMove, 1),
+    (Event::HiddenAlone, 1),
+    (Event::MisfitHiddenMove, 1),
     (Event::Released, 21),
     (Event::FailedRelease, 21),
-    (Event::RemovedHidden, REMOVING_RELEASES),
+    (Event::RemovedHidden, 1),
     (Event::FailedHidden, 1),
     (Event::Settled, 21),
     (Event::GivenBack, 21),
