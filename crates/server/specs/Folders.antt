@@ -29,7 +29,7 @@ pub record IsFolderServed (settings : Settings) (input output : Option (List ℕ
   pub serves : ServesStream settings (unused input output) over last
   pub output_is : output' ≡ last.output
 
--- the same, or nothing is read or written
+-- the same, or nothing is written
 abbrev pub ServesFolder : Settings → (input output : Option (List ℕ)) → Result SessionEnd Unserved → (output' : Option (List ℕ)) → Type 0
 ServesFolder settings input output (Ok over) output' = IsFolderServed settings input output over output'
 ServesFolder settings input output (Err why) output' = (why ≢ NoSocket) × (output' ≡ output)
