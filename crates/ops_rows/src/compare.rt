@@ -2,7 +2,8 @@
 
 ghost use Rattle.std.specs.Prelude.{◌≡◌};
 
-use crate::slow::{Stands, ask_of, ends_of, stands_after};
+use crate::asks::{Form, Stands, ask_of, ends_of, form_of};
+use crate::slow::stands_after;
 use backing::{Answer, Bytes, Child, Children, Kind};
 use files::Access;
 use handles::Page;
@@ -49,9 +50,34 @@ fn answer_of(alloc: Global, number: u32) -> Result<Answer, AllocError> {
     })
 }
 
-/// The list of answers under that number: none is the first, then those of one answer, and so on.
-fn answers_of(alloc: Global, number: u32) -> Result<Vec<Answer>, AllocError> {
+/// What was done before a request is begun. The root is open as file 1.
+#[derive(Clone, Copy, Debug, PartialEq, Eq)]
+pub enum Before {
+    Nothing,
+    /// `a` is node 2, and open as file 2.
+    Opened,
+    /// The same, and it was hidden under its first candidate.
+    Hidden,
+}
+
+/// A request, and how it is tried.
+#[derive(Clone, Copy)]
+pub struct Row<'a> {
+    pub before: Before,
+    pub node: u64,
+    pub operation: Operation<'a>,
+    /// What its ticket says.
+    pub form: Form,
+    /// So many answers that a file stands there come before each list.
+    pub files: u32,
+}
+
+/// The list of answers under that number, after so many files: none is the first, then those of one answer, and so on.
+fn answers_of(alloc: Global, files: u32, number: u32) -> Result<Vec<Answer>, AllocError> {
     let mut answers = Vec::new(alloc);
+    for _ in 0..files {
+        answers.push(answer_of(alloc, 1)?)?;
+    }
     let mut left = number;
     for _ in 0..3 {
         if left > 0 {
@@ -82,35 +108,68 @@ fn script_after(
 }
 
 /// The first list of answers after which the script stands elsewhere than the slow program.
-fn first_other(
-    alloc: Global,
-    operation: Operation<'_>,
-    ticket: &Ticket,
-) -> Result<Option<u32>, AllocError> {
+fn first_other(alloc: Global, row: &Row<'_>, ticket: &Ticket) -> Result<Option<u32>, AllocError> {
     for number in 0..LISTS {
-        let slow = stands_after(operation, ticket.same(), &answers_of(alloc, number)?);
-        if script_after(alloc, operation, ticket, answers_of(alloc, number)?)? != slow {
+        let answers = answers_of(alloc, row.files, number)?;
+        let slow = stands_after(row.operation, row.form, &answers);
+        if script_after(alloc, row.operation, ticket, answers)? != slow {
             return Ok(Some(number));
         }
     }
     Ok(None)
 }
 
-/// Opens the root as file 1, for reading and writing. True says that it was.
-fn open_root<L: Ledgers>(table: &mut Table<L>, share: &mut Share<L>) -> bool {
-    let want = Want::Open {
-        number: 1,
-        access: Access::Both,
-    };
+/// Takes a request to its end, where it is begun. Tells the handle of the file that it opened.
+fn carry<L: Ledgers>(
+    table: &mut Table<L>,
+    share: &mut Share<L>,
+    want: Want,
+    outcome: Outcome,
+) -> Option<u64> {
     match table.begin(1, want) {
         Begin::Go(ticket) => {
-            let answered = table.finish(share, ticket, Outcome::Done);
-            let is_first = answered.opened() == Some(1);
+            let answered = table.finish(share, ticket, outcome);
+            let opened = answered.opened();
             table.settle(share, answered, true);
-            is_first
+            opened
         }
-        Begin::Busy | Begin::Refused(_) => false,
+        Begin::Busy | Begin::Refused(_) => None,
     }
+}
+
+/// Opens a node for reading and writing. True says that it was, under that handle.
+fn open_node<L: Ledgers>(table: &mut Table<L>, share: &mut Share<L>, number: u64, fh: u64) -> bool {
+    let want = Want::Open {
+        number,
+        access: Access::Both,
+    };
+    carry(table, share, want, Outcome::Done) == Some(fh)
+}
+
+/// Does what is done before a request. True says that the files are open.
+fn prepare<L: Ledgers>(
+    alloc: Global,
+    table: &mut Table<L>,
+    share: &mut Share<L>,
+    before: Before,
+) -> Result<bool, AllocError> {
+    let is_open = open_node(table, share, 1, 1);
+    if before == Before::Nothing {
+        return Ok(is_open);
+    }
+    let parent = 1;
+    let name = Name::copy_of(alloc, "a")?;
+    carry(table, share, Want::Name { parent, name }, Outcome::Entry);
+    let are_open = is_open && open_node(table, share, 2, 2);
+    if before == Before::Hidden {
+        let want = Want::Remove {
+            parent,
+            name: Name::copy_of(alloc, "a")?,
+            may_hide: true,
+        };
+        carry(table, share, want, Outcome::Hidden(0));
+    }
+    Ok(are_open)
 }
 
 /// A page of the root, with `.` and two names.
@@ -143,19 +202,15 @@ fn want_of(alloc: Global, request: &Request<'_>) -> Result<Option<Want>, AllocEr
 }
 
 /// Compares the script of a request with the slow program's, on a table of its own. Fails with the number of the first list of answers after
-/// which they differ.
-pub fn compare<L: Ledgers>(
-    alloc: Global,
-    blanks: Blanks,
-    operation: Operation<'_>,
-) -> Result<(), Fail>
+/// which they differ, or with how many there are where it does not begin in its form.
+pub fn compare<L: Ledgers>(alloc: Global, blanks: Blanks, row: &Row<'_>) -> Result<(), Fail>
     requires names { blanks ≡ L.names }
     requires shares { L.names.parts ≡ 1 }
 {
     let request = Request {
         unique: 1,
-        node: 1,
-        operation,
+        node: row.node,
+        operation: row.operation,
     };
     let Some(want) = want_of(alloc, &request)? else {
         return Err(Fail::from(("no want", request.unique)));
@@ -163,10 +218,14 @@ pub fn compare<L: Ledgers>(
     let (mut table, mut shares) = Table::<L>::open(alloc, Limits::default(), blanks, 1)?;
     let mut share = shares.pop().unwrap();
     shares.destroy_empty();
-    let is_open = open_root(&mut table, &mut share);
+    let are_open = prepare(alloc, &mut table, &mut share, row.before);
     let other = match table.begin(request.unique, want) {
         Begin::Go(ticket) => {
-            let other = first_other(alloc, operation, &ticket);
+            let other = if form_of(&ticket) == row.form {
+                first_other(alloc, row, &ticket)
+            } else {
+                Ok(Some(LISTS))
+            };
             let answered = table.finish(&mut share, ticket, Outcome::Failed);
             table.settle(&mut share, answered, true);
             other
@@ -175,8 +234,8 @@ pub fn compare<L: Ledgers>(
     };
     share.leave();
     match other? {
-        None if is_open => Ok(()),
-        None => Err(Fail::from(("the root is not open", request.unique))),
+        None if are_open? => Ok(()),
+        None => Err(Fail::from(("a file is not open", request.unique))),
         Some(number) => Err(Fail::from(("differs after list", number))),
     }
 }

@@ -1,61 +1,14 @@
 //! The scripts of all requests as a plain slow program: where a script stands is found by going over all of its answers anew.
 
-use backing::{Answer, Call, Kind};
-use errno::{EIO, EISDIR};
-use ops::{Finding, Found};
-use paths::Path;
+use crate::asks::{Ask, Ends, Form, Stands};
+use backing::{Answer, Kind};
+use errno::{EBUSY, EIO, EISDIR, ENOENT, ENOTDIR};
+use ops::Found;
+use std::slice::Iter;
 use wire::Operation;
 
-/// What is asked of a directory at the paths of a request.
-#[derive(Clone, Copy, Debug, PartialEq, Eq)]
-pub enum Ask {
-    Stat,
-    /// Of the path of a page's name, counted from 1.
-    StatOf(usize),
-    List,
-    Make,
-    MakeDir,
-    Remove,
-    RemoveDir,
-    /// From the first path to the second.
-    Rename,
-    /// To so many bytes.
-    SetLen(u64),
-    /// From that byte on, so many.
-    Read(u64, u32),
-    /// From that byte on, so many.
-    Write(u64, usize),
-    Sync,
-    /// No script asks this.
-    Other,
-}
-
-/// Where a script stands after some answers.
-#[derive(Clone, Copy, Debug, PartialEq, Eq)]
-pub enum Stands {
-    Asks(Ask),
-    Over(Ends),
-}
-
-/// What a script has come to.
-#[derive(Clone, Copy, Debug, PartialEq, Eq)]
-pub enum Ends {
-    Error(i32),
-    Nothing,
-    NewEntry(Found),
-    NewFile(Found),
-    Attributes(Found),
-    Opening,
-    /// So many bytes are told.
-    Bytes(usize),
-    Written(u32),
-    /// So many names are listed.
-    Listed(usize),
-    /// A file was hidden under the candidate of that index.
-    Hid(u8),
-    /// What stands at the two names of a page, and whether something does.
-    Looked([Option<Found>; 2], [bool; 2]),
-}
+/// How many names a file may be hidden under.
+const CANDIDATES: usize = 10;
 
 /// What an answer counts as. Of names and bytes it says how many.
 #[derive(Clone, Copy, Debug, PartialEq, Eq)]
@@ -68,75 +21,28 @@ enum Counts {
     Error(i32),
 }
 
-/// What a finding is.
-pub fn ends_of(finding: Finding) -> Ends {
-    match finding {
-        Finding::Error { errno } => Ends::Error(errno),
-        Finding::Nothing => Ends::Nothing,
-        Finding::NewEntry(found) => Ends::NewEntry(found),
-        Finding::NewFile(found) => Ends::NewFile(found),
-        Finding::Attributes(found) => Ends::Attributes(found),
-        Finding::Opening => Ends::Opening,
-        Finding::Bytes(bytes) => Ends::Bytes(bytes.len()),
-        Finding::Written { size } => Ends::Written(size),
-        Finding::Listed(names) => Ends::Listed(names.as_slice().len()),
-        Finding::Hid { candidate } => Ends::Hid(candidate),
-        Finding::Looked(looked) => {
-            let (there, founds) = looked.into_parts();
-            match (founds.as_slice(), there.as_slice()) {
-                ([a, b], [at_a, at_b]) => Ends::Looked([*a, *b], [*at_a, *at_b]),
-                _ => Ends::Nothing,
-            }
-        }
-    }
-}
-
-/// What a call of a script is, where it is about the request's paths.
-pub fn ask_of(call: Call<'_>, paths: &[Path]) -> Ask {
-    let Some(first) = paths.first() else {
-        return Ask::Other;
-    };
-    match call {
-        Call::Stat(path) if path.is(first) => Ask::Stat,
-        Call::Stat(path) if paths.get(1).is_some_and(|p| p.is(path)) => Ask::StatOf(1),
-        Call::Stat(path) if paths.get(2).is_some_and(|p| p.is(path)) => Ask::StatOf(2),
-        Call::List(path) if path.is(first) => Ask::List,
-        Call::Make(path) if path.is(first) => Ask::Make,
-        Call::MakeDir(path) if path.is(first) => Ask::MakeDir,
-        Call::Remove(path) if path.is(first) => Ask::Remove,
-        Call::RemoveDir(path) if path.is(first) => Ask::RemoveDir,
-        Call::SetLen { path, size } if path.is(first) => Ask::SetLen(size),
-        Call::Read { path, offset, size } if path.is(first) => Ask::Read(offset, size),
-        Call::Write { path, offset, data } if path.is(first) => Ask::Write(offset, data.len()),
-        Call::Sync(path) if path.is(first) => Ask::Sync,
-        Call::Rename { from, to } if from.is(first) && paths.get(1).is_some_and(|p| p.is(to)) =>
-            Ask::Rename,
-        _ => Ask::Other,
-    }
-}
-
-/// The calls of a request, one after another, where nothing fails.
+/// The calls of a request that hides nothing, one after another, where nothing fails.
 fn asks_of(operation: Operation<'_>, same: bool) -> (Option<Ask>, Option<Ask>) {
     match operation {
         Operation::Lookup { .. } | Operation::GetAttr | Operation::Open { .. } => (
-            Some(Ask::Stat),
+            Some(Ask::Stat(0)),
             None,
         ),
-        Operation::Create { .. } => (Some(Ask::Make), Some(Ask::Stat)),
+        Operation::Create { .. } => (Some(Ask::Make), Some(Ask::Stat(0))),
         Operation::Read { offset, size, .. } => (Some(Ask::Read(offset, size)), None),
         Operation::Write { offset, data, .. } => (Some(Ask::Write(offset, data.len())), None),
         Operation::Sync { .. } => (Some(Ask::Sync), None),
         Operation::OpenDir => (Some(Ask::List), None),
         Operation::SetAttr { valid, size, .. } if valid & 8 == 8 => (
             Some(Ask::SetLen(size)),
-            Some(Ask::Stat),
+            Some(Ask::Stat(0)),
         ),
-        Operation::SetAttr { .. } => (Some(Ask::Stat), None),
-        Operation::MakeDir { .. } => (Some(Ask::MakeDir), Some(Ask::Stat)),
+        Operation::SetAttr { .. } => (Some(Ask::Stat(0)), None),
+        Operation::MakeDir { .. } => (Some(Ask::MakeDir), Some(Ask::Stat(0))),
         Operation::Unlink { .. } => (Some(Ask::Remove), None),
         Operation::RemoveDir { .. } => (Some(Ask::RemoveDir), None),
-        Operation::Rename { .. } if same => (Some(Ask::Stat), None),
-        Operation::Rename { .. } => (Some(Ask::Rename), None),
+        Operation::Rename { .. } if same => (Some(Ask::Stat(0)), None),
+        Operation::Rename { .. } => (Some(Ask::Rename(0, 1)), None),
         _ => (None, None),
     }
 }
@@ -146,7 +52,7 @@ fn counts_as(ask: Ask, answer: &Answer) -> Counts {
     match (ask, answer) {
         (_, Answer::Fault(errno)) if (1..4096).contains(errno) => Counts::Error(*errno),
         (
-            Ask::Stat,
+            Ask::Stat(_),
             Answer::Stat {
                 kind: Kind::Folder,
                 size: 0,
@@ -156,7 +62,7 @@ fn counts_as(ask: Ask, answer: &Answer) -> Counts {
             size: 0,
         }),
         (
-            Ask::Stat,
+            Ask::Stat(_),
             Answer::Stat {
                 kind: Kind::File,
                 size,
@@ -165,7 +71,7 @@ fn counts_as(ask: Ask, answer: &Answer) -> Counts {
             kind: Kind::File,
             size: *size,
         }),
-        (Ask::Stat, _) => Counts::Error(EIO),
+        (Ask::Stat(_), _) => Counts::Error(EIO),
         (Ask::List, Answer::Names(names)) => Counts::Names(names.as_slice().len()),
         (Ask::List, _) => Counts::Error(EIO),
         (Ask::Read(_, size), Answer::Bytes(bytes)) if bytes.len() <= size as usize => {
@@ -209,9 +115,9 @@ fn page_after(answers: &[Answer]) -> Stands {
     let mut founds = [None, None];
     for name in 0..2usize {
         let Some(answer) = answers.get(name) else {
-            return Stands::Asks(Ask::StatOf(name + 1));
+            return Stands::Asks(Ask::Stat(name + 1));
         };
-        if let Counts::Found(found) = counts_as(Ask::Stat, answer) {
+        if let Counts::Found(found) = counts_as(Ask::Stat(name + 1), answer) {
             founds[name] = Some(found);
         }
     }
@@ -219,13 +125,88 @@ fn page_after(answers: &[Answer]) -> Stands {
     Stands::Over(Ends::Looked(founds, there))
 }
 
+/// The next answer to what is asked, or where the script stands without one.
+fn take(answers: &mut Iter<'_, Answer>, ask: Ask) -> Result<Counts, Stands> {
+    match answers.next() {
+        Some(answer) => Ok(counts_as(ask, answer)),
+        None => Err(Stands::Asks(ask)),
+    }
+}
+
+/// The same of what has to be done: an error ends the script.
+fn take_done(answers: &mut Iter<'_, Answer>, ask: Ask) -> Result<(), Stands> {
+    match take(answers, ask)? {
+        Counts::Error(errno) => Err(Stands::Over(Ends::Error(errno))),
+        _ => Ok(()),
+    }
+}
+
+/// Moves the file at one place to the first candidate where nothing stands, and tells its index. Candidates stand from the other place on.
+fn hide(answers: &mut Iter<'_, Answer>, from: usize, first: usize) -> Result<usize, Stands> {
+    for candidate in 0..CANDIDATES {
+        let to = first.saturating_add(candidate);
+        match take(answers, Ask::Stat(to))? {
+            Counts::Error(ENOENT) => {
+                take_done(answers, Ask::Rename(from, to))?;
+                return Ok(candidate);
+            }
+            Counts::Error(errno) => return Err(Stands::Over(Ends::Error(errno))),
+            _ => {}
+        }
+    }
+    Err(Stands::Over(Ends::Error(EBUSY)))
+}
+
+/// Where that of an UNLINK stands that hides.
+fn unlink_after(answers: &[Answer]) -> Result<Ends, Stands> {
+    let mut answers = answers.iter();
+    Ok(Ends::Hid(hide(&mut answers, 0, 1)?))
+}
+
+/// Where that of a RENAME stands that hides: a folder does not take the place of a file, and a move that fails after the file was hidden says
+/// so.
+fn rename_after(answers: &[Answer]) -> Result<Ends, Stands> {
+    let mut answers = answers.iter();
+    match take(&mut answers, Ask::Stat(0))? {
+        Counts::Error(errno) => return Ok(Ends::Error(errno)),
+        Counts::Found(found) if found.kind == Kind::Folder => return Ok(Ends::Error(ENOTDIR)),
+        _ => {}
+    }
+    let candidate = hide(&mut answers, 1, 2)?;
+    Ok(match take(&mut answers, Ask::Rename(0, 1))? {
+        Counts::Error(errno) => Ends::Unmoved(candidate, errno),
+        _ => Ends::Replaced(candidate),
+    })
+}
+
+/// Where that of a RELEASE stands that removes its file: it is done, whatever comes of that.
+fn release_after(answers: &[Answer]) -> Result<Ends, Stands> {
+    let mut answers = answers.iter();
+    Ok(match take(&mut answers, Ask::Remove)? {
+        Counts::Error(_) => Ends::Kept,
+        _ => Ends::Nothing,
+    })
+}
+
+/// Where it stands, asking or over.
+fn standing(ends: Result<Ends, Stands>) -> Stands {
+    match ends {
+        Ok(ends) => Stands::Over(ends),
+        Err(stands) => stands,
+    }
+}
+
 /// Where the script of a request stands after these answers. Answers after its end are not looked at.
-pub fn stands_after(operation: Operation<'_>, same: bool, answers: &[Answer]) -> Stands {
-    if let Operation::ReadDirPlus { .. } = operation {
-        return page_after(answers);
+pub fn stands_after(operation: Operation<'_>, form: Form, answers: &[Answer]) -> Stands {
+    match operation {
+        Operation::ReadDirPlus { .. } => return page_after(answers),
+        Operation::Unlink { .. } if form.hide => return standing(unlink_after(answers)),
+        Operation::Rename { .. } if form.hide => return standing(rename_after(answers)),
+        Operation::Release { .. } if form.last => return standing(release_after(answers)),
+        _ => {}
     }
     let mut last = Counts::Done;
-    let (first, second) = asks_of(operation, same);
+    let (first, second) = asks_of(operation, form.same);
     let mut answers = answers.iter();
     for ask in [first, second] {
         let Some(ask) = ask else {
