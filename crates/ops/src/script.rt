@@ -228,7 +228,8 @@ impl<'a> Script<'a> {
     /// Takes the answer to the next call.
     ///
     /// A fault ends the script with its error number, the directory's own; an answer that is not right for its call ends it with EIO (own). Of a
-    /// page either is a name where nothing stands, and the script goes on.
+    /// page either is a name where nothing stands, and the script goes on. ENOENT says that a candidate is free. The removal of a file that was
+    /// closed is done, whatever it is answered.
     pub fn feed(&mut self, answer: Answer)
         ensures plan { plan_ahead self.new ≡ after (plan_ahead self.old) answer }
         ensures fewer { 0 < calls_left self.old → calls_left self.new < calls_left self.old }
