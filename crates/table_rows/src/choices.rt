@@ -170,28 +170,63 @@ impl Draws {
 
     /// A candidate that a file is hidden under, or, one time in five, an index that is none.
     fn candidate(&mut self) -> u8 {
-        match self.among(5) {
+        let index = match self.among(5) {
             0 => 10,
-            _ => self.among(10) as u8,
+            _ => self.among(10),
+        };
+        u8::try_from(index).unwrap_or(0)
+    }
+
+    /// What the names of a page come to.
+    fn page_end(&mut self, draw: u64, names: usize) -> Outcome<'static> {
+        match draw {
+            1 => Outcome::Entry,
+            _ => Outcome::Entries(self.found(names, draw)),
+        }
+    }
+
+    /// What a removal comes to, which may hide or may not.
+    fn removal_end(&mut self, draw: u64, hides: bool) -> Outcome<'static> {
+        match draw {
+            1 => Outcome::Entry,
+            2 if !hides => Outcome::Hidden(self.candidate()),
+            4.. if hides => Outcome::Hidden(self.candidate()),
+            _ => Outcome::Done,
+        }
+    }
+
+    /// What a move comes to, which may hide or may not.
+    fn move_end(&mut self, draw: u64, hides: bool) -> Outcome<'static> {
+        match draw {
+            1 => Outcome::Entry,
+            2 if !hides => Outcome::HiddenMove(self.candidate(), true),
+            4.. if hides => Outcome::HiddenMove(self.candidate(), self.among(2) == 0),
+            _ => Outcome::Done,
+        }
+    }
+
+    /// What a request comes to that is done, or may be given an entry: mostly to the first, and once to the other.
+    fn plain_end(draw: u64, mostly: Outcome<'static>, once: Outcome<'static>) -> Outcome<'static> {
+        match draw {
+            1 => once,
+            _ => mostly,
         }
     }
 
     /// What a request comes to: mostly to what fits it.
     pub fn outcome(&mut self, task: Task) -> Outcome<'static> {
-        match (task, self.among(8)) {
-            (_, 0) => Outcome::Failed,
-            (Task::Page(_), 1) => Outcome::Entry,
-            (Task::Page(names), draw) => Outcome::Entries(self.found(names, draw)),
-            (Task::Name | Task::Create, 1) => Outcome::Done,
-            (Task::Name | Task::Create, _) => Outcome::Entry,
-            (_, 1) => Outcome::Entry,
-            (Task::Removal { hides }, 4..) if hides => Outcome::Hidden(self.candidate()),
-            (Task::Removal { hides }, 2) if !hides => Outcome::Hidden(self.candidate()),
-            (Task::Move { hides, .. }, 4..) if hides => {
-                Outcome::HiddenMove(self.candidate(), self.among(2) == 0)
+        let draw = self.among(8);
+        if draw == 0 {
+            return Outcome::Failed;
+        }
+        match task {
+            Task::Page(names) => self.page_end(draw, names),
+            Task::Removal { hides } => self.removal_end(draw, hides),
+            Task::Move { hides, .. } => self.move_end(draw, hides),
+            Task::Name | Task::Create => Draws::plain_end(draw, Outcome::Entry, Outcome::Done),
+            Task::Node | Task::Open | Task::Release { .. } => {
+                Draws::plain_end(draw, Outcome::Done, Outcome::Entry)
             }
-            (Task::Move { hides, .. }, 2) if !hides => Outcome::HiddenMove(self.candidate(), true),
-            _ => Outcome::Done,
         }
     }
 
