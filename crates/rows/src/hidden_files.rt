@@ -148,6 +148,8 @@ const HIDDEN: &[Story] = &[
             (1, Lookup { name: "a" }),
             (1, Unlink { name: "a" }),
         ],
+        // the removal at the end, so that the file is seen where it was hidden
+        faults: &[(16, Before(EIO))],
         replies: &[
             Entry(2, File(3)),
             Opened(1),
@@ -158,7 +160,7 @@ const HIDDEN: &[Story] = &[
         after: &[
             (&["a"], Nothing),
             (&[FIRST], File(0)),
-            (&[ELEVENTH], Nothing),
+            (&[ELEVENTH], File(3)),
         ],
         ..NOTHING
     },
