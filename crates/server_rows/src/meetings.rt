@@ -202,38 +202,6 @@ const MEETINGS: &[Meeting] = &[
         after: &[("a", Shown::File(3)), ("m", Shown::Folder)],
     },
     Meeting {
-        says: "files are made, moved, listed, forgotten and removed while they are open",
-        turns: &[
-            Asks(INIT, AGREED),
-            Asks(CREATE_N, CREATED_N),
-            Asks(WRITE_DE, WROTE_DE),
-            Asks(RENAME_N, RENAMED),
-            Asks(READ_TEN, ARE_FIVE),
-            Asks(OPEN_ROOT, OPENED),
-            Asks(READ_ONE, ONE_ENTRY),
-            Asks(READ_MORE, ENTRY_OF_K),
-            Asks(READ_ON, NO_ENTRY),
-            Asks(LOOKUP_A, ENTRY_OF_THREE),
-            Asks(FORGET_THREE, ""),
-            Asks(ATTRIBUTES_OF_THREE, STALE),
-            Asks(UNLINK_K, RENAMED),
-            Sees("k", Shown::Nothing),
-            Sees(".fuse_hidden0000000200000000", Shown::File(5)),
-            Asks(READ_TEN, ARE_FIVE),
-            Asks(RELEASE, RENAMED),
-            Sees(".fuse_hidden0000000200000000", Shown::Nothing),
-            Asks(DESTROY, DESTROYED),
-        ],
-        status: 0,
-        fault: "",
-        after: &[
-            ("a", Shown::File(3)),
-            ("n", Shown::Nothing),
-            ("k", Shown::Nothing),
-            (".fuse_hidden0000000200000000", Shown::Nothing),
-        ],
-    },
-    Meeting {
         says: "it leaves at once",
         turns: &[],
         status: 0,
@@ -270,10 +238,60 @@ const MEETINGS: &[Meeting] = &[
     },
 ];
 
+/// All that a client of files asks, with looks into the folder between. It stands alone, since a test over more of them is too large to check.
+const WHOLE: &[Meeting] = &[Meeting {
+    says: "files are made, moved, listed, forgotten and removed while they are open",
+    turns: &[
+        Asks(INIT, AGREED),
+        Asks(CREATE_N, CREATED_N),
+        Asks(WRITE_DE, WROTE_DE),
+        Asks(RENAME_N, RENAMED),
+        Asks(READ_TEN, ARE_FIVE),
+        Asks(OPEN_ROOT, OPENED),
+        Asks(READ_ONE, ONE_ENTRY),
+        Asks(READ_MORE, ENTRY_OF_K),
+        Asks(READ_ON, NO_ENTRY),
+        Asks(LOOKUP_A, ENTRY_OF_THREE),
+        Asks(FORGET_THREE, ""),
+        Asks(ATTRIBUTES_OF_THREE, STALE),
+        Asks(UNLINK_K, RENAMED),
+        Sees("k", Shown::Nothing),
+        Sees(".fuse_hidden0000000200000000", Shown::File(5)),
+        Asks(READ_TEN, ARE_FIVE),
+        Asks(RELEASE, RENAMED),
+        Sees(".fuse_hidden0000000200000000", Shown::Nothing),
+        Asks(DESTROY, DESTROYED),
+    ],
+    status: 0,
+    fault: "",
+    after: &[
+        ("a", Shown::File(3)),
+        ("n", Shown::Nothing),
+        ("k", Shown::Nothing),
+        (".fuse_hidden0000000200000000", Shown::Nothing),
+    ],
+}];
+
 #[test]
 fn clients_over_a_socket(rt: HostRuntime) -> Result<(), Fail> {
     for row in MEETINGS {
         let root = new_folder(&rt, "meeting")?;
+        let path = place_of(rt.alloc(), root.as_str(), "socket")?;
+        let (there, place) = (root.as_str(), path.as_str());
+        let (served, right) = thread::join(
+            &rt,
+            || be_server(&rt, there, place, row.fault),
+            || be_client(&rt, there, place, row.turns),
+        );
+        judge(&rt, there, row, served, right)?;
+    }
+    Ok(())
+}
+
+#[test]
+fn whole_session_over_a_socket(rt: HostRuntime) -> Result<(), Fail> {
+    for row in WHOLE {
+        let root = new_folder(&rt, "whole")?;
         let path = place_of(rt.alloc(), root.as_str(), "socket")?;
         let (there, place) = (root.as_str(), path.as_str());
         let (served, right) = thread::join(
