@@ -1,7 +1,7 @@
 //! What passes over a link, in its order.
 
 use crate::client::Client;
-use crate::frames::{INIT, LOOKUP_A, LOOKUP_ZZ};
+use crate::frames::{INIT, LOOKUP_A};
 use crate::untaken::{bytes_of, serve_samples};
 use ledger::Blanks;
 use std::marker::Brand;
@@ -17,16 +17,20 @@ const RECORD: &[&str] = &[
     "[INFO  link] the end is heard",
 ];
 
+/// The first 20 bytes of a LOOKUP of `zz`, unique 7, and the rest of it.
+const BEGINNING: &str = "2b000000 01000000 0700000000000000 01000000";
+
+const REST: &str = "00000000 00000000 00000000 00000000 00000000 7a7a00";
+
 #[test]
 fn no_reply_waits_for_later_bytes(rt: HostRuntime) -> Result<(), Fail> {
     let alloc = rt.alloc();
-    let third = bytes_of(alloc, LOOKUP_ZZ)?;
     let mut first = bytes_of(alloc, INIT)?;
     first.extend_from_slice(&bytes_of(alloc, LOOKUP_A)?)?;
-    first.extend_from_slice(&third[..20])?;
+    first.extend_from_slice(&bytes_of(alloc, BEGINNING)?)?;
     let mut pieces = Vec::new(alloc);
     pieces.push(first)?;
-    pieces.push(Vec::from_slice(alloc, &third[20..])?)?;
+    pieces.push(bytes_of(alloc, REST)?)?;
     let mut client = Client::new(alloc, pieces, 0);
     serve_samples::<HostRuntime, Brand>(&rt, alloc, Blanks::new(1), None, &mut client)?;
     let record = client.into_record();
