@@ -1,48 +1,173 @@
-"""A small client of the protocol: builds requests, and reads replies from a socket or a pipe."""
-import struct
+"""A client of the protocol that mirrord serves, FUSE 7.31, in three layers; it needs Python 3 and nothing else.
 
-LOOKUP, FORGET, GETATTR, MKDIR, UNLINK, RMDIR, RENAME, STATFS, INIT, DESTROY = 1, 2, 3, 9, 10, 11, 12, 17, 26, 38
-OPEN, READ, WRITE, RELEASE, FSYNC, FLUSH, CREATE = 14, 15, 16, 18, 20, 25, 35
-OPENDIR, READDIR, RELEASEDIR, READDIRPLUS = 27, 28, 29, 44
+Frames     `lookup(unique, parent, name)` and its like build the bytes of one request. They send nothing.
+Bodies     `entry_of(body)` and its like read the body of one reply.
+`Client`   sends a request, waits for its reply and hands out what it says, and raises OSError where the reply is an error:
+
+    with Client.connect("/tmp/mirrord.sock") as client:
+        client.init()
+        folder = client.mkdir(ROOT, "m")
+        for entry in client.entries(folder.node):
+            print(entry.name, entry.node)
+        client.destroy()
+
+A node is a number that the server gave for a name. It counts how often it gave each out, and `forget` gives that back. ROOT is always
+there. A handle is a number of an open file or folder. Names are text or bytes. A client has one request under way at a time.
+"""
+import errno
+import os
+import socket
+import struct
+import time
+from typing import NamedTuple
+
+LOOKUP, FORGET, GETATTR, SETATTR, MKDIR, UNLINK, RMDIR, RENAME = 1, 2, 3, 4, 9, 10, 11, 12
+OPEN, READ, WRITE, STATFS, RELEASE, FSYNC, FLUSH, INIT = 14, 15, 16, 17, 18, 20, 25, 26
+OPENDIR, READDIR, RELEASEDIR, FSYNCDIR, CREATE, INTERRUPT, DESTROY = 27, 28, 29, 30, 35, 36, 38
+BATCH_FORGET, READDIRPLUS = 42, 44
+NAMES = {value: name for name, value in list(globals().items()) if name.isupper() and isinstance(value, int)}
+
 ROOT = 1
+MAJOR, MINOR = 7, 31
+LEAST_FRAME, MOST_FRAME = 40, 69632
+MOST_WRITTEN, MOST_READ = 65536, 131072
+PAGE = 4096
+FOLDER, FILE = 4, 8
+SET_SIZE, SET_HANDLE = 1 << 3, 1 << 6
+
 HEADER = struct.Struct("<IIQQIIII")
 REPLY = struct.Struct("<IiQ")
+READ_IN = struct.Struct("<QQIIQII")
+RELEASE_IN = struct.Struct("<QIIQ")
+FSYNC_IN = struct.Struct("<QII")
+SETATTR_IN = struct.Struct("<IIQQQQQQIIIIIIII")
+ENTRY_OUT = struct.Struct("<QQQQII")
+ATTR = struct.Struct("<QQQQQQIIIIIIIIII")
+DIRENT = struct.Struct("<QQII")
+ENTRY_LEN = ENTRY_OUT.size + ATTR.size
 
+
+# --- What replies say ---
+
+class Attr(NamedTuple):
+    """What is known of a file or a folder. Times are always 0, and `mode`, `uid` and `gid` are the server's settings."""
+    ino: int
+    size: int
+    blocks: int
+    mode: int
+    nlink: int
+    uid: int
+    gid: int
+    blksize: int
+
+
+class Entry(NamedTuple):
+    """A node that the server gave out: its number, how often that number was given to a new node before, and its attributes."""
+    node: int
+    generation: int
+    attr: Attr
+
+
+class Dirent(NamedTuple):
+    """A name of a page, the index of the next one, and FOLDER or FILE. Of READDIRPLUS also its node, or 0 and None where none was given."""
+    name: str
+    following: int
+    kind: int
+    node: int = 0
+    attr: Attr = None
+
+
+class Agreed(NamedTuple):
+    """What INIT was answered. Where `major` is 7 and all but `minor` is 0, the server awaits another INIT."""
+    major: int
+    minor: int
+    max_readahead: int
+    flags: int
+    max_background: int
+    congestion_threshold: int
+    max_write: int
+    time_gran: int
+    max_pages: int
+
+
+class Statfs(NamedTuple):
+    """What STATFS is answered. The server fills in the sizes and the length of a name alone."""
+    blocks: int
+    bfree: int
+    bavail: int
+    files: int
+    ffree: int
+    bsize: int
+    namelen: int
+    frsize: int
+
+
+# --- Frames ---
 
 def request(opcode, unique, node=0, body=b""):
     return HEADER.pack(HEADER.size + len(body), opcode, unique, node, 0, 0, 0, 0) + body
 
 
-def init(unique=1):
-    return request(INIT, unique, body=struct.pack("<IIII", 7, 31, 131072, 0))
+def name_bytes(name):
+    """A name as frames have it, with its zero byte. Text that was made of bytes that are no UTF-8 becomes those again."""
+    return (name if isinstance(name, bytes) else name.encode("utf-8", "surrogateescape")) + b"\0"
+
+
+def init(unique=1, major=MAJOR, minor=MINOR, max_readahead=131072, flags=0):
+    return request(INIT, unique, body=struct.pack("<IIII", major, minor, max_readahead, flags))
+
+
+def destroy(unique):
+    return request(DESTROY, unique)
+
+
+def interrupt(unique, asked):
+    return request(INTERRUPT, unique, body=struct.pack("<Q", asked))
 
 
 def lookup(unique, parent, name):
-    return request(LOOKUP, unique, parent, name.encode() + b"\0")
+    return request(LOOKUP, unique, parent, name_bytes(name))
 
 
 def forget(unique, node, lookups):
     return request(FORGET, unique, node, struct.pack("<Q", lookups))
 
 
+def batch_forget(unique, pairs):
+    """Gives back lookups of several nodes: pairs of a node and a number."""
+    packed = [struct.pack("<QQ", node, lookups) for node, lookups in pairs]
+    return request(BATCH_FORGET, unique, body=struct.pack("<II", len(packed), 0) + b"".join(packed))
+
+
 def getattr_of(unique, node):
     return request(GETATTR, unique, node, bytes(16))
 
 
+def setattr_size(unique, node, size, handle=None):
+    """Gives a file another length; by a handle of it, where one is given."""
+    valid = SET_SIZE if handle is None else SET_SIZE | SET_HANDLE
+    return setattr_of(unique, node, valid, handle or 0, size)
+
+
+def setattr_of(unique, node, valid, handle=0, size=0):
+    """A SETATTR of any fields; all but the size are refused."""
+    return request(SETATTR, unique, node, SETATTR_IN.pack(valid, 0, handle, size, *[0] * 12))
+
+
 def mkdir(unique, parent, name):
-    return request(MKDIR, unique, parent, bytes(8) + name.encode() + b"\0")
-
-
-def rename(unique, parent, name, new_parent, new_name):
-    return request(RENAME, unique, parent, struct.pack("<Q", new_parent) + name.encode() + b"\0" + new_name.encode() + b"\0")
+    return request(MKDIR, unique, parent, bytes(8) + name_bytes(name))
 
 
 def unlink(unique, parent, name):
-    return request(UNLINK, unique, parent, name.encode() + b"\0")
+    return request(UNLINK, unique, parent, name_bytes(name))
 
 
 def rmdir(unique, parent, name):
-    return request(RMDIR, unique, parent, name.encode() + b"\0")
+    return request(RMDIR, unique, parent, name_bytes(name))
+
+
+def rename(unique, parent, name, new_parent, new_name):
+    return request(RENAME, unique, parent, struct.pack("<Q", new_parent) + name_bytes(name) + name_bytes(new_name))
 
 
 def statfs(unique, node):
@@ -54,27 +179,27 @@ def open_file(unique, node, flags):
 
 
 def create(unique, parent, name, flags):
-    return request(CREATE, unique, parent, struct.pack("<IIII", flags, 0, 0, 0) + name.encode() + b"\0")
+    return request(CREATE, unique, parent, struct.pack("<IIII", flags, 0, 0, 0) + name_bytes(name))
 
 
 def read(unique, node, handle, offset, size):
-    return request(READ, unique, node, struct.pack("<QQIIQII", handle, offset, size, 0, 0, 0, 0))
+    return request(READ, unique, node, READ_IN.pack(handle, offset, size, 0, 0, 0, 0))
 
 
 def write(unique, node, handle, offset, data):
-    return request(WRITE, unique, node, struct.pack("<QQIIQII", handle, offset, len(data), 0, 0, 0, 0) + data)
+    return request(WRITE, unique, node, READ_IN.pack(handle, offset, len(data), 0, 0, 0, 0) + data)
 
 
 def fsync(unique, node, handle):
-    return request(FSYNC, unique, node, struct.pack("<QII", handle, 0, 0))
+    return request(FSYNC, unique, node, FSYNC_IN.pack(handle, 0, 0))
 
 
 def flush(unique, node, handle):
-    return request(FLUSH, unique, node, struct.pack("<QIIQ", handle, 0, 0, 0))
+    return request(FLUSH, unique, node, RELEASE_IN.pack(handle, 0, 0, 0))
 
 
 def release(unique, node, handle):
-    return request(RELEASE, unique, node, struct.pack("<QIIQ", handle, 0, 0, 0))
+    return request(RELEASE, unique, node, RELEASE_IN.pack(handle, 0, 0, 0))
 
 
 def opendir(unique, node):
@@ -82,20 +207,22 @@ def opendir(unique, node):
 
 
 def readdir(unique, node, handle, offset, size):
-    return request(READDIR, unique, node, struct.pack("<QQIIQII", handle, offset, size, 0, 0, 0, 0))
+    return request(READDIR, unique, node, READ_IN.pack(handle, offset, size, 0, 0, 0, 0))
 
 
 def readdirplus(unique, node, handle, offset, size):
-    return request(READDIRPLUS, unique, node, struct.pack("<QQIIQII", handle, offset, size, 0, 0, 0, 0))
+    return request(READDIRPLUS, unique, node, READ_IN.pack(handle, offset, size, 0, 0, 0, 0))
 
 
 def releasedir(unique, node, handle):
-    return request(RELEASEDIR, unique, node, struct.pack("<QIIQ", handle, 0, 0, 0))
+    return request(RELEASEDIR, unique, node, RELEASE_IN.pack(handle, 0, 0, 0))
 
 
-def destroy(unique):
-    return request(DESTROY, unique)
+def fsyncdir(unique, node, handle):
+    return request(FSYNCDIR, unique, node, FSYNC_IN.pack(handle, 0, 0))
 
+
+# --- Replies ---
 
 def read_whole(read, count):
     """So many bytes, or fewer where the server has ended."""
@@ -110,12 +237,13 @@ def read_whole(read, count):
 
 
 def read_reply(read):
-    """The unique number, the error (0 or negative) and the body of the next reply; None where there is none."""
+    """The unique number, the error (0 or negative) and the body of the next reply; None where there is none, or a part of one."""
     head = read_whole(read, REPLY.size)
     if len(head) < REPLY.size:
         return None
     length, error, unique = REPLY.unpack(head)
-    return unique, error, read_whole(read, length - REPLY.size)
+    body = read_whole(read, length - REPLY.size)
+    return (unique, error, body) if len(body) == length - REPLY.size else None
 
 
 def node_of(body):
@@ -130,7 +258,7 @@ def handle_of(body):
 
 def created_of(body):
     """The node of a file that was made, and its handle."""
-    return struct.unpack_from("<Q", body)[0], struct.unpack_from("<Q", body, 128)[0]
+    return node_of(body), struct.unpack_from("<Q", body, ENTRY_LEN)[0]
 
 
 def written_of(body):
@@ -138,22 +266,249 @@ def written_of(body):
     return struct.unpack_from("<I", body)[0]
 
 
-def names_of(body):
-    """The names of a page, each with the index of the next one."""
-    names, at = [], 0
+def attr_at(body, at):
+    ino, size, blocks, _, _, _, _, _, _, mode, nlink, uid, gid, _, blksize, _ = ATTR.unpack_from(body, at)
+    return Attr(ino, size, blocks, mode, nlink, uid, gid, blksize)
+
+
+def attr_of(body):
+    """The attributes that GETATTR and SETATTR are answered."""
+    return attr_at(body, 16)
+
+
+def entry_of(body, at=0):
+    """The entry that LOOKUP, MKDIR and CREATE are answered."""
+    node, generation = struct.unpack_from("<QQ", body, at)
+    return Entry(node, generation, attr_at(body, at + ENTRY_OUT.size))
+
+
+def agreed_of(body):
+    return Agreed(*struct.unpack_from("<IIIIHHIIH", body))
+
+
+def statfs_of(body):
+    return Statfs(*struct.unpack_from("<QQQQQIII", body))
+
+
+def heads_of(body, lead=0):
+    """Where each name of a page begins, with the index of the next one, its kind and the name. An entry leads it in a READDIRPLUS."""
+    at = 0
     while at < len(body):
-        _, following, length, _ = struct.unpack_from("<QQII", body, at)
-        names.append((body[at + 24:at + 24 + length].decode(), following))
-        at += (24 + length + 7) // 8 * 8
-    return names
+        _, following, length, kind = DIRENT.unpack_from(body, at + lead)
+        start = at + lead + DIRENT.size
+        yield at, following, kind, body[start:start + length].decode("utf-8", "surrogateescape")
+        at = (start + length + 7) // 8 * 8
+
+
+def dirents_of(body):
+    """A page of READDIR."""
+    return [Dirent(name, following, kind) for _, following, kind, name in heads_of(body)]
+
+
+def dirents_plus_of(body):
+    """A page of READDIRPLUS."""
+    found = []
+    for at, following, kind, name in heads_of(body, ENTRY_LEN):
+        entry = entry_of(body, at)
+        found.append(Dirent(name, following, kind, entry.node, entry.attr if entry.node else None))
+    return found
+
+
+def names_of(body):
+    """The names of a page of READDIR, each with the index of the next one."""
+    return [(name, following) for _, following, _, name in heads_of(body)]
 
 
 def entries_of(body):
-    """The names of a page, each with the index of the next one and its node, which is 0 where none was given."""
-    entries, at = [], 0
-    while at < len(body):
-        node, = struct.unpack_from("<Q", body, at)
-        _, following, length, _ = struct.unpack_from("<QQII", body, at + 128)
-        entries.append((body[at + 152:at + 152 + length].decode(), following, node))
-        at += (152 + length + 7) // 8 * 8
-    return entries
+    """The names of a page of READDIRPLUS, each with the index of the next one and its node, which is 0 where none was given."""
+    return [(name, following, struct.unpack_from("<Q", body, at)[0]) for at, following, _, name in heads_of(body, ENTRY_LEN)]
+
+
+# --- Sessions ---
+
+class Client:
+    """One session with a server. Its methods bear the requests' names, and raise OSError where the reply is an error."""
+
+    def __init__(self, receive, send, leave=lambda: None):
+        """Takes the calls that read at most so many bytes, write bytes, and close; `connect` and `over` know them."""
+        self.recv, self.sendall, self.close = receive, send, leave
+        self.unique = 0
+
+    @classmethod
+    def connect(cls, path, seconds=5):
+        """A client of the server that listens on that socket, or does so within that time."""
+        last = time.monotonic() + seconds
+        while True:
+            link = socket.socket(socket.AF_UNIX, socket.SOCK_STREAM)
+            try:
+                link.connect(path)
+                return cls(link.recv, link.sendall, link.close)
+            except (FileNotFoundError, ConnectionRefusedError):
+                link.close()
+                if time.monotonic() > last:
+                    raise
+                time.sleep(0.005)
+            except OSError:
+                link.close()
+                raise
+
+    @classmethod
+    def over(cls, reader, writer):
+        """A client that reads and writes two streams, such as those of a process that runs `mirrord pipe`."""
+        def send(data):
+            writer.write(data)
+            writer.flush()
+        return cls(reader.read, send, writer.close)
+
+    def __enter__(self):
+        return self
+
+    def __exit__(self, *_):
+        self.close()
+
+    # What the methods below are made of.
+
+    def number(self):
+        self.unique += 1
+        return self.unique
+
+    def exchange(self, frame):
+        """Sends a frame of any bytes, and reads a reply: its unique number, its error and its body; None where the server has ended."""
+        self.sendall(frame)
+        return read_reply(self.recv)
+
+    def ask(self, frame, about=None):
+        """Sends a request that this client numbered, and hands out the body of its reply."""
+        _, opcode, wanted = struct.unpack_from("<IIQ", frame)
+        reply = self.exchange(frame)
+        if reply is None:
+            raise ConnectionResetError(errno.ECONNRESET, "the server ended before it answered " + NAMES[opcode])
+        unique, error, body = reply
+        if unique != wanted:
+            raise ConnectionError(errno.EPROTO, f"a reply to request {unique} where {wanted} is due")
+        if error:
+            raise OSError(-error, NAMES[opcode] + ": " + os.strerror(-error), *([] if about is None else [about]))
+        return body
+
+    # The session.
+
+    def init(self, major=MAJOR, minor=MINOR, max_readahead=131072, flags=0):
+        return agreed_of(self.ask(init(self.number(), major, minor, max_readahead, flags)))
+
+    def destroy(self):
+        self.ask(destroy(self.number()))
+
+    def interrupt(self, asked):
+        """Has no reply, and the server passes it over."""
+        self.sendall(interrupt(self.number(), asked))
+
+    # Nodes.
+
+    def lookup(self, parent, name):
+        return entry_of(self.ask(lookup(self.number(), parent, name), name))
+
+    def forget(self, node, lookups=1):
+        """Has no reply."""
+        self.sendall(forget(self.number(), node, lookups))
+
+    def batch_forget(self, pairs):
+        """Takes pairs of a node and a number of lookups; has no reply."""
+        self.sendall(batch_forget(self.number(), pairs))
+
+    def getattr(self, node):
+        return attr_of(self.ask(getattr_of(self.number(), node)))
+
+    def setattr_size(self, node, size, handle=None):
+        return attr_of(self.ask(setattr_size(self.number(), node, size, handle)))
+
+    def mkdir(self, parent, name):
+        return entry_of(self.ask(mkdir(self.number(), parent, name), name))
+
+    def unlink(self, parent, name):
+        self.ask(unlink(self.number(), parent, name), name)
+
+    def rmdir(self, parent, name):
+        self.ask(rmdir(self.number(), parent, name), name)
+
+    def rename(self, parent, name, new_parent, new_name):
+        self.ask(rename(self.number(), parent, name, new_parent, new_name), name)
+
+    def statfs(self, node=ROOT):
+        return statfs_of(self.ask(statfs(self.number(), node)))
+
+    # Files.
+
+    def create(self, parent, name, flags=os.O_RDWR):
+        """Makes a file and opens it: its entry, and its handle."""
+        body = self.ask(create(self.number(), parent, name, flags), name)
+        return entry_of(body), created_of(body)[1]
+
+    def open(self, node, flags=os.O_RDONLY):
+        """The handle of a file, with the access that the flags ask for."""
+        return handle_of(self.ask(open_file(self.number(), node, flags)))
+
+    def read(self, node, handle, offset, size):
+        return self.ask(read(self.number(), node, handle, offset, size))
+
+    def write(self, node, handle, offset, data):
+        """How many bytes were written; a request takes 65,536 at most."""
+        return written_of(self.ask(write(self.number(), node, handle, offset, data)))
+
+    def flush(self, node, handle):
+        self.ask(flush(self.number(), node, handle))
+
+    def fsync(self, node, handle):
+        self.ask(fsync(self.number(), node, handle))
+
+    def release(self, node, handle):
+        self.ask(release(self.number(), node, handle))
+
+    # Folders.
+
+    def opendir(self, node):
+        return handle_of(self.ask(opendir(self.number(), node)))
+
+    def readdir(self, node, handle, offset=0, size=PAGE):
+        """A page of names from an index on."""
+        return dirents_of(self.ask(readdir(self.number(), node, handle, offset, size)))
+
+    def readdirplus(self, node, handle, offset=0, size=PAGE):
+        """A page of names with their nodes. Each node but 0 was given out once more."""
+        return dirents_plus_of(self.ask(readdirplus(self.number(), node, handle, offset, size)))
+
+    def releasedir(self, node, handle):
+        self.ask(releasedir(self.number(), node, handle))
+
+    def fsyncdir(self, node, handle):
+        self.ask(fsyncdir(self.number(), node, handle))
+
+    # Whole folders and files.
+
+    def _pages(self, turn, node, size):
+        handle = self.opendir(node)
+        try:
+            offset = 0
+            while page := turn(node, handle, offset, size):
+                yield from page
+                offset = page[-1].following
+        finally:
+            self.releasedir(node, handle)
+
+    def names(self, node=ROOT, size=PAGE):
+        """Each name of a folder, `.` and `..` first, by pages of so many bytes."""
+        return self._pages(self.readdir, node, size)
+
+    def entries(self, node=ROOT, size=PAGE):
+        """The same with nodes; each but 0 is the caller's to forget."""
+        return self._pages(self.readdirplus, node, size)
+
+    def pieces(self, node, size=MOST_READ):
+        """The bytes of a file, piece by piece."""
+        handle = self.open(node, os.O_RDONLY)
+        try:
+            offset = 0
+            while piece := self.read(node, handle, offset, size):
+                yield piece
+                offset += len(piece)
+        finally:
+            self.release(node, handle)

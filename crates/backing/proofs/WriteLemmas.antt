@@ -1,5 +1,5 @@
 -- A write of some bytes.
-use Rattle.std.proofs.Common.{ℕ, ◌≡◌, ◌<◌, ◌≤◌, ◌+◌, min, length, List, ◌∷◌, [], Some, refl, arith}
+use Rattle.std.proofs.Common.{ℕ, ◌≡◌, ◌≤◌, ◌+◌, min, length, List, ◌∷◌, [], Some, refl, arith}
 use Rattle.paths.specs.Prefixes.{Names}
 use Rattle.backing.specs.declared.call.Answer.TheVariants.{Wrote}
 use Rattle.backing.specs.declared.call.TheConstants.{MAX_FILE_LEN}
@@ -15,7 +15,3 @@ does_write old new p offset (byte ∷ piece) bytes some file tree = (refl, (byte
 pub end_fits : (offset : ℕ) (piece : List ℕ) → min (offset + length piece) 18446744073709551615 ≤ MAX_FILE_LEN → end_of offset piece ≤ MAX_FILE_LEN
 end_fits offset [] h = omega arith
 end_fits offset (byte ∷ piece) h = omega arith
-
-pub end_too_far : (offset : ℕ) (piece : List ℕ) → (length piece ≡ 0 → ⊥) → MAX_FILE_LEN < min (offset + length piece) 18446744073709551615 → MAX_FILE_LEN < end_of offset piece
-end_too_far offset [] some h = absurd (some refl)
-end_too_far offset (byte ∷ piece) some h = omega arith

@@ -30,4 +30,5 @@ pub memory_stands : (old new : Memory) (call : Asked) (answer : Answer) → Give
 memory_stands old new call answer given = (given.old_is_tree, given.new_is_tree)
 
 pub shared_counts : (before after : ℕ) (call : Asked) (answer : Answer) → Shows before call answer after → Counts before answer after
-shared_counts before after call answer shown = known_counts shown.old shown.new before after shown.counted.0 call answer shown.counted.1 shown.counted.2
+shared_counts before after call answer shown =
+    let gives = shown.made.gives in known_counts (memory_tree shown.old) (memory_tree shown.new) before after gives.device call answer gives.performs shown.made.counts

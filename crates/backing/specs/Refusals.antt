@@ -19,9 +19,9 @@ abbrev pub Refusing : Tree → List Test → Refusal → Type 0
 Refusing at tests (Errno errno) = Refuses at tests errno
 Refusing at tests Memory = PassesAll at tests
 
-abbrev pub errno_of : Refusal → ℤ
-errno_of (Errno errno) = errno
-errno_of Memory = ENOMEM
+abbrev pub refusal_errno : Refusal → ℤ
+refusal_errno (Errno errno) = errno
+refusal_errno Memory = ENOMEM
 
 -- the error number of a call that fails after its work
 abbrev pub errno_after : Result Answer Refusal → ℤ → ℤ
@@ -32,7 +32,7 @@ errno_after (Err Memory) errno = ENOMEM
 -- whether it was done, or its error number
 abbrev pub settled : Result Answer Refusal → Result (Unit {0}) ℤ
 settled (Ok answer) = Ok tt
-settled (Err refusal) = Err (errno_of refusal)
+settled (Err refusal) = Err (refusal_errno refusal)
 
 -- the tree's own answer, a refusal too, and none where there was no memory
 abbrev pub answered : Result Answer Refusal → Option Answer

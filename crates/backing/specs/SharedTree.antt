@@ -1,14 +1,17 @@
 -- A call on a tree that others call too.
-use Rattle.std.specs.Prelude.{ℕ}
+use Rattle.std.specs.Prelude.{ℕ, ◌≡◌}
 use Rattle.backing.specs.declared.call.Answer.{Answer}
-use Rattle.backing.specs.Tree.{Tree, IsTree}
 use Rattle.backing.specs.Calls.{Asked}
-use Rattle.backing.specs.Device.{Counted}
+use Rattle.backing.specs.Device.{counted, faulty}
+use Rattle.backing.specs.Memory.{Memory, Gives}
 
--- The answer is that of some tree, as it stood while the call was made, or a failure that is counted.
+-- The tree's own call under its lock: its answer, its effect and its counts, and its failure is one more of the hold too.
+pub record CallsFor (old : Memory) (before : ℕ) (call : Asked) (answer : Answer) (new : Memory) (after : ℕ) : Type 0 where
+  pub gives : Gives old call answer new
+  pub counts : after ≡ counted before (faulty gives.device)
+
+-- Such a call of some tree, as it stood while the call was made.
 pub record Shows (before : ℕ) (call : Asked) (answer : Answer) (after : ℕ) : Type 0 where
-  pub old : Tree
-  pub new : Tree
-  pub old_is_tree : IsTree old
-  pub new_is_tree : IsTree new
-  pub counted : Counted old before call answer new after
+  pub old : Memory
+  pub new : Memory
+  pub made : CallsFor old before call answer new after

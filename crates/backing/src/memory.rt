@@ -1,7 +1,8 @@
 //! A directory in memory, which fails at planned calls.
 
-ghost use Rattle.std.specs.Prelude.{◌≡◌, [], ◌∷◌, OnOk, OnErr};
+ghost use Rattle.std.specs.Prelude.{◌≡◌, ℕ, [], ◌∷◌, OnOk, OnErr};
 ghost use Rattle.backing.specs.Memory.{Memory, Gives, MakesCall, PutsDir, PutsFile, SameBut, memory_tree};
+ghost use Rattle.backing.specs.SharedTree.{CallsFor};
 ghost use Rattle.backing.specs.Calls.{asked};
 ghost use Rattle.backing.specs.Tree.{IsTree};
 
@@ -30,11 +31,11 @@ impl Model for MemTree {
 
     ghost Value = { Memory };
 
-    ghost use Rattle.backing.specs.Entries.{IsLawful};
+    ghost use Rattle.backing.specs.Entries.{IsLawfulName};
 
     ghost view = { λ m. record { entries = m.standing.items; made = m.calls; plans = m.planned.items; failed = m.failures } };
 
-    ghost invariant = { λ m. IsLawful m.standing.items };
+    ghost invariant = { λ m. IsLawfulName m.standing.items };
 }
 
 impl MemTree {
@@ -96,6 +97,41 @@ impl MemTree {
         let told = treat(self.alloc, &mut self.standing, fault, call);
         count(&mut self.failures, told.failed);
         told
+    }
+
+    /// Makes a call for a hold on the tree, which counts its failure too.
+    pub(crate) fn call_for(&mut self, failures: &mut Failures, call: Call<'_>) -> Answer
+        ensures { CallsFor self.old failures.old (asked call.entry) result self.new failures.new }
+    {
+        self.make_call(call).into_answer(&mut failures.count)
+    }
+}
+
+/// How many of the calls made through a hold on a tree have failed. Only the tree's own calls count it up.
+#[derive(Drop)]
+pub(crate) struct Failures {
+    count: u64,
+}
+
+impl Model for Failures {
+    ghost Value = { ℕ };
+
+    ghost view = { λ f. f.count };
+}
+
+impl Failures {
+    /// None yet.
+    pub(crate) fn new() -> Failures
+        ensures { result ≡ 0 }
+    {
+        Failures { count: 0 }
+    }
+
+    /// How many.
+    pub(crate) fn count(&self) -> u64
+        ensures { result ≡ self.now }
+    {
+        self.count
     }
 }
 

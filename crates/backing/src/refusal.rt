@@ -15,11 +15,11 @@ pub enum Refusal {
 }
 
 impl Refusal {
-    ghost use Rattle.backing.specs.Refusals.{errno_of};
+    ghost use Rattle.backing.specs.Refusals.{refusal_errno};
 
     /// Its error number.
     pub fn errno(self) -> i32
-        ensures { result ≡ errno_of self }
+        ensures { result ≡ refusal_errno self }
     {
         match self {
             Refusal::Errno(errno) => errno,

@@ -1,39 +1,38 @@
 //! A memory tree that several threads call.
 
 ghost use Rattle.std.specs.Prelude.{◌≡◌, ℕ};
-ghost use Rattle.backing.specs.Calls.{asked};
 ghost use Rattle.backing.specs.SharedTree.{Shows};
 
 use crate::call::{Answer, Call};
 use crate::calls::Calls;
-use crate::memory::MemTree;
+use crate::memory::{Failures, MemTree};
 use std::marker::Model;
 use std::sync::{Arc, Mutex, Wait};
 
 /// One thread's hold on a memory tree that others call too. Each call waits for the tree's lock. Contracts see how many of
 /// the calls made through this hold have failed.
 #[derive(Drop)]
-pub struct Shared<R: Wait + Drop> {
-    rt: R,
+pub struct Shared<H: Wait + Drop> {
+    rt: H,
     tree: Arc<Mutex<MemTree>>,
-    failures: u64,
+    failures: Failures,
 }
 
-impl<R: Wait + Drop> Model for Shared<R> {
+impl<H: Wait + Drop> Model for Shared<H> {
     ghost Value = { ℕ };
 
     ghost view = { λ s. s.failures };
 }
 
-impl<R: Wait + Drop> Shared<R> {
+impl<H: Wait + Drop> Shared<H> {
     /// A hold on the tree through which no call was made yet.
-    pub fn new(rt: R, tree: Arc<Mutex<MemTree>>) -> Shared<R>
+    pub fn new(rt: H, tree: Arc<Mutex<MemTree>>) -> Shared<H>
         ensures { result ≡ 0 }
     {
         Shared {
             rt,
             tree,
-            failures: 0,
+            failures: Failures::new(),
         }
     }
 
@@ -41,11 +40,11 @@ impl<R: Wait + Drop> Shared<R> {
     pub fn failures(&self) -> u64
         ensures { result ≡ self.now }
     {
-        self.failures
+        self.failures.count()
     }
 }
 
-impl<R: Wait + Drop> Calls for Shared<R> {
+impl<H: Wait + Drop> Calls for Shared<H> {
     ghost use Rattle.backing.specs.Known.{shared_counts};
 
     ghost gives = { Shows };
@@ -56,14 +55,6 @@ impl<R: Wait + Drop> Calls for Shared<R> {
 
     fn call(&mut self, call: Call<'_>) -> Answer {
         let mut tree = self.tree.lock(&self.rt);
-        call_under_lock(&mut tree, &mut self.failures, call)
+        tree.call_for(&mut self.failures, call)
     }
-}
-
-/// The tree's own call, whose failure is counted for the hold too.
-fn call_under_lock(tree: &mut MemTree, failures: &mut u64, call: Call<'_>) -> Answer
-    ensures { Shows failures.old (asked call.entry) result failures.new }
-{
-    let told = tree.make_call(call);
-    told.into_answer(failures)
 }

@@ -3,7 +3,7 @@ use Rattle.std.proofs.Common.{ℕ, ◌≡◌, pos, Bool, true, false, List, [], 
 use Rattle.errno.specs.declared.TheConstants.{EIO, ENOMEM}
 use Rattle.backing.specs.Calls.{Asked}
 use Rattle.backing.specs.declared.call.Answer.{Answer as Told}
-use Rattle.wire.specs.Faults.{errno_of}
+use Rattle.wire.specs.Faults.{fault_errno}
 use Rattle.wire.specs.Requests.{IsRequest, opcode_in, opcode_of, unique_in}
 use Rattle.wire.specs.Written.{le, body_bytes, reply_bytes}
 use Rattle.wire.specs.declared.greeting.Negotiated.{Negotiated}
@@ -14,61 +14,33 @@ use Rattle.wire.specs.declared.request.Operation.TheVariants as ops
 use Rattle.wire.specs.declared.request.Request.{Request}
 use Rattle.ops.specs.declared.replies.Settings.{Settings}
 use Rattle.engine.specs.declared.classes.Class.{Class}
-use Rattle.engine.specs.declared.classes.Class.TheVariants.{Ignored, Misplaced, Greeting, Farewell, Asking}
+use Rattle.engine.specs.declared.classes.Class.TheVariants.{Ignored, Unexpected, InitFrame, DestroyFrame, Asking}
 use Rattle.engine.specs.declared.ends.SessionEnd.{SessionEnd}
 use Rattle.engine.specs.declared.links.Sent.{Sent}
 use Rattle.engine.specs.Classes.{class}
-use Rattle.engine.specs.Reference.{AtReply, Meets, Turn, agrees, ending, greeting_of, negotiated_by, sent_in}
-use Rattle.engine.specs.Replies.{confirmation, refusal, TakesMemory}
+use Rattle.engine.specs.Reference.{AtReply, HandlesFrame, Turn, agrees, ending, init_reply_of, negotiated_by, sent_in}
+use Rattle.engine.specs.Replies.{done_reply, refusal, TakesMemory}
 use Rattle.engine.specs.Tables.{Table}
-use Rattle.engine.specs.Walks.{GreetsFrame, Met, PartsFrame, Stand, Welcomes, WelcomesBy, WorkedOff}
+use Rattle.engine.specs.Walks.{HandlesInitFrame, IsHandled, HandlesDestroy, Stand, RepliesInit, RepliesInitBy, WorkedOff}
 use Rattle.engine.proofs.Turns.{answering, silent}
 
 -- a reply of a header alone is written as its error
-pub confirmed : (unique : ℕ) → reply_bytes (refusal unique (pos 0)) ≡ reply_bytes (confirmation unique)
+pub confirmed : (unique : ℕ) → reply_bytes (refusal unique (pos 0)) ≡ reply_bytes (done_reply unique)
 unfolding reply_bytes body_bytes le
 confirmed unique = refl
-
--- a frame of INIT's opcode asks for a version
-pub asks_version : (o : Operation) → opcode_of o ≡ INIT → None ≡ negotiated_by o → ⊥
-asks_version (ops.Lookup _) e none = absurd (omega (arith, e))
-asks_version (ops.Forget _) e none = absurd (omega (arith, e))
-asks_version ops.GetAttr e none = absurd (omega (arith, e))
-asks_version (ops.SetAttr _ _ _) e none = absurd (omega (arith, e))
-asks_version (ops.MakeDir _) e none = absurd (omega (arith, e))
-asks_version (ops.Unlink _) e none = absurd (omega (arith, e))
-asks_version (ops.RemoveDir _) e none = absurd (omega (arith, e))
-asks_version (ops.Rename _ _ _) e none = absurd (omega (arith, e))
-asks_version ops.StatFs e none = absurd (omega (arith, e))
-asks_version (ops.Init _ _ _ _) e none = absurd cc
-asks_version (ops.Open _) e none = absurd (omega (arith, e))
-asks_version (ops.Read _ _ _) e none = absurd (omega (arith, e))
-asks_version (ops.Write _ _ _) e none = absurd (omega (arith, e))
-asks_version (ops.Release _) e none = absurd (omega (arith, e))
-asks_version (ops.Sync _) e none = absurd (omega (arith, e))
-asks_version (ops.Flush _) e none = absurd (omega (arith, e))
-asks_version (ops.Create _ _) e none = absurd (omega (arith, e))
-asks_version ops.OpenDir e none = absurd (omega (arith, e))
-asks_version (ops.ReadDir _ _ _) e none = absurd (omega (arith, e))
-asks_version (ops.ReleaseDir _) e none = absurd (omega (arith, e))
-asks_version (ops.SyncDir _) e none = absurd (omega (arith, e))
-asks_version (ops.BatchForget _) e none = absurd (omega (arith, e))
-asks_version (ops.ReadDirPlus _ _ _) e none = absurd (omega (arith, e))
-asks_version ops.Interrupt e none = absurd (omega (arith, e))
-asks_version ops.Destroy e none = absurd (omega (arith, e))
 
 -- ---- INIT
 
 module _ {L : Type 0} (sends : L → List ℕ → Sent → L → Type 0) where
-  pub welcomed : (unique : ℕ) (answer : Negotiated) (before : Bool) (old new : L) (sent : Sent) (now : Bool) → sends old (reply_bytes (record { unique = unique; body = greeting_of answer })) sent new → now ≡ agrees None answer before
-      → Welcomes sends unique answer before old sent new now
+  pub welcomed : (unique : ℕ) (answer : Negotiated) (before : Bool) (old new : L) (sent : Sent) (now : Bool) → sends old (reply_bytes (record { unique = unique; body = init_reply_of answer })) sent new → now ≡ agrees None answer before
+      → RepliesInit sends unique answer before old sent new now
   welcomed unique answer before old new sent now s is = record {
-    told = record { refused = None; said = greeting_of answer; said_is = refl; offer = s };
+    told = record { refused = None; said = init_reply_of answer; said_is = refl; offer = s };
     agreed = is;
   }
 
-  pub unwelcomed : (unique : ℕ) (answer : Negotiated) (before : Bool) (old new : L) (sent : Sent) (now : Bool) → TakesMemory (greeting_of answer) → sends old (reply_bytes (refusal unique ENOMEM)) sent new → now ≡ before
-      → Welcomes sends unique answer before old sent new now
+  pub unwelcomed : (unique : ℕ) (answer : Negotiated) (before : Bool) (old new : L) (sent : Sent) (now : Bool) → TakesMemory (init_reply_of answer) → sends old (reply_bytes (refusal unique ENOMEM)) sent new → now ≡ before
+      → RepliesInit sends unique answer before old sent new now
   unwelcomed unique answer before old new sent now takes s is = record {
     told = record { refused = Some AtReply; said = Failed ENOMEM; said_is = (takes, refl); offer = s };
     agreed = is;
@@ -78,11 +50,11 @@ module _ {L : Type 0} (sends : L → List ℕ → Sent → L → Type 0) where
 
 module _ {W L C : Type 0} (table : Table W) (settings : Settings) (sends : L → List ℕ → Sent → L → Type 0) (gives : C → Asked → Told → C → Type 0) where
   -- a frame of this class
-  met_as : (class' : Class) (frame : List ℕ) (turn : Turn) (old new : Stand W) → turn.frame ≡ frame → class' ≡ class old.agreed (opcode_in frame) → Meets table settings old.agreed class' old.world turn new.world new.agreed
-      → Meets table settings old.agreed (class old.agreed (opcode_in turn.frame)) old.world turn new.world new.agreed
-  met_as class' frame turn old new same is m = subst (λ (k : Class). Meets table settings old.agreed k old.world turn new.world new.agreed) (is ∙ ap (λ f. class old.agreed (opcode_in f)) (sym same)) m
+  met_as : (class' : Class) (frame : List ℕ) (turn : Turn) (old new : Stand W) → turn.frame ≡ frame → class' ≡ class old.agreed (opcode_in frame) → HandlesFrame table settings old.agreed class' old.world turn new.world new.agreed
+      → HandlesFrame table settings old.agreed (class old.agreed (opcode_in turn.frame)) old.world turn new.world new.agreed
+  met_as class' frame turn old new same is m = subst (λ (k : Class). HandlesFrame table settings old.agreed k old.world turn new.world new.agreed) (is ∙ ap (λ f. class old.agreed (opcode_in f)) (sym same)) m
 
-  pub ignored : (frame : List ℕ) (link : L) (calls : C) (s : Stand W) → Ignored ≡ class s.agreed (opcode_in frame) → Met table settings sends gives frame link calls s None link calls s
+  pub ignored : (frame : List ℕ) (link : L) (calls : C) (s : Stand W) → Ignored ≡ class s.agreed (opcode_in frame) → IsHandled table settings sends gives frame link calls s None link calls s
   ignored frame link calls s is = record {
     turn = silent frame;
     frame_is = refl;
@@ -92,22 +64,22 @@ module _ {W L C : Type 0} (table : Table W) (settings : Settings) (sends : L →
     passes = refl;
   }
 
-  pub misplaced : (frame : List ℕ) (link link' : L) (calls : C) (s : Stand W) (sent : Sent) (end : Option SessionEnd) → Misplaced ≡ class s.agreed (opcode_in frame) → sends link (reply_bytes (refusal (unique_in frame) EIO)) sent link' → end ≡ ending (Some sent) false
-      → Met table settings sends gives frame link calls s end link' calls s
-  misplaced frame link link' calls s sent end is offer ends =
+  pub unexpected : (frame : List ℕ) (link link' : L) (calls : C) (s : Stand W) (sent : Sent) (end : Option SessionEnd) → Unexpected ≡ class s.agreed (opcode_in frame) → sends link (reply_bytes (refusal (unique_in frame) EIO)) sent link' → end ≡ ending (Some sent) false
+      → IsHandled table settings sends gives frame link calls s end link' calls s
+  unexpected frame link link' calls s sent end is offer ends =
       let turn = answering frame None [] (unique_in frame) (Failed EIO) sent in
       record {
         turn = turn;
         frame_is = refl;
         end_is = ends;
-        meets = met_as Misplaced frame turn s s refl is ((Failed EIO, refl, record { offers = refl; no_call = refl; folders_are = refl; same = refl }), record { lives = refl; agreed = refl });
+        meets = met_as Unexpected frame turn s s refl is ((Failed EIO, refl, record { offers = refl; no_call = refl; folders_are = refl; same = refl }), record { lives = refl; agreed = refl });
         makes = refl;
         passes = offer;
       }
 
-  welcomed_by : (frame : List ℕ) (q : Request) (answer : Option Negotiated) (link link' : L) (calls : C) (old new : Stand W) (sent : Sent) (end : Option SessionEnd) → Greeting ≡ class old.agreed (opcode_in frame) → new.world ≡ old.world → IsRequest frame q → answer ≡ negotiated_by q.operation
-      → WelcomesBy sends q.unique answer old.agreed link sent link' new.agreed → end ≡ ending (Some sent) false
-      → Met table settings sends gives frame link calls old end link' calls new
+  welcomed_by : (frame : List ℕ) (q : Request) (answer : Option Negotiated) (link link' : L) (calls : C) (old new : Stand W) (sent : Sent) (end : Option SessionEnd) → InitFrame ≡ class old.agreed (opcode_in frame) → new.world ≡ old.world → IsRequest frame q → answer ≡ negotiated_by q.operation
+      → RepliesInitBy sends q.unique answer old.agreed link sent link' new.agreed → end ≡ ending (Some sent) false
+      → IsHandled table settings sends gives frame link calls old end link' calls new
   welcomed_by frame q None link link' calls old new sent end is same request by w ends = absurd w
   welcomed_by frame q (Some answer) link link' calls old new sent end is same request by w ends =
       let turn = answering frame w.told.refused [] q.unique w.told.said sent in
@@ -115,50 +87,50 @@ module _ {W L C : Type 0} (table : Table W) (settings : Settings) (sends : L →
         turn = turn;
         frame_is = refl;
         end_is = ends;
-        meets = met_as Greeting frame turn old new refl is (refl, inl (q, request, rw (← by) ((w.told.said, w.told.said_is, record { offers = refl; no_call = refl; folders_are = refl; same = same }), w.agreed)));
+        meets = met_as InitFrame frame turn old new refl is (refl, inl (q, request, rw (← by) ((w.told.said, w.told.said_is, record { offers = refl; no_call = refl; folders_are = refl; same = same }), w.agreed)));
         makes = refl;
         passes = w.told.offer;
       }
 
-  pub greeted : (frame : List ℕ) (link link' : L) (calls : C) (old new : Stand W) (sent : Sent) (end : Option SessionEnd) → Greeting ≡ class old.agreed (opcode_in frame) → new.world ≡ old.world → GreetsFrame sends frame old.agreed link sent link' new.agreed → end ≡ ending (Some sent) false
-      → Met table settings sends gives frame link calls old end link' calls new
+  pub greeted : (frame : List ℕ) (link link' : L) (calls : C) (old new : Stand W) (sent : Sent) (end : Option SessionEnd) → InitFrame ≡ class old.agreed (opcode_in frame) → new.world ≡ old.world → HandlesInitFrame sends frame old.agreed link sent link' new.agreed → end ≡ ending (Some sent) false
+      → IsHandled table settings sends gives frame link calls old end link' calls new
   greeted frame link link' calls old new sent end is same (inl w) ends = welcomed_by frame w.0 (negotiated_by w.0.operation) link link' calls old new sent end is same w.1 refl w.2 ends
   greeted frame link link' calls old new sent end is same (inr (f, keeps)) ends =
-      let turn = answering frame None [] (unique_in frame) (Failed (errno_of f.fault)) sent in
+      let turn = answering frame None [] (unique_in frame) (Failed (fault_errno f.fault)) sent in
       record {
         turn = turn;
         frame_is = refl;
         end_is = ends;
-        meets = met_as Greeting frame turn old new refl is (refl, inr (f.fault, f.first, (Failed (errno_of f.fault), refl, record { offers = refl; no_call = refl; folders_are = refl; same = same }), keeps));
+        meets = met_as InitFrame frame turn old new refl is (refl, inr (f.fault, f.first, (Failed (fault_errno f.fault), refl, record { offers = refl; no_call = refl; folders_are = refl; same = same }), keeps));
         makes = refl;
         passes = f.offer;
       }
 
-  pub parted : (frame : List ℕ) (link link' : L) (calls : C) (s : Stand W) (sent : Sent) (destroyed : Bool) (end : Option SessionEnd) → Farewell ≡ class s.agreed (opcode_in frame) → PartsFrame sends frame link sent destroyed link' → end ≡ ending (Some sent) destroyed
-      → Met table settings sends gives frame link calls s end link' calls s
+  pub parted : (frame : List ℕ) (link link' : L) (calls : C) (s : Stand W) (sent : Sent) (destroyed : Bool) (end : Option SessionEnd) → DestroyFrame ≡ class s.agreed (opcode_in frame) → HandlesDestroy sends frame link sent destroyed link' → end ≡ ending (Some sent) destroyed
+      → IsHandled table settings sends gives frame link calls s end link' calls s
   parted frame link link' calls s sent destroyed end is (inl w) ends =
       let turn = record (answering frame None [] w.0.unique Done sent) { destroyed = true } in
       record {
         turn = turn;
         frame_is = refl;
         end_is = ends ∙ ap (λ d. ending (Some sent) d) w.3;
-        meets = met_as Farewell frame turn s s refl is (refl, inl (w.0, w.1, (Done, refl, record { offers = refl; no_call = refl; folders_are = refl; same = refl }), refl));
+        meets = met_as DestroyFrame frame turn s s refl is (refl, inl (w.0, w.1, (Done, refl, record { offers = refl; no_call = refl; folders_are = refl; same = refl }), refl));
         makes = refl;
         passes = w.2;
       }
   parted frame link link' calls s sent destroyed end is (inr (f, on)) ends =
-      let turn = answering frame None [] (unique_in frame) (Failed (errno_of f.fault)) sent in
+      let turn = answering frame None [] (unique_in frame) (Failed (fault_errno f.fault)) sent in
       record {
         turn = turn;
         frame_is = refl;
         end_is = ends ∙ ap (λ d. ending (Some sent) d) on;
-        meets = met_as Farewell frame turn s s refl is (refl, inr (f.fault, f.first, (Failed (errno_of f.fault), refl, record { offers = refl; no_call = refl; folders_are = refl; same = refl }), refl));
+        meets = met_as DestroyFrame frame turn s s refl is (refl, inr (f.fault, f.first, (Failed (fault_errno f.fault), refl, record { offers = refl; no_call = refl; folders_are = refl; same = refl }), refl));
         makes = refl;
         passes = f.offer;
       }
 
   pub asked : (frame : List ℕ) (link link' : L) (calls calls' : C) (old new : Stand W) (sent : Option Sent) (end : Option SessionEnd) → Asking ≡ class old.agreed (opcode_in frame) → new.agreed ≡ old.agreed → WorkedOff table settings sends gives frame link calls old.world sent link' calls' new.world → end ≡ ending sent false
-      → Met table settings sends gives frame link calls old end link' calls' new
+      → IsHandled table settings sends gives frame link calls old end link' calls' new
   asked frame link link' calls calls' old new sent end is same w ends = record {
     turn = w.turn;
     frame_is = w.frame_is;

@@ -7,7 +7,7 @@ use Rattle.std.proofs.lemmas.Bool.{cases_lt}
 use Rattle.std.proofs.lemmas.List.{length-drop}
 use Rattle.wire.specs.declared.request.TheConstants.{HEADER_LEN, MAX_FRAME_LEN}
 use Rattle.wire.specs.Requests.{IsFramed}
-use Rattle.wire.specs.Standing.{IsWhole}
+use Rattle.wire.specs.NextFrame.{IsWhole}
 use Rattle.wire.specs.Stream.{BeginsBadly, IsPartial, Splits, joined, len_in}
 use Rattle.wire.proofs.Cutting.{handed, partial_ends, bad_ends}
 use Rattle.backing.specs.Calls.{Asked}
@@ -21,7 +21,7 @@ use Rattle.engine.specs.Links.{Heard, Piece, Ended, Broke, Event, Happens}
 use Rattle.engine.specs.Reference.{At, Offer, Stop, AtEnd, Lost, IsTurn, frames_of, starting, Closes}
 use Rattle.engine.specs.Serving.{Step, Hears, Works, Gives, Makes, GoesOn, IsClientRun, Paces, bytes_of, events_of, heard_of, made_of, sent_of, stop_in, stops_of, turns_of}
 use Rattle.engine.specs.Tables.{Table}
-use Rattle.engine.specs.Walks.{Side, Stand, side, stand, standing, Drains, IsStep, Passes, Stops, Walks}
+use Rattle.engine.specs.Walks.{Side, Stand, side, stand, standing, WorksOffFrames, IsStep, Passes, Stops, Walks}
 use Rattle.engine.proofs.Runs.{chain_append}
 use Rattle.engine.proofs.Walking.{ended, walks_on}
 
@@ -36,7 +36,7 @@ stands bytes =
         | inr long ↦ elim (cases_lt MAX_FRAME_LEN (len_in bytes)) [
           | inl high ↦ inr (inl (len_in bytes, record { there = there; is = refl; lawless = inr high }))
           | inr small ↦ elim (cases_lt (length bytes) (len_in bytes)) [
-            | inl part ↦ inl (inr (record { long = long; short = small }, part))
+            | inl handle_destroy ↦ inl (inr (record { long = long; short = small }, handle_destroy))
             | inr whole ↦ inr (inr (len_in bytes, record { is = refl; lawful = record { long = long; short = small }; there = whole }))
           ]
         ]
@@ -72,7 +72,7 @@ splits_by : (fuel : ℕ) (bytes : List ℕ) → length bytes ≤ fuel → Rest b
 splits_by zero bytes small = none bytes (partial_ends bytes (inl (omega arith)))
 splits_by (suc fuel) bytes small =
     elim (stands bytes) [
-      | inl part ↦ none bytes (partial_ends bytes part)
+      | inl handle_destroy ↦ none bytes (partial_ends bytes handle_destroy)
       | inr other ↦ elim other [
         | inl bad ↦ none bytes (bad_ends bytes bad.0 bad.1)
         | inr whole ↦
@@ -243,10 +243,10 @@ module _ {W L C : Type 0} (table : Table W) (settings : Settings) (receives : L 
       (tells_none (side link' calls' s kept)) all.splits refl
 
   pub drained_end : (link mid link' : L) (calls calls' calls'' : C) (world : W) (s s' : Stand W) (fed kept : List ℕ) (result : Option SessionEnd) (end : SessionEnd) (now : Settings) → now ≡ settings → table.is_idle world → Walks table settings receives sends gives (side link calls (stand world false) []) (side mid calls' s fed) → result ≡ Some end
-      → Drains table now receives sends gives (side mid calls' s fed) link' calls'' s' kept result
+      → WorksOffFrames table now receives sends gives (side mid calls' s fed) link' calls'' s' kept result
       → IsClientRun table settings receives sends gives link calls world link' calls'' s'.world end
   drained_end link mid link' calls calls' calls'' world s s' fed kept result end now set fresh walks is given =
-      let d = subst (λ (t : Settings). Drains table t receives sends gives (side mid calls' s fed) link' calls'' s' kept result) set given in
+      let d = subst (λ (t : Settings). WorksOffFrames table t receives sends gives (side mid calls' s fed) link' calls'' s' kept result) set given in
       by_stop link link' calls calls'' world s' kept d.reached end fresh
       (walks_on table settings receives sends gives (side link calls (stand world false) []) (side mid calls' s fed) (ended link' calls'' s' d.reached kept) walks d.walks)
       (subst (λ (e : Option SessionEnd). Stops d.reached e kept) is d.stops)
@@ -256,10 +256,10 @@ module _ {W L C : Type 0} (table : Table W) (settings : Settings) (receives : L 
   still old link' calls' s kept None walks stops = (walks, stops)
 
   pub drained_on : (old : Side W L C) (mid link' : L) (calls' calls'' : C) (s s' : Stand W) (fed kept : List ℕ) (result : Option SessionEnd) (now : Settings) → now ≡ settings → Walks table settings receives sends gives old (side mid calls' s fed) → result ≡ None
-      → Drains table now receives sends gives (side mid calls' s fed) link' calls'' s' kept result
+      → WorksOffFrames table now receives sends gives (side mid calls' s fed) link' calls'' s' kept result
       → Walks table settings receives sends gives old (side link' calls'' s' kept) × IsPartial kept
   drained_on old mid link' calls' calls'' s s' fed kept result now set walks is given =
-      let d = subst (λ (t : Settings). Drains table t receives sends gives (side mid calls' s fed) link' calls'' s' kept result) set given in
+      let d = subst (λ (t : Settings). WorksOffFrames table t receives sends gives (side mid calls' s fed) link' calls'' s' kept result) set given in
       still old link' calls'' s' kept d.reached
       (walks_on table settings receives sends gives old (side mid calls' s fed) (ended link' calls'' s' d.reached kept) walks d.walks)
       (subst (λ (e : Option SessionEnd). Stops d.reached e kept) is d.stops)

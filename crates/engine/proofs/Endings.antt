@@ -8,13 +8,13 @@ use Rattle.ops.specs.Ahead.{end_of, outcome_of, LooksAtEach}
 use Rattle.ops.specs.Pages.{Paged}
 use Rattle.ops.specs.Replies.{opened_reply, reply_to}
 use Rattle.ops.specs.Scripts.{plan_of, End, Follows, Made}
-use Rattle.ops.specs.declared.findings.Finding.{Finding}
+use Rattle.ops.specs.declared.findings.ScriptResult.{ScriptResult}
 use Rattle.ops.specs.declared.findings.Found.{Found}
-use Rattle.ops.specs.declared.findings.Finding.TheVariants as findings
+use Rattle.ops.specs.declared.findings.ScriptResult.TheVariants as findings
 use Rattle.ops.specs.declared.replies.Settings.{Settings}
-use Rattle.steps.specs.Answers.{Answer, Claim}
-use Rattle.steps.specs.declared.data.Outcome.{Outcome}
-use Rattle.steps.specs.declared.data.Outcome.TheVariants.{Done}
+use Rattle.table_steps.specs.Answers.{Answer, Claim}
+use Rattle.table_steps.specs.declared.data.Outcome.{Outcome}
+use Rattle.table_steps.specs.declared.data.Outcome.TheVariants.{Done}
 use Rattle.wire.specs.Written.{reply_bytes}
 use Rattle.wire.specs.declared.reply.ReplyBody.{ReplyBody}
 use Rattle.wire.specs.declared.reply.ReplyBody.TheVariants.{Failed}
@@ -34,14 +34,14 @@ told (Some AtScript) meant said is = absurd is
 told (Some AtListing) meant said is = absurd is
 told (Some AtReply) meant said is = is
 
-stored : (refused : Option Place) (meant said : ReplyBody) (node : ℕ) (finding : Finding) (first : List FolderCall) (put : Option ℕ) → IsSaid refused meant said → PutsListing node finding first put → Stores refused node finding first put
+stored : (refused : Option Place) (meant said : ReplyBody) (node : ℕ) (finding : ScriptResult) (first : List FolderCall) (put : Option ℕ) → IsSaid refused meant said → PutsListing node finding first put → Stores refused node finding first put
 stored None meant said node finding first put is p = p
 stored (Some AtBegin) meant said node finding first put is p = absurd is
 stored (Some AtScript) meant said node finding first put is p = absurd is
 stored (Some AtListing) meant said node finding first put is p = absurd is
 stored (Some AtReply) meant said node finding first put is p = p
 
-plain : (node : ℕ) (finding : Finding) → IsPlain finding → PutsListing node finding [] None
+plain : (node : ℕ) (finding : ScriptResult) → IsPlain finding → PutsListing node finding [] None
 plain node (findings.Listed children) h = absurd h
 plain node (findings.Looked founds) h = absurd h
 plain node (findings.Error errno) h = (refl, refl)
@@ -57,10 +57,10 @@ plain node (findings.Replaced candidate) h = (refl, refl)
 plain node (findings.Unmoved candidate errno) h = (refl, refl)
 plain node findings.Kept h = (refl, refl)
 
-abbrev ended : Finding → End
+abbrev ended : ScriptResult → End
 ended finding = record { outcome = outcome_of finding; findings = finding }
 
-plain_end : (finding : Finding) → IsPlain finding → ended finding ≡ end_of finding
+plain_end : (finding : ScriptResult) → IsPlain finding → ended finding ≡ end_of finding
 plain_end (findings.Listed children) h = absurd h
 plain_end (findings.Looked founds) h = absurd h
 plain_end (findings.Error errno) h = refl
@@ -80,7 +80,7 @@ none_given_up : (taken : Bool) → GivesUp taken None []
 none_given_up true = refl
 none_given_up false = refl
 
-pub is_plain : (finding : Finding) → ((children : List Child) → finding ≡ findings.Listed children → ⊥) → ((founds : List (Option Found)) → finding ≡ findings.Looked founds → ⊥) → IsPlain finding
+pub is_plain : (finding : ScriptResult) → ((children : List Child) → finding ≡ findings.Listed children → ⊥) → ((founds : List (Option Found)) → finding ≡ findings.Looked founds → ⊥) → IsPlain finding
 is_plain (findings.Listed children) h k = h children refl
 is_plain (findings.Looked founds) h k = k founds refl
 is_plain (findings.Error errno) h k = tt
@@ -105,9 +105,9 @@ played (Some AtReply) meant said operation ticket made end is f = f
 
 module _ {W L : Type 0} (table : Table W) (settings : Settings) (sends : L → List ℕ → Sent → L → Type 0) where
   -- a reply that found no memory
-  pub settled_starved : (unique : ℕ) (meant : ReplyBody) (answer : Answer) (link link' : L) (finished world' : W) (sent : Sent) → TakesMemory meant → sends link (reply_bytes (refusal unique ENOMEM)) sent link' → table.settles finished answer false world'
-      → Settled table sends unique meant answer link finished sent false link' world'
-  settled_starved unique meant answer link link' finished world' sent takes s settles = record {
+  pub settled_starved : (unique : ℕ) (meant : ReplyBody) (answer : Answer) (put : Option ℕ) (link link' : L) (finished world' : W) (sent : Sent) → TakesMemory meant → sends link (reply_bytes (refusal unique ENOMEM)) sent link' → table.settles finished answer put false world'
+      → Settled table sends unique meant answer put link finished sent false link' world'
+  settled_starved unique meant answer put link link' finished world' sent takes s settles = record {
     refused = Some AtReply;
     said = Failed ENOMEM;
     said_is = (takes, refl);
@@ -117,11 +117,11 @@ module _ {W L : Type 0} (table : Table W) (settings : Settings) (sends : L → L
   }
 
   -- the script has made these calls and come to that finding
-  pub concluded : (q : Request) (page : Paged) (ticket : Claim) (made : List Made) (finding : Finding) (outcome : Outcome) (put : Option ℕ) (first last : List FolderCall) (meant : ReplyBody) (answer : Answer) (link link' : L) (begun finished world' : W) (sent : Sent) (taken : Bool)
+  pub concluded : (q : Request) (page : Paged) (ticket : Claim) (made : List Made) (finding : ScriptResult) (outcome : Outcome) (put : Option ℕ) (first last : List FolderCall) (meant : ReplyBody) (answer : Answer) (link link' : L) (begun finished world' : W) (sent : Sent) (taken : Bool)
       → Follows (plan_of q.operation ticket) made (record { outcome = outcome; findings = finding })
       → table.finishes begun ticket.id outcome answer finished → meant ≡ reply_to settings q.node page finding put answer
       → PutsListing q.node finding first put → GivesUp taken put last
-      → Settled table sends q.unique meant answer link finished sent taken link' world'
+      → Settled table sends q.unique meant answer put link finished sent taken link' world'
       → Concludes table settings sends q page ticket made (record { outcome = outcome; findings = finding }) link begun sent link' world'
   concluded q page ticket made finding outcome put first last meant answer link link' begun finished world' sent taken follows finishes is puts gives s = record {
     refused = s.refused;
@@ -135,15 +135,15 @@ module _ {W L : Type 0} (table : Table W) (settings : Settings) (sends : L → L
     said = s.said;
     said_is = subst (λ (b : ReplyBody). IsTold s.refused b s.said) is (told s.refused meant s.said s.said_is);
     offer = s.offer;
-    settles = subst (λ (t : Bool). table.settles finished answer t world') s.taken_is s.settles;
+    settles = subst (λ (t : Bool). table.settles finished answer put t world') s.taken_is s.settles;
     last = last;
     gives_up = subst (λ (t : Bool). GivesUp t put last) s.taken_is gives;
   }
 
-  pub concluded_plain : (q : Request) (page : Paged) (ticket : Claim) (made : List Made) (finding : Finding) (meant : ReplyBody) (answer : Answer) (link link' : L) (begun finished world' : W) (sent : Sent) (taken : Bool) → IsPlain finding
+  pub concluded_plain : (q : Request) (page : Paged) (ticket : Claim) (made : List Made) (finding : ScriptResult) (meant : ReplyBody) (answer : Answer) (link link' : L) (begun finished world' : W) (sent : Sent) (taken : Bool) → IsPlain finding
       → Follows (plan_of q.operation ticket) made (end_of finding)
       → table.finishes begun ticket.id (outcome_of finding) answer finished → meant ≡ reply_to settings q.node page finding None answer
-      → Settled table sends q.unique meant answer link finished sent taken link' world'
+      → Settled table sends q.unique meant answer None link finished sent taken link' world'
       → Concludes table settings sends q page ticket made (end_of finding) link begun sent link' world'
   concluded_plain q page ticket made finding meant answer link link' begun finished world' sent taken h follows finishes is s =
       subst (λ (e : End). Concludes table settings sends q page ticket made e link begun sent link' world') (plain_end finding h)
@@ -154,14 +154,14 @@ module _ {W L : Type 0} (table : Table W) (settings : Settings) (sends : L → L
 
   pub concluded_open : (q : Request) (page : Paged) (ticket : Claim) (made : List Made) (children : List Child) (folder : OpenFolder) (put : Option ℕ) (last : List FolderCall) (meant : ReplyBody) (answer : Answer) (link link' : L) (begun finished world' : W) (sent : Sent) (taken : Bool)
       → IsMade q.node children (Ok folder) → Follows (plan_of q.operation ticket) made (listing_found children) → table.finishes begun ticket.id Done answer finished → meant ≡ opened_reply put → GivesUp taken put last
-      → Settled table sends q.unique meant answer link finished sent taken link' world'
+      → Settled table sends q.unique meant answer put link finished sent taken link' world'
       → Concludes table settings sends q page ticket made (listing_found children) link begun sent link' world'
   concluded_open q page ticket made children folder put last meant answer link link' begun finished world' sent taken is_made follows finishes is gives s =
       concluded q page ticket made (findings.Listed children) Done put (Put folder put ∷ []) last meant answer link link' begun finished world' sent taken follows finishes is (folder, is_made, refl) gives s
 
   -- a listing that found no memory
   pub concluded_starved : (q : Request) (page : Paged) (ticket : Claim) (made : List Made) (children : List Child) (answer : Answer) (link link' : L) (begun finished world' : W) (sent : Sent)
-      → IsMade q.node children (Err Memory) → Follows (plan_of q.operation ticket) made (listing_found children) → table.finishes begun ticket.id Done answer finished → sends link (reply_bytes (refusal q.unique ENOMEM)) sent link' → table.settles finished answer false world'
+      → IsMade q.node children (Err Memory) → Follows (plan_of q.operation ticket) made (listing_found children) → table.finishes begun ticket.id Done answer finished → sends link (reply_bytes (refusal q.unique ENOMEM)) sent link' → table.settles finished answer None false world'
       → Concludes table settings sends q page ticket made (listing_found children) link begun sent link' world'
   concluded_starved q page ticket made children answer link link' begun finished world' sent lawful follows finishes s settles = record {
     refused = Some AtListing;
@@ -184,14 +184,14 @@ module _ {W L : Type 0} (table : Table W) (settings : Settings) (sends : L → L
 
   pub concluded_entries : (q : Request) (page : Paged) (ticket : Claim) (made : List Made) (founds : List (Option Found)) (meant : ReplyBody) (answer : Answer) (link link' : L) (begun finished world' : W) (sent : Sent) (taken : Bool)
       → Follows (plan_of q.operation ticket) made (entries_found founds) → table.finishes begun ticket.id (entries_found founds).outcome answer finished → meant ≡ reply_to settings q.node page (findings.Looked founds) None answer
-      → Settled table sends q.unique meant answer link finished sent taken link' world'
+      → Settled table sends q.unique meant answer None link finished sent taken link' world'
       → Concludes table settings sends q page ticket made (entries_found founds) link begun sent link' world'
   concluded_entries q page ticket made founds meant answer link link' begun finished world' sent taken follows finishes is s =
       concluded q page ticket made (findings.Looked founds) (entries_found founds).outcome None [] [] meant answer link link' begun finished world' sent taken follows finishes is (refl, refl) (none_given_up taken) s
 
   -- a script that found no memory
   pub concluded_short : (q : Request) (page : Paged) (ticket : Claim) (answer : Answer) (link link' : L) (begun finished world' : W) (sent : Sent)
-      → LooksAtEach q.operation → table.finishes begun ticket.id no_memory.outcome answer finished → sends link (reply_bytes (refusal q.unique ENOMEM)) sent link' → table.settles finished answer false world'
+      → LooksAtEach q.operation → table.finishes begun ticket.id no_memory.outcome answer finished → sends link (reply_bytes (refusal q.unique ENOMEM)) sent link' → table.settles finished answer None false world'
       → Concludes table settings sends q page ticket [] no_memory link begun sent link' world'
   concluded_short q page ticket answer link link' begun finished world' sent looks finishes s settles = record {
     refused = Some AtScript;

@@ -1,4 +1,3 @@
-pub mod Alone
 pub mod Closing
 pub mod ByClass
 pub mod Endings
@@ -7,3 +6,4 @@ pub mod Runs
 pub mod Removing
 pub mod Turns
 pub mod Walking
+pub mod Waiting

@@ -3,10 +3,11 @@ use Rattle.std.proofs.Common.{ℕ, ℤ, ◌≡◌, true, false, List, [], ◌++�
 use Rattle.errno.specs.declared.TheConstants.{ENOMEM}
 use Rattle.backing.specs.Calls.{Asked}
 use Rattle.backing.specs.declared.call.Answer.{Answer as Told}
-use Rattle.flights.specs.declared.data.Want.{Want}
-use Rattle.steps.specs.Answers.{Claim}
-use Rattle.steps.specs.declared.data.Begin.TheVariants.{Go, Refused}
-use Rattle.wire.specs.Faults.{IsFirstFault, errno_of}
+use Rattle.table_files.specs.declared.data.OpenFile.{OpenFile}
+use Rattle.table_requests.specs.declared.data.Want.{Want}
+use Rattle.table_steps.specs.Answers.{Claim}
+use Rattle.table_steps.specs.declared.data.Begin.TheVariants.{Go, Refused}
+use Rattle.wire.specs.Faults.{IsFirstFault, fault_errno}
 use Rattle.wire.specs.Requests.{IsRequest, opcode_in, unique_in}
 use Rattle.wire.specs.Written.{reply_bytes}
 use Rattle.wire.specs.declared.fault.WireFault.{WireFault}
@@ -19,7 +20,7 @@ use Rattle.ops.specs.declared.replies.Settings.{Settings}
 use Rattle.ops.specs.Intents.{Intent, intent}
 use Rattle.ops.specs.Intents as intents
 use Rattle.engine.specs.Folders.{FolderCall}
-use Rattle.engine.specs.Reference.{Place, AtBegin, AtScript, AtListing, AtReply, Turn, ForgetsAll, IsSaid, IsTold, Says, Serves, Carries, WorksOff}
+use Rattle.engine.specs.Reference.{Place, AtBegin, AtScript, AtListing, AtReply, Turn, ForgetsAll, IsSaid, IsTold, Says, Serves, RunsRequest, WorksOff}
 use Rattle.wire.specs.declared.pairs.Forgotten.{Forgotten}
 use Rattle.ops.specs.declared.intents.FolderUse.{FolderUse}
 use Rattle.ops.specs.declared.intents.FolderUse.TheVariants as uses
@@ -29,7 +30,7 @@ use Rattle.engine.specs.Replies.{refusal, TakesMemory}
 use Rattle.ops.specs.Replies.{file_reply}
 use Rattle.ops.specs.Scripts.{Made}
 use Rattle.engine.specs.Tables.{Table}
-use Rattle.engine.specs.Walks.{IsAnswered, WorkedOff, Performs, CarriesOut, TellsOut, UsesOut}
+use Rattle.engine.specs.Walks.{IsAnswered, WorkedOff, RunsScript, RunsOut, TellsOut, UsesOut}
 
 -- a frame with its reply
 abbrev pub acting : List ℕ → Option Place → List Made → List FolderCall → ℕ → ReplyBody → Sent → Turn
@@ -63,17 +64,17 @@ starved sends meant old new sent takes s = record { refused = Some AtReply; said
 module _ {W L C : Type 0} (table : Table W) (settings : Settings) (sends : L → List ℕ → Sent → L → Type 0) (gives : C → Asked → Told → C → Type 0) where
   -- a frame that is no request
   pub fault_answered : (frame : List ℕ) (fault : WireFault) (link link' : L) (calls : C) (world : W) (result : Option Sent) → IsFirstFault frame fault
-      → IfSome result (λ sent. (is_unanswered (opcode_in frame) ≡ false) × sends link (reply_bytes (refusal (unique_in frame) (errno_of fault))) sent link')
+      → IfSome result (λ sent. (is_unanswered (opcode_in frame) ≡ false) × sends link (reply_bytes (refusal (unique_in frame) (fault_errno fault))) sent link')
       → IfNone result ((is_unanswered (opcode_in frame) ≡ true) × (link' ≡ link))
       → WorkedOff table settings sends gives frame link calls world result link' calls world
   fault_answered frame fault link link' calls world (Some sent) is some none =
-      let turn = answering frame None [] (unique_in frame) (Failed (errno_of fault)) sent in
+      let turn = answering frame None [] (unique_in frame) (Failed (fault_errno fault)) sent in
       record {
         turn = turn;
         frame_is = refl;
         sent_is = refl;
         lives = refl;
-        asks = inr (fault, is, rw some.0 (Failed (errno_of fault), refl, record { offers = refl; no_call = refl; folders_are = refl; same = refl }));
+        asks = inr (fault, is, rw some.0 (Failed (fault_errno fault), refl, record { offers = refl; no_call = refl; folders_are = refl; same = refl }));
         makes = refl;
         passes = some.1;
       }
@@ -104,17 +105,17 @@ module _ {W L C : Type 0} (table : Table W) (settings : Settings) (sends : L →
       }
 
   -- a request that asks whether a file is open
-  pub asked_of_file : (frame : List ℕ) (q : Request) (fh : ℕ) (meant : ReplyBody) (link link' : L) (calls : C) (world : W) (sent : Sent) → IsRequest frame q → intents.File fh ≡ intent q → meant ≡ file_reply q.node (table.file world fh)
+  pub asked_of_file : (frame : List ℕ) (q : Request) (fh : ℕ) (file : Option OpenFile) (meant : ReplyBody) (link link' : L) (calls : C) (world : W) (sent : Sent) → IsRequest frame q → intents.File fh ≡ intent q → table.finds world fh file → meant ≡ file_reply q.node file
       → IsAnswered sends (record { unique = q.unique; body = meant }) link sent link'
       → WorkedOff table settings sends gives frame link calls world (Some sent) link' calls world
-  asked_of_file frame q fh meant link link' calls world sent is i e a =
+  asked_of_file frame q fh file meant link link' calls world sent is i found e a =
       let turn = answering frame a.refused [] q.unique a.said sent in
       record {
         turn = turn;
         frame_is = refl;
         sent_is = refl;
         lives = refl;
-        asks = inl (q, is, subst (λ (x : Intent). Serves table settings q x world turn world) i (a.said, subst (λ (body : ReplyBody). IsSaid a.refused body a.said) e a.said_is, record { offers = refl; no_call = refl; folders_are = refl; same = refl }));
+        asks = inl (q, is, subst (λ (x : Intent). Serves table settings q x world turn world) i (file, found, (a.said, subst (λ (body : ReplyBody). IsSaid a.refused body a.said) e a.said_is, record { offers = refl; no_call = refl; folders_are = refl; same = refl })));
         makes = refl;
         passes = a.offer;
       }
@@ -194,7 +195,7 @@ module _ {W L C : Type 0} (table : Table W) (settings : Settings) (sends : L →
 
   -- a request that is begun
   pub carried : (frame : List ℕ) (q : Request) (want : Want) (link link' : L) (calls calls' : C) (world world' : W) (sent : Sent) → IsRequest frame q → intents.Begin want ≡ intent q
-      → CarriesOut table settings sends gives q want [] no_page link calls world sent link' calls' world'
+      → RunsOut table settings sends gives q want [] no_page link calls world sent link' calls' world'
       → WorkedOff table settings sends gives frame link calls world (Some sent) link' calls' world'
   carried frame q want link link' calls calls' world world' sent is i a =
       let turn = acting frame a.refused a.made a.folders q.unique a.said sent in
@@ -226,7 +227,7 @@ module _ {W L C : Type 0} (table : Table W) (settings : Settings) (sends : L →
 
   -- ---- a request from begin to settle
 
-  works_by : (refused : Option Place) (q : Request) (want : Want) (lends : List FolderCall) (page : Paged) (old : W) (turn : Turn) (new : W) (meant said : ReplyBody) → IsTold refused meant said → Carries table settings q want lends page old turn new
+  works_by : (refused : Option Place) (q : Request) (want : Want) (lends : List FolderCall) (page : Paged) (old : W) (turn : Turn) (new : W) (meant said : ReplyBody) → IsTold refused meant said → RunsRequest table settings q want lends page old turn new
       → WorksOff table settings refused q want lends page old turn new
   works_by None q want lends page old turn new meant said is c = inr c
   works_by (Some AtBegin) q want lends page old turn new meant said is c = absurd is
@@ -235,8 +236,8 @@ module _ {W L C : Type 0} (table : Table W) (settings : Settings) (sends : L →
   works_by (Some AtReply) q want lends page old turn new meant said is c = c
 
   pub goes_on : (q : Request) (want : Want) (lends : List FolderCall) (page : Paged) (ticket : Claim) (link link' : L) (calls calls' : C) (world begun world' : W) (sent : Sent) → table.begins world q.unique want (Go ticket) begun
-      → (p : Performs table settings sends gives q page ticket link calls begun sent link' calls' world') → p.concludes.answer.lost ≡ false
-      → CarriesOut table settings sends gives q want lends page link calls world sent link' calls' world'
+      → (p : RunsScript table settings sends gives q page ticket link calls begun sent link' calls' world') → table.knows p.concludes.answer
+      → RunsOut table settings sends gives q want lends page link calls world sent link' calls' world'
   goes_on q want lends page ticket link link' calls calls' world begun world' sent b p kept =
       let e = p.concludes in
       let folders = lends ++ e.first ++ e.last in
@@ -256,7 +257,7 @@ module _ {W L C : Type 0} (table : Table W) (settings : Settings) (sends : L →
           answer = e.answer;
           finished = e.finished;
           finishes = e.finishes;
-          not_lost = kept;
+          known = kept;
           put = e.put;
           first = e.first;
           stores = e.stores;
@@ -281,7 +282,7 @@ module _ {W L C : Type 0} (table : Table W) (settings : Settings) (sends : L →
   -- the table refuses it
   pub table_refused : (q : Request) (want : Want) (lends : List FolderCall) (page : Paged) (errno : ℤ) (link link' : L) (calls : C) (world world' : W) (sent : Sent) → table.begins world q.unique want (Refused errno) world' → world' ≡ world
       → IsAnswered sends (refusal q.unique errno) link sent link'
-      → CarriesOut table settings sends gives q want lends page link calls world sent link' calls world'
+      → RunsOut table settings sends gives q want lends page link calls world sent link' calls world'
   table_refused q want lends page errno link link' calls world world' sent b same a = record {
     refused = a.refused;
     made = [];
@@ -294,7 +295,7 @@ module _ {W L C : Type 0} (table : Table W) (settings : Settings) (sends : L →
 
   -- a page is lent, and there is no memory to begin
   pub page_unbegun : (q : Request) (want : Want) (lends : List FolderCall) (page : Paged) (link link' : L) (calls : C) (world : W) (sent : Sent) → sends link (reply_bytes (refusal q.unique ENOMEM)) sent link'
-      → CarriesOut table settings sends gives q want lends page link calls world sent link' calls world
+      → RunsOut table settings sends gives q want lends page link calls world sent link' calls world
   page_unbegun q want lends page link link' calls world sent s = record {
     refused = Some AtBegin;
     made = [];

@@ -11,7 +11,7 @@ use Rattle.ops.specs.declared.replies.Settings.{Settings}
 use Rattle.engine.specs.Links.{Heard, Piece}
 use Rattle.engine.specs.Serving.{Hears, Works}
 use Rattle.engine.specs.Tables.{Table}
-use Rattle.engine.specs.Walks.{Side, Stand, side, standing, Met, Walks, Drains, IsStep}
+use Rattle.engine.specs.Walks.{Side, Stand, side, standing, IsHandled, Walks, WorksOffFrames, IsStep}
 use Rattle.engine.proofs.Runs.{chain_append, chain_one}
 
 -- the same with how the session has ended
@@ -30,7 +30,7 @@ module _ {W L C : Type 0} (table : Table W) (settings : Settings) (receives : L 
 
   -- a frame that stood first in the bytes kept
   frame_walks : (link link' : L) (calls calls' : C) (s s' : Stand W) (kept frame more : List ℕ) (end : Option SessionEnd) → kept ≡ frame ++ more → IsFramed frame → table.is_idle s'.world
-      → Met table settings sends gives frame link calls s end link' calls' s'
+      → IsHandled table settings sends gives frame link calls s end link' calls' s'
       → Walks table settings receives sends gives (side link calls s kept) (ended link' calls' s' end more)
   frame_walks link link' calls calls' s s' kept frame more end front framed idle w = record {
     steps = Works w.turn ∷ [];
@@ -46,11 +46,11 @@ module _ {W L C : Type 0} (table : Table W) (settings : Settings) (receives : L 
   pub frame_on : (old : Side W L C) (link link' : L) (calls calls' : C) (s s' : Stand W) (kept items frame more : List ℕ) (result end : Option SessionEnd) (now : Settings) → now ≡ settings
       → Walks table settings receives sends gives old (side link calls s kept)
       → kept ≡ items ++ more → IsFramed items → items ≡ frame → table.is_idle s'.world
-      → Met table now sends gives frame link calls s result link' calls' s' → result ≡ end
+      → IsHandled table now sends gives frame link calls s result link' calls' s' → result ≡ end
       → Walks table settings receives sends gives old (ended link' calls' s' end more)
   frame_on old link link' calls calls' s s' kept items frame more result end now set a front framed same idle w is =
       let one = frame_walks link link' calls calls' s s' kept frame more result (front ∙ ap (λ xs. xs ++ more) same) (subst (λ xs. IsFramed xs) same framed) idle
-      (subst (λ (t : Settings). Met table t sends gives frame link calls s result link' calls' s') set w) in
+      (subst (λ (t : Settings). IsHandled table t sends gives frame link calls s result link' calls' s') set w) in
       subst (λ (e : Option SessionEnd). Walks table settings receives sends gives old (ended link' calls' s' e more)) is
       (walks_on old (side link calls s kept) (ended link' calls' s' result more) a one)
 
@@ -71,7 +71,7 @@ module _ {W L C : Type 0} (table : Table W) (settings : Settings) (receives : L 
 
   -- a bad length stands next
   pub bad_stop : (old : Side W L C) (link : L) (calls : C) (s : Stand W) (kept now : List ℕ) (len : ℕ) → Walks table settings receives sends gives old (side link calls s kept) → kept ≡ now → BeginsBadly kept len
-      → Drains table settings receives sends gives old link calls s now (Some (ends.BadLength len))
+      → WorksOffFrames table settings receives sends gives old link calls s now (Some (ends.BadLength len))
   bad_stop old link calls s kept now len walks same bad = record {
     reached = None;
     walks = subst (λ (k : List ℕ). Walks table settings receives sends gives old (side link calls s k)) same walks;

@@ -2,7 +2,7 @@
 use Rattle.std.specs.Prelude.{ℕ, ◌==◌, ◌||◌, Bool, if◌then◌else◌}
 use Rattle.wire.specs.declared.opcode.TheConstants.{FORGET, INIT, INTERRUPT, DESTROY, BATCH_FORGET}
 use Rattle.engine.specs.declared.classes.Class.{Class}
-use Rattle.engine.specs.declared.classes.Class.TheVariants.{Ignored, Misplaced, Greeting, Farewell, Asking}
+use Rattle.engine.specs.declared.classes.Class.TheVariants.{Ignored, Unexpected, InitFrame, DestroyFrame, Asking}
 
 -- opcodes that are never answered
 abbrev pub is_unanswered : ℕ → Bool
@@ -11,6 +11,6 @@ is_unanswered opcode = opcode == FORGET || opcode == INTERRUPT || opcode == BATC
 -- Until a version is agreed on, INIT is greeted, and from then on it is out of place, as all that is answered is before.
 abbrev pub class : (agreed : Bool) → ℕ → Class
 class agreed opcode =
-    if opcode == INIT then (if agreed then Misplaced else Greeting) else
-    if agreed then (if opcode == DESTROY then Farewell else Asking) else
-    if is_unanswered opcode then Ignored else Misplaced
+    if opcode == INIT then (if agreed then Unexpected else InitFrame) else
+    if agreed then (if opcode == DESTROY then DestroyFrame else Asking) else
+    if is_unanswered opcode then Ignored else Unexpected

@@ -6,8 +6,8 @@ use Rattle.handles.specs.Listings.{IsLent, IsMade, OpenFolder}
 use Rattle.handles.specs.declared.listing.ListingFault.TheVariants.{Memory}
 use Rattle.ops.specs.Folders.{IsPaged, names_reply}
 use Rattle.ops.specs.Pages.{Paged}
-use Rattle.ops.specs.declared.findings.Finding.{Finding}
-use Rattle.ops.specs.declared.findings.Finding.TheVariants as findings
+use Rattle.ops.specs.declared.findings.ScriptResult.{ScriptResult}
+use Rattle.ops.specs.declared.findings.ScriptResult.TheVariants as findings
 use Rattle.ops.specs.declared.intents.FolderUse.{FolderUse}
 use Rattle.ops.specs.declared.intents.FolderUse.TheVariants.{ReadNames, ReadEntries, GiveUp, Sync}
 use Rattle.engine.specs.declared.entries.Lends.{Lends}
@@ -83,12 +83,12 @@ IsLentPage node fh offset size (lends.Nothing meant) = (folders : List FolderCal
 -- ---- OPENDIR
 
 -- the listing of what was found is put, if names of a folder were
-abbrev pub PutsListing : ℕ → Finding → List FolderCall → (put : Option ℕ) → Type 0
+abbrev pub PutsListing : ℕ → ScriptResult → List FolderCall → (put : Option ℕ) → Type 0
 PutsListing node (findings.Listed children) folders put = (folder : OpenFolder) × IsMade node children (Ok folder) × (folders ≡ Put folder put ∷ [])
 PutsListing node finding folders put = (folders ≡ []) × (put ≡ None)
 
 -- there is no memory for a listing, so none is put
-abbrev pub LacksListing : ℕ → Finding → List FolderCall → (put : Option ℕ) → Type 0
+abbrev pub LacksListing : ℕ → ScriptResult → List FolderCall → (put : Option ℕ) → Type 0
 LacksListing node (findings.Listed children) folders put = IsMade node children (Err Memory) × (folders ≡ []) × (put ≡ None)
 LacksListing node finding folders put = ⊥
 

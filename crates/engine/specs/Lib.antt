@@ -8,3 +8,5 @@ pub mod Replies
 pub mod Serving
 pub mod Tables
 pub mod Walks
+pub mod Alone
+pub mod Reaching

@@ -2,12 +2,13 @@
 use Rattle.std.specs.Prelude.{ℕ, ℤ, ◌≡◌, ◌⊎◌, Bool, true, false, if◌then◌else◌, List, [], ◌++◌, map, length, Option, Some, None}
 use Rattle.std.specs.Option.{option_map}
 use Rattle.errno.specs.declared.TheConstants.{EIO, ENOMEM, EPROTO}
-use Rattle.flights.specs.declared.data.Want.{Want}
-use Rattle.steps.specs.Answers.{Claim, Answer}
-use Rattle.steps.specs.declared.data.Begin.TheVariants.{Go, Refused}
-use Rattle.steps.specs.declared.data.Outcome.TheVariants as outcomes
-use Rattle.wire.specs.Faults.{IsFirstFault, errno_of}
-use Rattle.wire.specs.Greeting.{negotiated}
+use Rattle.table_files.specs.declared.data.OpenFile.{OpenFile}
+use Rattle.table_requests.specs.declared.data.Want.{Want}
+use Rattle.table_steps.specs.Answers.{Claim, Answer}
+use Rattle.table_steps.specs.declared.data.Begin.TheVariants.{Go, Refused}
+use Rattle.table_steps.specs.declared.data.Outcome.TheVariants as outcomes
+use Rattle.wire.specs.Faults.{IsFirstFault, fault_errno}
+use Rattle.wire.specs.Negotiation.{negotiated}
 use Rattle.wire.specs.Requests.{IsRequest, opcode_in, unique_in}
 use Rattle.wire.specs.Stream.{Splits, IsPartial, BeginsBadly}
 use Rattle.wire.specs.declared.fault.WireFault.{WireFault}
@@ -21,7 +22,7 @@ use Rattle.wire.specs.declared.request.Operation.TheVariants as ops
 use Rattle.wire.specs.declared.pairs.Forgotten.{Forgotten}
 use Rattle.wire.specs.declared.request.Request.{Request}
 use Rattle.engine.specs.declared.classes.Class.{Class}
-use Rattle.engine.specs.declared.classes.Class.TheVariants.{Ignored, Misplaced, Greeting, Farewell, Asking}
+use Rattle.engine.specs.declared.classes.Class.TheVariants.{Ignored, Unexpected, InitFrame, DestroyFrame, Asking}
 use Rattle.engine.specs.declared.links.Sent.{Sent}
 use Rattle.engine.specs.declared.links.Sent.TheVariants.{Taken, Untaken, Broken}
 use Rattle.ops.specs.declared.replies.Settings.{Settings}
@@ -30,8 +31,8 @@ use Rattle.engine.specs.declared.ends.SessionEnd.TheVariants as ends
 use Rattle.engine.specs.Chain.{Chain}
 use Rattle.engine.specs.Classes.{class, is_unanswered}
 use Rattle.engine.specs.Folders.{FolderCall, IsUsed, GivesUp, LacksListing, LendsPage, PutsListing}
-use Rattle.ops.specs.declared.findings.Finding.{Finding}
-use Rattle.ops.specs.declared.findings.Finding.TheVariants as findings
+use Rattle.ops.specs.declared.findings.ScriptResult.{ScriptResult}
+use Rattle.ops.specs.declared.findings.ScriptResult.TheVariants as findings
 use Rattle.ops.specs.declared.intents.FolderUse.{FolderUse}
 use Rattle.ops.specs.declared.intents.FolderUse.TheVariants.{ReadEntries}
 use Rattle.ops.specs.Ahead.{LooksAtEach}
@@ -136,7 +137,7 @@ pub record UsesFolder {W : Type 0} (q : Request) (fh : ℕ) (usage : FolderUse) 
   pub same : new ≡ old
 
 -- the listing of an OPENDIR is put, unless there was no memory for it
-abbrev pub Stores : Option Place → ℕ → Finding → List FolderCall → (put : Option ℕ) → Type 0
+abbrev pub Stores : Option Place → ℕ → ScriptResult → List FolderCall → (put : Option ℕ) → Type 0
 Stores (Some AtListing) node finding folders put = LacksListing node finding folders put
 Stores refused node finding folders put = PutsListing node finding folders put
 
@@ -175,10 +176,10 @@ abbrev pub negotiated_by : Operation → Option Negotiated
 negotiated_by (ops.Init major minor max_readahead flags) = Some (negotiated major minor max_readahead flags)
 negotiated_by operation = None
 
-abbrev pub greeting_of : Negotiated → ReplyBody
-greeting_of (Use out) = Init out
-greeting_of (Again out) = Init out
-greeting_of Refuse = Failed EPROTO
+abbrev pub init_reply_of : Negotiated → ReplyBody
+init_reply_of (Use out) = Init out
+init_reply_of (Again out) = Init out
+init_reply_of Refuse = Failed EPROTO
 
 -- Whether a version is agreed on then, whatever becomes of the reply. An INIT that finds no memory for its reply has agreed on nothing.
 abbrev pub agrees : (refused : Option Place) → Negotiated → (before : Bool) → Bool
@@ -187,9 +188,9 @@ agrees None (Use out) before = true
 agrees None (Again out) before = before
 agrees None Refuse before = before
 
-abbrev pub Greets : {W : Type 0} → ℕ → Option Negotiated → (before : Bool) → W → Turn → W → (now : Bool) → Type 0
-Greets unique None before old turn new now = ⊥
-Greets unique (Some answer) before old turn new now = Answers unique (greeting_of answer) old turn new × (now ≡ agrees turn.refused answer before)
+abbrev pub HandlesInit : {W : Type 0} → ℕ → Option Negotiated → (before : Bool) → W → Turn → W → (now : Bool) → Type 0
+HandlesInit unique None before old turn new now = ⊥
+HandlesInit unique (Some answer) before old turn new now = Answers unique (init_reply_of answer) old turn new × (now ≡ agrees turn.refused answer before)
 
 -- ---- the rules, by the table's steps
 
@@ -199,7 +200,7 @@ ForgetsAll {W = W} table = Chain (λ (old : W) (lookups : Forgotten) (new : W). 
 
 module _ {W : Type 0} (table : Table W) (settings : Settings) where
   -- a request from begin to settle, for which these calls of the open folders were made before, and which tells this page
-  pub record Carries (q : Request) (want : Want) (lends : List FolderCall) (page : Paged) (old : W) (turn : Turn) (new : W) : Type 0 where
+  pub record RunsRequest (q : Request) (want : Want) (lends : List FolderCall) (page : Paged) (old : W) (turn : Turn) (new : W) : Type 0 where
     pub ticket : Claim
     pub begun : W
     pub begins : table.begins old q.unique want (Go ticket) begun
@@ -208,14 +209,14 @@ module _ {W : Type 0} (table : Table W) (settings : Settings) where
     pub answer : Answer
     pub finished : W
     pub finishes : table.finishes begun ticket.id end.outcome answer finished
-    pub not_lost : answer.lost ≡ false
+    pub known : table.knows answer
     pub put : Option ℕ
     pub first : List FolderCall
     pub stores : Stores turn.refused q.node end.findings first put
     pub said : ReplyBody
     pub said_is : IsTold turn.refused (reply_to settings q.node page end.findings put answer) said
     pub offers : Offers turn.offer q.unique said
-    pub settles : table.settles finished answer (taken_of turn.refused turn.offer) new
+    pub settles : table.settles finished answer put (taken_of turn.refused turn.offer) new
     pub last : List FolderCall
     pub gives_up : GivesUp (taken_of turn.refused turn.offer) put last
     pub folders_are : turn.folders ≡ lends ++ first ++ last
@@ -228,11 +229,11 @@ module _ {W : Type 0} (table : Table W) (settings : Settings) where
 
   -- No other request is in flight, so none is in its way.
   abbrev pub WorksOff : Option Place → Request → Want → (lends : List FolderCall) → (page : Paged) → W → Turn → W → Type 0
-  WorksOff None q want lends page old turn new = IsRefused q want lends old turn new ⊎ Carries q want lends page old turn new
+  WorksOff None q want lends page old turn new = IsRefused q want lends old turn new ⊎ RunsRequest q want lends page old turn new
   WorksOff (Some AtBegin) q want lends page old turn new = Says lends q.unique (Failed ENOMEM) old turn new
-  WorksOff (Some AtScript) q want lends page old turn new = Carries q want lends page old turn new
-  WorksOff (Some AtListing) q want lends page old turn new = Carries q want lends page old turn new
-  WorksOff (Some AtReply) q want lends page old turn new = Carries q want lends page old turn new
+  WorksOff (Some AtScript) q want lends page old turn new = RunsRequest q want lends page old turn new
+  WorksOff (Some AtListing) q want lends page old turn new = RunsRequest q want lends page old turn new
+  WorksOff (Some AtReply) q want lends page old turn new = RunsRequest q want lends page old turn new
 
   -- a request that tells entries of an open folder, and begins
   abbrev pub TellsEntries : Request → (fh : ℕ) → FolderUse → W → Turn → W → Type 0
@@ -243,7 +244,7 @@ module _ {W : Type 0} (table : Table W) (settings : Settings) where
   abbrev pub Serves : Request → Intent → W → Turn → W → Type 0
   Serves q (intents.Reply meant) old turn new = Answers q.unique meant old turn new
   Serves q (intents.Begin want) old turn new = WorksOff turn.refused q want [] no_page old turn new
-  Serves q (intents.File fh) old turn new = Answers q.unique (file_reply q.node (table.file old fh)) old turn new
+  Serves q (intents.File fh) old turn new = (file : Option OpenFile) × table.finds old fh file × Answers q.unique (file_reply q.node file) old turn new
   Serves q (intents.Folder fh usage) old turn new = UsesFolder q fh usage old turn new ⊎ TellsEntries q fh usage old turn new
   Serves q (intents.Forget lookups) old turn new = IsSilent turn × ForgetsAll table old lookups new
   Serves q intents.Nothing old turn new = IsSilent turn × (new ≡ old)
@@ -255,7 +256,7 @@ module _ {W : Type 0} (table : Table W) (settings : Settings) where
   -- a frame that is no request is answered with its fault, if its opcode is answered at all
   abbrev pub Faults : (unanswered : Bool) → WireFault → W → Turn → W → Type 0
   Faults true fault old turn new = IsSilent turn × (new ≡ old)
-  Faults false fault old turn new = Refuses (errno_of fault) old turn new
+  Faults false fault old turn new = Refuses (fault_errno fault) old turn new
 
   abbrev pub Asks : W → Turn → W → Type 0
   Asks old turn new =
@@ -263,22 +264,22 @@ module _ {W : Type 0} (table : Table W) (settings : Settings) where
       ⊎ ((fault : WireFault) × IsFirstFault turn.frame fault × Faults (is_unanswered (opcode_in turn.frame)) fault old turn new)
 
   -- a frame of each class, and whether a version was agreed on before it and is now
-  abbrev pub Meets : (before : Bool) → Class → W → Turn → W → (now : Bool) → Type 0
-  Meets before Ignored old turn new now = IsSilent turn × (new ≡ old) × Stays before turn now
-  Meets before Misplaced old turn new now = Refuses EIO old turn new × Stays before turn now
-  Meets before Greeting old turn new now =
+  abbrev pub HandlesFrame : (before : Bool) → Class → W → Turn → W → (now : Bool) → Type 0
+  HandlesFrame before Ignored old turn new now = IsSilent turn × (new ≡ old) × Stays before turn now
+  HandlesFrame before Unexpected old turn new now = Refuses EIO old turn new × Stays before turn now
+  HandlesFrame before InitFrame old turn new now =
       (turn.destroyed ≡ false)
-      × (((q : Request) × IsRequest turn.frame q × Greets q.unique (negotiated_by q.operation) before old turn new now)
-      ⊎ ((fault : WireFault) × IsFirstFault turn.frame fault × Refuses (errno_of fault) old turn new × (now ≡ before)))
-  Meets before Farewell old turn new now =
+      × (((q : Request) × IsRequest turn.frame q × HandlesInit q.unique (negotiated_by q.operation) before old turn new now)
+      ⊎ ((fault : WireFault) × IsFirstFault turn.frame fault × Refuses (fault_errno fault) old turn new × (now ≡ before)))
+  HandlesFrame before DestroyFrame old turn new now =
       (now ≡ before)
       × (((q : Request) × IsRequest turn.frame q × Answers q.unique Done old turn new × (turn.destroyed ≡ true))
-      ⊎ ((fault : WireFault) × IsFirstFault turn.frame fault × Refuses (errno_of fault) old turn new × (turn.destroyed ≡ false)))
-  Meets before Asking old turn new now = Asks old turn new × Stays before turn now
+      ⊎ ((fault : WireFault) × IsFirstFault turn.frame fault × Refuses (fault_errno fault) old turn new × (turn.destroyed ≡ false)))
+  HandlesFrame before Asking old turn new now = Asks old turn new × Stays before turn now
 
   pub record IsTurn (old : At W) (turn : Turn) (new : At W) : Type 0 where
     pub goes : old.end ≡ None
-    pub meets : Meets old.agreed (class old.agreed (opcode_in turn.frame)) old.world turn new.world new.agreed
+    pub meets : HandlesFrame old.agreed (class old.agreed (opcode_in turn.frame)) old.world turn new.world new.agreed
     pub end : new.end ≡ ending (sent_in turn.offer) turn.destroyed
     pub idle : table.is_idle new.world
 

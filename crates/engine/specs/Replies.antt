@@ -9,8 +9,8 @@ abbrev pub refusal : ℕ → ℤ → Reply
 refusal unique errno = record { unique = unique; body = Failed errno }
 
 -- the reply that says no more than that a request is done
-abbrev pub confirmation : ℕ → Reply
-confirmation unique = record { unique = unique; body = Done }
+abbrev pub done_reply : ℕ → Reply
+done_reply unique = record { unique = unique; body = Done }
 
 -- A reply of a header alone takes no memory.
 abbrev pub TakesMemory : ReplyBody → Type 0

@@ -1,23 +1,34 @@
 -- A table by its steps, and what a session knows of its insides: how it stands between two requests.
-use Rattle.std.specs.Prelude.{ℕ, ◌≡◌, Bool, List, Option, None}
+use Rattle.std.specs.Prelude.{ℕ, ◌≡◌, Bool, false, List, Option, None}
 use Rattle.paths.specs.Prefixes.{Names}
-use Rattle.files.specs.declared.data.OpenFile.{OpenFile}
-use Rattle.flights.specs.declared.data.Want.{Want}
-use Rattle.steps.specs.Answers.{Answer, Settlement}
-use Rattle.steps.specs.Steps.{Begins, Finishes, Settles, Forgets}
-use Rattle.steps.specs.World.{World}
-use Rattle.steps.specs.declared.data.Begin.{Begin}
-use Rattle.steps.specs.declared.data.Outcome.{Outcome}
+use Rattle.table_files.specs.declared.data.OpenFile.{OpenFile}
+use Rattle.ledger.specs.Shares.{Part}
+use Rattle.table_requests.specs.declared.data.Want.{Want}
+use Rattle.table_steps.specs.Answers.{Answer, Settlement}
+use Rattle.table_steps.specs.Steps.{Begins, Finishes, Settles, Forgets}
+use Rattle.table_steps.specs.World.{IsLawfulWorld, World}
+use Rattle.table_steps.specs.declared.data.Begin.{Begin}
+use Rattle.table_steps.specs.declared.data.Outcome.{Outcome}
 use Rattle.table.specs.Leftovers.{AreLeftovers}
+use Rattle.table.specs.Gains.{Gains}
 
 -- a table whose states are the elements of W
 pub record Table (W : Type 0) : Type 1 where
   pub begins : W → (unique : ℕ) → Want → Begin → W → Type 0
   pub finishes : W → (id : ℕ) → Outcome → Answer → W → Type 0
-  pub settles : W → Answer → (taken : Bool) → W → Type 0
+  -- an answer, and the handle of the listing that was put for it
+  pub settles : W → Answer → (put : Option ℕ) → (taken : Bool) → W → Type 0
   pub forgets : W → (number n : ℕ) → W → Type 0
-  -- the open file under a handle
-  pub file : W → (fh : ℕ) → Option OpenFile
+  -- the open file under a handle, if there is one
+  pub finds : W → (fh : ℕ) → Option OpenFile → Type 0
+  -- an answer of its own
+  pub knows : Answer → Type 0
+  -- no request was finished since the caller came to it
+  pub is_free : W → Type 0
+  -- this answer was given last, and is to be settled
+  pub holds : W → Answer → Type 0
+  -- what a share gains
+  pub gains : W → Part → W → Part → Type 0
   -- these are the paths of all hidden files
   pub leftovers : W → List Names → Type 0
   -- no request is in flight
@@ -26,14 +37,18 @@ pub record Table (W : Type 0) : Type 1 where
 abbrev pub IsIdle : World → Type 0
 IsIdle w = (id : ℕ) → w.flights id ≡ None
 
--- the table that is served
+-- the table that is served: each call leads to a lawful world
 abbrev pub worlds : Table World
 worlds = record {
-  begins = Begins;
-  finishes = Finishes;
-  settles = λ old answer taken new. (settled : Settlement) × Settles old answer taken settled new;
-  forgets = λ old number n new. (amount : ℕ) × Forgets old number n amount new;
-  file = λ w fh. w.files fh;
+  begins = λ old unique want told new. Begins old unique want told new × IsLawfulWorld new;
+  finishes = λ old id outcome answer new. Finishes old id outcome answer new × IsLawfulWorld new;
+  settles = λ old answer put taken new. (settled : Settlement) × Settles old answer taken settled new × IsLawfulWorld new;
+  forgets = λ old number n new. (amount : ℕ) × Forgets old number n amount new × IsLawfulWorld new;
+  finds = λ w fh file. file ≡ w.files fh;
+  knows = λ answer. answer.lost ≡ false;
+  is_free = λ w. Unit {0};
+  holds = λ w answer. Unit {0};
+  gains = Gains;
   leftovers = λ world paths. AreLeftovers world.at paths;
   is_idle = IsIdle;
 }

@@ -4,14 +4,14 @@ use Rattle.backing.specs.Calls.{Asked}
 use Rattle.backing.specs.declared.call.Answer.{Answer}
 use Rattle.backing.specs.declared.call.Child.{Child}
 use Rattle.errno.specs.declared.TheConstants.{ENOMEM}
-use Rattle.steps.specs.declared.data.Outcome.TheVariants.{Done}
-use Rattle.steps.specs.declared.data.Outcome.TheVariants as outcomes
+use Rattle.table_steps.specs.declared.data.Outcome.TheVariants.{Done}
+use Rattle.table_steps.specs.declared.data.Outcome.TheVariants as outcomes
 use Rattle.ops.specs.declared.findings.Found.{Found}
-use Rattle.ops.specs.declared.findings.Finding.{Finding}
-use Rattle.ops.specs.declared.findings.Finding.TheVariants as findings
-use Rattle.flights.specs.declared.data.Want.{Want}
-use Rattle.steps.specs.Answers.{Claim, Answer as Given}
-use Rattle.wire.specs.Faults.{IsFirstFault, errno_of}
+use Rattle.ops.specs.declared.findings.ScriptResult.{ScriptResult}
+use Rattle.ops.specs.declared.findings.ScriptResult.TheVariants as findings
+use Rattle.table_requests.specs.declared.data.Want.{Want}
+use Rattle.table_steps.specs.Answers.{Claim, Answer as Given}
+use Rattle.wire.specs.Faults.{IsFirstFault, fault_errno}
 use Rattle.wire.specs.Requests.{IsFramed, IsRequest, opcode_in, unique_in}
 use Rattle.wire.specs.Stream.{BeginsBadly, IsPartial}
 use Rattle.wire.specs.Written.{reply_bytes}
@@ -31,8 +31,8 @@ use Rattle.ops.specs.declared.intents.FolderUse.{FolderUse}
 use Rattle.ops.specs.declared.intents.FolderUse.TheVariants.{ReadEntries}
 use Rattle.ops.specs.Pages.{Paged, page_want}
 use Rattle.engine.specs.Links.{Heard, Piece, Ended, Broke}
-use Rattle.engine.specs.Reference.{At, Place, Turn, Offer, IsSaid, IsTold, IsTurn, Asks, Meets, Plays, Stores, WorksOff, agrees, ending, greeting_of, negotiated_by, sent_in, taken_of}
-use Rattle.engine.specs.Replies.{confirmation, refusal}
+use Rattle.engine.specs.Reference.{At, Place, Turn, Offer, IsSaid, IsTold, IsTurn, Asks, HandlesFrame, Plays, Stores, WorksOff, agrees, ending, init_reply_of, negotiated_by, sent_in, taken_of}
+use Rattle.engine.specs.Replies.{done_reply, refusal}
 use Rattle.ops.specs.Replies.{reply_to}
 use Rattle.ops.specs.Scripts.{End, Made}
 use Rattle.engine.specs.Serving.{Step, Hears, Works, Makes}
@@ -101,7 +101,7 @@ Stops None (Some ends.LinkBroken) kept = ⊥
 Stops None (Some ends.Memory) kept = Unit {0}
 
 -- the frames that stand whole are worked off
-pub record Drains {W L C : Type 0} (table : Table W) (settings : Settings) (receives : L → Heard → L → Type 0) (sends : L → List ℕ → Sent → L → Type 0) (gives : C → Asked → Answer → C → Type 0) (old : Side W L C) (link : L) (calls : C) (s : Stand W) (kept : List ℕ) (end : Option SessionEnd) : Type 0 where
+pub record WorksOffFrames {W L C : Type 0} (table : Table W) (settings : Settings) (receives : L → Heard → L → Type 0) (sends : L → List ℕ → Sent → L → Type 0) (gives : C → Asked → Answer → C → Type 0) (old : Side W L C) (link : L) (calls : C) (s : Stand W) (kept : List ℕ) (end : Option SessionEnd) : Type 0 where
   pub reached : Option SessionEnd
   pub walks : Walks table settings receives sends gives old (record { link = link; calls = calls; at = standing s reached; kept = kept })
   pub stops : Stops reached end kept
@@ -119,7 +119,7 @@ abbrev pub no_memory : End
 no_memory = record { outcome = outcomes.Failed; findings = findings.Error ENOMEM }
 
 -- no listing and no page is to be made of what a script has found
-abbrev pub IsPlain : Finding → Type 0
+abbrev pub IsPlain : ScriptResult → Type 0
 IsPlain (findings.Listed children) = ⊥
 IsPlain (findings.Looked founds) = ⊥
 IsPlain finding = Unit {0}
@@ -139,40 +139,40 @@ pub record IsUsedBy {L : Type 0} (sends : L → List ℕ → Sent → L → Type
   pub told : IsAnswered sends (record { unique = q.unique; body = meant }) old sent new
 
 -- an INIT that is answered, and whether a version is agreed on then
-pub record Welcomes {L : Type 0} (sends : L → List ℕ → Sent → L → Type 0) (unique : ℕ) (answer : Negotiated) (before : Bool) (old : L) (sent : Sent) (new : L) (now : Bool) : Type 0 where
-  pub told : IsAnswered sends (record { unique = unique; body = greeting_of answer }) old sent new
+pub record RepliesInit {L : Type 0} (sends : L → List ℕ → Sent → L → Type 0) (unique : ℕ) (answer : Negotiated) (before : Bool) (old : L) (sent : Sent) (new : L) (now : Bool) : Type 0 where
+  pub told : IsAnswered sends (record { unique = unique; body = init_reply_of answer }) old sent new
   pub agreed : now ≡ agrees told.refused answer before
 
-abbrev pub WelcomesBy : {L : Type 0} → (L → List ℕ → Sent → L → Type 0) → ℕ → Option Negotiated → (before : Bool) → L → Sent → L → (now : Bool) → Type 0
-WelcomesBy sends unique None before old sent new now = ⊥
-WelcomesBy sends unique (Some answer) before old sent new now = Welcomes sends unique answer before old sent new now
+abbrev pub RepliesInitBy : {L : Type 0} → (L → List ℕ → Sent → L → Type 0) → ℕ → Option Negotiated → (before : Bool) → L → Sent → L → (now : Bool) → Type 0
+RepliesInitBy sends unique None before old sent new now = ⊥
+RepliesInitBy sends unique (Some answer) before old sent new now = RepliesInit sends unique answer before old sent new now
 
 -- a frame that is refused for its fault
 pub record IsFaulty {L : Type 0} (sends : L → List ℕ → Sent → L → Type 0) (frame : List ℕ) (old : L) (sent : Sent) (new : L) : Type 0 where
   pub fault : WireFault
   pub first : IsFirstFault frame fault
-  pub offer : sends old (reply_bytes (refusal (unique_in frame) (errno_of fault))) sent new
+  pub offer : sends old (reply_bytes (refusal (unique_in frame) (fault_errno fault))) sent new
 
 -- an INIT
-abbrev pub GreetsFrame : {L : Type 0} → (L → List ℕ → Sent → L → Type 0) → List ℕ → (before : Bool) → L → Sent → L → (now : Bool) → Type 0
-GreetsFrame sends frame before old sent new now =
-    ((q : Request) × IsRequest frame q × WelcomesBy sends q.unique (negotiated_by q.operation) before old sent new now)
+abbrev pub HandlesInitFrame : {L : Type 0} → (L → List ℕ → Sent → L → Type 0) → List ℕ → (before : Bool) → L → Sent → L → (now : Bool) → Type 0
+HandlesInitFrame sends frame before old sent new now =
+    ((q : Request) × IsRequest frame q × RepliesInitBy sends q.unique (negotiated_by q.operation) before old sent new now)
     ⊎ (IsFaulty sends frame old sent new × (now ≡ before))
 
 -- a DESTROY
-abbrev pub PartsFrame : {L : Type 0} → (L → List ℕ → Sent → L → Type 0) → List ℕ → L → Sent → (destroyed : Bool) → L → Type 0
-PartsFrame sends frame old sent destroyed new =
-    ((q : Request) × IsRequest frame q × sends old (reply_bytes (confirmation q.unique)) sent new × (destroyed ≡ true))
+abbrev pub HandlesDestroy : {L : Type 0} → (L → List ℕ → Sent → L → Type 0) → List ℕ → L → Sent → (destroyed : Bool) → L → Type 0
+HandlesDestroy sends frame old sent destroyed new =
+    ((q : Request) × IsRequest frame q × sends old (reply_bytes (done_reply q.unique)) sent new × (destroyed ≡ true))
     ⊎ (IsFaulty sends frame old sent new × (destroyed ≡ false))
 
 -- a request that was finished is answered and settled
-pub record Settled {W L : Type 0} (table : Table W) (sends : L → List ℕ → Sent → L → Type 0) (unique : ℕ) (meant : ReplyBody) (answer : Given) (link : L) (finished : W) (sent : Sent) (taken : Bool) (link' : L) (world' : W) : Type 0 where
+pub record Settled {W L : Type 0} (table : Table W) (sends : L → List ℕ → Sent → L → Type 0) (unique : ℕ) (meant : ReplyBody) (answer : Given) (put : Option ℕ) (link : L) (finished : W) (sent : Sent) (taken : Bool) (link' : L) (world' : W) : Type 0 where
   pub refused : Option Place
   pub said : ReplyBody
   pub said_is : IsSaid refused meant said
   pub offer : sends link (reply_bytes (record { unique = unique; body = said })) sent link'
   pub taken_is : taken ≡ taken_of refused (Some (record { reply = record { unique = unique; body = said }; sent = sent }))
-  pub settles : table.settles finished answer taken world'
+  pub settles : table.settles finished answer put taken world'
 
 -- a request whose script has made these calls and come to an end is finished, answered and settled
 pub record Concludes {W L : Type 0} (table : Table W) (settings : Settings) (sends : L → List ℕ → Sent → L → Type 0) (q : Request) (page : Paged) (ticket : Claim) (made : List Made) (end : End) (link : L) (begun : W) (sent : Sent) (link' : L) (world' : W) : Type 0 where
@@ -187,17 +187,17 @@ pub record Concludes {W L : Type 0} (table : Table W) (settings : Settings) (sen
   pub said : ReplyBody
   pub said_is : IsTold refused (reply_to settings q.node page end.findings put answer) said
   pub offer : sends link (reply_bytes (record { unique = q.unique; body = said })) sent link'
-  pub settles : table.settles finished answer (taken_of refused (Some (record { reply = record { unique = q.unique; body = said }; sent = sent }))) world'
+  pub settles : table.settles finished answer put (taken_of refused (Some (record { reply = record { unique = q.unique; body = said }; sent = sent }))) world'
   pub last : List FolderCall
   pub gives_up : GivesUp (taken_of refused (Some (record { reply = record { unique = q.unique; body = said }; sent = sent }))) put last
 
 module _ {W L C : Type 0} (table : Table W) (settings : Settings) (sends : L → List ℕ → Sent → L → Type 0) (gives : C → Asked → Answer → C → Type 0) where
   -- what came of one frame
-  pub record Met (frame : List ℕ) (link : L) (calls : C) (old : Stand W) (end : Option SessionEnd) (link' : L) (calls' : C) (new : Stand W) : Type 0 where
+  pub record IsHandled (frame : List ℕ) (link : L) (calls : C) (old : Stand W) (end : Option SessionEnd) (link' : L) (calls' : C) (new : Stand W) : Type 0 where
     pub turn : Turn
     pub frame_is : turn.frame ≡ frame
     pub end_is : end ≡ ending (sent_in turn.offer) turn.destroyed
-    pub meets : Meets table settings old.agreed (class old.agreed (opcode_in turn.frame)) old.world turn new.world new.agreed
+    pub meets : HandlesFrame table settings old.agreed (class old.agreed (opcode_in turn.frame)) old.world turn new.world new.agreed
     pub makes : Makes gives calls turn.made calls'
     pub passes : Passes sends link turn.offer link'
 
@@ -212,14 +212,14 @@ module _ {W L C : Type 0} (table : Table W) (settings : Settings) (sends : L →
     pub passes : Passes sends link turn.offer link'
 
   -- a request that has begun is played, and concluded
-  pub record Performs (q : Request) (page : Paged) (ticket : Claim) (link : L) (calls : C) (begun : W) (sent : Sent) (link' : L) (calls' : C) (world' : W) : Type 0 where
+  pub record RunsScript (q : Request) (page : Paged) (ticket : Claim) (link : L) (calls : C) (begun : W) (sent : Sent) (link' : L) (calls' : C) (world' : W) : Type 0 where
     pub made : List Made
     pub end : End
     pub makes : Makes gives calls made calls'
     pub concludes : Concludes table settings sends q page ticket made end link begun sent link' world'
 
   -- a request that is begun, whatever frame it stands in, after these calls of the open folders
-  pub record CarriesOut (q : Request) (want : Want) (lends : List FolderCall) (page : Paged) (link : L) (calls : C) (world : W) (sent : Sent) (link' : L) (calls' : C) (world' : W) : Type 0 where
+  pub record RunsOut (q : Request) (want : Want) (lends : List FolderCall) (page : Paged) (link : L) (calls : C) (world : W) (sent : Sent) (link' : L) (calls' : C) (world' : W) : Type 0 where
     pub refused : Option Place
     pub made : List Made
     pub folders : List FolderCall
@@ -231,10 +231,16 @@ module _ {W L C : Type 0} (table : Table W) (settings : Settings) (sends : L →
   -- entries of an open folder are told by a request that begins
   abbrev pub TellsOut : Request → (fh : ℕ) → FolderUse → L → C → W → Sent → L → C → W → Type 0
   TellsOut q fh (ReadEntries offset size) link calls world sent link' calls' world' =
-      (lends : List FolderCall) × (page : Paged) × LendsPage q.node fh offset size lends page × CarriesOut q (page_want q.node page.entries) lends page link calls world sent link' calls' world'
+      (lends : List FolderCall) × (page : Paged) × LendsPage q.node fh offset size lends page × RunsOut q (page_want q.node page.entries) lends page link calls world sent link' calls' world'
   TellsOut q fh usage link calls world sent link' calls' world' = ⊥
 
   -- an open folder is used, whatever frame the request stands in
   abbrev pub UsesOut : Request → (fh : ℕ) → FolderUse → L → C → W → Sent → L → C → W → Type 0
   UsesOut q fh usage link calls world sent link' calls' world' =
       (IsUsedBy sends q fh usage link sent link' × (calls' ≡ calls) × (world' ≡ world)) ⊎ TellsOut q fh usage link calls world sent link' calls' world'
+
+-- another request was in the way: nothing was done
+pub record IsUntouched {W L C : Type 0} (link : L) (calls : C) (world : W) (link' : L) (calls' : C) (world' : W) : Type 0 where
+  pub link_is : link' ≡ link
+  pub calls_are : calls' ≡ calls
+  pub world_is : world' ≡ world

@@ -11,11 +11,11 @@ pub enum Class {
     /// It does nothing and gets no reply.
     Ignored,
     /// It is answered EIO, whatever its body.
-    Misplaced,
+    Unexpected,
     /// An INIT where no version is agreed on.
-    Greeting,
+    InitFrame,
     /// A DESTROY where one is.
-    Farewell,
+    DestroyFrame,
     /// Any other request where one is.
     Asking,
 }
@@ -26,20 +26,20 @@ pub fn class_of(agreed: bool, opcode: u32) -> Class
 {
     if opcode == INIT {
         return if agreed {
-            Class::Misplaced
+            Class::Unexpected
         } else {
-            Class::Greeting
+            Class::InitFrame
         };
     }
     if agreed {
         return if opcode == DESTROY {
-            Class::Farewell
+            Class::DestroyFrame
         } else {
             Class::Asking
         };
     }
     if has_reply(opcode) {
-        Class::Misplaced
+        Class::Unexpected
     } else {
         Class::Ignored
     }

@@ -7,21 +7,20 @@ ghost use Rattle.handles.specs.declared.listing.ListingFault.TheVariants.{Memory
 ghost use Rattle.ops.specs.Ahead.{end_of};
 ghost use Rattle.ops.specs.Pages.{Paged};
 ghost use Rattle.ops.specs.Scripts.{listed_end, plan_of, Follows, Made};
-ghost use Rattle.steps.specs.Kept.{world_of};
-ghost use Rattle.table.specs.Gains.{Gains};
 ghost use Rattle.engine.specs.Folders.{FolderCall, GivesUp};
-ghost use Rattle.engine.specs.Tables.{worlds};
 ghost use Rattle.engine.specs.Walks.{listing_found, Concludes, IsPlain, Settled};
 
-use crate::links::{LinkOut, Sent};
-use crate::session::{Desk, is_taken, refuse};
+use crate::links::Sent;
+use crate::outlet::Outlet;
+use crate::reach::Reach;
+use crate::requests::{Session, is_taken, refuse};
 use backing::Children;
 use errno::{EIO, ENOMEM};
 use handles::{Dirs, Listing, ListingFault};
 use ledger::{Ledgers, Share};
-use ops::{Finding, opened_reply, reply_to};
+use ops::{ScriptResult, opened_reply, reply_to};
 use std::sync::Wait;
-use table::{Answered, Outcome, Table, Ticket};
+use table::{Answered, Outcome, Ticket};
 use wire::{Reply, ReplyBody, Request};
 
 /// Gives up a listing that was stored for a reply that was not taken.
@@ -39,18 +38,20 @@ fn give_up<H: Wait>(rt: &H, dirs: &Dirs, put: Option<u64>, taken: bool)
     }
 }
 
-impl Desk {
+impl Session {
     /// Answers a request that was finished, and settles it. Tells whether it counts as taken.
-    pub fn settle<T: Ledgers, L: LinkOut>(
+    pub fn settle<T: Ledgers, R: Reach<T>, L: Outlet>(
         &mut self,
         link: &mut L,
-        table: &mut Table<T>,
+        table: &mut R,
         share: &mut Share<T>,
         answered: Answered,
+        put: Option<u64>,
         reply: Reply,
     ) -> (Sent, bool)
-        ensures settled { Settled worlds L.sends reply.unique reply.body answered link.old (world_of table.old) result.0 result.1 link.new (world_of table.new) }
-        ensures gains { Gains (world_of table.old) share.old (world_of table.new) share.new }
+        requires holds { R.steps.holds (R.world table.old) answered }
+        ensures settled { Settled R.steps L.sends reply.unique reply.body answered put link.old (R.world table.old) result.0 result.1 link.new (R.world table.new) }
+        ensures gains { R.steps.gains (R.world table.old) share.old (R.world table.new) share.new }
         ensures settings { self.new.settings ≡ self.old.settings }
         ensures agreed { self.new.agreed ≡ self.old.agreed }
     {
@@ -58,56 +59,58 @@ impl Desk {
         match self.offer(link, reply) {
             Some(sent) => {
                 let taken = is_taken(sent);
-                table.settle(share, answered, taken);
+                table.settle(share, answered, put, taken);
                 (sent, taken)
             }
             None => {
-                table.settle(share, answered, false);
+                table.settle(share, answered, put, false);
                 (refuse(link, unique, ENOMEM), false)
             }
         }
     }
 
     /// Finishes a request by what its script has found, answers it and settles it.
-    pub fn tell<T: Ledgers, L: LinkOut>(
+    pub fn tell<T: Ledgers, R: Reach<T>, L: Outlet>(
         &mut self,
         link: &mut L,
-        table: &mut Table<T>,
+        table: &mut R,
         share: &mut Share<T>,
         request: Request<'_>,
         ticket: Ticket,
-        found: Finding,
+        found: ScriptResult,
     ) -> Sent
-        requires { IsPlain found }
-        ensures concludes { (page : Paged) (made : List Made) → Follows (plan_of request.entry.operation ticket) made (end_of found) → Concludes worlds self.old.settings L.sends request.entry page ticket made (end_of found)
-            link.old (world_of table.old) result link.new (world_of table.new) }
-        ensures gains { Gains (world_of table.old) share.old (world_of table.new) share.new }
+        requires free { R.steps.is_free (R.world table.old) }
+        requires plain { IsPlain found }
+        ensures concludes { (page : Paged) (made : List Made) → Follows (plan_of request.entry.operation ticket) made (end_of found) → Concludes R.steps self.old.settings L.sends request.entry page ticket made (end_of found)
+            link.old (R.world table.old) result link.new (R.world table.new) }
+        ensures gains { R.steps.gains (R.world table.old) share.old (R.world table.new) share.new }
         ensures settings { self.new.settings ≡ self.old.settings }
         ensures agreed { self.new.agreed ≡ self.old.agreed }
     {
         let (unique, node) = (request.unique, request.node);
         let answered = table.finish(share, ticket, found.outcome());
         let body = reply_to(self.settings, node, found, None, &answered);
-        let (sent, _) = self.settle(link, table, share, answered, Reply { unique, body });
+        let (sent, _) = self.settle(link, table, share, answered, None, Reply { unique, body });
         sent
     }
 
     /// Finishes an OPENDIR that found this listing: it is stored, and given up again where the reply was not taken.
-    fn open<H: Wait, T: Ledgers, L: LinkOut>(
+    fn open<H: Wait, T: Ledgers, R: Reach<T>, L: Outlet>(
         &mut self,
         rt: &H,
         dirs: &Dirs,
         link: &mut L,
-        table: &mut Table<T>,
+        table: &mut R,
         share: &mut Share<T>,
         request: Request<'_>,
         ticket: Ticket,
         listing: Listing,
     ) -> Sent
+        requires free { R.steps.is_free (R.world table.old) }
         ensures concludes { (page : Paged) (made : List Made) (children : List Child) → IsMade request.entry.node children (Ok listing) → Follows (plan_of request.entry.operation ticket) made (listing_found children)
-            → Concludes worlds self.old.settings L.sends request.entry page ticket made (listing_found children)
-            link.old (world_of table.old) result link.new (world_of table.new) }
-        ensures gains { Gains (world_of table.old) share.old (world_of table.new) share.new }
+            → Concludes R.steps self.old.settings L.sends request.entry page ticket made (listing_found children)
+            link.old (R.world table.old) result link.new (R.world table.new) }
+        ensures gains { R.steps.gains (R.world table.old) share.old (R.world table.new) share.new }
         ensures settings { self.new.settings ≡ self.old.settings }
         ensures agreed { self.new.agreed ≡ self.old.agreed }
     {
@@ -117,56 +120,60 @@ impl Desk {
             unique: request.unique,
             body: opened_reply(put),
         };
-        let (sent, taken) = self.settle(link, table, share, answered, reply);
+        let (sent, taken) = self.settle(link, table, share, answered, put, reply);
         give_up(rt, dirs, put, taken);
         sent
     }
 
     /// Finishes an OPENDIR whose listing found no memory.
-    fn starve<T: Ledgers, L: LinkOut>(
+    fn end_without_memory<T: Ledgers, R: Reach<T>, L: Outlet>(
         &mut self,
         link: &mut L,
-        table: &mut Table<T>,
+        table: &mut R,
         share: &mut Share<T>,
         request: Request<'_>,
         ticket: Ticket,
     ) -> Sent
+        requires free { R.steps.is_free (R.world table.old) }
         ensures concludes { (page : Paged) (made : List Made) (children : List Child) → IsMade request.entry.node children (Err Memory) → Follows (plan_of request.entry.operation ticket) made (listing_found children)
-            → Concludes worlds self.old.settings L.sends request.entry page ticket made (listing_found children)
-            link.old (world_of table.old) result link.new (world_of table.new) }
-        ensures gains { Gains (world_of table.old) share.old (world_of table.new) share.new }
+            → Concludes R.steps self.old.settings L.sends request.entry page ticket made (listing_found children)
+            link.old (R.world table.old) result link.new (R.world table.new) }
+        ensures gains { R.steps.gains (R.world table.old) share.old (R.world table.new) share.new }
         ensures settings { self.new.settings ≡ self.old.settings }
         ensures agreed { self.new.agreed ≡ self.old.agreed }
     {
         let answered = table.finish(share, ticket, Outcome::Done);
-        table.settle(share, answered, false);
+        table.settle(share, answered, None, false);
         refuse(link, request.unique, ENOMEM)
     }
     /// Finishes an OPENDIR that found these names.
-    pub fn list<H: Wait, T: Ledgers, L: LinkOut>(
+    pub fn list<H: Wait, T: Ledgers, R: Reach<T>, L: Outlet>(
         &mut self,
         rt: &H,
         dirs: &Dirs,
         link: &mut L,
-        table: &mut Table<T>,
+        table: &mut R,
         share: &mut Share<T>,
         request: Request<'_>,
         ticket: Ticket,
         children: Children,
     ) -> Sent
-        ensures concludes { (page : Paged) (made : List Made) → Follows (plan_of request.entry.operation ticket) made (listed_end children) → Concludes worlds self.old.settings L.sends request.entry page ticket made (listed_end children)
-            link.old (world_of table.old) result link.new (world_of table.new) }
-        ensures gains { Gains (world_of table.old) share.old (world_of table.new) share.new }
+        requires free { R.steps.is_free (R.world table.old) }
+        ensures concludes { (page : Paged) (made : List Made) → Follows (plan_of request.entry.operation ticket) made (listed_end children) → Concludes R.steps self.old.settings L.sends request.entry page ticket made (listed_end children)
+            link.old (R.world table.old) result link.new (R.world table.new) }
+        ensures gains { R.steps.gains (R.world table.old) share.old (R.world table.new) share.new }
         ensures settings { self.new.settings ≡ self.old.settings }
         ensures agreed { self.new.agreed ≡ self.old.agreed }
     {
         match Listing::new(self.alloc, request.node, children) {
             Ok(listing) => self.open(rt, dirs, link, table, share, request, ticket, listing),
             Err(ListingFault::Lawless) => {
-                let found = Finding::Error { errno: EIO };
+                let found = ScriptResult::Error { errno: EIO };
                 self.tell(link, table, share, request, ticket, found)
             }
-            Err(ListingFault::Memory) => self.starve(link, table, share, request, ticket),
+            Err(ListingFault::Memory) => self.end_without_memory(
+                link, table, share, request, ticket,
+            ),
         }
     }
 }

@@ -1,25 +1,24 @@
 //! READDIRPLUS: the page that it tells, and how it is finished, answered and settled.
 
 ghost use Rattle.std.specs.Prelude.{◌≡◌, true, [], List, Some, IfOk, OnErr};
-ghost use Rattle.steps.specs.Kept.{world_of};
-ghost use Rattle.table.specs.Gains.{Gains};
 ghost use Rattle.ops.specs.Ahead.{LooksAtEach};
 ghost use Rattle.ops.specs.Folders.{IsPaged};
 ghost use Rattle.ops.specs.Pages.{Paged as Told};
 ghost use Rattle.ops.specs.Scripts.{plan_of, Follows, Made};
 ghost use Rattle.engine.specs.Folders.{FolderCall, IsLentPage, LendsPage, PagesOf};
-ghost use Rattle.engine.specs.Tables.{worlds};
 ghost use Rattle.engine.specs.Walks.{entries_found, no_memory, Concludes};
 
-use crate::links::{LinkOut, Sent};
-use crate::session::{Desk, refuse};
+use crate::links::Sent;
+use crate::outlet::Outlet;
+use crate::reach::Reach;
+use crate::requests::{Session, refuse};
 use errno::{EBADF, EINVAL, ENOMEM};
 use handles::{Dirs, Listing, PageFault};
 use ledger::{Ledgers, Share};
 use ops::{Looked, Paged, entries_reply};
 use std::alloc::{AllocError, Global};
 use std::sync::Wait;
-use table::{Outcome, Table, Ticket};
+use table::{Outcome, Ticket};
 use wire::{Reply, ReplyBody, Request};
 
 /// What comes of lending a folder for a page.
@@ -65,21 +64,22 @@ pub(crate) fn lend_page<H: Wait>(
     take_page(alloc, lent.listing(), offset, size)
 }
 
-impl Desk {
+impl Session {
     /// Finishes a READDIRPLUS whose names were looked at: an entry is given for each that was found, and its page is told.
-    pub fn tell_entries<T: Ledgers, L: LinkOut>(
+    pub fn tell_entries<T: Ledgers, R: Reach<T>, L: Outlet>(
         &mut self,
         link: &mut L,
-        table: &mut Table<T>,
+        table: &mut R,
         share: &mut Share<T>,
         request: Request<'_>,
         ticket: Ticket,
         page: &Paged,
         looked: Looked,
     ) -> Sent
-        ensures concludes { (made : List Made) → Follows (plan_of request.entry.operation ticket) made (entries_found looked) → Concludes worlds self.old.settings L.sends request.entry page.now ticket made (entries_found looked)
-            link.old (world_of table.old) result link.new (world_of table.new) }
-        ensures gains { Gains (world_of table.old) share.old (world_of table.new) share.new }
+        requires free { R.steps.is_free (R.world table.old) }
+        ensures concludes { (made : List Made) → Follows (plan_of request.entry.operation ticket) made (entries_found looked) → Concludes R.steps self.old.settings L.sends request.entry page.now ticket made (entries_found looked)
+            link.old (R.world table.old) result link.new (R.world table.new) }
+        ensures gains { R.steps.gains (R.world table.old) share.old (R.world table.new) share.new }
         ensures settings { self.new.settings ≡ self.old.settings }
         ensures agreed { self.new.agreed ≡ self.old.agreed }
     {
@@ -88,33 +88,41 @@ impl Desk {
         let answered = table.finish(share, ticket, Outcome::Entries(there));
         match entries_reply(self.alloc, self.settings, page, &founds, answered.given()) {
             Ok(body) => {
-                let (sent, _) = self.settle(link, table, share, answered, Reply { unique, body });
+                let (sent, _) = self.settle(
+                    link,
+                    table,
+                    share,
+                    answered,
+                    None,
+                    Reply { unique, body },
+                );
                 sent
             }
             Err(_) => {
-                table.settle(share, answered, false);
+                table.settle(share, answered, None, false);
                 refuse(link, unique, ENOMEM)
             }
         }
     }
 
     /// Finishes a request whose script found no memory: it has failed.
-    pub fn cut_short<T: Ledgers, L: LinkOut>(
+    pub fn end_without_script<T: Ledgers, R: Reach<T>, L: Outlet>(
         &mut self,
         link: &mut L,
-        table: &mut Table<T>,
+        table: &mut R,
         share: &mut Share<T>,
         request: Request<'_>,
         ticket: Ticket,
     ) -> Sent
-        ensures concludes { (page : Told) → LooksAtEach request.entry.operation → Concludes worlds self.old.settings L.sends request.entry page ticket [] no_memory
-            link.old (world_of table.old) result link.new (world_of table.new) }
-        ensures gains { Gains (world_of table.old) share.old (world_of table.new) share.new }
+        requires free { R.steps.is_free (R.world table.old) }
+        ensures concludes { (page : Told) → LooksAtEach request.entry.operation → Concludes R.steps self.old.settings L.sends request.entry page ticket [] no_memory
+            link.old (R.world table.old) result link.new (R.world table.new) }
+        ensures gains { R.steps.gains (R.world table.old) share.old (R.world table.new) share.new }
         ensures settings { self.new.settings ≡ self.old.settings }
         ensures agreed { self.new.agreed ≡ self.old.agreed }
     {
         let answered = table.finish(share, ticket, Outcome::Failed);
-        table.settle(share, answered, false);
+        table.settle(share, answered, None, false);
         refuse(link, request.unique, ENOMEM)
     }
 }

@@ -1,24 +1,22 @@
 //! One frame, by whether a version is agreed on.
 
 ghost use Rattle.std.specs.Prelude.{◌≡◌, None, Some};
-ghost use Rattle.steps.specs.Kept.{world_of};
-ghost use Rattle.table.specs.Gains.{Gains};
 ghost use Rattle.wire.specs.Requests.{opcode_in, unique_in, IsFramed};
 ghost use Rattle.wire.specs.declared.opcode.TheConstants.{INIT};
-ghost use Rattle.engine.specs.Reference.{agrees, ending, greeting_of, negotiated_by};
-ghost use Rattle.engine.specs.Tables.{worlds, IsIdle};
-ghost use Rattle.engine.specs.Walks.{stand, GreetsFrame, Met, PartsFrame, Welcomes};
+ghost use Rattle.engine.specs.Reference.{agrees, ending, init_reply_of, negotiated_by};
+ghost use Rattle.engine.specs.Walks.{stand, HandlesInitFrame, IsHandled, HandlesDestroy, RepliesInit};
 
 use crate::classes::{Class, class_of};
 use crate::ends::SessionEnd;
-use crate::links::{LinkOut, Sent};
-use crate::session::{Desk, confirm, refuse};
+use crate::links::Sent;
+use crate::outlet::Outlet;
+use crate::reach::Reach;
+use crate::requests::{Session, refuse, reply_done};
 use backing::Calls;
 use errno::{EIO, ENOMEM, EPROTO};
 use handles::Dirs;
 use ledger::{Ledgers, Share};
 use std::sync::Wait;
-use table::Table;
 use wire::{Negotiated, Operation, Reply, ReplyBody, decode, header_of, negotiate};
 
 /// How a session has ended with a reply, if it has.
@@ -36,8 +34,8 @@ fn ending(sent: Option<Sent>, destroyed: bool) -> Option<SessionEnd>
 }
 
 /// What an INIT is answered.
-fn greeting_of(answer: Negotiated) -> ReplyBody
-    ensures { result ≡ greeting_of answer }
+fn init_reply_of(answer: Negotiated) -> ReplyBody
+    ensures { result ≡ init_reply_of answer }
 {
     match answer {
         Negotiated::Use(out) | Negotiated::Again(out) => ReplyBody::Init(out),
@@ -71,23 +69,23 @@ fn negotiated_by(operation: Operation<'_>) -> Option<Negotiated>
 }
 
 /// Answers a DESTROY, and tells whether the session ends with it.
-fn part<L: LinkOut>(link: &mut L, frame: &[u8], unique: u64) -> (Sent, bool)
+fn handle_destroy<L: Outlet>(link: &mut L, frame: &[u8], unique: u64) -> (Sent, bool)
     requires { unique ≡ unique_in frame.now }
-    ensures { PartsFrame L.sends frame.now link.old result.0 result.1 link.new }
+    ensures { HandlesDestroy L.sends frame.now link.old result.0 result.1 link.new }
 {
     match decode(frame) {
-        Ok(_) => (confirm(link, unique), true),
+        Ok(_) => (reply_done(link, unique), true),
         Err(fault) => (refuse(link, unique, fault.errno()), false),
     }
 }
 
-impl Desk {
+impl Session {
     /// Answers an INIT by what it comes to.
-    fn welcome<L: LinkOut>(&mut self, link: &mut L, unique: u64, answer: Negotiated) -> Sent
-        ensures welcomes { Welcomes L.sends unique answer self.old.agreed link.old result link.new self.new.agreed }
+    fn reply_init<L: Outlet>(&mut self, link: &mut L, unique: u64, answer: Negotiated) -> Sent
+        ensures welcomes { RepliesInit L.sends unique answer self.old.agreed link.old result link.new self.new.agreed }
         ensures settings { self.new.settings ≡ self.old.settings }
     {
-        let body = greeting_of(answer);
+        let body = init_reply_of(answer);
         match self.offer(link, Reply { unique, body }) {
             Some(sent) => {
                 self.agreed = agrees(answer, self.agreed);
@@ -98,38 +96,39 @@ impl Desk {
     }
 
     /// Answers an INIT, or its fault.
-    fn greet<L: LinkOut>(&mut self, link: &mut L, frame: &[u8], unique: u64) -> Sent
+    fn handle_init<L: Outlet>(&mut self, link: &mut L, frame: &[u8], unique: u64) -> Sent
         requires unique { unique ≡ unique_in frame.now }
         requires init { opcode_in frame.now ≡ INIT }
-        ensures greets { GreetsFrame L.sends frame.now self.old.agreed link.old result link.new self.new.agreed }
+        ensures greets { HandlesInitFrame L.sends frame.now self.old.agreed link.old result link.new self.new.agreed }
         ensures settings { self.new.settings ≡ self.old.settings }
     {
         match decode(frame) {
             Ok(request) => match negotiated_by(request.operation) {
-                Some(answer) => self.welcome(link, request.unique, answer),
+                Some(answer) => self.reply_init(link, request.unique, answer),
                 None => unreachable!(),
             },
             Err(fault) => refuse(link, unique, fault.errno()),
         }
     }
 
-    /// Meets one frame. Some end says that the session is over with it.
-    pub fn meet<H: Wait, T: Ledgers, L: LinkOut, C: Calls>(
+    /// Handles one frame. Some end says that the session is over with it.
+    pub fn handle_frame<H: Wait, T: Ledgers, R: Reach<T>, L: Outlet, C: Calls>(
         &mut self,
         rt: &H,
         dirs: &Dirs,
         link: &mut L,
         calls: &mut C,
-        table: &mut Table<T>,
+        table: &mut R,
         share: &mut Share<T>,
         frame: &[u8],
     ) -> Option<SessionEnd>
+        requires free { R.steps.is_free (R.world table.old) }
         requires framed { IsFramed frame.now }
-        requires idle { IsIdle (world_of table.old) }
-        ensures met { Met worlds self.old.settings L.sends C.gives frame.now
-            link.old calls.old (stand (world_of table.old) self.old.agreed) result link.new calls.new (stand (world_of table.new) self.new.agreed) }
-        ensures gains { Gains (world_of table.old) share.old (world_of table.new) share.new }
-        ensures idle { IsIdle (world_of table.new) }
+        requires idle { R.steps.is_idle (R.world table.old) }
+        ensures met { IsHandled R.steps self.old.settings L.sends C.gives frame.now
+            link.old calls.old (stand (R.world table.old) self.old.agreed) result link.new calls.new (stand (R.world table.new) self.new.agreed) }
+        ensures gains { R.steps.gains (R.world table.old) share.old (R.world table.new) share.new }
+        ensures idle { R.steps.is_idle (R.world table.new) }
         ensures settings { self.new.settings ≡ self.old.settings }
     {
         table.attest();
@@ -138,10 +137,10 @@ impl Desk {
         };
         match class_of(self.agreed, header.opcode) {
             Class::Ignored => None,
-            Class::Misplaced => ending(Some(refuse(link, header.unique, EIO)), false),
-            Class::Greeting => ending(Some(self.greet(link, frame, header.unique)), false),
-            Class::Farewell => {
-                let (sent, destroyed) = part(link, frame, header.unique);
+            Class::Unexpected => ending(Some(refuse(link, header.unique, EIO)), false),
+            Class::InitFrame => ending(Some(self.handle_init(link, frame, header.unique)), false),
+            Class::DestroyFrame => {
+                let (sent, destroyed) = handle_destroy(link, frame, header.unique);
                 ending(Some(sent), destroyed)
             }
             Class::Asking => ending(

@@ -4,10 +4,10 @@ ghost use Rattle.ops.specs.Ahead.{end_of, plan_ahead};
 ghost use Rattle.engine.specs.Playing.{Played};
 
 use backing::Calls;
-use ops::{Finding, Script};
+use ops::{Script, ScriptResult};
 
 /// Makes the calls of a script, each once and in order.
-pub fn play<C: Calls>(calls: &mut C, script: Script<'_>) -> Finding
+pub fn play<C: Calls>(calls: &mut C, script: Script<'_>) -> ScriptResult
     ensures { Played C.gives calls.old (plan_ahead script.entry) calls.new (end_of result) }
 {
     let mut script = script;
@@ -15,5 +15,5 @@ pub fn play<C: Calls>(calls: &mut C, script: Script<'_>) -> Finding
         let answer = calls.call(call);
         script.feed(answer);
     }
-    script.into_finding()
+    script.into_result()
 }

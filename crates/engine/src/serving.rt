@@ -3,17 +3,17 @@
 ghost use Rattle.std.specs.Prelude.{◌≡◌, ◌++◌, None, IfNone};
 ghost use Rattle.ledger.specs.Shares.{plus};
 ghost use Rattle.ledger.specs.Sums.{totals_of};
-ghost use Rattle.steps.specs.Kept.{world_of};
-ghost use Rattle.steps.specs.Steps.{gained};
-ghost use Rattle.steps.specs.World.{IsLawfulWorld};
+ghost use Rattle.table_steps.specs.Kept.{world_of};
+ghost use Rattle.table_steps.specs.Steps.{gained};
+ghost use Rattle.table_steps.specs.World.{IsLawfulWorld};
 ghost use Rattle.table.specs.Gains.{Gains};
 ghost use Rattle.engine.specs.Serving.{IsClientRun, IsSessionRun, RemovesAll, RemovesLeft};
 ghost use Rattle.engine.specs.Tables.{worlds, IsIdle};
-ghost use Rattle.engine.specs.Walks.{side, stand, Drains};
+ghost use Rattle.engine.specs.Walks.{side, stand, WorksOffFrames};
 
 use crate::ends::SessionEnd;
 use crate::links::{Link, Received};
-use crate::session::Desk;
+use crate::requests::Session;
 use backing::{Call, Calls};
 use handles::Dirs;
 use ledger::{Ledgers, Share};
@@ -28,10 +28,10 @@ use wire::{CutFault, Cutter};
 const ROOM: usize = 4096;
 
 /// Works off the frames that are there whole. Some end says that the session is over.
-fn drain<H: Wait, T: Ledgers, L: Link, C: Calls>(
+fn work_off_frames<H: Wait, T: Ledgers, L: Link, C: Calls>(
     rt: &H,
     dirs: &Dirs,
-    desk: &mut Desk,
+    session: &mut Session,
     link: &mut L,
     calls: &mut C,
     table: &mut Table<T>,
@@ -39,20 +39,20 @@ fn drain<H: Wait, T: Ledgers, L: Link, C: Calls>(
     cutter: &mut Cutter,
 ) -> Option<SessionEnd>
     requires idle { IsIdle (world_of table.old) }
-    ensures drains { Drains worlds desk.old.settings L.receives L.sends C.gives
-        (side link.old calls.old (stand (world_of table.old) desk.old.agreed) cutter.old.kept)
-        link.new calls.new (stand (world_of table.new) desk.new.agreed) cutter.new.kept result }
+    ensures drains { WorksOffFrames worlds session.old.settings L.receives L.sends C.gives
+        (side link.old calls.old (stand (world_of table.old) session.old.agreed) cutter.old.kept)
+        link.new calls.new (stand (world_of table.new) session.new.agreed) cutter.new.kept result }
     ensures gains { Gains (world_of table.old) share.old (world_of table.new) share.new }
     ensures on { IfNone result (cutter.new.stopped ≡ cutter.old.stopped) }
     ensures idle { IsIdle (world_of table.new) }
-    ensures settings { desk.new.settings ≡ desk.old.settings }
+    ensures settings { session.new.settings ≡ session.old.settings }
 {
     table.attest();
     loop {
         match cutter.next() {
             Ok(None) => return None,
             Ok(Some(frame)) => {
-                match desk.meet(rt, dirs, link, calls, table, share, &frame) {
+                match session.handle_frame(rt, dirs, link, calls, table, share, &frame) {
                     None => {}
                     Some(end) => return Some(end),
                 }
@@ -64,7 +64,7 @@ fn drain<H: Wait, T: Ledgers, L: Link, C: Calls>(
 }
 
 /// Works off what a client sends until its session is over.
-fn attend<H: Wait, T: Ledgers, L: Link, C: Calls>(
+fn serve_client<H: Wait, T: Ledgers, L: Link, C: Calls>(
     rt: &H,
     alloc: Global,
     link: &mut L,
@@ -82,7 +82,7 @@ fn attend<H: Wait, T: Ledgers, L: Link, C: Calls>(
     ensures share { share.new ≡ record share.old { totals = plus share.old.totals (totals_of (gained (world_of table.old) (world_of table.new))) } }
 {
     table.attest();
-    let mut desk = Desk {
+    let mut session = Session {
         alloc,
         settings,
         agreed: false,
@@ -105,7 +105,16 @@ fn attend<H: Wait, T: Ledgers, L: Link, C: Calls>(
             // It has met no bad length yet.
             Err(_) => return SessionEnd::Memory,
         }
-        match drain(rt, dirs, &mut desk, link, calls, table, share, &mut cutter) {
+        match work_off_frames(
+            rt,
+            dirs,
+            &mut session,
+            link,
+            calls,
+            table,
+            share,
+            &mut cutter,
+        ) {
             None => {}
             Some(end) => return end,
         }
@@ -151,7 +160,7 @@ pub fn serve<H: Wait, T: Ledgers, L: Link, C: Calls>(
     ensures grows { (world_of table.new).postings ≡ (world_of table.old).postings ++ gained (world_of table.old) (world_of table.new) }
     ensures share { share.new ≡ record share.old { totals = plus share.old.totals (totals_of (gained (world_of table.old) (world_of table.new))) } }
 {
-    let end = attend(rt, alloc, link, calls, table, share, dirs, settings);
+    let end = serve_client(rt, alloc, link, calls, table, share, dirs, settings);
     remove_leftovers(calls, table);
     end
 }

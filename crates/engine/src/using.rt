@@ -1,29 +1,29 @@
 //! Requests that use an open folder: all but READDIRPLUS are answered at once.
 
-ghost use Rattle.std.specs.Prelude.{◌≡◌};
-ghost use Rattle.steps.specs.Kept.{world_of};
-ghost use Rattle.table.specs.Gains.{Gains};
+ghost use Rattle.std.specs.Prelude.{◌≡◌, List};
+ghost use Rattle.ops.specs.Pages.{page_want};
+ghost use Rattle.engine.specs.Folders.{FolderCall};
 ghost use Rattle.ops.specs.declared.intents.FolderUse.TheVariants.{ReadEntries};
 ghost use Rattle.engine.specs.Folders.{IsAtOnce};
-ghost use Rattle.engine.specs.Tables.{worlds, IsIdle};
-ghost use Rattle.engine.specs.Walks.{IsUsedBy, UsesOut};
+ghost use Rattle.engine.specs.Walks.{RunsOut, IsUsedBy, UsesOut};
 
 use crate::entries::{Lends, lend_page};
 use crate::folders::use_folder;
-use crate::links::{LinkOut, Sent};
-use crate::session::{Desk, refuse};
+use crate::links::Sent;
+use crate::outlet::Outlet;
+use crate::reach::Reach;
+use crate::requests::{Session, refuse};
 use backing::Calls;
 use errno::ENOMEM;
 use handles::Dirs;
 use ledger::{Ledgers, Share};
-use ops::FolderUse;
+use ops::{FolderUse, Paged};
 use std::sync::Wait;
-use table::Table;
 use wire::{Reply, Request};
 
-impl Desk {
+impl Session {
     /// Answers at once a request that uses an open folder.
-    fn tell_use<H: Wait, L: LinkOut>(
+    fn tell_use<H: Wait, L: Outlet>(
         &mut self,
         rt: &H,
         dirs: &Dirs,
@@ -44,25 +44,61 @@ impl Desk {
         }
     }
 
-    /// Works off a READDIRPLUS. Its page is copied and the folder given back before it begins; a page that is refused is answered at once.
-    fn read_entries<H: Wait, T: Ledgers, L: LinkOut, C: Calls>(
+    /// Runs a READDIRPLUS, and begins it again for as long as another request is in its way.
+    fn run_page<H: Wait, T: Ledgers, R: Reach<T>, L: Outlet, C: Calls>(
         &mut self,
         rt: &H,
         dirs: &Dirs,
         link: &mut L,
         calls: &mut C,
-        table: &mut Table<T>,
+        table: &mut R,
+        share: &mut Share<T>,
+        request: Request<'_>,
+        page: &Paged,
+    ) -> Sent
+        requires free { R.steps.is_free (R.world table.old) }
+        requires idle { R.steps.is_idle (R.world table.old) }
+        ensures carries { (lends : List FolderCall) → RunsOut R.steps self.old.settings L.sends C.gives request.entry (page_want request.entry.node page.now.entries) lends page.now
+            link.old calls.old (R.world table.old) result link.new calls.new (R.world table.new) }
+        ensures gains { R.steps.gains (R.world table.old) share.old (R.world table.new) share.new }
+        ensures idle { R.steps.is_idle (R.world table.new) }
+        ensures settings { self.new.settings ≡ self.old.settings }
+        ensures agreed { self.new.agreed ≡ self.old.agreed }
+    {
+        table.attest();
+        for _ in rt.forever() {
+            let want = match page.want(self.alloc, request.node) {
+                Ok(want) => want,
+                Err(_) => return refuse(link, request.unique, ENOMEM),
+            };
+            match self.run_request(rt, dirs, link, calls, table, share, request, want, page) {
+                Some(sent) => return sent,
+                None => {}
+            }
+        }
+        unreachable!()
+    }
+
+    /// Works off a READDIRPLUS. Its page is copied and the folder given back before it begins; a page that is refused is answered at once.
+    fn read_entries<H: Wait, T: Ledgers, R: Reach<T>, L: Outlet, C: Calls>(
+        &mut self,
+        rt: &H,
+        dirs: &Dirs,
+        link: &mut L,
+        calls: &mut C,
+        table: &mut R,
         share: &mut Share<T>,
         request: Request<'_>,
         fh: u64,
         offset: u64,
         size: u32,
     ) -> Sent
-        requires idle { IsIdle (world_of table.old) }
-        ensures used { UsesOut worlds self.old.settings L.sends C.gives request.entry fh (ReadEntries offset size)
-            link.old calls.old (world_of table.old) result link.new calls.new (world_of table.new) }
-        ensures gains { Gains (world_of table.old) share.old (world_of table.new) share.new }
-        ensures idle { IsIdle (world_of table.new) }
+        requires free { R.steps.is_free (R.world table.old) }
+        requires idle { R.steps.is_idle (R.world table.old) }
+        ensures used { UsesOut R.steps self.old.settings L.sends C.gives request.entry fh (ReadEntries offset size)
+            link.old calls.old (R.world table.old) result link.new calls.new (R.world table.new) }
+        ensures gains { R.steps.gains (R.world table.old) share.old (R.world table.new) share.new }
+        ensures idle { R.steps.is_idle (R.world table.new) }
         ensures settings { self.new.settings ≡ self.old.settings }
         ensures agreed { self.new.agreed ≡ self.old.agreed }
     {
@@ -73,30 +109,28 @@ impl Desk {
             Ok(Lends::Nothing(body)) => return self.answer(link, Reply { unique, body }),
             Err(_) => return refuse(link, unique, ENOMEM),
         };
-        match page.want(self.alloc, node) {
-            Ok(want) => self.carry(rt, dirs, link, calls, table, share, request, want, &page),
-            Err(_) => refuse(link, unique, ENOMEM),
-        }
+        self.run_page(rt, dirs, link, calls, table, share, request, &page)
     }
 
     /// Works off a request that uses an open folder.
-    pub fn use_folder<H: Wait, T: Ledgers, L: LinkOut, C: Calls>(
+    pub fn use_folder<H: Wait, T: Ledgers, R: Reach<T>, L: Outlet, C: Calls>(
         &mut self,
         rt: &H,
         dirs: &Dirs,
         link: &mut L,
         calls: &mut C,
-        table: &mut Table<T>,
+        table: &mut R,
         share: &mut Share<T>,
         request: Request<'_>,
         fh: u64,
         usage: FolderUse,
     ) -> Sent
-        requires idle { IsIdle (world_of table.old) }
-        ensures used { UsesOut worlds self.old.settings L.sends C.gives request.entry fh usage
-            link.old calls.old (world_of table.old) result link.new calls.new (world_of table.new) }
-        ensures gains { Gains (world_of table.old) share.old (world_of table.new) share.new }
-        ensures idle { IsIdle (world_of table.new) }
+        requires free { R.steps.is_free (R.world table.old) }
+        requires idle { R.steps.is_idle (R.world table.old) }
+        ensures used { UsesOut R.steps self.old.settings L.sends C.gives request.entry fh usage
+            link.old calls.old (R.world table.old) result link.new calls.new (R.world table.new) }
+        ensures gains { R.steps.gains (R.world table.old) share.old (R.world table.new) share.new }
+        ensures idle { R.steps.is_idle (R.world table.new) }
         ensures settings { self.new.settings ≡ self.old.settings }
         ensures agreed { self.new.agreed ≡ self.old.agreed }
     {

@@ -2,9 +2,10 @@
 use Rattle.std.proofs.Common.{◌≡◌, ℕ, suc, ◌+◌, ◌<◌, ◌≤◌, Bool, true, false, not, cond, ltb, eqb, ◌==◌, List, [], ◌∷◌, ◌++◌, Some, Result, Ok, Err, length, take, drop, map, get_or, refl, sym, ap, ◌∙◌, subst, arith, inl, inr, drop-cons}
 use Rattle.std.proofs.lemmas.Bool.{true≢false, cond-true, cond-false, eqb-true, eq-eqb, ne_eqb, le-ltb, cases_lt}
 use Rattle.std.proofs.lemmas.List.{map-append, take-map, drop-map, length-map, length-take-le, length-drop, take-append-drop, get_or-take, get_or-drop, get_or-map}
-use Rattle.std.proofs.lemmas.List.Elements.{All-head, All-tail, All-nil, All-push, All-filter, filter-append, Contains-get_or}
+use Rattle.std.proofs.lemmas.List.Elements.{All-head, All-tail, All-filter, filter-append, Contains-get_or}
+use Rattle.std.proofs.lemmas.List.Filters.{length-filter_both, sum_by-filter_both}
+use Rattle.std.proofs.lemmas.List.Sums.{sum_by-remove}
 use Rattle.std.proofs.lemmas.List.Kept.{AllPairs-filter}
-use Rattle.std.proofs.lemmas.List.Quantifiers.{all_pairs_push}
 use Rattle.std.proofs.lemmas.List.Sorted.{searchable_from_sorted}
 use Rattle.std.specs.declared.cmp.Ordering.{Ordering}
 use Rattle.std.specs.declared.cmp.Ordering.TheVariants.{Less, Equal, Greater}
@@ -14,26 +15,25 @@ use Rattle.std.specs.List.{All, Contains, HoldsAt, filter, remove}
 use Rattle.std.specs.List.Sorted.{IsBinarySearchResult, IsSearchInRange, IsSortedBy}
 use Rattle.std.specs.Result.{result_ok}
 use Rattle.handles.specs.Listings.{OpenFolder}
-use Rattle.handles.specs.Shelves.{Shelf, IsKept, IsRising, IsPlace, IsFound}
+use Rattle.handles.specs.declared.limits.FolderLimits.{FolderLimits}
+use Rattle.handles.specs.FolderStores.{OpenFolders, IsKept, IsRising, IsPlace, IsFound, names_in}
 
 abbrev pub differs : ℕ → OpenFolder → Bool
 differs fh folder = not (folder.fh == fh)
 
-pub kept_none : IsKept (record { last = 0; folders = [] })
-kept_none = record { rising = λ i j d a b. absurd (omega (arith, b)); given = All-nil (λ (f : OpenFolder). f.fh ≤ 0) }
+names_less : (p : OpenFolder → Bool) (xs : List OpenFolder) → names_in (filter p xs) ≤ names_in xs
+names_less p xs = let both = sum_by-filter_both p (λ (f : OpenFolder). not (p f)) (λ f. refl) (λ (f : OpenFolder). length f.entries) xs in omega (arith, both)
 
--- a folder under a handle above the last
-pub kept_more : (shelf : Shelf) (folder : OpenFolder) (fh : ℕ) → IsKept shelf → shelf.last < fh → folder.fh ≡ fh → IsKept (record { last = fh; folders = shelf.folders ++ folder ∷ [] })
-kept_more shelf folder fh kept above is = record {
-  rising = all_pairs_push (λ (a b : OpenFolder). a.fh < b.fh) shelf.folders folder kept.rising (λ k d b. let under = kept.given k d b in omega (arith, under, above, is));
-  given = All-push (λ (f : OpenFolder). f.fh ≤ fh) shelf.folders folder (λ k d b. let under = kept.given k d b in omega (arith, under, above)) (omega (arith, is));
-}
+fewer : (p : OpenFolder → Bool) (xs : List OpenFolder) → length (filter p xs) ≤ length xs
+fewer p xs = let both = length-filter_both p (λ (f : OpenFolder). not (p f)) (λ f. refl) xs in omega (arith, both)
 
 -- fewer folders
-pub kept_less : (shelf : Shelf) (p : OpenFolder → Bool) → IsKept shelf → IsKept (record shelf { folders = filter p shelf.folders })
-kept_less shelf p kept = record {
-  rising = AllPairs-filter (λ (a b : OpenFolder). a.fh < b.fh) p shelf.folders kept.rising;
-  given = All-filter p (λ (f : OpenFolder). f.fh ≤ shelf.last) shelf.folders kept.given;
+pub kept_less : (open_folders : OpenFolders) (p : OpenFolder → Bool) → IsKept open_folders → IsKept (record open_folders { folders = filter p open_folders.folders })
+kept_less open_folders p kept = record {
+  rising = AllPairs-filter (λ (a b : OpenFolder). a.fh < b.fh) p open_folders.folders kept.rising;
+  given = All-filter p (λ (f : OpenFolder). f.fh ≤ open_folders.last) open_folders.folders kept.given;
+  few = omega (arith, kept.few, fewer p open_folders.folders);
+  narrow = omega (arith, kept.narrow, names_less p open_folders.folders);
 }
 
 passes_all : (p : OpenFolder → Bool) (xs : List OpenFolder) → All (λ x. p x ≡ true) xs → filter p xs ≡ xs
@@ -48,7 +48,7 @@ at_place : (xs : List OpenFolder) (i : ℕ) (d : OpenFolder) → i < length xs �
 at_place xs i d b = sym (take-append-drop i xs) ∙ ap (λ (ys : List OpenFolder). take i xs ++ ys) (drop-cons xs i d b)
 
 -- Where handles rise, the folder at a place is all that bears its handle.
-pub removed : (xs : List OpenFolder) (i fh : ℕ) (d : OpenFolder) → i < length xs → HoldsAt (λ (f : OpenFolder). f.fh ≡ fh) xs i → IsRising xs → remove xs i ≡ filter (differs fh) xs
+removed : (xs : List OpenFolder) (i fh : ℕ) (d : OpenFolder) → i < length xs → HoldsAt (λ (f : OpenFolder). f.fh ≡ fh) xs i → IsRising xs → remove xs i ≡ filter (differs fh) xs
 removed xs i fh d b is up =
     let before : filter (differs fh) (take i xs) ≡ take i xs = passes_all (differs fh) (take i xs) (λ k e h. differs_from fh (get_or (take i xs) k e) (λ same.
     let long = length-take-le i xs (omega (arith, b)) in
@@ -79,7 +79,7 @@ apart : (a b : ℕ) (r : Ordering) → nat_cmp a b ≡ r → is_eq r ≡ false �
 apart a b r told ne e = true≢false (sym (sym (unsigned_ties a b) ∙ eq-eqb a b e) ∙ (ap is_eq told ∙ ne))
 
 module _ {X : Type 0} (v : X → OpenFolder) where
-  pub map_remove : (xs : List X) (i : ℕ) → map v (remove xs i) ≡ remove (map v xs) i
+  map_remove : (xs : List X) (i : ℕ) → map v (remove xs i) ≡ remove (map v xs) i
   map_remove xs i =
       map-append v (take i xs) (drop (suc i) xs) ∙ (ap (λ (ys : List OpenFolder). ys ++ map v (drop (suc i) xs)) (sym (take-map v i xs)) ∙ ap (λ (ys : List OpenFolder). take i (map v xs) ++ ys) (sym (drop-map v (suc i) xs)))
 
@@ -110,10 +110,23 @@ module _ {X : Type 0} (v : X → OpenFolder) where
       ]
 
   -- the folder that is read at its place
-  pub found : (xs : List X) (last fh i : ℕ) (x : X) → IsPlace fh (map v xs) (Some i) → x ≡ get_or xs i x → IsFound fh (record { last = last; folders = map v xs }) (v x)
-  found xs last fh i x at is =
+  pub found : (xs : List X) (limits : FolderLimits) (last fh i : ℕ) (x : X) → IsPlace fh (map v xs) (Some i) → x ≡ get_or xs i x → IsFound fh (record { limits = limits; last = last; folders = map v xs }) (v x)
+  found xs limits last fh i x at is =
       let here : get_or (map v xs) i (v x) ≡ v x = get_or-map v xs i x (v x) (omega (arith, at.0, length-map xs v)) ∙ ap v (sym is) in
       record {
         there = subst (λ (f : OpenFolder). Contains (map v xs) f) here (Contains-get_or (map v xs) i (v x) at.0);
         bears = sym (ap (λ (f : OpenFolder). f.fh) here) ∙ at.1 (v x);
       }
+
+  -- what is left where the folder at its place goes
+  pub taken : (xs : List X) (fh i : ℕ) (x : X) → IsPlace fh (map v xs) (Some i) → IsRising (map v xs) → map v (remove xs i) ≡ filter (differs fh) (map v xs)
+  taken xs fh i x at up = map_remove xs i ∙ removed (map v xs) i fh (v x) at.0 at.1 up
+
+  -- its names go with it
+  pub names_taken : (xs : List X) (fh i : ℕ) (x : X) → IsPlace fh (map v xs) (Some i) → x ≡ get_or xs i x → names_in (map v (remove xs i)) + length (v x).entries ≡ names_in (map v xs)
+  names_taken xs fh i x at is =
+      let here : get_or (map v xs) i (v x) ≡ v x = get_or-map v xs i x (v x) (omega (arith, at.0, length-map xs v)) ∙ ap v (sym is) in
+      let whole = sum_by-remove (λ (f : OpenFolder). length f.entries) (map v xs) i (v x) at.0 in
+      let rest = ap names_in (map_remove xs i) in
+      let own = ap (λ (f : OpenFolder). length f.entries) here in
+      omega (arith, whole, rest, own)

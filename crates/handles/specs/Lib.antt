@@ -1,4 +1,4 @@
 pub mod Listings
 pub mod Names
 pub mod Pages
-pub mod Shelves
+pub mod FolderStores

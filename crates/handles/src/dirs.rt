@@ -3,8 +3,9 @@
 ghost use Rattle.std.specs.Prelude.{◌≡◌, IfErr, IfSome};
 ghost use Rattle.handles.specs.Listings.{IsLent};
 
+use crate::limits::FolderLimits;
 use crate::listing::Listing;
-use crate::shelf::Shelf;
+use crate::open_folders::OpenFolders;
 use std::alloc::Global;
 use std::marker::{Model, PhantomData};
 use std::sync::{Arc, Mutex, Wait};
@@ -12,7 +13,7 @@ use std::sync::{Arc, Mutex, Wait};
 /// The open folders of a session, which several threads share. Handles rise from 1, and none is given twice.
 #[derive(Drop)]
 pub struct Dirs {
-    shelf: Mutex<Shelf>,
+    open_folders: Mutex<OpenFolders>,
 }
 
 /// A listing that is lent by the open folders. It stays as it is for as long as this lives, retired or not, and keeps nobody
@@ -42,26 +43,34 @@ impl<'a> Lent<'a> {
 }
 
 impl Dirs {
-    /// No open folders.
+    /// No open folders, which may grow as far as `FolderLimits` says by default.
     pub fn new(alloc: Global) -> Dirs {
+        Dirs::with_limits(alloc, FolderLimits::default())
+    }
+
+    /// No open folders, which may grow as far as these limits say.
+    pub fn with_limits(alloc: Global, limits: FolderLimits) -> Dirs {
         Dirs {
-            shelf: Mutex::new(Shelf::new(alloc)),
+            open_folders: Mutex::new(OpenFolders::new(alloc, limits)),
         }
     }
 
-    /// Stores the listing and answers its handle, which it then bears. Where memory is refused, or all handles were given, it
-    /// comes back as it was: ENFILE (own).
+    /// Stores the listing and answers its handle, which it then bears. Where that would pass a limit, memory is refused, or all
+    /// handles were given, it comes back as it was: ENFILE (own).
     pub fn put(&self, rt: &impl Wait, listing: Listing) -> Result<u64, Listing>
         ensures { IfErr result (λ back. back ≡ listing) }
     {
-        self.shelf.lock(rt).put(listing)
+        match self.open_folders.lock(rt).put(listing) {
+            Ok(fh) => Ok(fh),
+            Err(refused) => Err(refused.listing),
+        }
     }
 
     /// Lends the listing under the handle. None is EBADF (own).
     pub fn lend(&self, rt: &impl Wait, fh: u64) -> Option<Lent<'_>>
         ensures { IfSome result (IsLent fh) }
     {
-        let listing = self.shelf.lock(rt).lend(fh)?;
+        let listing = self.open_folders.lock(rt).lend(fh)?;
         listing.attest();
         Some(Lent {
             listing,
@@ -72,7 +81,7 @@ impl Dirs {
     /// Gives the handle up for good. Whether a listing stood under it; false is EBADF (own).
     pub fn retire(&self, rt: &impl Wait, fh: u64) -> bool {
         // Many names may go with the listing: after the lock was given back.
-        let listing = self.shelf.lock(rt).take(fh);
+        let listing = self.open_folders.lock(rt).take(fh);
         listing.is_some()
     }
 }

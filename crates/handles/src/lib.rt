@@ -2,12 +2,14 @@
 #![tactic(auto)]
 
 mod dirs;
+mod limits;
 mod listing;
 mod names;
+mod open_folders;
 mod page;
 mod paging;
-mod shelf;
 
 pub use dirs::{Dirs, Lent};
+pub use limits::{FolderLimits, MAX_KEPT_NAMES, MAX_OPEN_FOLDERS};
 pub use listing::{Listing, ListingFault};
 pub use page::{Page, PageFault};

@@ -26,9 +26,6 @@ among_none ps path none = list_any_none (λ (p : Names). is_prefix p path && is_
 pub contains_read : {X : Type 0} → (xs : List X) (i : ℕ) (x y : X) → i < length xs → x ≡ get_or xs i x → x ≡ y → Contains xs y
 contains_read xs i x y within read same = (i, within, sym (get_or_default xs i x y within) ∙ (sym read ∙ same))
 
-pub contains_none : {X : Type 0} → (xs : List X) (y : X) → ((k : ℕ) (d : X) → k < length xs → get_or xs k d ≡ y → ⊥) → Contains xs y → ⊥
-contains_none xs y none found = none found.0 y found.1 found.2
-
 -- an element more for which nothing holds
 pub none_more : {X : Type 0} → (P : X → Type 0) (xs : List X) (i : ℕ) (x : X) → i < length xs → x ≡ get_or xs i x → (P x → ⊥)
     → ((k : ℕ) (d : X) → k < i → P (get_or xs k d) → ⊥) → (k : ℕ) (d : X) → k < i + 1 → P (get_or xs k d) → ⊥

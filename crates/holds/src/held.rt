@@ -40,13 +40,6 @@ impl GivenPaths {
     {
         self.leads.as_slice()
     }
-
-    pub fn into_vec(self) -> Vec<GivenPath>
-        ensures { result.items ≡ self }
-    {
-        let Self { leads } = self;
-        leads
-    }
 }
 
 /// Some paths. Contracts see a list.

@@ -1,8 +1,8 @@
 //! The program `mirrord`.
 #![tactic(auto)]
 
-use programs::{Failure, Fault, run, tell};
-use server::RECEIVED;
+use mirrord_programs::{Failure, Fault, run, tell};
+use mirrord_server::RECEIVED;
 use std::io::BufReader;
 use std::process::ExitCode;
 use std::{env, io};

@@ -5,7 +5,7 @@ use Rattle.std.proofs.lemmas.List.{length-append}
 use Rattle.std.proofs.lemmas.List.Sums.{sum_by-cons}
 use Rattle.backing.specs.declared.call.Child.{Child}
 use Rattle.handles.specs.Pages.{bytes_of, padded}
-use Rattle.flights.specs.declared.data.Given.{Given}
+use Rattle.table_requests.specs.declared.data.Given.{Given}
 use Rattle.handles.specs.Names.{is_dot}
 use Rattle.wire.specs.Dirents.{Dirent, PlusDirent, dirent_bytes, dirent_in, given_values, plus_bytes}
 use Rattle.wire.specs.Replies.{entry_layout}

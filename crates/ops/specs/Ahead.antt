@@ -3,23 +3,23 @@ use Rattle.std.specs.Prelude.{ℕ, ℤ, ◌+◌, is_some, List, [], ◌∷◌, l
 use Rattle.paths.specs.Prefixes.{Names}
 use Rattle.backing.specs.Calls.{asked}
 use Rattle.backing.specs.declared.call.Call.{Call}
-use Rattle.steps.specs.declared.data.Outcome.{Outcome}
-use Rattle.steps.specs.declared.data.Outcome.TheVariants.{Failed, Done, Entry, Entries, Hidden, HiddenMove}
+use Rattle.table_steps.specs.declared.data.Outcome.{Outcome}
+use Rattle.table_steps.specs.declared.data.Outcome.TheVariants.{Failed, Done, Entry, Entries, Hidden, HiddenMove}
 use Rattle.ops.specs.declared.findings.Found.{Found}
-use Rattle.ops.specs.declared.findings.Finding.{Finding}
-use Rattle.ops.specs.declared.findings.Finding.TheVariants.{Error, Nothing, NewEntry, NewFile, Attributes, Opening, Bytes, Written, Listed, Looked, Hid, Replaced, Unmoved, Kept}
+use Rattle.ops.specs.declared.findings.ScriptResult.{ScriptResult}
+use Rattle.ops.specs.declared.findings.ScriptResult.TheVariants.{Error, Nothing, NewEntry, NewFile, Attributes, Opening, Bytes, Written, Listed, Looked, Hid, Replaced, Unmoved, Kept}
 use Rattle.ops.specs.declared.hiding.Hiding.{Hiding}
-use Rattle.ops.specs.declared.script.Ending.{Ending}
-use Rattle.ops.specs.declared.script.Ending.TheVariants as ending
+use Rattle.ops.specs.declared.script.LastCall.{LastCall}
+use Rattle.ops.specs.declared.script.LastCall.TheVariants as ending
 use Rattle.ops.specs.declared.script.Script.{Script}
-use Rattle.ops.specs.declared.telling.Telling.{Telling}
-use Rattle.ops.specs.declared.telling.Telling.TheVariants as telling
+use Rattle.ops.specs.declared.telling.ReplyKind.{ReplyKind}
+use Rattle.ops.specs.declared.telling.ReplyKind.TheVariants as telling
 use Rattle.wire.specs.declared.request.Operation.{Operation}
 use Rattle.wire.specs.declared.request.Operation.TheVariants as ops
 use Rattle.ops.specs.Looking.{plan_looking}
 use Rattle.ops.specs.Scripts.{Plan, Over, End, failed, hide, list, listed_end, make, move_after, look, open_end, over, read, remove_closed, replace, write}
 
-abbrev pub outcome_of : Finding → Outcome
+abbrev pub outcome_of : ScriptResult → Outcome
 outcome_of (Error errno) = Failed
 outcome_of Nothing = Done
 outcome_of (NewEntry found) = Entry
@@ -36,12 +36,12 @@ outcome_of (Unmoved candidate errno) = HiddenMove candidate false
 outcome_of Kept = Failed
 
 -- names that are lawless are an error
-abbrev pub end_of : Finding → End
+abbrev pub end_of : ScriptResult → End
 end_of (Listed children) = listed_end children
 end_of finding = record { outcome = outcome_of finding; findings = finding }
 
 -- it is of one path alone, or of none
-abbrev pub IsOfNoPage : Finding → Type 0
+abbrev pub IsOfNoPage : ScriptResult → Type 0
 IsOfNoPage (Looked founds) = ⊥
 IsOfNoPage finding = Unit {0}
 
@@ -51,7 +51,7 @@ LooksAtEach (ops.ReadDirPlus fh offset size) = Unit {0}
 LooksAtEach operation = ⊥
 
 -- what is told of what was found
-abbrev pub told_of : Telling → Found → End
+abbrev pub told_of : ReplyKind → Found → End
 told_of telling.Nothing found = end_of Nothing
 told_of telling.Entry found = end_of (NewEntry found)
 told_of telling.NewFile found = end_of (NewFile found)
@@ -66,7 +66,7 @@ after_hide p (Some s) i = move_after s p i
 abbrev pub plan_hiding : Hiding → Plan
 plan_hiding h = hide h.path.now h.left.now (after_hide h.path.now (option_map (λ s. s.now) h.source))
 
-abbrev pub plan_ending : Ending → Plan
+abbrev pub plan_ending : LastCall → Plan
 plan_ending (ending.Look p tells) = look p.now (λ found. Over (told_of tells found))
 plan_ending (ending.List p) = list p.now
 plan_ending (ending.Read p offset size) = read p.now offset size
@@ -105,7 +105,7 @@ calls_hiding (c ∷ cs) after = length cs + 2 + after
 abbrev pub calls_in : Hiding → ℕ
 calls_in h = calls_hiding h.left.now (calls_after (option_map (λ s. s.now) h.source))
 
-abbrev pub calls_ending : Ending → ℕ
+abbrev pub calls_ending : LastCall → ℕ
 calls_ending (ending.Look p tells) = 1
 calls_ending (ending.List p) = 1
 calls_ending (ending.Read p offset size) = 1

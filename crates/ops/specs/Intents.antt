@@ -3,13 +3,13 @@ use Rattle.std.specs.Prelude.{ℕ, ℤ, ◌+◌, ◌*◌, ◌^◌, ◌%◌, ◌=
 use Rattle.std.specs.Int.{bit_at}
 use Rattle.std.specs.List.{list_any}
 use Rattle.errno.specs.declared.TheConstants.{EPERM, ENOENT, EINVAL}
-use Rattle.files.specs.declared.data.Access.{Access}
-use Rattle.files.specs.declared.data.Access.TheVariants.{Reading, Writing, Both}
-use Rattle.files.specs.declared.data.Need.{Need}
-use Rattle.files.specs.declared.data.Need.TheVariants as need
-use Rattle.flights.specs.declared.data.Want.{Want}
-use Rattle.flights.specs.declared.data.Want.TheVariants as wants
-use Rattle.hidden.specs.Hidden.{is_reserved}
+use Rattle.table_files.specs.declared.data.Access.{Access}
+use Rattle.table_files.specs.declared.data.Access.TheVariants.{Reading, Writing, Both}
+use Rattle.table_files.specs.declared.data.Need.{Need}
+use Rattle.table_files.specs.declared.data.Need.TheVariants as need
+use Rattle.table_requests.specs.declared.data.Want.{Want}
+use Rattle.table_requests.specs.declared.data.Want.TheVariants as wants
+use Rattle.hidden_names.specs.Hidden.{is_reserved}
 use Rattle.wire.specs.declared.reply.ReplyBody.{ReplyBody}
 use Rattle.wire.specs.declared.reply.ReplyBody.TheVariants.{Failed, StatFs}
 use Rattle.wire.specs.Pairs.{pairs_in}

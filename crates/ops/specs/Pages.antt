@@ -2,8 +2,8 @@
 use Rattle.std.specs.Prelude.{ℕ, not, List, [], map}
 use Rattle.std.specs.List.{filter}
 use Rattle.backing.specs.declared.call.Child.{Child}
-use Rattle.flights.specs.declared.data.Want.{Want}
-use Rattle.flights.specs.declared.data.Want.TheVariants as wants
+use Rattle.table_requests.specs.declared.data.Want.{Want}
+use Rattle.table_requests.specs.declared.data.Want.TheVariants as wants
 use Rattle.handles.specs.Names.{is_dot}
 use Rattle.paths.specs.Prefixes.{Name}
 

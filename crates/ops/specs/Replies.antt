@@ -5,10 +5,10 @@ use Rattle.errno.specs.declared.TheConstants.{EBADF, EIO, ENFILE}
 use Rattle.backing.specs.declared.call.Child.{Child}
 use Rattle.backing.specs.declared.call.Kind.{Kind as Told}
 use Rattle.backing.specs.declared.call.Kind.TheVariants as kinds
-use Rattle.files.specs.declared.data.OpenFile.{OpenFile}
-use Rattle.flights.specs.declared.data.Given.{Given}
+use Rattle.table_files.specs.declared.data.OpenFile.{OpenFile}
+use Rattle.table_requests.specs.declared.data.Given.{Given}
 use Rattle.handles.specs.Names.{is_dot}
-use Rattle.steps.specs.Answers.{Answer}
+use Rattle.table_steps.specs.Answers.{Answer}
 use Rattle.wire.specs.Dirents.{PlusDirent, plus_bytes}
 use Rattle.wire.specs.declared.reply.Attributes.{Attributes}
 use Rattle.wire.specs.declared.reply.Entry.{Entry}
@@ -17,8 +17,8 @@ use Rattle.wire.specs.declared.reply.Kind.TheVariants.{File, Folder}
 use Rattle.wire.specs.declared.reply.ReplyBody.{ReplyBody}
 use Rattle.wire.specs.declared.reply.ReplyBody.TheVariants as body
 use Rattle.ops.specs.declared.findings.Found.{Found}
-use Rattle.ops.specs.declared.findings.Finding.{Finding}
-use Rattle.ops.specs.declared.findings.Finding.TheVariants as findings
+use Rattle.ops.specs.declared.findings.ScriptResult.{ScriptResult}
+use Rattle.ops.specs.declared.findings.ScriptResult.TheVariants as findings
 use Rattle.ops.specs.declared.replies.Settings.{Settings}
 use Rattle.ops.specs.Pages.{Paged}
 
@@ -78,7 +78,7 @@ entries_bytes s at children founds givens = flat_map plus_bytes (plus_from s at 
 
 -- ---- replies to a request about that node, which may tell a page; a listing was put under a handle, or not
 
-abbrev pub reply_to : Settings → ℕ → Paged → Finding → (put : Option ℕ) → Answer → ReplyBody
+abbrev pub reply_to : Settings → ℕ → Paged → ScriptResult → (put : Option ℕ) → Answer → ReplyBody
 reply_to s node page (findings.Error errno) put answer = body.Failed errno
 reply_to s node page findings.Nothing put answer = body.Done
 reply_to s node page (findings.NewEntry found) put answer = entry_reply s found (first answer.given)

@@ -11,14 +11,14 @@ use Rattle.backing.specs.declared.call.Call.{Call}
 use Rattle.backing.specs.declared.call.Child.{Child}
 use Rattle.handles.specs.Listings.{are_lawful}
 use Rattle.backing.specs.Calls.{Asked, asked, AskStat, AskList, AskMake, AskMakeDir, AskRemove, AskRemoveDir, AskRename, AskRead, AskWrite, AskSetLen, AskSync}
-use Rattle.steps.specs.Answers.{Claim}
-use Rattle.steps.specs.declared.data.Outcome.{Outcome}
-use Rattle.steps.specs.declared.data.Outcome.TheVariants.{Failed, Done, Entry, Entries, Hidden, HiddenMove}
+use Rattle.table_steps.specs.Answers.{Claim}
+use Rattle.table_steps.specs.declared.data.Outcome.{Outcome}
+use Rattle.table_steps.specs.declared.data.Outcome.TheVariants.{Failed, Done, Entry, Entries, Hidden, HiddenMove}
 use Rattle.wire.specs.declared.request.Operation.{Operation}
 use Rattle.wire.specs.declared.request.Operation.TheVariants as ops
 use Rattle.ops.specs.declared.findings.Found.{Found}
-use Rattle.ops.specs.declared.findings.Finding.{Finding}
-use Rattle.ops.specs.declared.findings.Finding.TheVariants.{Error, Nothing, NewEntry, NewFile, Attributes, Opening, Bytes, Written, Listed, Looked, Hid, Replaced, Unmoved, Kept}
+use Rattle.ops.specs.declared.findings.ScriptResult.{ScriptResult}
+use Rattle.ops.specs.declared.findings.ScriptResult.TheVariants.{Error, Nothing, NewEntry, NewFile, Attributes, Opening, Bytes, Written, Listed, Looked, Hid, Replaced, Unmoved, Kept}
 use Rattle.ops.specs.Intents.{sets_size}
 use Rattle.ops.specs.Judged.{errno_in, judged}
 
@@ -27,14 +27,14 @@ use Rattle.ops.specs.Judged.{errno_in, judged}
 -- the outcome for the table, and what the directory told, for the reply
 pub record End : Type 0 where
   pub outcome : Outcome
-  pub findings : Finding
+  pub findings : ScriptResult
 
 -- the next call and how it goes on after each answer, or the end
 pub data Plan : Type 0 where
   Ask : (call : Asked) → (next : Answer → Plan) → Plan
   Over : (end : End) → Plan
 
-abbrev pub over : Outcome → Finding → Plan
+abbrev pub over : Outcome → ScriptResult → Plan
 over outcome findings = Over (record { outcome = outcome; findings = findings })
 
 abbrev pub failed : ℤ → Plan
@@ -120,7 +120,7 @@ open_file p = look p (λ found. Over (open_end found.kind))
 abbrev pub done : Plan
 done = over Done Nothing
 
--- ---- requests whose rows have several forms
+-- ---- requests whose footprints have several forms
 
 abbrev pub set_size : Bool → Names → ℕ → Plan → Plan
 set_size true p size rest = make (AskSetLen p size) rest

@@ -12,11 +12,11 @@ ghost use Rattle.wire.specs.declared.reply.ReplyBody.TheVariants.{Data as Told};
 use crate::findings::Found;
 use crate::replies::{Settings, entry_of, kind_of};
 use backing::Child;
-use flights::{Given, Names, Want};
 use handles::Page;
 use paths::Name;
 use std::alloc::{AllocError, Global};
 use std::marker::Model;
+use table_requests::{Given, Names, Want};
 use wire::{Data, ReplyBody, encode_plus_dirent};
 
 /// A page with entries of its own, which outlives its listing.

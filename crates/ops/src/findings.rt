@@ -17,7 +17,7 @@ pub struct Found {
 
 /// What a script has found, for the reply.
 #[derive(Drop)]
-pub enum Finding {
+pub enum ScriptResult {
     /// An error number, from 1 to 4,095.
     Error { errno: i32 },
     /// It is done, and there is no more to say.
@@ -49,31 +49,31 @@ pub enum Finding {
     Kept,
 }
 
-impl Finding {
+impl ScriptResult {
     /// The outcome that the table is told, where a listing is lawful. That of a page is made by `Looked::into_parts`.
     pub fn outcome(&self) -> Outcome
         requires { IsOfNoPage self.now }
         ensures { result ≡ outcome_of self.now }
     {
         match self {
-            Finding::Error { .. } | Finding::Kept => Outcome::Failed,
-            Finding::Nothing
-            | Finding::Attributes(_)
-            | Finding::Opening
-            | Finding::Bytes(_)
-            | Finding::Written { .. }
-            | Finding::Listed(_) => Outcome::Done,
-            Finding::NewEntry(_) | Finding::NewFile(_) => Outcome::Entry,
-            Finding::Hid { candidate } => Outcome::Hidden(*candidate),
-            Finding::Replaced { candidate } => Outcome::HiddenMove {
+            ScriptResult::Error { .. } | ScriptResult::Kept => Outcome::Failed,
+            ScriptResult::Nothing
+            | ScriptResult::Attributes(_)
+            | ScriptResult::Opening
+            | ScriptResult::Bytes(_)
+            | ScriptResult::Written { .. }
+            | ScriptResult::Listed(_) => Outcome::Done,
+            ScriptResult::NewEntry(_) | ScriptResult::NewFile(_) => Outcome::Entry,
+            ScriptResult::Hid { candidate } => Outcome::Hidden(*candidate),
+            ScriptResult::Replaced { candidate } => Outcome::HiddenMove {
                 candidate: *candidate,
                 moved: true,
             },
-            Finding::Unmoved { candidate, .. } => Outcome::HiddenMove {
+            ScriptResult::Unmoved { candidate, .. } => Outcome::HiddenMove {
                 candidate: *candidate,
                 moved: false,
             },
-            Finding::Looked(_) => unreachable!(),
+            ScriptResult::Looked(_) => unreachable!(),
         }
     }
 }

@@ -5,9 +5,9 @@ ghost use Rattle.paths.specs.Prefixes.{Names};
 ghost use Rattle.ops.specs.Ahead.{after_hide, calls_after, calls_ending, end_of, plan_ahead, plan_ending};
 ghost use Rattle.ops.specs.Scripts.{at_candidates, hide, unlink, End, Over, Plan};
 
-use crate::findings::Finding;
+use crate::findings::ScriptResult;
 use crate::judging::{errno_in, judge};
-use crate::script::{DONE, Ending, Script, UNFIT};
+use crate::script::{DONE, LastCall, Script, UNFIT};
 use backing::{Answer, Call};
 use errno::{EBUSY, EIO, ENOENT};
 use paths::Path;
@@ -40,7 +40,7 @@ pub(crate) fn start_unlink(ticket: &Ticket) -> Script<'_>
     let (change, ending) = match ticket.paths() {
         [path, left @ ..] if ticket.hide() => {
             let source = None;
-            (None, Ending::Hide(Hiding { path, source, left }))
+            (None, LastCall::Hide(Hiding { path, source, left }))
         }
         [path, ..] => (Some(Call::Remove(path)), DONE),
         [] => (None, UNFIT),
@@ -49,27 +49,27 @@ pub(crate) fn start_unlink(ticket: &Ticket) -> Script<'_>
 }
 
 /// What is told where no candidate is left.
-pub(crate) fn unhidden(left: &[Path]) -> Finding
+pub(crate) fn unhidden(left: &[Path]) -> ScriptResult
     ensures { (path : Names) (rest : ℕ → Plan) (end : End) → hide path left.now rest ≡ Over end → end_of result ≡ end }
 {
     match left {
-        [] => Finding::Error { errno: EBUSY },
-        [_, ..] => Finding::Error { errno: EIO },
+        [] => ScriptResult::Error { errno: EBUSY },
+        [_, ..] => ScriptResult::Error { errno: EIO },
     }
 }
 
 /// What is still to do after the file at the path was moved to that candidate.
-fn after_hide<'a>(path: &'a Path, source: Option<&'a Path>, candidate: u8) -> Ending<'a>
+fn after_hide<'a>(path: &'a Path, source: Option<&'a Path>, candidate: u8) -> LastCall<'a>
     ensures plan { plan_ending result ≡ after_hide path.now (option_map (λ s. s.now) source.entry) candidate }
     ensures calls { calls_ending result ≡ calls_after (option_map (λ s. s.now) source.entry) }
 {
     match source {
-        Some(from) => Ending::MoveAfter {
+        Some(from) => LastCall::MoveAfter {
             from,
             to: path,
             candidate,
         },
-        None => Ending::Over(Finding::Hid { candidate }),
+        None => LastCall::Over(ScriptResult::Hid { candidate }),
     }
 }
 
@@ -87,7 +87,7 @@ impl<'a> Hiding<'a> {
         let [candidate, rest @ ..] = left else {
             return Script {
                 change: None,
-                ending: Ending::Hide(self),
+                ending: LastCall::Hide(self),
             };
         };
         let errno = match judge(Call::Stat(candidate), answer) {
@@ -95,7 +95,7 @@ impl<'a> Hiding<'a> {
                 let left = rest;
                 return Script {
                     change: None,
-                    ending: Ending::Hide(Hiding { path, source, left }),
+                    ending: LastCall::Hide(Hiding { path, source, left }),
                 };
             }
             other => errno_in(&other),
@@ -111,7 +111,7 @@ impl<'a> Hiding<'a> {
         }
         Script {
             change: None,
-            ending: Ending::Over(Finding::Error { errno }),
+            ending: LastCall::Over(ScriptResult::Error { errno }),
         }
     }
 }

@@ -2,14 +2,14 @@
 
 ghost use Rattle.std.specs.Prelude.{◌≡◌};
 ghost use Rattle.std.specs.List.{list_any};
-ghost use Rattle.hidden.specs.Hidden.{is_reserved};
+ghost use Rattle.hidden_names.specs.Hidden.{is_reserved};
 ghost use Rattle.ops.specs.Intents.{intent_in, has_handle, intended, intent, names_of, refused, reserved_errno, set_intent, sets_other, sets_size};
 
 use crate::opening::{by_handle, create_intent, open_intent};
 use crate::wanted::Wanted;
 use errno::{ENOENT, EPERM};
-use files::Need;
-use hidden::is_reserved;
+use hidden_names::is_reserved;
+use table_files::Need;
 use wire::{Forgotten, Operation, ReplyBody, Request};
 
 /// What a request needs.

@@ -5,7 +5,7 @@ ghost use Rattle.ops.specs.Ahead.{end_of};
 ghost use Rattle.ops.specs.Looking.{looked_on, plan_looking};
 ghost use Rattle.ops.specs.Scripts.{found_in, next_of, AsksNext, End, Over};
 
-use crate::findings::{Finding, Found};
+use crate::findings::{Found, ScriptResult};
 use crate::judging::judge;
 use backing::{Answer, Call};
 use errno::EIO;
@@ -118,15 +118,15 @@ impl<'a> Looks<'a> {
     }
 
     /// What was found, once no path is left.
-    pub fn into_finding(self) -> Finding
+    pub fn into_result(self) -> ScriptResult
         ensures { (end : End) → plan_looking self.entry ≡ Over end → end_of result ≡ end }
     {
         match self.left {
             [] => {
                 let Self { found, there, .. } = self;
-                Finding::Looked(Looked { found, there })
+                ScriptResult::Looked(Looked { found, there })
             }
-            [_, ..] => Finding::Error { errno: EIO },
+            [_, ..] => ScriptResult::Error { errno: EIO },
         }
     }
 }

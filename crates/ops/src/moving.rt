@@ -6,11 +6,11 @@ ghost use Rattle.ops.specs.Ahead.{calls_ending, calls_hiding, end_of, plan_ahead
 ghost use Rattle.ops.specs.Judged.{judged};
 ghost use Rattle.ops.specs.Scripts.{at_paths, hide, if_found, if_moved, move_after, rename, unless_folder, Over};
 
-use crate::findings::Finding;
+use crate::findings::ScriptResult;
 use crate::hiding::Hiding;
 use crate::judging::{errno_in, judge};
-use crate::script::{DONE, Ending, Script, UNFIT};
-use crate::telling::Telling;
+use crate::script::{DONE, LastCall, Script, UNFIT};
+use crate::telling::ReplyKind;
 use backing::{Answer, Call, Kind};
 use errno::ENOTDIR;
 use paths::Path;
@@ -23,12 +23,12 @@ pub(crate) fn start_rename(ticket: &Ticket) -> Script<'_>
     let (change, ending) = match ticket.paths() {
         [path, _, ..] if ticket.same() => (
             None,
-            Ending::Look {
+            LastCall::Look {
                 path,
-                tells: Telling::Nothing,
+                tells: ReplyKind::Nothing,
             },
         ),
-        [from, to, left @ ..] if ticket.hide() => (None, Ending::Replace { from, to, left }),
+        [from, to, left @ ..] if ticket.hide() => (None, LastCall::Replace { from, to, left }),
         [from, to, ..] => (Some(Call::Rename { from, to }), DONE),
         _ => (None, UNFIT),
     };
@@ -41,7 +41,7 @@ pub(crate) fn replace_on<'a>(
     to: &'a Path,
     left: &'a [Path],
     answer: Answer,
-) -> Ending<'a>
+) -> LastCall<'a>
     ensures plan { plan_ending result ≡ if_found (λ found. unless_folder found.kind (hide to.now left.now (λ i. move_after from.now to.now i))) (judged (AskStat from.now) answer) }
     ensures fewer { calls_ending result ≤ calls_hiding left.now 1 }
 {
@@ -50,7 +50,7 @@ pub(crate) fn replace_on<'a>(
             kind: Kind::File,
             ..
         } => {
-            return Ending::Hide(Hiding {
+            return LastCall::Hide(Hiding {
                 path: to,
                 source: Some(from),
                 left,
@@ -62,16 +62,16 @@ pub(crate) fn replace_on<'a>(
         } => ENOTDIR,
         other => errno_in(&other),
     };
-    Ending::Over(Finding::Error { errno })
+    LastCall::Over(ScriptResult::Error { errno })
 }
 
 /// What is told of the move to the place of a file that was moved to that candidate before.
-pub(crate) fn moved(from: &Path, to: &Path, candidate: u8, answer: Answer) -> Finding
+pub(crate) fn moved(from: &Path, to: &Path, candidate: u8, answer: Answer) -> ScriptResult
     ensures { Over (end_of result) ≡ if_moved candidate (judged (AskRename from.now to.now) answer) }
 {
     match judge(Call::Rename { from, to }, answer) {
-        Answer::Done => Finding::Replaced { candidate },
-        other => Finding::Unmoved {
+        Answer::Done => ScriptResult::Replaced { candidate },
+        other => ScriptResult::Unmoved {
             candidate,
             errno: errno_in(&other),
         },

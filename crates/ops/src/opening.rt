@@ -6,8 +6,8 @@ ghost use Rattle.ops.specs.Intents.{access_of, by_handle, create_intent, intent_
 use crate::intents::{Intent, refused};
 use crate::wanted::Wanted;
 use errno::EINVAL;
-use files::{Access, Need};
-use flights::Handle;
+use table_files::{Access, Need};
+use table_requests::Handle;
 
 /// The bits of an open's flags that say for what it is (`O_ACCMODE` of `fcntl.h`).
 const ACCESS_MODE: u32 = 3;

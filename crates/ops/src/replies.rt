@@ -5,11 +5,11 @@ ghost use Rattle.ops.specs.Ahead.{IsOfNoPage};
 ghost use Rattle.ops.specs.Pages.{Paged};
 ghost use Rattle.ops.specs.Replies.{attributes_of, created_reply, entry_of, entry_reply, file_reply, first, handle_reply, kind_of, opened_reply, reply_to};
 
-use crate::findings::{Finding, Found};
+use crate::findings::{Found, ScriptResult};
 use errno::{EBADF, EIO, ENFILE};
-use files::OpenFile;
-use flights::Given;
 use table::Answered;
+use table_files::OpenFile;
+use table_requests::Given;
 use wire::{Attributes, Data, Entry, Kind, ReplyBody};
 
 /// Who owns what is mirrored.
@@ -125,7 +125,7 @@ pub fn file_reply(node: u64, file: Option<OpenFile>) -> ReplyBody
 pub fn reply_to(
     settings: Settings,
     node: u64,
-    finding: Finding,
+    finding: ScriptResult,
     put: Option<u64>,
     answered: &Answered,
 ) -> ReplyBody
@@ -133,23 +133,24 @@ pub fn reply_to(
     ensures { (page : Paged) → result ≡ reply_to settings node page finding put answered.now }
 {
     match finding {
-        Finding::Error { errno } => ReplyBody::Failed { errno },
-        Finding::Unmoved { errno, .. } => ReplyBody::Failed { errno },
-        Finding::Nothing | Finding::Hid { .. } | Finding::Replaced { .. } | Finding::Kept => {
-            ReplyBody::Done
-        }
-        Finding::NewEntry(found) => entry_reply(settings, found, first_given(answered)),
-        Finding::NewFile(found) => {
+        ScriptResult::Error { errno } => ReplyBody::Failed { errno },
+        ScriptResult::Unmoved { errno, .. } => ReplyBody::Failed { errno },
+        ScriptResult::Nothing
+        | ScriptResult::Hid { .. }
+        | ScriptResult::Replaced { .. }
+        | ScriptResult::Kept => { ReplyBody::Done }
+        ScriptResult::NewEntry(found) => entry_reply(settings, found, first_given(answered)),
+        ScriptResult::NewFile(found) => {
             created_reply(settings, found, first_given(answered), answered.opened())
         }
-        Finding::Attributes(found) => ReplyBody::Attributes {
+        ScriptResult::Attributes(found) => ReplyBody::Attributes {
             node,
             attributes: attributes_of(settings, found),
         },
-        Finding::Opening => handle_reply(answered.opened(), EIO),
-        Finding::Bytes(bytes) => ReplyBody::Data(Data::new(bytes.into_vec())),
-        Finding::Written { size } => ReplyBody::Wrote { size },
-        Finding::Listed(_) => opened_reply(put),
-        Finding::Looked(_) => unreachable!(),
+        ScriptResult::Opening => handle_reply(answered.opened(), EIO),
+        ScriptResult::Bytes(bytes) => ReplyBody::Data(Data::new(bytes.into_vec())),
+        ScriptResult::Written { size } => ReplyBody::Wrote { size },
+        ScriptResult::Listed(_) => opened_reply(put),
+        ScriptResult::Looked(_) => unreachable!(),
     }
 }

@@ -6,13 +6,13 @@ ghost use Rattle.ops.specs.Ahead.{calls_left, end_of, plan_ahead, plan_ending, p
 ghost use Rattle.ops.specs.Intents.{sets_size};
 ghost use Rattle.ops.specs.Scripts.{after, at_names, if_done, look, next_of, plan_of, release, set_size, AsksNext, End, Over, Plan};
 
-use crate::findings::Finding;
+use crate::findings::ScriptResult;
 use crate::hiding::{Hiding, start_unlink, unhidden};
 use crate::intents::sets_size;
 use crate::judging::{errno_in, judge};
 use crate::looks::Looks;
 use crate::moving::{moved, replace_on, start_rename};
-use crate::telling::{Telling, listed, looked, read, removed, written};
+use crate::telling::{ReplyKind, listed, looked, read, removed, written};
 use backing::{Answer, Call};
 use errno::EIO;
 use paths::Path;
@@ -22,11 +22,11 @@ use wire::Operation;
 
 /// How a script ends.
 #[derive(Drop)]
-pub enum Ending<'a> {
+pub enum LastCall<'a> {
     /// It asks what stands at the path, and tells that of it.
     Look {
         path: &'a Path,
-        tells: Telling,
+        tells: ReplyKind,
     },
     /// It asks for the names in the folder at the path.
     List {
@@ -66,7 +66,7 @@ pub enum Ending<'a> {
         path: &'a Path,
     },
     /// It has nothing more to ask.
-    Over(Finding),
+    Over(ScriptResult),
 }
 
 /// The script of a request that began: what is still to do.
@@ -74,14 +74,14 @@ pub enum Ending<'a> {
 pub struct Script<'a> {
     /// What is changed first.
     pub(crate) change: Option<Call<'a>>,
-    pub(crate) ending: Ending<'a>,
+    pub(crate) ending: LastCall<'a>,
 }
 
 /// Nothing more is asked, and there is no more to say.
-pub(crate) const DONE: Ending<'static> = Ending::Over(Finding::Nothing);
+pub(crate) const DONE: LastCall<'static> = LastCall::Over(ScriptResult::Nothing);
 
 /// A ticket that has not the paths of its request, or a request that has no script.
-pub(crate) const UNFIT: Ending<'static> = Ending::Over(Finding::Error { errno: EIO });
+pub(crate) const UNFIT: LastCall<'static> = LastCall::Over(ScriptResult::Error { errno: EIO });
 
 /// The error with which a script ends after the answer to its change, if it does.
 fn refused(answer: &Answer) -> Option<i32>
@@ -94,10 +94,10 @@ fn refused(answer: &Answer) -> Option<i32>
 }
 
 /// What stands at the path is looked at, and told.
-fn look(path: &Path, tells: Telling) -> Ending<'_>
+fn look(path: &Path, tells: ReplyKind) -> LastCall<'_>
     ensures { plan_ending result ≡ look path.now (λ found. Over (told_of tells found)) }
 {
-    Ending::Look { path, tells }
+    LastCall::Look { path, tells }
 }
 
 /// What a SETATTR changes: the size, if it asks for one.
@@ -116,7 +116,7 @@ fn start_release(ticket: &Ticket) -> Script<'_>
     ensures { plan_ahead result ≡ release ticket.now.last ticket.now.paths }
 {
     let ending = match ticket.paths() {
-        [path, ..] if ticket.last() => Ending::Remove { path },
+        [path, ..] if ticket.last() => LastCall::Remove { path },
         [] if ticket.last() => UNFIT,
         _ => DONE,
     };
@@ -127,11 +127,11 @@ fn start_release(ticket: &Ticket) -> Script<'_>
 }
 
 /// How the script of a READDIRPLUS ends, whose ticket has the path of its folder and then that of each name.
-fn end_with_looks(alloc: Global, ticket: &Ticket) -> Result<Ending<'_>, AllocError>
+fn end_with_looks(alloc: Global, ticket: &Ticket) -> Result<LastCall<'_>, AllocError>
     ensures { IfOk result (λ ending. plan_ending ending ≡ at_names ticket.now.paths) }
 {
     match ticket.paths() {
-        [_, paths @ ..] => Ok(Ending::Each(Looks::new(alloc, paths)?)),
+        [_, paths @ ..] => Ok(LastCall::Each(Looks::new(alloc, paths)?)),
         [] => Ok(UNFIT),
     }
 }
@@ -166,20 +166,20 @@ impl<'a> Script<'a> {
             return Ok(without_path(operation, ticket));
         };
         let (change, ending) = match operation {
-            Operation::Lookup { .. } => (None, look(path, Telling::Entry)),
-            Operation::GetAttr => (None, look(path, Telling::Attributes)),
+            Operation::Lookup { .. } => (None, look(path, ReplyKind::Entry)),
+            Operation::GetAttr => (None, look(path, ReplyKind::Attributes)),
             Operation::SetAttr { valid, size, .. } => (
                 size_change(valid, path, size),
-                look(path, Telling::Attributes),
+                look(path, ReplyKind::Attributes),
             ),
-            Operation::MakeDir { .. } => (Some(Call::MakeDir(path)), look(path, Telling::Entry)),
-            Operation::Create { .. } => (Some(Call::Make(path)), look(path, Telling::NewFile)),
-            Operation::Open { .. } => (None, look(path, Telling::Opening)),
-            Operation::Read { offset, size, .. } => (None, Ending::Read { path, offset, size }),
-            Operation::Write { offset, data, .. } => (None, Ending::Write { path, offset, data }),
+            Operation::MakeDir { .. } => (Some(Call::MakeDir(path)), look(path, ReplyKind::Entry)),
+            Operation::Create { .. } => (Some(Call::Make(path)), look(path, ReplyKind::NewFile)),
+            Operation::Open { .. } => (None, look(path, ReplyKind::Opening)),
+            Operation::Read { offset, size, .. } => (None, LastCall::Read { path, offset, size }),
+            Operation::Write { offset, data, .. } => (None, LastCall::Write { path, offset, data }),
             Operation::Sync { .. } => (Some(Call::Sync(path)), DONE),
             Operation::Release { .. } => return Ok(start_release(ticket)),
-            Operation::OpenDir => (None, Ending::List { path }),
+            Operation::OpenDir => (None, LastCall::List { path }),
             Operation::Unlink { .. } => return Ok(start_unlink(ticket)),
             Operation::RemoveDir { .. } => (Some(Call::RemoveDir(path)), DONE),
             Operation::Rename { .. } => return Ok(start_rename(ticket)),
@@ -204,24 +204,24 @@ impl<'a> Script<'a> {
     {
         match (&self.change, &self.ending) {
             (Some(call), _) => Some(*call),
-            (None, Ending::Look { path, .. }) => Some(Call::Stat(path)),
-            (None, Ending::List { path }) => Some(Call::List(path)),
-            (None, Ending::Read { path, offset, size }) => Some(Call::Read {
+            (None, LastCall::Look { path, .. }) => Some(Call::Stat(path)),
+            (None, LastCall::List { path }) => Some(Call::List(path)),
+            (None, LastCall::Read { path, offset, size }) => Some(Call::Read {
                 path,
                 offset: *offset,
                 size: *size,
             }),
-            (None, Ending::Write { path, offset, data }) => Some(Call::Write {
+            (None, LastCall::Write { path, offset, data }) => Some(Call::Write {
                 path,
                 offset: *offset,
                 data,
             }),
-            (None, Ending::Each(looks)) => looks.next(),
-            (None, Ending::Replace { from, .. }) => Some(Call::Stat(from)),
-            (None, Ending::Hide(hiding)) => hiding.left.first().map(Call::Stat),
-            (None, Ending::MoveAfter { from, to, .. }) => Some(Call::Rename { from, to }),
-            (None, Ending::Remove { path }) => Some(Call::Remove(path)),
-            (None, Ending::Over(_)) => None,
+            (None, LastCall::Each(looks)) => looks.next(),
+            (None, LastCall::Replace { from, .. }) => Some(Call::Stat(from)),
+            (None, LastCall::Hide(hiding)) => hiding.left.first().map(Call::Stat),
+            (None, LastCall::MoveAfter { from, to, .. }) => Some(Call::Rename { from, to }),
+            (None, LastCall::Remove { path }) => Some(Call::Remove(path)),
+            (None, LastCall::Over(_)) => None,
         }
     }
 
@@ -237,51 +237,51 @@ impl<'a> Script<'a> {
         if let Some(call) = self.change {
             self.change = None;
             if let Some(errno) = refused(&judge(call, answer)) {
-                self.ending = Ending::Over(Finding::Error { errno });
+                self.ending = LastCall::Over(ScriptResult::Error { errno });
             }
             return;
         }
         let finding = match &mut self.ending {
-            Ending::Look { path, tells } => looked(*tells, &judge(Call::Stat(path), answer)),
-            Ending::List { path } => listed(judge(Call::List(path), answer)),
-            Ending::Read { path, offset, size } => read(path, *offset, *size, answer),
-            Ending::Write { path, offset, data } => written(path, *offset, data, answer),
-            Ending::Each(looks) => return looks.feed(answer),
-            Ending::Replace { from, to, left } => {
+            LastCall::Look { path, tells } => looked(*tells, &judge(Call::Stat(path), answer)),
+            LastCall::List { path } => listed(judge(Call::List(path), answer)),
+            LastCall::Read { path, offset, size } => read(path, *offset, *size, answer),
+            LastCall::Write { path, offset, data } => written(path, *offset, data, answer),
+            LastCall::Each(looks) => return looks.feed(answer),
+            LastCall::Replace { from, to, left } => {
                 self.ending = replace_on(from, to, left, answer);
                 return;
             }
-            Ending::Hide(hiding) => {
+            LastCall::Hide(hiding) => {
                 *self = hiding.on(answer);
                 return;
             }
-            Ending::MoveAfter {
+            LastCall::MoveAfter {
                 from,
                 to,
                 candidate,
             } => moved(from, to, *candidate, answer),
-            Ending::Remove { path } => removed(path, answer),
-            Ending::Over(_) => return,
+            LastCall::Remove { path } => removed(path, answer),
+            LastCall::Over(_) => return,
         };
-        self.ending = Ending::Over(finding);
+        self.ending = LastCall::Over(finding);
     }
 
     /// What it has found, once it is over.
-    pub fn into_finding(self) -> Finding
+    pub fn into_result(self) -> ScriptResult
         ensures { (end : End) → plan_ahead self.entry ≡ Over end → end_of result ≡ end }
     {
         let Self { ending, .. } = self;
         match ending {
-            Ending::Over(finding) => finding,
-            Ending::Each(looks) => looks.into_finding(),
-            Ending::Hide(hiding) => unhidden(hiding.left),
-            Ending::Look { .. }
-            | Ending::List { .. }
-            | Ending::Read { .. }
-            | Ending::Write { .. }
-            | Ending::Replace { .. }
-            | Ending::MoveAfter { .. }
-            | Ending::Remove { .. } => Finding::Error { errno: EIO },
+            LastCall::Over(finding) => finding,
+            LastCall::Each(looks) => looks.into_result(),
+            LastCall::Hide(hiding) => unhidden(hiding.left),
+            LastCall::Look { .. }
+            | LastCall::List { .. }
+            | LastCall::Read { .. }
+            | LastCall::Write { .. }
+            | LastCall::Replace { .. }
+            | LastCall::MoveAfter { .. }
+            | LastCall::Remove { .. } => ScriptResult::Error { errno: EIO },
         }
     }
 }

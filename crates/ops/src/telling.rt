@@ -6,7 +6,7 @@ ghost use Rattle.ops.specs.Ahead.{end_of, told_of};
 ghost use Rattle.ops.specs.Judged.{judged};
 ghost use Rattle.ops.specs.Scripts.{if_found, if_listed, if_read, if_removed, if_written, open_end, Over};
 
-use crate::findings::{Finding, Found};
+use crate::findings::{Found, ScriptResult};
 use crate::judging::{errno_in, judge};
 use backing::{Answer, Call, Kind};
 use errno::EISDIR;
@@ -14,7 +14,7 @@ use paths::Path;
 
 /// What is told of what stands at a path.
 #[derive(Clone, Copy, Debug, PartialEq, Eq)]
-pub enum Telling {
+pub enum ReplyKind {
     Nothing,
     Entry,
     /// A file that was made is given and opened.
@@ -25,32 +25,32 @@ pub enum Telling {
 }
 
 /// How an OPEN ends that found this.
-fn opening(kind: Kind) -> Finding
+fn opening(kind: Kind) -> ScriptResult
     ensures { end_of result ≡ open_end kind }
 {
     match kind {
-        Kind::Folder => Finding::Error { errno: EISDIR },
-        Kind::File => Finding::Opening,
+        Kind::Folder => ScriptResult::Error { errno: EISDIR },
+        Kind::File => ScriptResult::Opening,
     }
 }
 
-impl Telling {
+impl ReplyKind {
     /// What is told of what was found.
-    fn of(self, found: Found) -> Finding
+    fn of(self, found: Found) -> ScriptResult
         ensures { end_of result ≡ told_of self found }
     {
         match self {
-            Telling::Nothing => Finding::Nothing,
-            Telling::Entry => Finding::NewEntry(found),
-            Telling::NewFile => Finding::NewFile(found),
-            Telling::Attributes => Finding::Attributes(found),
-            Telling::Opening => opening(found.kind),
+            ReplyKind::Nothing => ScriptResult::Nothing,
+            ReplyKind::Entry => ScriptResult::NewEntry(found),
+            ReplyKind::NewFile => ScriptResult::NewFile(found),
+            ReplyKind::Attributes => ScriptResult::Attributes(found),
+            ReplyKind::Opening => opening(found.kind),
         }
     }
 }
 
 /// What is told of an answer to a look.
-pub(crate) fn looked(tells: Telling, answer: &Answer) -> Finding
+pub(crate) fn looked(tells: ReplyKind, answer: &Answer) -> ScriptResult
     ensures { Over (end_of result) ≡ if_found (λ found. Over (told_of tells found)) answer.now }
 {
     match answer {
@@ -58,38 +58,38 @@ pub(crate) fn looked(tells: Telling, answer: &Answer) -> Finding
             kind: *kind,
             size: *size,
         }),
-        other => Finding::Error {
+        other => ScriptResult::Error {
             errno: errno_in(other),
         },
     }
 }
 
 /// What is told of an answer to a list.
-pub(crate) fn listed(answer: Answer) -> Finding
+pub(crate) fn listed(answer: Answer) -> ScriptResult
     ensures { Over (end_of result) ≡ if_listed answer }
 {
     match answer {
-        Answer::Names(children) => Finding::Listed(children),
-        other => Finding::Error {
+        Answer::Names(children) => ScriptResult::Listed(children),
+        other => ScriptResult::Error {
             errno: errno_in(&other),
         },
     }
 }
 
 /// What is told of an answer to a read.
-pub(crate) fn read(path: &Path, offset: u64, size: u32, answer: Answer) -> Finding
+pub(crate) fn read(path: &Path, offset: u64, size: u32, answer: Answer) -> ScriptResult
     ensures { Over (end_of result) ≡ if_read (judged (AskRead path.now offset size) answer) }
 {
     match judge(Call::Read { path, offset, size }, answer) {
-        Answer::Bytes(bytes) => Finding::Bytes(bytes),
-        other => Finding::Error {
+        Answer::Bytes(bytes) => ScriptResult::Bytes(bytes),
+        other => ScriptResult::Error {
             errno: errno_in(&other),
         },
     }
 }
 
 /// What is told of an answer to a write.
-pub(crate) fn written(path: &Path, offset: u64, piece: &[u8], answer: Answer) -> Finding
+pub(crate) fn written(path: &Path, offset: u64, piece: &[u8], answer: Answer) -> ScriptResult
     ensures { Over (end_of result) ≡ if_written (judged (AskWrite path.now offset piece.now) answer) }
 {
     let call = Call::Write {
@@ -98,19 +98,19 @@ pub(crate) fn written(path: &Path, offset: u64, piece: &[u8], answer: Answer) ->
         data: piece,
     };
     match judge(call, answer) {
-        Answer::Wrote(count) => Finding::Written { size: count as u32 },
-        other => Finding::Error {
+        Answer::Wrote(count) => ScriptResult::Written { size: count as u32 },
+        other => ScriptResult::Error {
             errno: errno_in(&other),
         },
     }
 }
 
 /// What is told of an answer to the removal of a file that was closed: it is done, and where it failed the file is kept.
-pub(crate) fn removed(path: &Path, answer: Answer) -> Finding
+pub(crate) fn removed(path: &Path, answer: Answer) -> ScriptResult
     ensures { Over (end_of result) ≡ if_removed (judged (AskRemove path.now) answer) }
 {
     match judge(Call::Remove(path), answer) {
-        Answer::Done => Finding::Nothing,
-        _ => Finding::Kept,
+        Answer::Done => ScriptResult::Nothing,
+        _ => ScriptResult::Kept,
     }
 }

@@ -2,10 +2,10 @@
 
 ghost use Rattle.std.specs.Prelude.{◌≡◌, IfOk, OnErr};
 
-use files::Access;
-use flights::{Handle, Want};
 use paths::Name;
 use std::alloc::{AllocError, Global};
+use table_files::Access;
+use table_requests::{Handle, Want};
 
 /// What a request is begun with. Its names are slices of the request's frame.
 #[derive(Clone, Copy, Debug, PartialEq, Eq)]

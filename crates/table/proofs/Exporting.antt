@@ -12,59 +12,59 @@ use Rattle.holds.specs.Conflicts.{Conflict}
 use Rattle.tree.specs.declared.nodes.Node.{Node}
 use Rattle.tree.specs.Listed.{node_at, IsDistinct}
 use Rattle.tree.specs.Places.{Lookup, Nodes, at_in, IsAlive}
-use Rattle.files.specs.declared.listed.Filed.{Filed}
-use Rattle.files.specs.Filed.{file_in, files_of, opened_in}
-use Rattle.files.specs.Handles.{Files}
-use Rattle.files.proofs.Listing.{listed_at}
-use Rattle.flights.specs.declared.data.Flight.{Flight}
-use Rattle.flights.specs.declared.data.Stage as flight
-use Rattle.flights.specs.declared.data.Stage.TheVariants as flight_stage
-use Rattle.flights.specs.declared.data.Work.{Work}
-use Rattle.flights.specs.Flying.{Flights, has_exclusive, has_shared}
-use Rattle.flights.specs.Listed.{flight_in, flying_of, pinned_in}
-use Rattle.flights.proofs.Lookups.{flight_in_found}
-use Rattle.image.specs.declared.data.Hold.{Hold}
-use Rattle.image.specs.declared.data.Image.{Image}
-use Rattle.image.specs.declared.data.Record.{Record}
-use Rattle.image.specs.declared.data.Stage.TheVariants.{Working, Answered}
-use Rattle.image.specs.Law.{AreApart, AreCounts, AreHoldsCounted, AreKnown, IsGivenPath, IsKnownFile, IsLawfulImage, is_kept, is_pinned, owners_of, sharers_of}
-use Rattle.image.proofs.Exported.{ListsBelow, ListsBelow-all, IsLawfulImage-shows, Mirrors, is_pinned-mirrors, ids-mirrors}
-use Rattle.steps.specs.declared.state.State.{State}
-use Rattle.table.specs.Copies.{IsCopyOf, held_of, owners_in, sharers_in, stage_of}
+use Rattle.table_files.specs.declared.listed.OpenEntry.{OpenEntry}
+use Rattle.table_files.specs.OpenEntry.{file_in, files_of, opened_in}
+use Rattle.table_files.specs.Handles.{Files}
+use Rattle.table_files.proofs.Listing.{listed_at}
+use Rattle.table_requests.specs.declared.data.RequestInFlight.{RequestInFlight}
+use Rattle.table_requests.specs.declared.data.Stage as flight
+use Rattle.table_requests.specs.declared.data.Stage.TheVariants as flight_stage
+use Rattle.table_requests.specs.declared.data.Work.{Work}
+use Rattle.table_requests.specs.RequestMaps.{RequestsInFlight, has_exclusive, has_shared}
+use Rattle.table_requests.specs.Listed.{flight_in, requests_of, pinned_in}
+use Rattle.table_requests.proofs.Lookups.{flight_in_found}
+use Rattle.table_image.specs.declared.data.Hold.{Hold}
+use Rattle.table_image.specs.declared.data.Image.{Image}
+use Rattle.table_image.specs.declared.data.Record.{Record}
+use Rattle.table_image.specs.declared.data.Stage.TheVariants.{Working, Answered}
+use Rattle.table_image.specs.Law.{AreApart, AreCounts, AreHoldsCounted, AreKnown, IsGivenPath, IsKnownFile, IsLawfulImage, is_kept, is_pinned, exclusive_of, sharers_of}
+use Rattle.table_image.proofs.Exported.{ListsBelow, ListsBelow-all, IsLawfulImage-shows, Mirrors, is_pinned-mirrors, ids-mirrors}
+use Rattle.table_steps.specs.declared.state.State.{State}
+use Rattle.table.specs.Copies.{IsCopyOf, held_of, exclusive_in_all, sharers_in, stage_of}
 use Rattle.table.specs.Exports.{Exports, IsRecordOf, held_by, record_in, stage_shown}
-use Rattle.steps.specs.World.{AreHeld, IsAtWork}
-use Rattle.steps.specs.Kept.{flight_of, work_of}
-use Rattle.steps.specs.Kept as seen
+use Rattle.table_steps.specs.World.{AreHeld, IsAtWork}
+use Rattle.table_steps.specs.Kept.{flight_of, work_of}
+use Rattle.table_steps.specs.Kept as seen
 use Rattle.table.proofs.Holders.{counts_same, owners_same, sharers_same}
-use Rattle.steps.specs.Keeping.{kept_by}
-use Rattle.steps.specs.Kept.{IsKept, world_of}
+use Rattle.table_steps.specs.Keeping.{kept_by}
+use Rattle.table_steps.specs.Kept.{IsKept, world_of}
 
 -- a record more
-pub zip_push : (fs : List Flight) (rs : List Record) (f : Flight) (r : Record) → AllZip IsCopyOf fs rs → IsCopyOf f r → AllZip IsCopyOf (fs ++ f ∷ []) (rs ++ r ∷ [])
+pub zip_push : (fs : List RequestInFlight) (rs : List Record) (f : RequestInFlight) (r : Record) → AllZip IsCopyOf fs rs → IsCopyOf f r → AllZip IsCopyOf (fs ++ f ∷ []) (rs ++ r ∷ [])
 zip_push [] [] f r h one = (one, h)
 zip_push [] (s ∷ rs) f r h one = absurd h
 zip_push (g ∷ fs) [] f r h one = absurd h
 zip_push (g ∷ fs) (s ∷ rs) f r h one = (h.0, zip_push fs rs f r h.1 one)
 
-pub zip_more : (fs : List Flight) (i : ℕ) (d f : Flight) (rs : List Record) (r : Record) → i < length fs → f ≡ get_or fs i d → AllZip IsCopyOf (take i fs) rs → IsCopyOf f r → AllZip IsCopyOf (take (i + 1) fs) (rs ++ r ∷ [])
+pub zip_more : (fs : List RequestInFlight) (i : ℕ) (d f : RequestInFlight) (rs : List Record) (r : Record) → i < length fs → f ≡ get_or fs i d → AllZip IsCopyOf (take i fs) rs → IsCopyOf f r → AllZip IsCopyOf (take (i + 1) fs) (rs ++ r ∷ [])
 zip_more fs i d f rs r within is h one =
-    subst (λ (gs : List Flight). AllZip IsCopyOf gs (rs ++ r ∷ [])) (sym (take_more fs i d within)) (zip_push (take i fs) rs (get_or fs i d) r h (subst (λ (g : Flight). IsCopyOf g r) is one))
+    subst (λ (gs : List RequestInFlight). AllZip IsCopyOf gs (rs ++ r ∷ [])) (sym (take_more fs i d within)) (zip_push (take i fs) rs (get_or fs i d) r h (subst (λ (g : RequestInFlight). IsCopyOf g r) is one))
 
-mirrors : (fs : List Flight) (rs : List Record) → AllZip IsCopyOf fs rs → Mirrors (λ (f : Flight). f.id) (λ (f : Flight). f.pins.numbers) fs rs
+mirrors : (fs : List RequestInFlight) (rs : List Record) → AllZip IsCopyOf fs rs → Mirrors (λ (f : RequestInFlight). f.id) (λ (f : RequestInFlight). f.pins.numbers) fs rs
 mirrors [] [] h = h
 mirrors [] (r ∷ rs) h = absurd h
 mirrors (f ∷ fs) [] h = absurd h
 mirrors (f ∷ fs) (r ∷ rs) h = ((h.0.id, h.0.pins), mirrors fs rs h.1)
 
 -- by the first test that one of both lists meets
-found_where : (f : Flight) (fs : List Flight) (r : Record) (rs : List Record) (id : ℕ) (b : Bool) → IsCopyOf f r
+found_where : (f : RequestInFlight) (fs : List RequestInFlight) (r : Record) (rs : List Record) (id : ℕ) (b : Bool) → IsCopyOf f r
     → MatchOption (flight_in fs id) (record_in rs id ≡ None) (λ g. (q : Record) × (record_in rs id ≡ Some q) × IsCopyOf g q)
     → MatchOption (cond b (Some f) (flight_in fs id)) (cond b (Some r) (record_in rs id) ≡ None) (λ g. (q : Record) × (cond b (Some r) (record_in rs id) ≡ Some q) × IsCopyOf g q)
 found_where f fs r rs id true one later = (r, refl, one)
 found_where f fs r rs id false one later = later
 
 -- a request is found under its id exactly where its record is
-pub records_found : (fs : List Flight) (rs : List Record) (id : ℕ) → AllZip IsCopyOf fs rs → MatchOption (flight_in fs id) (record_in rs id ≡ None) (λ f. (r : Record) × (record_in rs id ≡ Some r) × IsCopyOf f r)
+pub records_found : (fs : List RequestInFlight) (rs : List Record) (id : ℕ) → AllZip IsCopyOf fs rs → MatchOption (flight_in fs id) (record_in rs id ≡ None) (λ f. (r : Record) × (record_in rs id ≡ Some r) × IsCopyOf f r)
 records_found [] [] id h = refl
 records_found [] (r ∷ rs) id h = absurd h
 records_found (f ∷ fs) [] id h = absurd h
@@ -73,24 +73,12 @@ records_found (f ∷ fs) (r ∷ rs) id h =
     let same : (r.id == id) ≡ (f.id == id) = ap (λ (n : ℕ). n == id) h.0.id in
     rw same it
 
--- the whole list of nodes
--- numbers that no node bears are passed over
-pub lists_far : (at : Lookup) (a b : ℕ) (xs : List Node) → a ≤ b → ((m : ℕ) → a ≤ m → m < b → at m ≡ None) → ListsBelow at a xs → ListsBelow at b xs
-lists_far at a b xs more none lists = record {
-  distinct = lists.distinct;
-  below = λ n less. elim (cases_lt n a) [
-    | inl within ↦ lists.below n within
-    | inr le ↦ lists.above n le ∙ sym (none n le less)
-  ];
-  above = λ n le. lists.above n (omega arith);
-}
-
 pub nodes_listed : (tree : Nodes) (last : ℕ) (xs : List Node) → ((n : ℕ) → IsAlive (at_in tree) n → n ≤ last) → ListsBelow (at_in tree) (last + 1) xs → node_at xs ≡ at_in tree
 nodes_listed tree last xs all lists = fun_ext (ListsBelow-all (at_in tree) (last + 1) xs (λ n alive. let le = all n alive in omega arith) lists)
 
 -- a record at a place of the list, and the request that it shows
-shown_at : (fs : List Flight) (rs : List Record) (i : ℕ) (d : Record) → AllZip IsCopyOf fs rs → i < length rs
-    → (f : Flight) × (i < length fs) × ((e : Flight) → get_or fs i e ≡ f) × IsCopyOf f (get_or rs i d)
+shown_at : (fs : List RequestInFlight) (rs : List Record) (i : ℕ) (d : Record) → AllZip IsCopyOf fs rs → i < length rs
+    → (f : RequestInFlight) × (i < length fs) × ((e : RequestInFlight) → get_or fs i e ≡ f) × IsCopyOf f (get_or rs i d)
 shown_at [] [] i d zip within = absurd (omega arith)
 shown_at [] (r ∷ rs) i d zip within = absurd zip
 shown_at (f ∷ fs) [] i d zip within = absurd zip
@@ -103,7 +91,7 @@ working_of (flight_stage.Working work) is = (work, refl)
 working_of flight_stage.Answered is = let never : Answered ≡ Working = is in cc
 
 -- a request that is worked on, as the world shows it
-at_work : (flights : Flights) (id : ℕ) (f : Flight) (work : Work) → flights id ≡ Some f → f.stage ≡ flight_stage.Working work → IsAtWork (λ k. option_map flight_of (flights k)) id (flight_of f) (work_of work)
+at_work : (flights : RequestsInFlight) (id : ℕ) (f : RequestInFlight) (work : Work) → flights id ≡ Some f → f.stage ≡ flight_stage.Working work → IsAtWork (λ k. option_map flight_of (flights k)) id (flight_of f) (work_of work)
 at_work flights id f work here working = record { here = ap (option_map flight_of) here; working = ap seen.stage_of working }
 
 stage_seen : (s : flight.Stage) → stage_of s ≡ stage_shown (seen.stage_of s)
@@ -115,7 +103,7 @@ held_seen (flight_stage.Working work) = refl
 held_seen flight_stage.Answered = refl
 
 -- the copy of a request is the record of what the world shows of it
-record_seen : (rs : List Record) (id : ℕ) (o : Option Flight) → ((f : Flight) → o ≡ Some f → f.id ≡ id)
+record_seen : (rs : List Record) (id : ℕ) (o : Option RequestInFlight) → ((f : RequestInFlight) → o ≡ Some f → f.id ≡ id)
     → MatchOption o (record_in rs id ≡ None) (λ f. (r : Record) × (record_in rs id ≡ Some r) × IsCopyOf f r)
     → MatchOption (option_map flight_of o) (record_in rs id ≡ None) (λ f. (r : Record) × (record_in rs id ≡ Some r) × IsRecordOf id f r)
 record_seen rs id None numbered none = none
@@ -132,27 +120,27 @@ record_seen rs id (Some f) numbered (r, found, copy) = (
 )
 
 -- the request that a record at a place shows while it is worked on
-record IsShown (flights : Flights) (fs : List Flight) (i : ℕ) (r : Record) : Type 0 where
-  flight : Flight
+record IsShown (flights : RequestsInFlight) (fs : List RequestInFlight) (i : ℕ) (r : Record) : Type 0 where
+  flight : RequestInFlight
   work : Work
-  place : (e : Flight) → get_or fs i e ≡ flight
+  place : (e : RequestInFlight) → get_or fs i e ≡ flight
   there : flights flight.id ≡ Some flight
   stage : flight.stage ≡ flight_stage.Working work
   held : r.held ≡ work.held
   within : i < length fs
 
-module _ (flights : Flights) (fs : List Flight) (rs : List Record) (at : flight_in fs ≡ flights) (own : AllPairs (λ (f g : Flight). f.id ≢ g.id) fs) (zip : AllZip IsCopyOf fs rs) where
+module _ (flights : RequestsInFlight) (fs : List RequestInFlight) (rs : List Record) (at : flight_in fs ≡ flights) (own : AllPairs (λ (f g : RequestInFlight). f.id ≢ g.id) fs) (zip : AllZip IsCopyOf fs rs) where
   shown : (i : ℕ) (d : Record) → i < length rs → (get_or rs i d).stage ≡ Working → IsShown flights fs i (get_or rs i d)
   shown i d within is =
       let it = shown_at fs rs i d zip within in
       let f = it.0 in
-      let found : flight_in fs f.id ≡ Some f = subst (λ (g : Flight). flight_in fs g.id ≡ Some g) (it.2 f) (flight_in_found fs i f own it.1) in
+      let found : flight_in fs f.id ≡ Some f = subst (λ (g : RequestInFlight). flight_in fs g.id ≡ Some g) (it.2 f) (flight_in_found fs i f own it.1) in
       let w = working_of f.stage (sym it.3.stage ∙ is) in
       record {
         flight = f;
         work = w.0;
         place = it.2;
-        there = sym (ap (λ (l : Flights). l f.id) at) ∙ found;
+        there = sym (ap (λ (l : RequestsInFlight). l f.id) at) ∙ found;
         stage = w.1;
         held = it.3.held ∙ ap held_of w.1;
         within = it.1;
@@ -164,7 +152,7 @@ module _ (flights : Flights) (fs : List Flight) (rs : List Record) (at : flight_
     clear = λ one two conflict.
         let a = shown i d (omega arith) one in
         let b = shown j d within two in
-        let other : a.flight.id ≢ b.flight.id = λ e. own i j a.flight before b.within (ap (λ (f : Flight). f.id) (a.place a.flight) ∙ (e ∙ sym (ap (λ (f : Flight). f.id) (b.place a.flight)))) in
+        let other : a.flight.id ≢ b.flight.id = λ e. own i j a.flight before b.within (ap (λ (f : RequestInFlight). f.id) (a.place a.flight) ∙ (e ∙ sym (ap (λ (f : RequestInFlight). f.id) (b.place a.flight)))) in
         let both : Conflict a.work.held b.work.held = subst (λ (h : Held). Conflict a.work.held h) b.held (subst (λ (h : Held). Conflict h (get_or rs j d).held) a.held conflict) in
         held.apart a.flight.id b.flight.id (flight_of a.flight) (flight_of b.flight) (work_of a.work) (work_of b.work)
         (at_work flights a.flight.id a.flight a.work a.there a.stage) (at_work flights b.flight.id b.flight b.work b.there b.stage) other both;
@@ -178,38 +166,38 @@ module _ (flights : Flights) (fs : List Flight) (rs : List Record) (at : flight_
         subst (λ (h : Held). All (IsGivenPath l h) h.given) (sym a.held) (held.known a.flight.id (flight_of a.flight) (work_of a.work) (at_work flights a.flight.id a.flight a.work a.there a.stage));
   }
 
-module _ (s : State) (kept : IsKept s) (xs : List Node) (ps : List Posting) (rs : List Record) (fs : List Flight) (distinct : IsDistinct xs) (nodes : node_at xs ≡ at_in s.tree) (postings : ps ≡ s.ledger.made)
-    (at : flight_in fs ≡ (flying_of s.flights).at) (pinned : pinned_in fs ≡ (flying_of s.flights).pinned) (many : length fs ≡ (flying_of s.flights).many) (apart : AllPairs (λ (f g : Flight). f.id ≢ g.id) fs) (zip : AllZip IsCopyOf fs rs)
-    (hs : List Hold) (counts : AreCounts (sharers_in s.flights.flights) (owners_in s.flights.flights) hs)
-    (opened : List Filed) (files_at : file_in opened ≡ (files_of s.files).at) (are_opened : opened_in opened ≡ (files_of s.files).opened) (rising : AllPairs (λ (f g : Filed). f.handle < g.handle) opened)
+module _ (s : State) (kept : IsKept s) (xs : List Node) (ps : List Posting) (rs : List Record) (fs : List RequestInFlight) (distinct : IsDistinct xs) (nodes : node_at xs ≡ at_in s.tree) (postings : ps ≡ s.ledger.made)
+    (at : flight_in fs ≡ (requests_of s.flights).at) (pinned : pinned_in fs ≡ (requests_of s.flights).pinned) (many : length fs ≡ (requests_of s.flights).many) (apart : AllPairs (λ (f g : RequestInFlight). f.id ≢ g.id) fs) (zip : AllZip IsCopyOf fs rs)
+    (hs : List Hold) (counts : AreCounts (sharers_in s.flights.flights) (exclusive_in_all s.flights.flights) hs)
+    (opened : List OpenEntry) (files_at : file_in opened ≡ (files_of s.files).at) (are_opened : opened_in opened ≡ (files_of s.files).opened) (rising : AllPairs (λ (f g : OpenEntry). f.handle < g.handle) opened)
     (last : ℕ) (last_is : last ≡ (files_of s.files).last) where
   abbrev image : Image
   image = record { nodes = xs; postings = ps; records = rs; holds = hs; files = opened; counter = s.counter; last_handle = last }
 
-  handles : AllPairs (λ (f g : Filed). f.handle ≢ g.handle) opened
+  handles : AllPairs (λ (f g : OpenEntry). f.handle ≢ g.handle) opened
   handles i j d before within same = let less = rising i j d before within in omega (arith, less, same)
 
   -- each file is found under its handle, and so known
   known_files : All (IsKnownFile (at_in s.tree) last) opened
   known_files k d within =
-      let f : Filed = get_or opened k d in
+      let f : OpenEntry = get_or opened k d in
       let here : (files_of s.files).at f.handle ≡ Some f.file = ap (λ (at : Files). at f.handle) (sym files_at) ∙ listed_at opened rising k d within in
       record { node = kept.files f.handle f.file here; given = omega (arith, last_is, (kept.filed.given f.handle f.file here).1) }
 
   keeps : (n : ℕ) → is_kept rs opened n ≡ kept_by s.flights s.files n
   unfolding kept_by
   keeps n =
-      let pins : is_pinned rs n ≡ (flying_of s.flights).pinned n = is_pinned-mirrors (λ (f : Flight). f.id) (λ (f : Flight). f.pins.numbers) fs rs (mirrors fs rs zip) n ∙ ap (λ (p : ℕ → Bool). p n) pinned in
-      ap {B = Bool} (λ (b : Bool). b || opened_in opened n) pins ∙ ap {B = Bool} (λ (p : ℕ → Bool). (flying_of s.flights).pinned n || p n) are_opened
+      let pins : is_pinned rs n ≡ (requests_of s.flights).pinned n = is_pinned-mirrors (λ (f : RequestInFlight). f.id) (λ (f : RequestInFlight). f.pins.numbers) fs rs (mirrors fs rs zip) n ∙ ap (λ (p : ℕ → Bool). p n) pinned in
+      ap {B = Bool} (λ (b : Bool). b || opened_in opened n) pins ∙ ap {B = Bool} (λ (p : ℕ → Bool). (requests_of s.flights).pinned n || p n) are_opened
 
   ids : AllPairs (λ (r t : Record). r.id ≢ t.id) rs
-  ids = ids-mirrors (λ (f : Flight). f.id) (λ (f : Flight). f.pins.numbers) fs rs (mirrors fs rs zip) apart
+  ids = ids-mirrors (λ (f : RequestInFlight). f.id) (λ (f : RequestInFlight). f.pins.numbers) fs rs (mirrors fs rs zip) apart
 
   counted : AreHoldsCounted hs rs
   counted =
-      let sharing : sharers_of rs ≡ sharers_in s.flights.flights = sharers_same fs rs zip ∙ fun_ext (λ path. counts_same (λ (f : Flight). has_shared f.stage path) fs s.flights apart at many) in
-      let owning : owners_of rs ≡ owners_in s.flights.flights = owners_same fs rs zip ∙ fun_ext (λ path. counts_same (λ (f : Flight). has_exclusive f.stage path) fs s.flights apart at many) in
-      subst (λ (S : Names → ℕ). AreCounts S (owners_of rs) hs) (sym sharing) (subst (λ (O : Names → ℕ). AreCounts (sharers_in s.flights.flights) O hs) (sym owning) counts)
+      let sharing : sharers_of rs ≡ sharers_in s.flights.flights = sharers_same fs rs zip ∙ fun_ext (λ path. counts_same (λ (f : RequestInFlight). has_shared f.stage path) fs s.flights apart at many) in
+      let owning : exclusive_of rs ≡ exclusive_in_all s.flights.flights = owners_same fs rs zip ∙ fun_ext (λ path. counts_same (λ (f : RequestInFlight). has_exclusive f.stage path) fs s.flights apart at many) in
+      subst (λ (S : Names → ℕ). AreCounts S (exclusive_of rs) hs) (sym sharing) (subst (λ (O : Names → ℕ). AreCounts (sharers_in s.flights.flights) O hs) (sym owning) counts)
 
   pub exports : Exports (world_of s) image
   exports = record {
@@ -217,8 +205,8 @@ module _ (s : State) (kept : IsKept s) (xs : List Node) (ps : List Posting) (rs 
     nodes = nodes;
     postings = postings;
     ids = ids;
-    records = λ id. record_seen rs id ((flying_of s.flights).at id) (kept.flying.numbered id)
-        (subst (λ (a : Flights). MatchOption (a id) (record_in rs id ≡ None) (λ f. (r : Record) × (record_in rs id ≡ Some r) × IsCopyOf f r)) at (records_found fs rs id zip));
+    records = λ id. record_seen rs id ((requests_of s.flights).at id) (kept.flying.numbered id)
+        (subst (λ (a : RequestsInFlight). MatchOption (a id) (record_in rs id ≡ None) (λ f. (r : Record) × (record_in rs id ≡ Some r) × IsCopyOf f r)) at (records_found fs rs id zip));
     holds = counted;
     handles = handles;
     files = files_at;
@@ -236,6 +224,6 @@ module _ (s : State) (kept : IsKept s) (xs : List Node) (ps : List Posting) (rs 
     keeps = keeps;
     files = known_files;
     counted = counted;
-    apart = records_apart (flying_of s.flights).at fs rs at apart zip (at_in s.tree) kept.held;
-    known = records_known (flying_of s.flights).at fs rs at apart zip (at_in s.tree) kept.held;
+    apart = records_apart (requests_of s.flights).at fs rs at apart zip (at_in s.tree) kept.held;
+    known = records_known (requests_of s.flights).at fs rs at apart zip (at_in s.tree) kept.held;
   }) kept.law

@@ -1,4 +1,4 @@
--- What calls in a row leave in the ledger and in the share.
+-- What calls one after another leave in the ledger and in the share.
 use Rattle.std.proofs.Common.{◌≡◌, List, [], ◌++◌, append_assoc, append-nil, length, drop, sym, ap, ◌∙◌, arith}
 use Rattle.std.proofs.lemmas.List.Sums.{sum_by-append}
 use Rattle.std.proofs.Math.Seq.{drop-append_seam, drop-length}
@@ -6,7 +6,7 @@ use Rattle.ledger.specs.declared.postings.Posting.{Posting}
 use Rattle.ledger.specs.declared.shares.Totals.{Totals}
 use Rattle.ledger.specs.Shares.{Part, plus}
 use Rattle.ledger.specs.Sums.{totals_by, totals_of}
-use Rattle.steps.specs.World.{IsLawfulWorld, World}
+use Rattle.table_steps.specs.World.{IsLawfulWorld, World}
 use Rattle.table.specs.Gains.{Gains}
 
 totals_append : (ps qs : List Posting) → totals_of (ps ++ qs) ≡ plus (totals_of ps) (totals_of qs)

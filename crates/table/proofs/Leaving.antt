@@ -3,7 +3,7 @@ use Rattle.std.proofs.Common.{ℕ, ◌+◌, ◌<◌, ◌≤◌, List, [], ◌∷
 use Rattle.std.proofs.lemmas.Bool.{cases_eq, cases_lt}
 use Rattle.std.proofs.lemmas.List.Elements.{All-contains, All-push, Contains-push, Contains-push_cases, Contains-append_left}
 use Rattle.std.proofs.lemmas.List.Quantifiers.{all_pairs_push}
-use Rattle.wants.proofs.Members.{zip_push}
+use Rattle.table_footprints.proofs.Members.{zip_push}
 use Rattle.paths.specs.Prefixes.{Names}
 use Rattle.tree.specs.Places.{Lookup, IsAlive, IsPathOf}
 use Rattle.table.specs.Leftovers.{AreLeftBelow, AreLeftovers, IsMarked}

@@ -4,8 +4,8 @@ use Rattle.std.proofs.Math.Seq.{take-append_seam, drop-append_seam}
 use Rattle.ledger.specs.declared.postings.Posting.{Posting}
 use Rattle.ledger.specs.declared.shares.Totals.{Totals}
 use Rattle.ledger.specs.Sums.{totals_of}
-use Rattle.steps.specs.Laws.{Grows}
-use Rattle.steps.specs.World.{World}
+use Rattle.table_steps.specs.Laws.{Grows}
+use Rattle.table_steps.specs.World.{World}
 
 module _ (old new : World) (grows : Grows old new) where
   pub length_longer : length old.postings ≤ length new.postings

@@ -2,13 +2,13 @@
 use Rattle.std.specs.Prelude.{ℕ, ◌≡◌, [], List, count_by}
 use Rattle.paths.specs.Prefixes.{Names}
 use Rattle.holds.specs.declared.held.Held.{Held}
-use Rattle.flights.specs.declared.data.Flight.{Flight}
-use Rattle.flights.specs.declared.data.Stage as kept
-use Rattle.flights.specs.declared.data.Stage.TheVariants as kept_stage
-use Rattle.flights.specs.Flying.{has_exclusive, has_shared}
-use Rattle.image.specs.declared.data.Record.{Record}
-use Rattle.image.specs.declared.data.Stage.{Stage}
-use Rattle.image.specs.declared.data.Stage.TheVariants.{Working, Answered}
+use Rattle.table_requests.specs.declared.data.RequestInFlight.{RequestInFlight}
+use Rattle.table_requests.specs.declared.data.Stage as kept
+use Rattle.table_requests.specs.declared.data.Stage.TheVariants as kept_stage
+use Rattle.table_requests.specs.RequestMaps.{has_exclusive, has_shared}
+use Rattle.table_image.specs.declared.data.Record.{Record}
+use Rattle.table_image.specs.declared.data.Stage.{Stage}
+use Rattle.table_image.specs.declared.data.Stage.TheVariants.{Working, Answered}
 
 abbrev pub stage_of : kept.Stage → Stage
 stage_of (kept_stage.Working work) = Working
@@ -20,15 +20,15 @@ held_of (kept_stage.Working work) = work.held
 held_of kept_stage.Answered = record { given = []; shared = []; exclusive = [] }
 
 -- how many of the requests that are worked on share the path
-abbrev pub sharers_in : List Flight → Names → ℕ
-sharers_in fs path = count_by (λ (f : Flight). has_shared f.stage path) fs
+abbrev pub sharers_in : List RequestInFlight → Names → ℕ
+sharers_in fs path = count_by (λ (f : RequestInFlight). has_shared f.stage path) fs
 
--- how many of them hold it alone
-abbrev pub owners_in : List Flight → Names → ℕ
-owners_in fs path = count_by (λ (f : Flight). has_exclusive f.stage path) fs
+-- how many of them hold it exclusively
+abbrev pub exclusive_in_all : List RequestInFlight → Names → ℕ
+exclusive_in_all fs path = count_by (λ (f : RequestInFlight). has_exclusive f.stage path) fs
 
 -- the record copies the request
-pub record IsCopyOf (f : Flight) (r : Record) : Type 0 where
+pub record IsCopyOf (f : RequestInFlight) (r : Record) : Type 0 where
   pub id : r.id ≡ f.id
   pub unique : r.unique ≡ f.unique
   pub stage : r.stage ≡ stage_of f.stage

@@ -1,14 +1,14 @@
 -- What an image shows of a table.
 use Rattle.std.specs.Prelude.{ℕ, ◌≡◌, ◌==◌, ◌≢◌, [], Option, Some, None, List, MatchOption, AllPairs, find}
-use Rattle.files.specs.Filed.{file_in}
+use Rattle.table_files.specs.OpenEntry.{file_in}
 use Rattle.holds.specs.declared.held.Held.{Held}
 use Rattle.tree.specs.Listed.{node_at, IsDistinct}
-use Rattle.image.specs.declared.data.Image.{Image}
-use Rattle.image.specs.declared.data.Record.{Record}
-use Rattle.image.specs.declared.data.Stage.{Stage as Shown}
-use Rattle.image.specs.declared.data.Stage.TheVariants as shown
-use Rattle.image.specs.Law.{AreHoldsCounted}
-use Rattle.steps.specs.World.{Answered, Flight, Stage, Working, World}
+use Rattle.table_image.specs.declared.data.Image.{Image}
+use Rattle.table_image.specs.declared.data.Record.{Record}
+use Rattle.table_image.specs.declared.data.Stage.{Stage as Shown}
+use Rattle.table_image.specs.declared.data.Stage.TheVariants as shown
+use Rattle.table_image.specs.Law.{AreHoldsCounted}
+use Rattle.table_steps.specs.World.{Answered, RequestInFlight, Stage, Working, World}
 
 abbrev pub stage_shown : Stage → Shown
 stage_shown (Working work) = shown.Working
@@ -20,7 +20,7 @@ held_by (Working work) = work.held
 held_by Answered = record { given = []; shared = []; exclusive = [] }
 
 -- the record shows the request of that id
-pub record IsRecordOf (id : ℕ) (f : Flight) (r : Record) : Type 0 where
+pub record IsRecordOf (id : ℕ) (f : RequestInFlight) (r : Record) : Type 0 where
   pub id_is : r.id ≡ id
   pub unique : r.unique ≡ f.unique
   pub stage : r.stage ≡ stage_shown f.stage
@@ -32,7 +32,7 @@ abbrev pub record_in : List Record → ℕ → Option Record
 record_in rs id = find (λ (r : Record). r.id == id) rs
 
 -- the nodes by their numbers, each once; the whole ledger; the requests by their ids, each once; and each path that
--- they hold, once, with how many share it and how many hold it alone; the open files by their handles, each once; the counter of
+-- they hold, once, with how many share it and how many hold it exclusively; the open files by their handles, each once; the counter of
 -- the next hidden name, and the last handle that was given
 pub record Exports (w : World) (image : Image) : Type 0 where
   pub distinct : IsDistinct image.nodes

@@ -2,8 +2,8 @@
 use Rattle.std.specs.Prelude.{◌≡◌, ◌++◌}
 use Rattle.ledger.specs.Shares.{Part, plus}
 use Rattle.ledger.specs.Sums.{totals_of}
-use Rattle.steps.specs.Steps.{gained}
-use Rattle.steps.specs.World.{IsLawfulWorld, World}
+use Rattle.table_steps.specs.Steps.{gained}
+use Rattle.table_steps.specs.World.{IsLawfulWorld, World}
 
 -- the table is lawful after them, its ledger gained some postings, and the share their totals
 pub record Gains (old : World) (before : Part) (new : World) (after : Part) : Type 0 where

@@ -1,7 +1,7 @@
-pub use Rattle.steps.specs.Answers
-pub use Rattle.steps.specs.World
-pub use Rattle.steps.specs.Steps
-pub use Rattle.steps.specs.Kept
+pub use Rattle.table_steps.specs.Answers
+pub use Rattle.table_steps.specs.World
+pub use Rattle.table_steps.specs.Steps
+pub use Rattle.table_steps.specs.Kept
 pub mod Gains
 pub mod Exports
 pub mod Copies

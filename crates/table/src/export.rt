@@ -2,21 +2,23 @@
 
 ghost use Rattle.std.specs.Prelude.{◌≡◌, ◌+◌, ◌↔◌, [], ◌∷◌, All, IfOk, IsTrue, OnOk};
 ghost use Rattle.std.specs.List.{AllZip};
-ghost use Rattle.image.proofs.Exported.{IsHeldBySome, ListsBelow, ListsHeld, Stores};
-ghost use Rattle.image.specs.Law.{AreCounts, IsLawfulImage};
-ghost use Rattle.image.specs.Parts.{IsStored};
-ghost use Rattle.table.specs.Copies.{IsCopyOf, held_of, owners_in, sharers_in, stage_of};
+ghost use Rattle.table_image.proofs.Exported.{IsHeldBySome, ListsBelow, ListsHeld, Stores};
+ghost use Rattle.table_image.specs.Law.{AreCounts, IsLawfulImage};
+ghost use Rattle.table_image.specs.Parts.{IsStored};
+ghost use Rattle.table.specs.Copies.{IsCopyOf, held_of, exclusive_in_all, sharers_in, stage_of};
 ghost use Rattle.table.specs.Exports.{Exports};
-ghost use Rattle.steps.specs.Kept.{IsKept, world_of};
+ghost use Rattle.table_steps.specs.Kept.{IsKept, world_of};
 ghost use Rattle.tree.specs.Listed.{node_at, IsDistinct};
 ghost use Rattle.tree.specs.Places.{at_in};
 
-use flights::{Flight, Flights};
 use holds::{GivenPath, GivenPaths, Held, Paths};
-use image::{Hold, Holds, Image, Nodes, Numbers, OpenFiles, Postings, Record, Records, Stage};
 use paths::Path;
 use std::alloc::{AllocError, Global};
-use steps::State;
+use table_image::{
+    Hold, Holds, Image, Nodes, Numbers, OpenFiles, Postings, Record, Records, Stage,
+};
+use table_requests::{RequestInFlight, RequestsInFlight};
+use table_steps::State;
 use tree::{Key, Node, Place, Tree};
 
 /// The same place once more.
@@ -136,17 +138,17 @@ fn nothing_held(alloc: Global) -> Held
 }
 
 /// What a request holds: nothing once its work has ended.
-fn held_of(alloc: Global, stage: &flights::Stage) -> Result<Held, AllocError>
+fn held_of(alloc: Global, stage: &table_requests::Stage) -> Result<Held, AllocError>
     ensures { IfOk result (λ h. h ≡ held_of stage.now) }
 {
     match stage {
-        flights::Stage::Working(work) => copy_held(alloc, &work.held),
-        flights::Stage::Answered => Ok(nothing_held(alloc)),
+        table_requests::Stage::Working(work) => copy_held(alloc, &work.held),
+        table_requests::Stage::Answered => Ok(nothing_held(alloc)),
     }
 }
 
 /// What a request in flight shows of itself.
-fn copy_record(alloc: Global, flight: &Flight) -> Result<Record, AllocError>
+fn copy_record(alloc: Global, flight: &RequestInFlight) -> Result<Record, AllocError>
     ensures { IfOk result (IsCopyOf flight.now) }
 {
     let pins = Vec::from_slice(alloc, flight.pins.as_slice())?;
@@ -161,7 +163,7 @@ fn copy_record(alloc: Global, flight: &Flight) -> Result<Record, AllocError>
 }
 
 /// How far the request has come.
-fn stage(flight: &Flight) -> Stage
+fn stage(flight: &RequestInFlight) -> Stage
     ensures { result ≡ stage_of flight.now.stage }
 {
     if flight.stage.is_working() {
@@ -172,7 +174,7 @@ fn stage(flight: &Flight) -> Stage
 }
 
 /// All requests in flight, in their order.
-fn copy_records(alloc: Global, flights: &[Flight]) -> Result<Vec<Record>, AllocError>
+fn copy_records(alloc: Global, flights: &[RequestInFlight]) -> Result<Vec<Record>, AllocError>
     ensures { IfOk result (λ rs. AllZip IsCopyOf flights.now rs.items) }
 {
     let mut records = Vec::new(alloc);
@@ -190,10 +192,14 @@ fn is_stored(holds: &[Hold], path: &Path) -> bool
 }
 
 /// Adds a path that is held, with its two numbers, if it is not there yet.
-fn add_hold(holds: &mut Vec<Hold>, flights: &Flights, path: &Path) -> Result<(), AllocError>
-    requires lists { ListsHeld (sharers_in flights.now.flights) (owners_in flights.now.flights) holds.old.items }
-    requires held { IsHeldBySome (sharers_in flights.now.flights) (owners_in flights.now.flights) path.now }
-    ensures lists { OnOk result (ListsHeld (sharers_in flights.now.flights) (owners_in flights.now.flights) holds.new.items) }
+fn add_hold(
+    holds: &mut Vec<Hold>,
+    flights: &RequestsInFlight,
+    path: &Path,
+) -> Result<(), AllocError>
+    requires lists { ListsHeld (sharers_in flights.now.flights) (exclusive_in_all flights.now.flights) holds.old.items }
+    requires held { IsHeldBySome (sharers_in flights.now.flights) (exclusive_in_all flights.now.flights) path.now }
+    ensures lists { OnOk result (ListsHeld (sharers_in flights.now.flights) (exclusive_in_all flights.now.flights) holds.new.items) }
     ensures stores { OnOk result (Stores holds.old.items holds.new.items (path.now ∷ [])) }
 {
     if is_stored(holds.as_slice(), path) {
@@ -209,10 +215,14 @@ fn add_hold(holds: &mut Vec<Hold>, flights: &Flights, path: &Path) -> Result<(),
 }
 
 /// Adds the paths, each of which is held, as far as they are not there yet.
-fn add_paths(holds: &mut Vec<Hold>, flights: &Flights, paths: &[Path]) -> Result<(), AllocError>
-    requires lists { ListsHeld (sharers_in flights.now.flights) (owners_in flights.now.flights) holds.old.items }
-    requires held { All (IsHeldBySome (sharers_in flights.now.flights) (owners_in flights.now.flights)) paths.now }
-    ensures lists { OnOk result (ListsHeld (sharers_in flights.now.flights) (owners_in flights.now.flights) holds.new.items) }
+fn add_paths(
+    holds: &mut Vec<Hold>,
+    flights: &RequestsInFlight,
+    paths: &[Path],
+) -> Result<(), AllocError>
+    requires lists { ListsHeld (sharers_in flights.now.flights) (exclusive_in_all flights.now.flights) holds.old.items }
+    requires held { All (IsHeldBySome (sharers_in flights.now.flights) (exclusive_in_all flights.now.flights)) paths.now }
+    ensures lists { OnOk result (ListsHeld (sharers_in flights.now.flights) (exclusive_in_all flights.now.flights) holds.new.items) }
     ensures stores { OnOk result (Stores holds.old.items holds.new.items paths.now) }
 {
     for path in paths {
@@ -224,28 +234,28 @@ fn add_paths(holds: &mut Vec<Hold>, flights: &Flights, paths: &[Path]) -> Result
 /// Adds the paths that the request holds, as far as they are not there yet.
 fn add_held(
     holds: &mut Vec<Hold>,
-    flights: &Flights,
-    stage: &flights::Stage,
+    flights: &RequestsInFlight,
+    stage: &table_requests::Stage,
 ) -> Result<(), AllocError>
-    requires lists { ListsHeld (sharers_in flights.now.flights) (owners_in flights.now.flights) holds.old.items }
-    requires shared { All (IsHeldBySome (sharers_in flights.now.flights) (owners_in flights.now.flights)) (held_of stage.now).shared }
-    requires exclusive { All (IsHeldBySome (sharers_in flights.now.flights) (owners_in flights.now.flights)) (held_of stage.now).exclusive }
-    ensures lists { OnOk result (ListsHeld (sharers_in flights.now.flights) (owners_in flights.now.flights) holds.new.items) }
+    requires lists { ListsHeld (sharers_in flights.now.flights) (exclusive_in_all flights.now.flights) holds.old.items }
+    requires shared { All (IsHeldBySome (sharers_in flights.now.flights) (exclusive_in_all flights.now.flights)) (held_of stage.now).shared }
+    requires exclusive { All (IsHeldBySome (sharers_in flights.now.flights) (exclusive_in_all flights.now.flights)) (held_of stage.now).exclusive }
+    ensures lists { OnOk result (ListsHeld (sharers_in flights.now.flights) (exclusive_in_all flights.now.flights) holds.new.items) }
     ensures shared { OnOk result (Stores holds.old.items holds.new.items (held_of stage.now).shared) }
     ensures exclusive { OnOk result (Stores holds.old.items holds.new.items (held_of stage.now).exclusive) }
 {
     match stage {
-        flights::Stage::Working(work) => {
+        table_requests::Stage::Working(work) => {
             add_paths(holds, flights, work.held.shared.as_slice())?;
             add_paths(holds, flights, work.held.exclusive.as_slice())
         }
-        flights::Stage::Answered => Ok(()),
+        table_requests::Stage::Answered => Ok(()),
     }
 }
 
-/// The paths that are held, each once, with how many share it and how many hold it alone.
-fn copy_holds(alloc: Global, flights: &Flights) -> Result<Vec<Hold>, AllocError>
-    ensures { IfOk result (λ hs. AreCounts (sharers_in flights.now.flights) (owners_in flights.now.flights) hs.items) }
+/// The paths that are held, each once, with how many share it and how many hold it exclusively.
+fn copy_holds(alloc: Global, flights: &RequestsInFlight) -> Result<Vec<Hold>, AllocError>
+    ensures { IfOk result (λ hs. AreCounts (sharers_in flights.now.flights) (exclusive_in_all flights.now.flights) hs.items) }
 {
     let mut holds = Vec::new(alloc);
     for flight in flights.as_slice() {

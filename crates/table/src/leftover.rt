@@ -1,15 +1,15 @@
 //! What is left of files that were hidden.
 
 ghost use Rattle.std.specs.Prelude.{◌+◌, IfOk, OnOk};
-ghost use Rattle.image.specs.Law.{AreMarksNamed};
-ghost use Rattle.steps.specs.Kept.{IsKept, world_of};
+ghost use Rattle.table_image.specs.Law.{AreMarksNamed};
+ghost use Rattle.table_steps.specs.Kept.{IsKept, world_of};
 ghost use Rattle.table.specs.Leftovers.{AreLeftBelow, AreLeftovers};
 ghost use Rattle.tree.specs.Places.{at_in};
 
 use holds::Paths;
 use paths::Path;
 use std::alloc::{AllocError, Global};
-use steps::State;
+use table_steps::State;
 use tree::Tree;
 
 /// Adds the path of the node, if it has a hidden mark.

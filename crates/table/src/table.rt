@@ -4,40 +4,40 @@ ghost use Rattle.std.specs.Prelude.{◌≡◌, ◌≤◌, ◌<◌, ◌↔◌, �
 ghost use Rattle.std.specs.List.{range_with_len};
 ghost use Rattle.ledger.specs.Shares.{nothing, plus, sum_of};
 ghost use Rattle.ledger.specs.Sums.{totals_of};
-ghost use Rattle.image.specs.Law.{IsLawfulImage};
+ghost use Rattle.table_image.specs.Law.{IsLawfulImage};
 ghost use Rattle.table.specs.Exports.{Exports};
 ghost use Rattle.table.specs.Leftovers.{AreLeftovers};
-ghost use Rattle.steps.specs.Kept.{world_of};
-ghost use Rattle.steps.specs.Steps.{Begins, Finishes, Forgets, Settles, gained};
-ghost use Rattle.steps.specs.World.{IsLawfulWorld, opened_world};
+ghost use Rattle.table_steps.specs.Kept.{world_of};
+ghost use Rattle.table_steps.specs.Steps.{Begins, Finishes, Forgets, Settles, gained};
+ghost use Rattle.table_steps.specs.World.{IsLawfulWorld, opened_world};
 
 use crate::export::export;
 use crate::leftover::leftover;
-use files::OpenFile;
-use flights::Want;
 use holds::Paths;
-use image::Image;
 use ledger::{Blanks, Book, Gather, Ledger, Ledgers, Share, Totals};
 use std::alloc::{AllocError, Global};
 use std::marker::Model;
-use steps::{Answered, Begin, Limits, Outcome, Settled, State, Ticket};
+use table_files::OpenFile;
+use table_image::Image;
+use table_requests::Want;
+use table_steps::{Answered, Begin, Limits, Outcome, Seeds, Settled, State, Ticket};
 
 /// The state that all workers share, under one lock. Its type parameter names the four ledgers of its book.
 #[derive(Drop)]
-pub struct Table<L: Ledgers> {
+pub struct Table<T: Ledgers> {
     state: State,
-    book: Book<L>,
+    book: Book<T>,
 }
 
-impl<L: Ledgers> Model for Table<L> {
+impl<T: Ledgers> Model for Table<T> {
     ghost use Rattle.std.specs.Prelude.{◌≡◌};
     ghost use Rattle.ledger.specs.Sums.{totals_of};
-    ghost use Rattle.steps.specs.declared.state.State.{State};
+    ghost use Rattle.table_steps.specs.declared.state.State.{State};
     ghost use Rattle.std.specs.Coded.{codes, coded_ℕ};
     ghost use Rattle.std.specs.FinMap as map;
     ghost use Rattle.std.specs.Ordering.{nat_cmp};
     ghost use Rattle.tree.specs.contracts.nodes.Node as node;
-    ghost use Rattle.steps.specs.Kept.{IsKept};
+    ghost use Rattle.table_steps.specs.Kept.{IsKept};
 
     ghost Value = { State };
 
@@ -49,7 +49,7 @@ impl<L: Ledgers> Model for Table<L> {
 }
 
 /// Counts the postings from a place on for the worker that has the share.
-fn post_since<L: Ledgers>(ledger: &Ledger, book: &mut Book<L>, share: &mut Share<L>, made: usize)
+fn post_since<T: Ledgers>(ledger: &Ledger, book: &mut Book<T>, share: &mut Share<T>, made: usize)
     requires within { made ≤ length ledger.now.made }
     requires short { length ledger.now.made < 2 ^ 64 }
     requires so_far { book.old ≡ totals_of (take made ledger.now.made) }
@@ -62,22 +62,23 @@ fn post_since<L: Ledgers>(ledger: &Ledger, book: &mut Book<L>, share: &mut Share
     }
 }
 
-impl<L: Ledgers> Table<L> {
+impl<T: Ledgers> Table<T> {
     /// A table of the root alone, and a share for each of its workers. A refused growth gives nothing.
     pub fn open(
         alloc: Global,
         limits: Limits,
+        seeds: Seeds,
         blanks: Blanks,
         workers: usize,
-    ) -> Result<(Table<L>, Vec<Share<L>>), AllocError>
-        requires names { blanks ≡ L.names }
-        requires shares { workers ≡ L.names.parts }
+    ) -> Result<(Table<T>, Vec<Share<T>>), AllocError>
+        requires names { blanks ≡ T.names }
+        requires shares { workers ≡ T.names.parts }
         requires root { 1 ≤ limits.nodes }
         ensures opened { IfOk result (λ (table, _). world_of table ≡ opened_world limits) }
         ensures lawful { IfOk result (λ (table, _). IsLawfulWorld (world_of table)) }
         ensures shares { IfOk result (λ (_, shares). shares.items ≡ map (λ index. record { index = index; totals = nothing }) (range_with_len 0 workers)) }
     {
-        let state = State::open(alloc, limits)?;
+        let state = State::open(alloc, limits, seeds)?;
         state.attest();
         let (book, shares) = Book::open(alloc, blanks, workers)?;
         Ok((Table { state, book }, shares))
@@ -101,8 +102,8 @@ impl<L: Ledgers> Table<L> {
     }
 
     /// Ends the work on a request. Of a page an entry is given for each name that was found, in order, but for those that another
-    /// request holds alone. It takes no memory.
-    pub fn finish(&mut self, share: &mut Share<L>, ticket: Ticket, outcome: Outcome) -> Answered
+    /// request holds exclusively. It takes no memory.
+    pub fn finish(&mut self, share: &mut Share<T>, ticket: Ticket, outcome: Outcome) -> Answered
         ensures finishes { Finishes (world_of self.old) ticket.id outcome result (world_of self.new) }
         ensures lawful { IsLawfulWorld (world_of self.new) }
         ensures grows { (world_of self.new).postings ≡ (world_of self.old).postings ++ gained (world_of self.old) (world_of self.new) }
@@ -116,7 +117,7 @@ impl<L: Ledgers> Table<L> {
     }
 
     /// Ends a request whose reply was taken, or was not. It takes no memory.
-    pub fn settle(&mut self, share: &mut Share<L>, answered: Answered, taken: bool) -> Settled
+    pub fn settle(&mut self, share: &mut Share<T>, answered: Answered, taken: bool) -> Settled
         ensures settles { Settles (world_of self.old) answered taken result (world_of self.new) }
         ensures lawful { IsLawfulWorld (world_of self.new) }
         ensures grows { (world_of self.new).postings ≡ (world_of self.old).postings ++ gained (world_of self.old) (world_of self.new) }
@@ -130,7 +131,7 @@ impl<L: Ledgers> Table<L> {
     }
 
     /// The client gives `n` lookups of a node back: the smaller of `n` and its count is taken, and told. It takes no memory.
-    pub fn forget(&mut self, share: &mut Share<L>, number: u64, n: u64) -> u64
+    pub fn forget(&mut self, share: &mut Share<T>, number: u64, n: u64) -> u64
         ensures forgets { Forgets (world_of self.old) number n result (world_of self.new) }
         ensures lawful { IsLawfulWorld (world_of self.new) }
         ensures grows { (world_of self.new).postings ≡ (world_of self.old).postings ++ gained (world_of self.old) (world_of self.new) }
@@ -166,8 +167,8 @@ impl<L: Ledgers> Table<L> {
     }
 
     /// Adds up the shares. Where none is missing, their sum is what the ledger holds. The table and the shares are used up.
-    pub fn gather(self, shares: Vec<Share<L>>) -> Result<Totals, Gather>
-        ensures missing { IsErr result ↔ (vec_len shares < L.names.parts) }
+    pub fn gather(self, shares: Vec<Share<T>>) -> Result<Totals, Gather>
+        ensures missing { IsErr result ↔ (vec_len shares < T.names.parts) }
         ensures sums { IfOk result (λ totals. totals ≡ sum_of shares.items) }
         ensures ledger { IfOk result (λ totals. totals ≡ totals_of (world_of self).postings) }
     {

@@ -1,116 +1,96 @@
-//! How a list of nodes changes. No step takes memory.
+//! How a tree of stored nodes changes. No step takes memory.
 
-ghost use Rattle.std.specs.Prelude.{true, false, ◌≡◌, ◌≢◌, ◌<◌, ◌≤◌, ◌+◌, ℕ, ◌++◌, None, Some, slice_get, slice_set, slice_index_or, vec_len, vec_capacity, length};
+ghost use Rattle.std.specs.Prelude.{true, false, ◌≡◌, ◌≢◌, ◌≤◌, ◌+◌, ◌*◌, ◌^◌, ℕ, List, None, Some};
+ghost use Rattle.slab.specs.Slab.{slab_len, HasRoomFor};
+ghost use Rattle.steady_map.specs.Living.{live, places};
+ghost use Rattle.tree.specs.declared.nodes.Key.{Key};
 ghost use Rattle.tree.specs.declared.nodes.Node.{Node};
 ghost use Rattle.tree.specs.declared.nodes.Place.TheVariants as Place;
-ghost use Rattle.tree.specs.Places.{IsAlive, IsRooted, IsNamed, IsPathOf, HasChild, IsFree, Leads, with_node, without, born_node};
-ghost use Rattle.tree.specs.Listed.{node_at, IsDistinct, IsGrown, IsLeastFree, IsStray, IsSettled, counts_of};
-ghost use Rattle.tree.specs.Moves.{IsBorn, CutsBelow, CanRelink, IsFreed, Moves, moved_node, cut_node};
+ghost use Rattle.tree_children.specs.Ordinals.{HasPlaces, KeepsPlaces, child_count, known_count};
+ghost use Rattle.tree.specs.Children.{IsChildrenOf};
+ghost use Rattle.tree.specs.Places.{IsAlive, IsNamed, HasChild, IsFree, Leads, with_node, without, born_node};
+ghost use Rattle.tree.specs.Listed.{counts_of};
+ghost use Rattle.tree.specs.Moves.{CanRelink, IsFreed, Moves, moved_node, cut_node};
+ghost use Rattle.tree.specs.Stored.{slot_at, listed, IsIndexed, IsStored};
 
-use crate::lookups::{climbs_to, find_in, index_of, least_free};
+use crate::leaves::cut_leaves;
+use crate::lookups::key_of;
 use crate::nodes::{Key, Node, Place};
+use crate::writes::{Store, find_in, forget_place, mark, replace_place, write_number};
+use steady_map::put;
+use tree_children::{add_child, add_known, remove_known};
 
-/// Cuts the node of that index.
-fn cut_one(nodes: &mut Vec<Node>, i: usize)
-    requires within { i < vec_len nodes.old }
-    ensures items { (d : Node) → nodes.new.items ≡ slice_set nodes.old.items i (cut_node (slice_index_or nodes.old.items i d)) }
-    ensures len { vec_len nodes.new ≡ vec_len nodes.old }
-    ensures capacity { vec_capacity nodes.new ≡ vec_capacity nodes.old }
-{
-    let node = &mut nodes[i];
-    node.place = Place::Cut;
-    node.hidden = false;
-}
-
-/// Cuts the node of that index and number, and all below it.
-///
-/// First the node alone is cut, and then each node that leads to the root no more.
-fn cut_below(nodes: &mut Vec<Node>, i: usize, _number: u64)
-    requires within { i < vec_len nodes.old }
-    requires found { slice_get nodes.old.items i ≡ node_at nodes.old.items _number }
-    requires grown { IsGrown nodes.old.items }
-    requires not_root { _number ≢ 1 }
-    ensures cuts { CutsBelow (node_at nodes.old.items) (node_at nodes.new.items) _number }
-    ensures grown { IsGrown nodes.new.items }
-    ensures counts { counts_of nodes.new.items ≡ counts_of nodes.old.items }
-    ensures len { vec_len nodes.new ≡ vec_len nodes.old }
-    ensures capacity { vec_capacity nodes.new ≡ vec_capacity nodes.old }
-{
-    cut_one(nodes, i);
-    for k in 0..nodes.len() {
-        if is_stray(nodes.as_slice(), k) {
-            cut_one(nodes, k);
-        }
-    }
-}
-
-/// Whether the node of that index is not cut, though it leads to the root no more.
-fn is_stray(nodes: &[Node], k: usize) -> bool
-    requires within { k < length nodes.now }
-    requires distinct { IsDistinct nodes.now }
-    requires rooted { IsRooted (node_at nodes.now) }
-    ensures yes { result ≡ true → IsStray nodes.now k }
-    ensures no { result ≡ false → IsSettled nodes.now k }
-{
-    let node = &nodes[k];
-    match &node.place {
-        Place::Cut => false,
-        _ => !climbs_to(nodes, node.number, 1),
-    }
-}
-
-/// Cuts the node of that number, and all below it.
-pub(crate) fn cut_number(nodes: &mut Vec<Node>, number: u64)
-    requires alive { IsAlive (node_at nodes.old.items) number }
-    requires grown { IsGrown nodes.old.items }
+/// Cuts a node that has no children.
+pub(crate) fn cut_leaf(store: &mut Store, number: u64)
+    requires named { (p : ℕ) × (name : List ℕ) × IsNamed (slot_at store.old.nodes) number p name }
     requires not_root { number ≢ 1 }
-    ensures cuts { CutsBelow (node_at nodes.old.items) (node_at nodes.new.items) number }
-    ensures grown { IsGrown nodes.new.items }
-    ensures counts { counts_of nodes.new.items ≡ counts_of nodes.old.items }
-    ensures len { vec_len nodes.new ≡ vec_len nodes.old }
-    ensures capacity { vec_capacity nodes.new ≡ vec_capacity nodes.old }
+    requires childless { HasChild (slot_at store.old.nodes) number → ⊥ }
+    requires stored { IsStored store.old.nodes store.old.index store.old.children store.old.named }
+    ensures cut { (x : Node) → slot_at store.old.nodes number ≡ Some x → slot_at store.new.nodes ≡ with_node (slot_at store.old.nodes) number (cut_node x) }
+    ensures stored { IsStored store.new.nodes store.new.index store.new.children store.new.named }
+    ensures less { store.new.named + 1 ≡ store.old.named }
+    ensures len { slab_len store.new.nodes ≡ slab_len store.old.nodes }
+    ensures capacity { store.new.nodes.capacity ≡ store.old.nodes.capacity }
+    ensures places { places store.new.index ≡ places store.old.index }
+    ensures child_places { KeepsPlaces store.old.children store.new.children }
 {
-    match index_of(nodes.as_slice(), number) {
-        Some(i) => cut_below(nodes, i, number),
-        None => unreachable!(),
-    }
+    let was = replace_place(&mut store.nodes, number, Place::Cut);
+    mark(&mut store.nodes, number, false);
+    forget_place(store, number, &was);
 }
 
-/// Names the node of that number elsewhere.
-fn place_number(nodes: &mut Vec<Node>, number: u64, key: Key)
-    requires alive { IsAlive (node_at nodes.old.items) number }
-    requires distinct { IsDistinct nodes.old.items }
-    ensures moved { (x : Node) → node_at nodes.old.items number ≡ Some x → node_at nodes.new.items ≡ with_node (node_at nodes.old.items) number (moved_node x key.parent key.name) }
-    ensures distinct { IsDistinct nodes.new.items }
-    ensures counts { counts_of nodes.new.items ≡ counts_of nodes.old.items }
-    ensures len { vec_len nodes.new ≡ vec_len nodes.old }
-    ensures capacity { vec_capacity nodes.new ≡ vec_capacity nodes.old }
+/// Names the node elsewhere, at a place that is free.
+fn place_number(store: &mut Store, number: u64, key: Key, copy: Key)
+    requires copy { copy ≡ key }
+    requires not_root { number ≢ 1 }
+    requires named { (p : ℕ) × (name : List ℕ) × IsNamed (slot_at store.old.nodes) number p name }
+    requires free { IsFree (slot_at store.old.nodes) key.parent key.name }
+    requires above { IsAlive (slot_at store.old.nodes) key.parent }
+    requires stored { IsStored store.old.nodes store.old.index store.old.children store.old.named }
+    requires room { 2 * store.old.named ≤ places store.old.index }
+    requires child_places { HasPlaces store.old.children store.old.named (slab_len store.old.nodes) }
+    ensures moved { (x : Node) → slot_at store.old.nodes number ≡ Some x → slot_at store.new.nodes ≡ with_node (slot_at store.old.nodes) number (moved_node x key.parent key.name) }
+    ensures indexed { IsIndexed (slot_at store.new.nodes) store.new.index }
+    ensures related { IsChildrenOf (slot_at store.new.nodes) store.new.children }
+    ensures counted { store.new.named ≡ live store.new.index }
+    ensures same { store.new.named ≡ store.old.named }
+    ensures counts { (child_count store.new.children ≡ store.new.named) × (known_count store.new.children ≡ slab_len store.new.nodes) }
+    ensures len { slab_len store.new.nodes ≡ slab_len store.old.nodes }
+    ensures capacity { store.new.nodes.capacity ≡ store.old.nodes.capacity }
+    ensures places { places store.old.index ≤ places store.new.index }
+    ensures child_places { KeepsPlaces store.old.children store.new.children }
 {
-    let Some(i) = index_of(nodes.as_slice(), number) else {
-        unreachable!();
-    };
-    let node = &mut nodes[i];
-    node.place = Place::Named(key);
+    let _places = store.index.capacity();
+    let parent = key.parent;
+    let was = replace_place(&mut store.nodes, number, Place::Named(key));
+    forget_place(store, number, &was);
+    put(&mut store.index, copy, number);
+    add_child(&mut store.children, number, parent);
+    store.named += 1;
 }
 
 /// Makes the place of the key free, but for the node of that number. Whether that node stands there already is the result.
-fn make_free(nodes: &mut Vec<Node>, number: u64, key: &Key) -> bool
-    requires can { CanRelink (node_at nodes.old.items) number key.now.parent key.now.name }
-    requires grown { IsGrown nodes.old.items }
-    ensures there { result ≡ true → IsNamed (node_at nodes.old.items) number key.now.parent key.now.name }
-    ensures same { result ≡ true → nodes.new.items ≡ nodes.old.items }
-    ensures free { result ≡ false → IsFreed (node_at nodes.old.items) (node_at nodes.new.items) number key.now.parent key.now.name }
-    ensures grown { IsGrown nodes.new.items }
-    ensures counts { counts_of nodes.new.items ≡ counts_of nodes.old.items }
-    ensures len { vec_len nodes.new ≡ vec_len nodes.old }
-    ensures capacity { vec_capacity nodes.new ≡ vec_capacity nodes.old }
+fn make_free(store: &mut Store, number: u64, key: &Key) -> bool
+    requires can { CanRelink (slot_at store.old.nodes) number key.now.parent key.now.name }
+    requires few { slab_len store.old.nodes ≤ 2 ^ 62 }
+    requires stored { IsStored store.old.nodes store.old.index store.old.children store.old.named }
+    ensures there { result ≡ true → IsNamed (slot_at store.old.nodes) number key.now.parent key.now.name }
+    ensures same { result ≡ true → slot_at store.new.nodes ≡ slot_at store.old.nodes }
+    ensures free { result ≡ false → IsFreed (slot_at store.old.nodes) (slot_at store.new.nodes) number key.now.parent key.now.name }
+    ensures stored { IsStored store.new.nodes store.new.index store.new.children store.new.named }
+    ensures counts { counts_of (listed store.new.nodes.slots) ≡ counts_of (listed store.old.nodes.slots) }
+    ensures fewer { store.new.named ≤ store.old.named }
+    ensures len { slab_len store.new.nodes ≡ slab_len store.old.nodes }
+    ensures capacity { store.new.nodes.capacity ≡ store.old.nodes.capacity }
+    ensures places { places store.new.index ≡ places store.old.index }
+    ensures child_places { KeepsPlaces store.old.children store.new.children }
 {
-    match find_in(nodes.as_slice(), key) {
+    match find_in(&store.index, key) {
         Some(other) => {
             if other == number {
                 return true;
             }
-            cut_number(nodes, other);
+            cut_leaves(store, other);
             false
         }
         None => false,
@@ -118,94 +98,86 @@ fn make_free(nodes: &mut Vec<Node>, number: u64, key: &Key) -> bool
 }
 
 /// Moves the node to the key's place, with all below it.
-pub(crate) fn move_number(nodes: &mut Vec<Node>, number: u64, key: Key)
-    requires can { CanRelink (node_at nodes.old.items) number key.parent key.name }
-    requires grown { IsGrown nodes.old.items }
-    ensures moved { Moves (node_at nodes.old.items) (node_at nodes.new.items) number key.parent key.name }
-    ensures grown { IsGrown nodes.new.items }
-    ensures counts { counts_of nodes.new.items ≡ counts_of nodes.old.items }
-    ensures len { vec_len nodes.new ≡ vec_len nodes.old }
-    ensures capacity { vec_capacity nodes.new ≡ vec_capacity nodes.old }
+pub(crate) fn move_number(store: &mut Store, number: u64, key: Key, copy: Key)
+    requires copy { copy ≡ key }
+    requires can { CanRelink (slot_at store.old.nodes) number key.parent key.name }
+    requires stored { IsStored store.old.nodes store.old.index store.old.children store.old.named }
+    requires few { slab_len store.old.nodes ≤ 2 ^ 62 }
+    requires room { 2 * store.old.named ≤ places store.old.index }
+    requires child_places { HasPlaces store.old.children store.old.named (slab_len store.old.nodes) }
+    ensures moved { Moves (slot_at store.old.nodes) (slot_at store.new.nodes) number key.parent key.name }
+    ensures stored { IsStored store.new.nodes store.new.index store.new.children store.new.named }
+    ensures counts { counts_of (listed store.new.nodes.slots) ≡ counts_of (listed store.old.nodes.slots) }
+    ensures fewer { store.new.named ≤ store.old.named }
+    ensures len { slab_len store.new.nodes ≡ slab_len store.old.nodes }
+    ensures capacity { store.new.nodes.capacity ≡ store.old.nodes.capacity }
+    ensures places { places store.old.index ≤ places store.new.index }
+    ensures child_places { KeepsPlaces store.old.children store.new.children }
 {
-    if make_free(nodes, number, &key) {
+    if make_free(store, number, &key) {
         return;
     }
-    place_number(nodes, number, key);
+    place_number(store, number, key, copy);
 }
 
-/// Takes the node of that number out of the list, if it is there.
-pub(crate) fn drop_number(nodes: &mut Vec<Node>, number: u64)
-    requires grown { IsGrown nodes.old.items }
+/// Takes the node out, if it is there.
+pub(crate) fn drop_number(store: &mut Store, number: u64)
+    requires stored { IsStored store.old.nodes store.old.index store.old.children store.old.named }
     requires not_root { number ≢ 1 }
-    requires childless { HasChild (node_at nodes.old.items) number → ⊥ }
-    ensures gone { node_at nodes.new.items ≡ without (node_at nodes.old.items) number }
-    ensures grown { IsGrown nodes.new.items }
-    ensures none { node_at nodes.old.items number ≡ None → nodes.new.items ≡ nodes.old.items }
-    ensures counts { (x : Node) → node_at nodes.old.items number ≡ Some x → counts_of nodes.new.items + x.count ≡ counts_of nodes.old.items }
-    ensures len { (x : Node) → node_at nodes.old.items number ≡ Some x → vec_len nodes.new + 1 ≡ vec_len nodes.old }
-    ensures same { node_at nodes.old.items number ≡ None → vec_len nodes.new ≡ vec_len nodes.old }
-    ensures shrinks { vec_len nodes.new ≤ vec_len nodes.old }
-    ensures capacity { vec_capacity nodes.new ≡ vec_capacity nodes.old }
+    requires childless { HasChild (slot_at store.old.nodes) number → ⊥ }
+    ensures gone { slot_at store.new.nodes ≡ without (slot_at store.old.nodes) number }
+    ensures stored { IsStored store.new.nodes store.new.index store.new.children store.new.named }
+    ensures none { slot_at store.old.nodes number ≡ None → (slab_len store.new.nodes ≡ slab_len store.old.nodes) × (counts_of (listed store.new.nodes.slots) ≡ counts_of (listed store.old.nodes.slots)) }
+    ensures some { (x : Node) → slot_at store.old.nodes number ≡ Some x → (slab_len store.new.nodes + 1 ≡ slab_len store.old.nodes) × (counts_of (listed store.new.nodes.slots) + x.count ≡ counts_of (listed store.old.nodes.slots)) }
+    ensures shrinks { slab_len store.new.nodes ≤ slab_len store.old.nodes }
+    ensures fewer { store.new.named ≤ store.old.named }
+    ensures capacity { store.new.nodes.capacity ≡ store.old.nodes.capacity }
+    ensures places { places store.new.index ≡ places store.old.index }
+    ensures child_places { KeepsPlaces store.old.children store.new.children }
 {
-    if let Some(i) = index_of(nodes.as_slice(), number) {
-        let _dropped = nodes.remove(i);
-    }
+    let Some(key) = key_of(number) else {
+        return;
+    };
+    let Some(node) = store.nodes.try_remove(key) else {
+        return;
+    };
+    forget_place(store, number, &node.place);
+    remove_known(&mut store.children, number);
 }
 
-/// A node is born at the key's place, under the least number that is free, which is the result.
-pub(crate) fn bear(nodes: &mut Vec<Node>, generation: u64, key: Key) -> u64
-    requires grown { IsGrown nodes.old.items }
-    requires free { IsFree (node_at nodes.old.items) key.parent key.name }
-    requires above { Leads (node_at nodes.old.items) key.parent }
-    requires room { vec_len nodes.old < vec_capacity nodes.old }
-    ensures least { IsLeastFree nodes.old.items result }
-    ensures grown { IsGrown nodes.new.items }
-    ensures nodes { node_at nodes.new.items ≡ with_node (node_at nodes.old.items) result (born_node result generation key.parent key.name) }
-    ensures counts { counts_of nodes.new.items ≡ counts_of nodes.old.items }
-    ensures len { vec_len nodes.new ≡ vec_len nodes.old + 1 }
-    ensures capacity { vec_capacity nodes.new ≡ vec_capacity nodes.old }
+/// A node is born at the key's place, under the slab's next key, which with one more is the result.
+pub(crate) fn bear(store: &mut Store, generation: u64, key: Key, copy: Key) -> u64
+    requires copy { copy ≡ key }
+    requires stored { IsStored store.old.nodes store.old.index store.old.children store.old.named }
+    requires free { IsFree (slot_at store.old.nodes) key.parent key.name }
+    requires above { Leads (slot_at store.old.nodes) key.parent }
+    requires slots { HasRoomFor store.old.nodes 1 }
+    requires keys { 2 * (store.old.named + 1) ≤ places store.old.index }
+    requires child_places { HasPlaces store.old.children (store.old.named + 1) (slab_len store.old.nodes + 1) }
+    ensures number { result ≡ store.old.nodes.vacant_key + 1 }
+    ensures fresh { slot_at store.old.nodes result ≡ None }
+    ensures nodes { slot_at store.new.nodes ≡ with_node (slot_at store.old.nodes) result (born_node result generation key.parent key.name) }
+    ensures stored { IsStored store.new.nodes store.new.index store.new.children store.new.named }
+    ensures counts { counts_of (listed store.new.nodes.slots) ≡ counts_of (listed store.old.nodes.slots) }
+    ensures named { store.new.named ≡ store.old.named + 1 }
+    ensures len { slab_len store.new.nodes ≡ slab_len store.old.nodes + 1 }
+    ensures capacity { store.new.nodes.capacity ≡ store.old.nodes.capacity }
+    ensures places { places store.old.index ≤ places store.new.index }
+    ensures child_places { KeepsPlaces store.old.children store.new.children }
 {
-    let number = least_free(nodes.as_slice());
-    nodes.push_reserved(Node {
-        number,
+    let _places = store.index.capacity();
+    let parent = key.parent;
+    let at = store.nodes.insert_reserved(Node {
+        number: 0,
         generation,
         place: Place::Named(key),
         count: 0,
         hidden: false,
     });
+    let number = write_number(&mut store.nodes, at);
+    put(&mut store.index, copy, number);
+    add_known(&mut store.children, number);
+    add_child(&mut store.children, number, parent);
+    store.named += 1;
     number
-}
-
-/// Gives the node of that number another lookup count.
-pub(crate) fn write_count(nodes: &mut Vec<Node>, number: u64, count: u64)
-    requires alive { IsAlive (node_at nodes.old.items) number }
-    requires grown { IsGrown nodes.old.items }
-    ensures written { (x : Node) → node_at nodes.old.items number ≡ Some x → node_at nodes.new.items ≡ with_node (node_at nodes.old.items) number (record x { count = count }) }
-    ensures counts { (x : Node) → node_at nodes.old.items number ≡ Some x → counts_of nodes.new.items + x.count ≡ counts_of nodes.old.items + count }
-    ensures grown { IsGrown nodes.new.items }
-    ensures len { vec_len nodes.new ≡ vec_len nodes.old }
-    ensures capacity { vec_capacity nodes.new ≡ vec_capacity nodes.old }
-{
-    let Some(i) = index_of(nodes.as_slice(), number) else {
-        unreachable!();
-    };
-    let node = &mut nodes[i];
-    node.count = count;
-}
-
-/// Gives the node of that number its hidden mark, or takes it away.
-pub(crate) fn write_hidden(nodes: &mut Vec<Node>, number: u64, hidden: bool)
-    requires alive { IsAlive (node_at nodes.old.items) number }
-    requires grown { IsGrown nodes.old.items }
-    ensures written { (x : Node) → node_at nodes.old.items number ≡ Some x → node_at nodes.new.items ≡ with_node (node_at nodes.old.items) number (record x { hidden = hidden }) }
-    ensures counts { counts_of nodes.new.items ≡ counts_of nodes.old.items }
-    ensures grown { IsGrown nodes.new.items }
-    ensures len { vec_len nodes.new ≡ vec_len nodes.old }
-    ensures capacity { vec_capacity nodes.new ≡ vec_capacity nodes.old }
-{
-    let Some(i) = index_of(nodes.as_slice(), number) else {
-        unreachable!();
-    };
-    let node = &mut nodes[i];
-    node.hidden = hidden;
 }

@@ -1,40 +1,47 @@
-//! What a list of nodes tells.
+//! What nodes in a slab tell.
 
-ghost use Rattle.std.specs.Prelude.{true, false, ◌≡◌, ◌≢◌, ◌<◌, ◌≤◌, ◌+◌, ◌^◌, ◌↔◌, ℕ, List, [], ◌∷◌, ◌++◌, None, IfNone, IfSome, IfOk, IfErr, OnOk, IsTrue, length, slice_get, vec_len};
+ghost use Rattle.std.specs.Prelude.{true, false, ◌≡◌, ◌≢◌, ◌<◌, ◌≤◌, ◌+◌, ◌^◌, ◌↔◌, ℕ, List, [], ◌∷◌, ◌++◌, None, Some, IfNone, IfSome, IfOk, IfErr, OnOk, IsTrue, length};
+ghost use Rattle.std.specs.Option.{option_copied};
+ghost use Rattle.slab.specs.Slab.{get, slab_len};
 ghost use Rattle.paths.specs.Prefixes.{Names, path_bytes};
+ghost use Rattle.tree.specs.declared.nodes.Node.{Node};
 ghost use Rattle.tree.specs.declared.nodes.Place.TheVariants as Place;
-ghost use Rattle.tree.specs.Places.{IsAlive, IsNextAlive, IsNamed, IsPathOf, Reaches, IsBelow, Leads, HasChild, IsFree};
-ghost use Rattle.tree.specs.Listed.{node_at, IsDistinct, IsGrown, IsLeastFree, IsClimbed, IsClimbFault, IsNameTooLong};
+ghost use Rattle.tree.specs.Places.{IsAlive, IsNextAlive, IsNamed, IsPathOf, Reaches, IsBelow, IsTree, Leads, HasChild, IsFree};
+ghost use Rattle.tree.specs.Listed.{IsClimbed, IsClimbFault, IsNameTooLong, IsLeastFree};
 ghost use Rattle.tree.specs.Moves.{IsFault};
+ghost use Rattle.tree.specs.Stored.{slot_at, listed};
 
-use crate::nodes::{Key, Node, Place, TreeFault};
+use crate::nodes::{Node, Place, TreeFault};
 use paths::Name;
+use slab::Slab;
 use std::alloc::{AllocError, Global};
 
 /// No path has more bytes.
 const PATH_BYTES: usize = 4096;
 
-/// The place of the node in the list.
-pub(crate) fn index_of(nodes: &[Node], number: u64) -> Option<usize>
-    ensures none { IfNone result (node_at nodes.now number ≡ None) }
-    ensures within { IfSome result (λ i. i < length nodes.now) }
-    ensures found { IfSome result (λ i. slice_get nodes.now i ≡ node_at nodes.now number) }
+/// The key that the node of that number has.
+pub(crate) fn key_of(number: u64) -> Option<usize>
+    ensures none { IfNone result (number ≡ 0) }
+    ensures some { IfSome result (λ k. number ≡ k + 1) }
 {
-    for (i, node) in nodes.iter().enumerate() {
-        if node.number == number {
-            return Some(i);
-        }
-    }
-    None
+    let key = number.checked_sub(1)?;
+    Some(key as usize)
+}
+
+/// The node of that number.
+pub(crate) fn node_in(nodes: &Slab<Node>, number: u64) -> Option<&Node>
+    ensures { option_copied result ≡ slot_at nodes.now number }
+{
+    let key = key_of(number)?;
+    nodes.get(key)
 }
 
 /// The number that the node of that number is named under.
-fn parent_of(nodes: &[Node], number: u64) -> Option<u64>
-    ensures none { IfNone result ((p : ℕ) (name : List ℕ) → IsNamed (node_at nodes.now) number p name → ⊥) }
-    ensures some { IfSome result (λ p. (name : List ℕ) × IsNamed (node_at nodes.now) number p name) }
+pub(crate) fn parent_of(nodes: &Slab<Node>, number: u64) -> Option<u64>
+    ensures none { IfNone result ((p : ℕ) (name : List ℕ) → IsNamed (slot_at nodes.now) number p name → ⊥) }
+    ensures some { IfSome result (λ p. (name : List ℕ) × IsNamed (slot_at nodes.now) number p name) }
 {
-    let i = index_of(nodes, number)?;
-    let node = &nodes[i];
+    let node = node_in(nodes, number)?;
     match &node.place {
         Place::Root => None,
         Place::Named(key) => Some(key.parent),
@@ -43,10 +50,10 @@ fn parent_of(nodes: &[Node], number: u64) -> Option<u64>
 }
 
 /// Whether following parents meets the other number.
-pub(crate) fn climbs_to(nodes: &[Node], number: u64, other: u64) -> bool
-    requires short { (way : Names) → Reaches (node_at nodes.now) other number way → length way < length nodes.now }
-    ensures yes { result ≡ true → IsBelow (node_at nodes.now) other number }
-    ensures no { result ≡ false → IsBelow (node_at nodes.now) other number → ⊥ }
+pub(crate) fn climbs_to(nodes: &Slab<Node>, number: u64, other: u64) -> bool
+    requires short { (way : Names) → Reaches (slot_at nodes.now) other number way → length way < slab_len nodes.now }
+    ensures yes { result ≡ true → IsBelow (slot_at nodes.now) other number }
+    ensures no { result ≡ false → IsBelow (slot_at nodes.now) other number → ⊥ }
 {
     let mut current = number;
     for _step in 0..nodes.len() {
@@ -61,99 +68,30 @@ pub(crate) fn climbs_to(nodes: &[Node], number: u64, other: u64) -> bool
     false
 }
 
-/// Whether the place is that of the key.
-fn stands_at(place: &Place, key: &Key) -> bool
-    ensures yes { result ≡ true → place.now ≡ Place.Named key.now }
-    ensures no { result ≡ false → place.now ≡ Place.Named key.now → ⊥ }
+/// The least number above that one that a node bears.
+pub(crate) fn next_alive(nodes: &Slab<Node>, number: u64) -> Option<u64>
+    ensures none { IfNone result ((n : ℕ) → IsAlive (slot_at nodes.now) n → n ≤ number) }
+    ensures some { IfSome result (IsNextAlive (slot_at nodes.now) number) }
 {
-    match place {
-        Place::Named(other) => other.parent == key.parent && other.name.is(&key.name),
-        _ => false,
-    }
-}
-
-/// The number of the node that is named so.
-pub(crate) fn find_in(nodes: &[Node], key: &Key) -> Option<u64>
-    requires { IsDistinct nodes.now }
-    ensures none { IfNone result (IsFree (node_at nodes.now) key.now.parent key.now.name) }
-    ensures some { IfSome result (λ n. IsNamed (node_at nodes.now) n key.now.parent key.now.name) }
-{
-    for node in nodes {
-        if stands_at(&node.place, key) {
-            return Some(node.number);
+    for key in number as usize..nodes.capacity() {
+        if nodes.contains(key) {
+            return Some(key as u64 + 1);
         }
     }
     None
 }
 
-/// Whether the place is under the parent.
-fn stands_under(place: &Place, parent: u64) -> bool
-    ensures yes { result ≡ true → (name : List ℕ) × (place.now ≡ Place.Named (record { parent = parent; name = name })) }
-    ensures no { result ≡ false → (name : List ℕ) → place.now ≡ Place.Named (record { parent = parent; name = name }) → ⊥ }
-{
-    match place {
-        Place::Named(key) => key.parent == parent,
-        _ => false,
-    }
-}
-
-/// Whether some node is named under that of the number.
-pub(crate) fn has_child_in(nodes: &[Node], number: u64) -> bool
-    requires { IsDistinct nodes.now }
-    ensures yes { result ≡ true → HasChild (node_at nodes.now) number }
-    ensures no { result ≡ false → HasChild (node_at nodes.now) number → ⊥ }
-{
-    for node in nodes {
-        if stands_under(&node.place, number) {
-            return true;
-        }
-    }
-    false
-}
-
-/// The least number above that one that a node of the list bears.
-pub(crate) fn next_alive(nodes: &[Node], number: u64) -> Option<u64>
-    requires { IsDistinct nodes.now }
-    ensures none { IfNone result ((n : ℕ) → IsAlive (node_at nodes.now) n → n ≤ number) }
-    ensures some { IfSome result (IsNextAlive (node_at nodes.now) number) }
-{
-    let mut next = None;
-    for node in nodes {
-        if number < node.number {
-            next = Some(next.unwrap_or(node.number).min(node.number));
-        }
-    }
-    next
-}
-
-/// The least number from 1 on that no node bears.
-pub(crate) fn least_free(nodes: &[Node]) -> u64
-    requires distinct { IsDistinct nodes.now }
-    requires short { length nodes.now + 2 < 2 ^ 64 }
-    ensures { IsLeastFree nodes.now result }
-{
-    let mut number = 1;
-    while let Some(_place) = index_of(nodes, number) {
-        number += 1;
-    }
-    number
-}
-
 /// Tests that the node has a path.
-pub(crate) fn expect_path(nodes: &[Node], number: u64) -> Result<(), TreeFault>
-    requires { IsGrown nodes.now }
-    ensures ok { OnOk result (Leads (node_at nodes.now) number) }
-    ensures err { IfErr result (IsFault (node_at nodes.now) number) }
+pub(crate) fn expect_path(nodes: &Slab<Node>, number: u64) -> Result<(), TreeFault>
+    requires { IsTree (slot_at nodes.now) }
+    ensures ok { OnOk result (Leads (slot_at nodes.now) number) }
+    ensures err { IfErr result (IsFault (slot_at nodes.now) number) }
 {
-    if number == 1 {
-        return Ok(());
-    }
-    let Some(i) = index_of(nodes, number) else {
+    let Some(node) = node_in(nodes, number) else {
         return Err(TreeFault::Unknown);
     };
-    let node = &nodes[i];
     match &node.place {
-        Place::Root => unreachable!(),
+        Place::Root => Ok(()),
         Place::Named(_) => Ok(()),
         Place::Cut => Err(TreeFault::Cut),
     }
@@ -161,17 +99,17 @@ pub(crate) fn expect_path(nodes: &[Node], number: u64) -> Result<(), TreeFault>
 
 /// The names from the root down to the node, and then those handed in, which run upwards and have so many bytes.
 pub(crate) fn climb(
-    nodes: &[Node],
+    nodes: &Slab<Node>,
     number: u64,
     below: Vec<Name>,
     below_bytes: usize,
 ) -> Result<Vec<Name>, TreeFault>
-    requires grown { IsGrown nodes.now }
-    requires leads { Leads (node_at nodes.now) number }
+    requires tree { IsTree (slot_at nodes.now) }
+    requires leads { Leads (slot_at nodes.now) number }
     requires bytes { below_bytes ≡ path_bytes below.items }
     requires few { below_bytes ≤ 4096 }
-    ensures ok { IfOk result (λ v. IsClimbed (node_at nodes.now) number below.items v.items × (path_bytes v.items ≤ 4096)) }
-    ensures err { IfErr result (IsClimbFault (node_at nodes.now) number below.items) }
+    ensures ok { IfOk result (λ v. IsClimbed (slot_at nodes.now) number below.items v.items × (path_bytes v.items ≤ 4096)) }
+    ensures err { IfErr result (IsClimbFault (slot_at nodes.now) number below.items) }
 {
     let mut names = below;
     let mut bytes = below_bytes;
@@ -181,10 +119,9 @@ pub(crate) fn climb(
             names.reverse();
             return Ok(names);
         }
-        let Some(i) = index_of(nodes, current) else {
+        let Some(node) = node_in(nodes, current) else {
             unreachable!();
         };
-        let node = &nodes[i];
         let Place::Named(key) = &node.place else {
             unreachable!();
         };
@@ -195,10 +132,14 @@ pub(crate) fn climb(
 }
 
 /// The names from the root down to the node, however many bytes they have.
-pub(crate) fn way_to(alloc: Global, nodes: &[Node], number: u64) -> Result<Vec<Name>, AllocError>
-    requires grown { IsGrown nodes.now }
-    requires leads { Leads (node_at nodes.now) number }
-    ensures { IfOk result (λ v. IsPathOf (node_at nodes.now) number v.items) }
+pub(crate) fn way_to(
+    alloc: Global,
+    nodes: &Slab<Node>,
+    number: u64,
+) -> Result<Vec<Name>, AllocError>
+    requires tree { IsTree (slot_at nodes.now) }
+    requires leads { Leads (slot_at nodes.now) number }
+    ensures { IfOk result (λ v. IsPathOf (slot_at nodes.now) number v.items) }
 {
     let mut names = Vec::new(alloc);
     let mut current = number;
@@ -207,10 +148,9 @@ pub(crate) fn way_to(alloc: Global, nodes: &[Node], number: u64) -> Result<Vec<N
             names.reverse();
             return Ok(names);
         }
-        let Some(i) = index_of(nodes, current) else {
+        let Some(node) = node_in(nodes, current) else {
             unreachable!();
         };
-        let node = &nodes[i];
         let Place::Named(key) = &node.place else {
             unreachable!();
         };
@@ -239,4 +179,17 @@ pub(crate) fn add_name(names: &mut Vec<Name>, bytes: usize, name: &Name) -> Resu
         Ok(()) => Ok(bytes + len + 1),
         Err(_) => Err(TreeFault::Memory),
     }
+}
+
+/// The least number from 1 on that no node bears.
+pub(crate) fn least_free(nodes: &Slab<Node>) -> u64
+    requires tree { IsTree (slot_at nodes.now) }
+    requires few { slab_len nodes.now ≤ 2 ^ 62 }
+    ensures { IsLeastFree (listed nodes.now.slots) result }
+{
+    let mut number = 1;
+    while let Some(_node) = node_in(nodes, number) {
+        number += 1;
+    }
+    number
 }

@@ -1,7 +1,7 @@
 -- The flag bits that are taken.
 use Rattle.std.proofs.Common.{◌≡◌, ℕ, ◌+◌, ◌*◌, ◌/◌, ◌%◌, ◌^◌, ◌<◌, bit_and, sym, ap, ◌∙◌, arith}
 use Rattle.std.proofs.lemmas.Nat.{and_block, and_comm, and_mask, shr_split}
-use Rattle.wire.specs.Greeting.{agreed_flags}
+use Rattle.wire.specs.Negotiation.{agreed_flags}
 
 -- the k lowest bits and the others
 block : (k a s n : ℕ) → s < 2 ^ k → bit_and (a * 2 ^ k + s) n ≡ bit_and a (n / 2 ^ k) * 2 ^ k + bit_and s (n % 2 ^ k)

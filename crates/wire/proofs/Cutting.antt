@@ -4,7 +4,7 @@ use Rattle.std.proofs.lemmas.List.{take-append-drop, length-take-le, take_at, ap
 use Rattle.byteorder.specs.Endian.{little_number}
 use Rattle.byteorder.specs.Numbers.{little_from-take, little_from-append}
 use Rattle.wire.specs.Requests.{IsFramed}
-use Rattle.wire.specs.Standing.{IsWhole}
+use Rattle.wire.specs.NextFrame.{IsWhole}
 use Rattle.wire.specs.Stream.{BeginsBadly, IsPartial, joined, Splits}
 
 pub handed : (kept frame : List ℕ) (len : ℕ) → IsWhole kept len → frame ≡ take len kept → (kept ≡ frame ++ drop len kept) × IsFramed frame

@@ -40,9 +40,9 @@ IsFirstFault frame NameLong = HasNameFault frame NameLong
 IsFirstFault frame NameBad = HasNameFault frame NameBad
 
 -- the error number of its answer: ENOSYS, ENAMETOOLONG, and EINVAL for the rest
-abbrev pub errno_of : WireFault → ℤ
-errno_of Opcode = ENOSYS
-errno_of NameLong = ENAMETOOLONG
-errno_of NameBad = EINVAL
-errno_of Body = EINVAL
-errno_of Frame = EINVAL
+abbrev pub fault_errno : WireFault → ℤ
+fault_errno Opcode = ENOSYS
+fault_errno NameLong = ENAMETOOLONG
+fault_errno NameBad = EINVAL
+fault_errno Body = EINVAL
+fault_errno Frame = EINVAL

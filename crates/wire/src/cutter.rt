@@ -1,11 +1,11 @@
 //! A stream of bytes, cut into frames.
 
 ghost use Rattle.std.specs.Prelude.{◌≡◌, ℕ, List, ◌+◌, ◌-◌, ◌≤◌, ◌↔◌, ◌++◌, [], length, drop, OnOk, OnErr, IfOk, IfSome, IfNone, Some, None, Err};
-ghost use Rattle.wire.specs.Standing.{IsWhole};
+ghost use Rattle.wire.specs.NextFrame.{IsWhole};
 ghost use Rattle.wire.specs.Stream.{HandsOut, BeginsBadly, IsPartial, Splits};
 ghost use Rattle.wire.specs.declared.cutter.CutFault.TheVariants.{Memory};
 
-use crate::standing::{Standing, standing_in};
+use crate::standing::{NextFrame, standing_in};
 use std::alloc::{AllocError, Global};
 use std::marker::Model;
 
@@ -112,12 +112,12 @@ impl Cutter {
             return Err(CutFault::BadLength { len });
         }
         match standing_in(&self.buffer[self.start..]) {
-            Standing::Partial => Ok(None),
-            Standing::Bad(len) => {
+            NextFrame::Partial => Ok(None),
+            NextFrame::Bad(len) => {
                 self.stopped = Some(len);
                 Err(CutFault::BadLength { len })
             }
-            Standing::Whole(len) => {
+            NextFrame::Whole(len) => {
                 let end = self.start + len;
                 let frame = Vec::from_slice(self.alloc, &self.buffer[self.start..end])?;
                 self.start = end;

@@ -2,7 +2,7 @@
 
 ghost use Rattle.std.specs.Prelude.{◌≡◌, ◌*◌};
 ghost use Rattle.std.specs.Int.{bit_at};
-ghost use Rattle.wire.specs.Greeting.{agreed_flags, agreement, highest, negotiated};
+ghost use Rattle.wire.specs.Negotiation.{agreed_flags, agreement, highest, negotiated};
 
 use crate::reply::InitOut;
 

@@ -1,11 +1,11 @@
 //! What stands next on a stream.
 
-ghost use Rattle.wire.specs.Standing.{Stands};
+ghost use Rattle.wire.specs.NextFrame.{Stands};
 
 use crate::request::{HEADER_LEN, MAX_FRAME_LEN};
 use byteorder::{ByteOrder, LittleEndian};
 
-pub enum Standing {
+pub enum NextFrame {
     /// Neither a whole frame nor a bad length.
     Partial,
     /// A length that no frame has.
@@ -14,18 +14,18 @@ pub enum Standing {
     Whole(usize),
 }
 
-pub fn standing_in(kept: &[u8]) -> Standing
+pub fn standing_in(kept: &[u8]) -> NextFrame
     ensures { Stands kept.now result }
 {
     if kept.len() < 4 {
-        return Standing::Partial;
+        return NextFrame::Partial;
     }
     let len = LittleEndian::read_u32(kept);
     if (len as usize) < HEADER_LEN || len as usize > MAX_FRAME_LEN {
-        return Standing::Bad(len);
+        return NextFrame::Bad(len);
     }
     if kept.len() < len as usize {
-        return Standing::Partial;
+        return NextFrame::Partial;
     }
-    Standing::Whole(len as usize)
+    NextFrame::Whole(len as usize)
 }

@@ -2,8 +2,8 @@ use Rattle.std.proofs.Common.{ℕ, ◌≡◌, ◌<◌, ◌+◌, Option, Some, No
 use Rattle.std.proofs.lemmas.Option.{none-some}
 use Rattle.backing.specs.Calls.{Asked}
 use Rattle.backing.specs.declared.call.Call.{Call}
-use Rattle.ops.specs.declared.script.Ending.{Ending}
-use Rattle.ops.specs.declared.script.Ending.TheVariants as endings
+use Rattle.ops.specs.declared.script.LastCall.{LastCall}
+use Rattle.ops.specs.declared.script.LastCall.TheVariants as endings
 use Rattle.backing.specs.Calls.{asked}
 use Rattle.engine.specs.Playing.{Playing}
 use Rattle.ops.specs.Ahead.{after_hide, calls_after, calls_ending, calls_from, calls_hiding, calls_in, end_of, plan_ahead, plan_ending, plan_from}
@@ -23,7 +23,7 @@ hides_left p [] rest more call e = absurd (none-some call e)
 hides_left p (c ∷ cs) rest more call e = omega arith
 
 -- a script that asks has a call left
-asks_left : (change : Option Call) (ending : Ending) (call : Asked) → next_of (plan_from change (plan_ending ending)) ≡ Some call → 0 < calls_from change + calls_ending ending
+asks_left : (change : Option Call) (ending : LastCall) (call : Asked) → next_of (plan_from change (plan_ending ending)) ≡ Some call → 0 < calls_from change + calls_ending ending
 asks_left (Some first) ending call e = omega arith
 asks_left None (endings.Look p tells) call e = lit< tt
 asks_left None (endings.List p) call e = lit< tt
@@ -54,4 +54,4 @@ pub returns : goal.returns
 returns g c =
     let first = plan_ahead c.args.script in
     let now = plan_ahead c.loop-call.script in
-    played g.C.Calls.gives first now c.args.calls.now c.loop-call.calls (end_of c.into_finding.result) c.loop-call.invariant c.in_default.ensures c.into_finding.ensures
+    played g.C.Calls.gives first now c.args.calls.now c.loop-call.calls (end_of c.into_result.result) c.loop-call.invariant c.in_default.ensures c.into_result.ensures

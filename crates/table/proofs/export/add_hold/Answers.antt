@@ -1,9 +1,9 @@
 use Rattle.std.proofs.Common.{◌≡◌, ◌≢◌, All, rules, arith, sym, ap, ◌∙◌, inl, inr}
-use Rattle.image.specs.declared.data.Hold.{Hold}
-use Rattle.image.specs.Law.{IsCountOf}
-use Rattle.image.proofs.Counted.{stored_or_absent}
-use Rattle.image.proofs.Exported.{ListsHeld-push, Stores-push}
-use Rattle.table.specs.Copies.{owners_in, sharers_in}
+use Rattle.table_image.specs.declared.data.Hold.{Hold}
+use Rattle.table_image.specs.Law.{IsCountOf}
+use Rattle.table_image.proofs.Counted.{stored_or_absent}
+use Rattle.table_image.proofs.Exported.{ListsHeld-push, Stores-push}
+use Rattle.table.specs.Copies.{exclusive_in_all, sharers_in}
 use Rattle.table.proofs.export.add_hold.Goals as goal
 
 pub returns-clause-lists : goal.returns-clause-lists
@@ -20,13 +20,13 @@ returns-clause-lists c =
     ] in
     let fresh : All (λ (k : Hold). k.path ≢ copy) hs = λ k d within e. new k d within (e ∙ same) in
     let sharing : c.shared_on.result ≡ sharers_in fs copy = c.shared_on.ensures ∙ ap (sharers_in fs) (sym same) in
-    let owning : c.exclusive_on.result ≡ owners_in fs copy = c.exclusive_on.ensures ∙ ap (owners_in fs) (sym same) in
-    let counts : IsCountOf (sharers_in fs) (owners_in fs) h = record {
+    let owning : c.exclusive_on.result ≡ exclusive_in_all fs copy = c.exclusive_on.ensures ∙ ap (exclusive_in_all fs) (sym same) in
+    let counts : IsCountOf (sharers_in fs) (exclusive_in_all fs) h = record {
       sharing = sharing;
       owning = owning;
       held = omega (arith, c.requires.held.some, c.shared_on.ensures, c.exclusive_on.ensures);
     } in
-    rw c.in_ok-push.ensures.items (ListsHeld-push (sharers_in fs) (owners_in fs) hs h fresh counts c.requires.lists)
+    rw c.in_ok-push.ensures.items (ListsHeld-push (sharers_in fs) (exclusive_in_all fs) hs h fresh counts c.requires.lists)
 
 pub returns-clause-stores : goal.returns-clause-stores
 returns-clause-stores c =

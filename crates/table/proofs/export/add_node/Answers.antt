@@ -1,6 +1,6 @@
 use Rattle.std.proofs.Common.{◌≡◌, sym}
 use Rattle.tree.specs.Places.{at_in}
-use Rattle.image.proofs.Exported.{ListsBelow-push}
+use Rattle.table_image.proofs.Exported.{ListsBelow-push}
 use Rattle.table.proofs.export.add_node.Goals as goal
 
 pub returns : goal.returns

@@ -1,14 +1,14 @@
 use Rattle.std.proofs.Common.{◌≡◌, ◌+◌, [], ◌∷◌, ◌++◌, take, sym, ap, ◌∙◌, subst, List}
 use Rattle.std.proofs.lemmas.List.{take_more}
 use Rattle.paths.specs.Prefixes.{Names}
-use Rattle.image.proofs.Exported.{IsHeldBySome, Stores, Stores-more}
-use Rattle.table.specs.Copies.{owners_in, sharers_in}
+use Rattle.table_image.proofs.Exported.{IsHeldBySome, Stores, Stores-more}
+use Rattle.table.specs.Copies.{exclusive_in_all, sharers_in}
 use Rattle.table.proofs.export.add_paths.Goals as goal
 
 pub add_hold-requires-clause-held : goal.add_hold-requires-clause-held
 add_hold-requires-clause-held c =
     let fs = c.args.flights.now.flights in
-    subst (λ (p : Names). IsHeldBySome (sharers_in fs) (owners_in fs) p) (sym c.path-item.is) (c.requires.held c.loop-path.path-index c.path-item.result c.loop-path-test.true)
+    subst (λ (p : Names). IsHeldBySome (sharers_in fs) (exclusive_in_all fs) p) (sym c.path-item.is) (c.requires.held c.loop-path.path-index c.path-item.result c.loop-path-test.true)
 
 pub loop-path-preserved : goal.loop-path-preserved
 loop-path-preserved c =

@@ -1,6 +1,6 @@
 use Rattle.std.proofs.Common.{◌≡◌, List, take, arith, subst}
 use Rattle.std.proofs.lemmas.List.{take_all}
-use Rattle.flights.specs.declared.data.Flight.{Flight}
+use Rattle.table_requests.specs.declared.data.RequestInFlight.{RequestInFlight}
 use Rattle.table.proofs.Holders.{AreCovered, covered_more, counts_all, shared_by_some, owned_by_some}
 use Rattle.table.proofs.export.copy_holds.Goals as goal
 
@@ -26,4 +26,4 @@ returns c =
     let fs = c.as_slice-flight-items.result.now in
     let all : take c.loop-flight.flight-index fs ≡ fs = take_all c.loop-flight.flight-index fs (omega arith) in
     counts_all fs c.args.flights.now c.loop-flight.holds.items c.as_slice-flight-items.ensures.apart c.as_slice-flight-items.ensures.at c.as_slice-flight-items.ensures.many
-    (subst (λ (gs : List Flight). AreCovered c.loop-flight.holds.items gs) all c.loop-flight.invariant.covered) c.loop-flight.invariant.lists
+    (subst (λ (gs : List RequestInFlight). AreCovered c.loop-flight.holds.items gs) all c.loop-flight.invariant.covered) c.loop-flight.invariant.lists

@@ -1,6 +1,6 @@
 use Rattle.std.proofs.Common.{[]}
 use Rattle.tree.specs.Places.{at_in}
-use Rattle.image.proofs.Exported.{ListsBelow-none, ListsBelow-skip}
+use Rattle.table_image.proofs.Exported.{ListsBelow-none, ListsBelow-skip}
 use Rattle.table.proofs.Exporting.{nodes_listed}
 use Rattle.table.proofs.export.copy_nodes.Goals as goal
 

@@ -1,6 +1,6 @@
 use Rattle.std.proofs.Common.{◌≡◌, ◌+◌, ◌-◌, ◌^◌, None}
 use Rattle.tree.specs.Places.{at_in}
-use Rattle.image.proofs.Exported.{ListsBelow}
+use Rattle.table_image.proofs.Exported.{ListsBelow}
 use Rattle.table.proofs.export.copy_nodes.Given as goal
 
 abbrev pub invariant-loop-next : goal.invariant-loop-next

@@ -1,7 +1,7 @@
 use Rattle.std.proofs.Common.{◌≡◌, ◌↔◌, IsTrue, rules}
 use Rattle.std.specs.Prelude.{Any}
-use Rattle.image.specs.declared.data.Hold.{Hold}
-use Rattle.image.specs.Parts.{IsStored}
+use Rattle.table_image.specs.declared.data.Hold.{Hold}
+use Rattle.table_image.specs.Parts.{IsStored}
 use Rattle.table.proofs.export.is_stored.Goals as goal
 
 pub returns : goal.returns

@@ -1,36 +1,64 @@
-use Rattle.std.proofs.Common.{sym, ap, ◌∙◌, subst}
-use Rattle.std.proofs.lemmas.Option.{none-some}
-use Rattle.tree.specs.Places.{Lookup, IsTree}
-use Rattle.tree.specs.Listed.{node_at}
+use Rattle.std.proofs.Common.{sym, subst, arith}
 use Rattle.tree.specs.Moves.{Moves, moved_node}
-use Rattle.tree.proofs.LookupLemmas.{none_with}
+use Rattle.tree.specs.Places.{Lookup, IsTree}
+use Rattle.tree.specs.Stored.{slot_at}
 use Rattle.tree.proofs.Climbing.{climbs_alive}
-use Rattle.tree.proofs.Moving.{Moves-same, Moves-freed, IsTree-moved}
+use Rattle.tree.proofs.Moving.{IsTree-moved, Moves-freed, Moves-same}
+use Rattle.tree.proofs.Slots.{counts_changed}
+use Rattle.tree.proofs.Stepping.{named_lead}
 use Rattle.tree.proofs.changes.move_number.Goals as goal
 
 pub returns-then-make_free-clause-moved : goal.returns-then-make_free-clause-moved
 returns-then-make_free-clause-moved c =
-    rw (c.make_free.ensures.same c.if-make_free.true) (Moves-same (node_at c.args.nodes.now.items) c.requires.grown.tree c.args.number c.args.key.parent c.args.key.name c.requires.can (c.make_free.ensures.there c.if-make_free.true))
+    let old = slot_at c.args.store.now.nodes in
+    let e = c.if-make_free.true in
+    subst (λ (at : Lookup). Moves old at c.args.number c.args.key.parent c.args.key.name) (sym (c.make_free.ensures.same e))
+    (Moves-same old c.requires.stored.tree c.args.number c.args.key.parent c.args.key.name c.requires.can (c.make_free.ensures.there e))
 
-pub place_number-requires-clause-alive : goal.place_number-requires-clause-alive
-place_number-requires-clause-alive c =
+pub place_number-requires-clause-named : goal.place_number-requires-clause-named
+place_number-requires-clause-named c =
     let freed = c.make_free.ensures.free c.if-make_free.false in
-    climbs_alive (node_at c.make_free.new.nodes.items) freed.movable.tree.rooted freed.movable.leads.names c.args.number freed.movable.leads.climb
+    let leads = freed.movable.leads in
+    named_lead (slot_at c.make_free.new.store.nodes) c.args.number c.requires.can.not_root leads.names leads.climb
+
+pub place_number-requires-clause-free : goal.place_number-requires-clause-free
+place_number-requires-clause-free c = (c.make_free.ensures.free c.if-make_free.false).movable.free
+
+pub place_number-requires-clause-above : goal.place_number-requires-clause-above
+place_number-requires-clause-above c =
+    let above = (c.make_free.ensures.free c.if-make_free.false).movable.above in
+    climbs_alive (slot_at c.make_free.new.store.nodes) c.make_free.ensures.stored.tree.rooted above.names c.args.key.parent above.climb
 
 pub returns-clause-moved : goal.returns-clause-moved
 returns-clause-moved c =
+    let old = slot_at c.args.store.now.nodes in
+    let mid = slot_at c.make_free.new.store.nodes in
     let freed = c.make_free.ensures.free c.if-make_free.false in
-    let it = climbs_alive (node_at c.make_free.new.nodes.items) freed.movable.tree.rooted freed.movable.leads.names c.args.number freed.movable.leads.climb in
-    subst (λ (at : Lookup). Moves (node_at c.args.nodes.now.items) at c.args.number c.args.key.parent c.args.key.name) (sym (c.place_number.ensures.moved it.0 it.1))
-    (Moves-freed (node_at c.args.nodes.now.items) c.requires.grown.tree c.args.number c.args.key.parent c.args.key.name c.requires.can (node_at c.make_free.new.nodes.items) it.0 it.1 freed)
+    let leads = freed.movable.leads in
+    let it = climbs_alive mid c.make_free.ensures.stored.tree.rooted leads.names c.args.number leads.climb in
+    subst (λ (at : Lookup). Moves old at c.args.number c.args.key.parent c.args.key.name) (sym (c.place_number.ensures.moved it.0 it.1))
+    (Moves-freed old c.requires.stored.tree c.args.number c.args.key.parent c.args.key.name c.requires.can mid it.0 it.1 freed)
 
-pub returns-clause-grown : goal.returns-clause-grown
-returns-clause-grown c =
+pub returns-clause-stored : goal.returns-clause-stored
+returns-clause-stored c =
+    let mid = slot_at c.make_free.new.store.nodes in
     let freed = c.make_free.ensures.free c.if-make_free.false in
-    let it = climbs_alive (node_at c.make_free.new.nodes.items) freed.movable.tree.rooted freed.movable.leads.names c.args.number freed.movable.leads.climb in
+    let leads = freed.movable.leads in
+    let it = climbs_alive mid c.make_free.ensures.stored.tree.rooted leads.names c.args.number leads.climb in
     record {
-      distinct = c.place_number.ensures.distinct;
-      positive = ap (λ (at : Lookup). at 0) (c.place_number.ensures.moved it.0 it.1) ∙ none_with (node_at c.make_free.new.nodes.items) c.args.number (moved_node it.0 c.args.key.parent c.args.key.name) 0
-          (λ e. none-some it.0 (sym c.make_free.ensures.grown.positive ∙ (ap (node_at c.make_free.new.nodes.items) (sym e) ∙ it.1))) c.make_free.ensures.grown.positive;
-      tree = subst IsTree (sym (c.place_number.ensures.moved it.0 it.1)) (IsTree-moved (node_at c.make_free.new.nodes.items) c.args.number c.args.key.parent c.args.key.name it.0 it.1 freed.movable);
+      tree = subst IsTree (sym (c.place_number.ensures.moved it.0 it.1)) (IsTree-moved mid c.args.number c.args.key.parent c.args.key.name it.0 it.1 freed.movable);
+      indexed = c.place_number.ensures.indexed;
+      related = c.place_number.ensures.related;
+      counted = c.place_number.ensures.counted;
+      placed = c.place_number.ensures.counts.0;
+      known = c.place_number.ensures.counts.1;
     }
+
+pub returns-clause-counts : goal.returns-clause-counts
+returns-clause-counts c =
+    let mid = slot_at c.make_free.new.store.nodes in
+    let freed = c.make_free.ensures.free c.if-make_free.false in
+    let leads = freed.movable.leads in
+    let it = climbs_alive mid c.make_free.ensures.stored.tree.rooted leads.names c.args.number leads.climb in
+    let sum = counts_changed c.make_free.new.store.nodes c.place_number.new.store.nodes c.make_free.ensures.stored.tree.numbered (returns-clause-stored c).tree.numbered c.args.number it.0 (moved_node it.0 c.args.key.parent c.args.key.name) it.1 (c.place_number.ensures.moved it.0 it.1) in
+    omega (arith, sum, c.make_free.ensures.counts)

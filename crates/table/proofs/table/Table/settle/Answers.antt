@@ -1,5 +1,5 @@
-use Rattle.steps.proofs.Growing.{ledgers_grown}
-use Rattle.steps.specs.Kept.{world_of}
+use Rattle.table_steps.proofs.Growing.{ledgers_grown}
+use Rattle.table_steps.specs.Kept.{world_of}
 use Rattle.table.proofs.Longer.{length_longer, totals_longer, gained_longer}
 use Rattle.table.proofs.table.Table.settle.Goals as goal
 

@@ -1,6 +1,6 @@
 use Rattle.std.proofs.Common.{◌≡◌, ◌+◌, ◌-◌, ◌++◌, take, drop, sym, ap, ◌∙◌, arith}
 use Rattle.std.proofs.lemmas.List.{take_rest, drop-drop}
-use Rattle.wire.specs.Standing.{IsWhole}
+use Rattle.wire.specs.NextFrame.{IsWhole}
 use Rattle.wire.proofs.Cutting.{handed}
 use Rattle.wire.proofs.cutter.Cutter.next.Goals as goal
 

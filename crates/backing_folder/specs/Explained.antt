@@ -1,0 +1,57 @@
+-- When a directory whose tree is not known may tell a fault.
+use Rattle.std.specs.Prelude.{ℕ, ℤ, ◌≡◌, ◌≤◌, ◌⊎◌, Bool, true, false, List, length}
+use Rattle.backing.specs.declared.call.Answer.{Answer}
+use Rattle.backing.specs.declared.call.Answer.TheVariants.{Done, Stat, Names as NamesAre, Bytes, Wrote, Fault}
+use Rattle.backing.specs.declared.call.Child.{Child}
+use Rattle.backing.specs.declared.call.Kind.TheVariants as kinds
+use Rattle.errno.specs.declared.TheConstants.{EBUSY, ENOENT, EEXIST, ENOTDIR, EISDIR, EINVAL, ENOTEMPTY}
+use Rattle.backing_folder.specs.declared.host_error.Reason.{Reason}
+use Rattle.backing_folder.specs.declared.host_error.Reason.TheVariants.{Root, Nothing, Taken, NoFolder, Folder, Below, Names}
+use Rattle.backing.specs.Tree.{Tree, IsTree}
+use Rattle.backing.specs.Calls.{Asked, AskStat, AskList, AskMake, AskMakeDir, AskRemove, AskRemoveDir, AskRename, AskRead, AskWrite, AskSetLen, AskSync, Test, Refuses, tests_of}
+use Rattle.backing.specs.Device.{IsFault, counted, one_if}
+
+abbrev pub reason_errno : Reason → ℤ
+reason_errno Root = EBUSY
+reason_errno Nothing = ENOENT
+reason_errno Taken = EEXIST
+reason_errno NoFolder = ENOTDIR
+reason_errno Folder = EISDIR
+reason_errno Below = EINVAL
+reason_errno Names = ENOTEMPTY
+
+-- some tree refuses these tests with that error
+pub record Explained (tests : List Test) (errno : ℤ) : Type 0 where
+  pub at : Tree
+  pub is_tree : IsTree at
+  pub refuses : Refuses at tests errno
+
+-- some tree refuses the call with that error
+abbrev pub Explains : Asked → ℤ → Type 0
+Explains call errno = Explained (tests_of call) errno
+
+-- what a call answers that is done: the kind of answer, and how many bytes
+abbrev pub Suits : Asked → Answer → Type 0
+Suits (AskStat p) answer = (answer ≡ Stat kinds.Folder 0) ⊎ ((size : ℕ) × (answer ≡ Stat kinds.File size))
+Suits (AskList p) answer = (children : List Child) × (answer ≡ NamesAre children)
+Suits (AskMake p) answer = answer ≡ Done
+Suits (AskMakeDir p) answer = answer ≡ Done
+Suits (AskRemove p) answer = answer ≡ Done
+Suits (AskRemoveDir p) answer = answer ≡ Done
+Suits (AskRename s t) answer = answer ≡ Done
+Suits (AskRead p offset size) answer = (bytes : List ℕ) × (answer ≡ Bytes bytes) × (length bytes ≤ size)
+Suits (AskWrite p offset piece) answer = answer ≡ Wrote (length piece)
+Suits (AskSetLen p size) answer = answer ≡ Done
+Suits (AskSync p) answer = answer ≡ Done
+
+-- what may be told of a call: where nothing failed, an answer that suits it, or a fault by which some tree refuses it; a
+-- failure is a fault
+abbrev pub Follows : Asked → Bool → Answer → Type 0
+Follows call false answer = Suits call answer ⊎ ((errno : ℤ) × (answer ≡ Fault errno) × Explains call errno)
+Follows call true answer = IsFault answer
+
+-- a call of a directory whose tree is not known: whether it failed, what it told, and one failure more exactly where it failed
+pub record Tells (before : ℕ) (call : Asked) (answer : Answer) (after : ℕ) : Type 0 where
+  pub failed : Bool
+  pub told : Follows call failed answer
+  pub count : after ≡ counted before (one_if failed)

@@ -1,0 +1,172 @@
+//! Calls on the names of a real folder.
+
+ghost use Rattle.std.specs.Prelude.{◌≡◌, IfOk, OnOk};
+ghost use Rattle.backing.specs.Calls.{AskMake, AskMakeDir, AskRemove, AskRemoveDir, AskRename};
+ghost use Rattle.backing_folder.specs.Contents.{takenness};
+ghost use Rattle.backing_folder.specs.Explained.{Suits};
+ghost use Rattle.backing_folder.specs.Routes.{ResolvesDown};
+
+use crate::files::{find_file, find_folder};
+use crate::host_error::{HostError, Reason};
+use crate::listing::expect_bare;
+use crate::walk::{Found, Walk, look};
+use backing::Answer;
+use errno::EEXIST;
+use paths::Path;
+use std::fs::File;
+use std::io::ErrorKind;
+use std::rt::Files;
+use std::{fs, io};
+
+/// Makes an empty file: `open` with `O_EXCL`, `close`, or one `lstat` where something stands there.
+pub fn make<H: Files<File = File>>(
+    rt: &H,
+    walk: &mut Walk,
+    path: &Path,
+) -> Result<Answer, HostError>
+    ensures { IfOk result (Suits (AskMake path.now)) }
+{
+    find_place(rt, walk, path)?;
+    match File::create_new(rt, walk.path()) {
+        Ok(_made) => Ok(Answer::Done),
+        Err(error) => Err(why_not_made(rt, walk.path(), error)),
+    }
+}
+
+/// Makes an empty folder: `mkdir`, or one `lstat` more where something stands there.
+pub fn make_dir<H: Files>(rt: &H, walk: &mut Walk, path: &Path) -> Result<Answer, HostError>
+    ensures { IfOk result (Suits (AskMakeDir path.now)) }
+{
+    find_place(rt, walk, path)?;
+    match fs::create_dir(rt, walk.path()) {
+        Ok(()) => Ok(Answer::Done),
+        Err(error) => Err(why_not_made(rt, walk.path(), error)),
+    }
+}
+
+/// Why nothing could be made there. If something stands there, one `lstat` says what.
+fn why_not_made<H: Files>(rt: &H, path: &str, error: io::Error) -> HostError {
+    if error.kind() != ErrorKind::AlreadyExists {
+        return HostError::from(error);
+    }
+    match look(rt, path) {
+        Ok(found) => taken_by(found),
+        Err(host_error) => host_error,
+    }
+}
+
+/// What keeps a place from being free. What is shown explains it; what is hidden, or has gone, does not.
+fn taken_by(found: Found) -> HostError
+    ensures { result ≡ takenness found }
+{
+    match found {
+        Found::File(_) | Found::Folder(_) => HostError::Refused(Reason::Taken),
+        Found::Nothing | Found::Hidden => HostError::Failed(EEXIST),
+    }
+}
+
+/// Removes the file: `unlink`.
+pub fn remove<H: Files>(rt: &H, walk: &mut Walk, path: &Path) -> Result<Answer, HostError>
+    ensures { IfOk result (Suits (AskRemove path.now)) }
+{
+    find_file(rt, walk, path)?;
+    fs::remove_file(rt, walk.path())?;
+    Ok(Answer::Done)
+}
+
+/// Removes the folder: `open`, `getdents`, `close`, one `lstat` for each name, `rmdir`.
+pub fn remove_dir<H: Files + AllocGlobal + Clone + Drop>(
+    rt: &H,
+    walk: &mut Walk,
+    path: &Path,
+) -> Result<Answer, HostError>
+    ensures { IfOk result (Suits (AskRemoveDir path.now)) }
+{
+    if path.len() == 0 {
+        return Err(HostError::Refused(Reason::Root));
+    }
+    find_folder(rt, walk, path)?;
+    expect_bare(rt, walk.path())?;
+    fs::remove_dir(rt, walk.path())?;
+    Ok(Answer::Done)
+}
+
+/// Renames: `rename`; if a folder is replaced, `open`, `getdents`, `close` and one `lstat` for each name before it.
+pub fn rename<H: Files + AllocGlobal + Clone + Drop>(
+    rt: &H,
+    walk: &mut Walk,
+    target: &mut Walk,
+    from: &Path,
+    to: &Path,
+) -> Result<Answer, HostError>
+    ensures { IfOk result (Suits (AskRename from.now to.now)) }
+{
+    if from.len() == 0 || to.len() == 0 {
+        return Err(HostError::Refused(Reason::Root));
+    }
+    let source = walk.find(rt, from.names())?;
+    if is_gone(source) {
+        return Err(HostError::Refused(Reason::Nothing));
+    }
+    if from.is(to) {
+        return Ok(Answer::Done);
+    }
+    expect_apart(from, to)?;
+    let found = target.find(rt, to.names())?;
+    expect_fitting(rt, target.path(), source, found)?;
+    fs::rename(rt, walk.path(), target.path())?;
+    Ok(Answer::Done)
+}
+
+fn is_gone(found: Found) -> bool {
+    match found {
+        Found::Nothing | Found::Hidden => true,
+        Found::File(_) | Found::Folder(_) => false,
+    }
+}
+
+/// Neither path leads through the other.
+fn expect_apart(from: &Path, to: &Path) -> Result<(), HostError> {
+    if from.is_prefix_of(to) {
+        return Err(HostError::Refused(Reason::Below));
+    }
+    if to.is_prefix_of(from) {
+        return Err(HostError::Refused(Reason::Names));
+    }
+    Ok(())
+}
+
+/// The one may replace the other. What is hidden is not replaced.
+fn expect_fitting<H: Files + AllocGlobal + Clone + Drop>(
+    rt: &H,
+    target: &str,
+    source: Found,
+    found: Found,
+) -> Result<(), HostError> {
+    match found {
+        Found::Nothing => Ok(()),
+        Found::Hidden => Err(taken_by(found)),
+        Found::File(_) => match source {
+            Found::Folder(_) => Err(HostError::Refused(Reason::NoFolder)),
+            _ => Ok(()),
+        },
+        Found::Folder(_) => match source {
+            Found::Folder(_) => expect_bare(rt, target),
+            _ => Err(HostError::Refused(Reason::Folder)),
+        },
+    }
+}
+
+/// A folder stands at the path's parent, where something is to be made.
+fn find_place<H: Files>(rt: &H, walk: &mut Walk, path: &Path) -> Result<(), HostError>
+    ensures { OnOk result (ResolvesDown walk.old.root walk.new.path path.now) }
+{
+    let Some((name, parent)) = path.names().split_last() else {
+        return Err(HostError::Refused(Reason::Taken));
+    };
+    match walk.find(rt, parent)? {
+        Found::Folder(_) => walk.enter(name),
+        Found::File(_) => Err(HostError::Refused(Reason::NoFolder)),
+        Found::Nothing | Found::Hidden => Err(HostError::Refused(Reason::Nothing)),
+    }
+}

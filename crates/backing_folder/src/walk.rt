@@ -1,0 +1,184 @@
+//! The way down a path of the file system.
+
+ghost use Rattle.std.specs.Prelude.{true, ◌≡◌, ◌≢◌, ◌<◌, ℕ, [], ◌∷◌, ◌++◌, OnOk, length, slice_index, string_bytes};
+ghost use Rattle.backing_folder.specs.Routes.{IsLawfulName, ResolvesDown};
+
+use crate::host_error::{HostError, Reason};
+use errno::EINVAL;
+use paths::Name;
+use std::alloc::{AllocError, Global};
+use std::fs;
+use std::fs::Metadata;
+use std::io::ErrorKind;
+use std::marker::Model;
+use std::os::unix::fs::MetadataExt;
+use std::rt::Files;
+
+/// Which file it is, and how long it was.
+#[derive(Clone, Copy)]
+pub struct Identity {
+    device: u64,
+    inode: u64,
+    pub size: u64,
+}
+
+impl Identity {
+    pub fn of(metadata: &Metadata) -> Identity {
+        Identity {
+            device: metadata.dev(),
+            inode: metadata.ino(),
+            size: metadata.size(),
+        }
+    }
+
+    /// Whether the open file is the one that was found.
+    pub fn is_of(&self, metadata: &Metadata) -> bool {
+        self.device == metadata.dev() && self.inode == metadata.ino()
+    }
+}
+
+/// What stands at a path.
+#[derive(Clone, Copy)]
+pub enum Found {
+    Nothing,
+    Folder(Identity),
+    File(Identity),
+    /// Neither a file nor a folder. It is never followed or opened.
+    Hidden,
+}
+
+/// A path of the file system that grows from the root down, always in one buffer.
+#[derive(Drop)]
+pub struct Walk {
+    root: String,
+    top: Identity,
+    path: String,
+}
+
+impl Model for Walk {
+    ghost use Rattle.std.specs.Prelude.{string_bytes};
+    ghost use Rattle.backing_folder.specs.Routes.{Route};
+
+    ghost Value = { Route };
+
+    ghost view = { λ w. record { root = string_bytes w.root; path = string_bytes w.path } };
+}
+
+impl Walk {
+    /// A walk that has not started.
+    pub fn new(alloc: Global, root: String, top: Identity) -> Walk
+        ensures { result ≡ record { root = string_bytes root; path = [] } }
+    {
+        Walk {
+            root,
+            top,
+            path: String::new(alloc),
+        }
+    }
+
+    /// Where it stands.
+    pub fn path(&self) -> &str
+        ensures { result.now ≡ self.now.path }
+    {
+        self.path.as_str()
+    }
+
+    /// Back to the root.
+    pub fn start(&mut self) -> Result<(), AllocError>
+        ensures ok { OnOk result (self.new.path ≡ self.old.root) }
+        ensures root { self.new.root ≡ self.old.root }
+    {
+        self.path.clear();
+        self.path.push_str(self.root.as_str())
+    }
+
+    /// Goes down by a name, if a folder can hold it.
+    pub fn enter(&mut self, name: &Name) -> Result<(), HostError>
+        ensures ok { OnOk result (self.new.path ≡ self.old.path ++ 47 ∷ name.now) }
+        ensures lawful { OnOk result (IsLawfulName name.now) }
+        ensures root { self.new.root ≡ self.old.root }
+    {
+        let text = name.as_str();
+        if !is_lawful(text) {
+            return Err(HostError::Failed(EINVAL));
+        }
+        self.path.push_str("/")?;
+        self.path.push_str(text)?;
+        Ok(())
+    }
+
+    /// Goes down from the root, and answers what stands there: one `lstat` for each name.
+    pub fn find<H: Files>(&mut self, rt: &H, names: &[Name]) -> Result<Found, HostError>
+        ensures below { OnOk result (ResolvesDown self.old.root self.new.path names.now) }
+        ensures root { self.new.root ≡ self.old.root }
+    {
+        self.start()?;
+        let mut found = Found::Folder(self.top);
+        for name in names {
+            expect_folder(found)?;
+            self.enter(name)?;
+            found = look(rt, self.path())?;
+        }
+        Ok(found)
+    }
+}
+
+/// Whether a folder of the system can hold that name: it is not empty, not `.` or `..`, and has neither `/` nor NUL.
+fn is_lawful(text: &str) -> bool
+    ensures { result ≡ true → IsLawfulName text.now }
+{
+    if text.is_empty() {
+        return false;
+    }
+    if text == "." {
+        return false;
+    }
+    if text == ".." {
+        return false;
+    }
+    is_plain(text.as_bytes())
+}
+
+/// Whether no byte is a slash or NUL.
+fn is_plain(bytes: &[u8]) -> bool
+    ensures { result ≡ true → (k : ℕ) → k < length bytes.now → (slice_index bytes.now k ≢ 47) × (slice_index bytes.now k ≢ 0) }
+{
+    for byte in bytes {
+        if *byte == b'/' {
+            return false;
+        }
+        if *byte == 0 {
+            return false;
+        }
+    }
+    true
+}
+
+/// What stands at that very path, its links not followed: one `lstat`.
+pub fn look<H: Files>(rt: &H, path: &str) -> Result<Found, HostError> {
+    match fs::symlink_metadata(rt, path) {
+        Ok(metadata) => Ok(found_of(&metadata)),
+        Err(error) if error.kind() == ErrorKind::NotFound => Ok(Found::Nothing),
+        Err(error) => Err(HostError::from(error)),
+    }
+}
+
+/// What that is.
+pub fn found_of(metadata: &Metadata) -> Found {
+    if metadata.is_dir() {
+        Found::Folder(Identity::of(metadata))
+    } else if metadata.is_file() {
+        Found::File(Identity::of(metadata))
+    } else {
+        Found::Hidden
+    }
+}
+
+/// Something below it can be reached.
+fn expect_folder(found: Found) -> Result<(), HostError> {
+    match found {
+        Found::Folder(_) => Ok(()),
+        Found::File(_) => Err(HostError::Refused(Reason::NoFolder)),
+        Found::Nothing | Found::Hidden => Err(HostError::Refused(Reason::Nothing)),
+    }
+}

@@ -1,0 +1,56 @@
+use Rattle.std.proofs.Common.{ap, refl, subst, ◌∙◌, sym, to_z, of_z, w32}
+use Rattle.engine.proofs.Turns.{goes_on, table_refused}
+use Rattle.engine.proofs.requests.Session.run_request.Goals as goal
+
+pub returns-in-Go-clause-some : goal.returns-in-Go-clause-some
+returns-in-Go-clause-some g c lends =
+    let p = c.run_script.ensures.performs in
+    let w = g.R.Reach.world c.args.table.now in
+    let begun = g.R.Reach.world c.begin.new.self in
+    let kept = g.met.R.Reach.carries w begun p.concludes.finished (g.R.Reach.world c.run_script.new.table) c.args.request.unique c.args.want c.in-Go.ticket p.end.outcome p.concludes.answer p.concludes.put _ c.requires.idle c.in-Go.ensures.begins p.concludes.finishes p.concludes.settles in
+    goes_on g.R.Reach.steps c.args.self.now.settings g.L.Outlet.sends g.C.Calls.gives c.args.request c.args.want lends c.args.page.now c.in-Go.ticket c.args.link.now c.run_script.new.link c.args.calls.now c.run_script.new.calls
+    w begun (g.R.Reach.world c.run_script.new.table) c.run_script.result c.in-Go.ensures.begins p kept.0
+
+pub returns-in-Go-clause-idle : goal.returns-in-Go-clause-idle
+returns-in-Go-clause-idle g c =
+    let p = c.run_script.ensures.performs in
+    let w = g.R.Reach.world c.args.table.now in
+    let begun = g.R.Reach.world c.begin.new.self in
+    let kept = g.met.R.Reach.carries w begun p.concludes.finished (g.R.Reach.world c.run_script.new.table) c.args.request.unique c.args.want c.in-Go.ticket p.end.outcome p.concludes.answer p.concludes.put _ c.requires.idle c.in-Go.ensures.begins p.concludes.finishes p.concludes.settles in
+    kept.1
+
+pub returns-in-Refused-clause-some : goal.returns-in-Refused-clause-some
+returns-in-Refused-clause-some g c lends =
+    let w = g.R.Reach.world c.args.table.now in
+    let refused = g.met.R.Reach.refuses w (g.R.Reach.world c.begin.new.self) c.args.request.unique c.args.want c.in-Refused.errno c.in-Refused.ensures.begins in
+    table_refused g.R.Reach.steps c.args.self.now.settings g.L.Outlet.sends g.C.Calls.gives c.args.request c.args.want lends c.args.page.now (to_z w32 (of_z w32 c.in-Refused.errno)) c.args.link.now c.answer.new.link c.args.calls.now
+    w (g.R.Reach.world c.begin.new.self) c.answer.result refused.0 refused.1 c.answer.ensures.said
+
+pub returns-in-Refused-clause-idle : goal.returns-in-Refused-clause-idle
+returns-in-Refused-clause-idle g c =
+    let w = g.R.Reach.world c.args.table.now in
+    let refused = g.met.R.Reach.refuses w (g.R.Reach.world c.begin.new.self) c.args.request.unique c.args.want c.in-Refused.errno c.in-Refused.ensures.begins in
+    subst (λ (v : g.R.Reach.World). g.R.Reach.steps.is_idle v) (sym refused.1) c.requires.idle
+
+pub returns-in-Busy-clause-none : goal.returns-in-Busy-clause-none
+returns-in-Busy-clause-none g c = record {
+  link_is = refl;
+  calls_are = refl;
+  world_is = g.met.R.Reach.waits (g.R.Reach.world c.args.table.now) (g.R.Reach.world c.begin.new.self) c.args.request.unique c.args.want c.in-Busy.ensures.begins;
+}
+
+pub returns-in-Busy-clause-idle : goal.returns-in-Busy-clause-idle
+returns-in-Busy-clause-idle g c =
+    let w = g.R.Reach.world c.args.table.now in
+    subst (λ (v : g.R.Reach.World). g.R.Reach.steps.is_idle v) (sym (g.met.R.Reach.waits w (g.R.Reach.world c.begin.new.self) c.args.request.unique c.args.want c.in-Busy.ensures.begins)) c.requires.idle
+
+pub returns-in-Go-clause-gains : goal.returns-in-Go-clause-gains
+returns-in-Go-clause-gains g c =
+    g.met.R.Reach.gains_on (g.R.Reach.world c.args.table.now) (g.R.Reach.world c.begin.new.self) (g.R.Reach.world c.run_script.new.table) c.args.share.now c.args.share.now c.run_script.new.share
+    (c.begin.ensures.gains c.args.share.now) c.run_script.ensures.gains
+
+pub returns-in-Refused-clause-gains : goal.returns-in-Refused-clause-gains
+returns-in-Refused-clause-gains g c = c.begin.ensures.gains c.args.share.now
+
+pub returns-in-Busy-clause-gains : goal.returns-in-Busy-clause-gains
+returns-in-Busy-clause-gains g c = c.begin.ensures.gains c.args.share.now

@@ -1,0 +1,43 @@
+use Rattle.std.proofs.Common.{[], refl, subst}
+use Rattle.ops.specs.Ahead.{end_of}
+use Rattle.ops.specs.Scripts.{Plan, Follows, listed_end, plan_of}
+use Rattle.ops.specs.declared.findings.ScriptResult.{ScriptResult}
+use Rattle.engine.specs.Walks.{no_memory}
+use Rattle.engine.proofs.requests.Session.run_script.Goals as goal
+
+pub returns-in-Err-clause-performs : goal.returns-in-Err-clause-performs
+returns-in-Err-clause-performs g c = record {
+  made = [];
+  end = no_memory;
+  makes = refl;
+  concludes = c.end_without_script.ensures.concludes c.args.page.now c.in-Err.ensures.err;
+}
+
+pub returns-in-Listed-clause-performs : goal.returns-in-Listed-clause-performs
+returns-in-Listed-clause-performs g c =
+    let played = c.play.ensures in
+    let plan = plan_of c.args.request.operation c.args.ticket in
+    let follows = subst (λ (p : Plan). Follows p played.made (end_of c.play.result)) c.in-Ok.ensures.ok played.follows in
+    let listed = subst (λ (f : ScriptResult). Follows plan played.made (end_of f)) c.in-Listed.is follows in
+    record {
+      made = played.made;
+      end = listed_end c.in-Listed.children;
+      makes = played.makes;
+      concludes = c.list.ensures.concludes c.args.page.now played.made listed;
+    }
+
+pub returns-in_default : goal.returns-in_default
+returns-in_default g c =
+    let played = c.play.ensures in
+    let follows = subst (λ (p : Plan). Follows p played.made (end_of c.play.result)) c.in-Ok.ensures.ok played.follows in
+    record {
+      performs = record {
+        made = played.made;
+        end = end_of c.play.result;
+        makes = played.makes;
+        concludes = c.tell.ensures.concludes c.args.page.now played.made follows;
+      };
+      gains = c.tell.ensures.gains;
+      settings = c.tell.ensures.settings;
+      agreed = c.tell.ensures.agreed;
+    }

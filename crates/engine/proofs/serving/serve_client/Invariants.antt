@@ -1,0 +1,19 @@
+use Rattle.std.proofs.Common.{◌≡◌, false, None, []}
+use Rattle.table_steps.specs.Kept.{world_of}
+use Rattle.wire.specs.Stream.{IsPartial}
+use Rattle.table.specs.Gains.{Gains}
+use Rattle.engine.specs.Tables.{worlds, IsIdle}
+use Rattle.engine.specs.Walks.{side, stand, Walks}
+use Rattle.engine.proofs.serving.serve_client.Given as goal
+
+-- no whole frame and no bad length is left between two pieces
+abbrev pub invariant-loop : goal.invariant-loop
+invariant-loop g l = record {
+  partial : IsPartial l.cutter.kept;
+  on : l.cutter.stopped ≡ None;
+  settings : l.session.settings ≡ l.fn.settings;
+  idle : IsIdle (world_of l.table);
+  gains : Gains (world_of l.initial.table) l.initial.share (world_of l.table) l.share;
+  walks : Walks worlds l.fn.settings g.L.LinkIn.receives g.L.LinkOut.sends g.C.Calls.gives
+      (side l.initial.link l.initial.calls (stand (world_of l.initial.table) false) []) (side l.link l.calls (stand (world_of l.table) l.session.agreed) l.cutter.kept);
+}

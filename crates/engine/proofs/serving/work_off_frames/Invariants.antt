@@ -1,0 +1,22 @@
+use Rattle.std.proofs.Common.{◌≡◌, length}
+use Rattle.table_steps.specs.Kept.{world_of}
+use Rattle.table.specs.Gains.{Gains}
+use Rattle.engine.specs.Tables.{worlds, IsIdle}
+use Rattle.engine.specs.Walks.{side, stand, Walks}
+use Rattle.engine.proofs.serving.work_off_frames.Given as goal
+
+-- the frames so far are worked off
+abbrev pub invariant-loop-frame : goal.invariant-loop-frame
+invariant-loop-frame g l = record {
+  stopped : l.cutter.stopped ≡ l.initial.cutter.stopped;
+  settings : l.session.settings ≡ l.initial.session.settings;
+  idle : IsIdle (world_of l.table);
+  gains : Gains (world_of l.initial.table) l.initial.share (world_of l.table) l.share;
+  walks : Walks worlds l.initial.session.settings g.L.LinkIn.receives g.L.LinkOut.sends g.C.Calls.gives
+      (side l.initial.link l.initial.calls (stand (world_of l.initial.table) l.initial.session.agreed) l.initial.cutter.kept)
+      (side l.link l.calls (stand (world_of l.table) l.session.agreed) l.cutter.kept);
+}
+
+-- each frame takes its bytes with it
+abbrev pub decreases-loop-frame : goal.decreases-loop-frame
+decreases-loop-frame g l = length l.cutter.kept

@@ -1,0 +1,30 @@
+-- A table that one thread has alone, as a way to reach it.
+use Rattle.std.proofs.Common.{ℕ, ℤ, ◌≡◌, Bool, Option, to_z, of_z, w32}
+use Rattle.table_requests.specs.declared.data.Want.{Want}
+use Rattle.ledger.specs.Shares.{Part}
+use Rattle.table_steps.specs.Answers.{Answer, Claim}
+use Rattle.table_steps.specs.World.{World}
+use Rattle.table_steps.specs.declared.data.Begin.TheVariants.{Busy, Go, Refused}
+use Rattle.table_steps.specs.declared.data.Outcome.{Outcome}
+use Rattle.table.specs.Gains.{Gains}
+use Rattle.table.proofs.Gaining as gaining
+use Rattle.engine.specs.Tables.{worlds, IsIdle}
+use Rattle.engine.specs.Alone.{finishes_one, forgets_idle, refused_bits, settles_one}
+
+pub gains_on : (old mid new : World) (before between after : Part) → Gains old before mid between → Gains mid between new after → Gains old before new after
+gains_on = gaining.gains_on
+
+pub waits : (old new : World) (unique : ℕ) (want : Want) → worlds.begins old unique want Busy new → new ≡ old
+waits old new unique want b = b.0.begins.2
+
+pub refuses : (old new : World) (unique : ℕ) (want : Want) (errno : ℤ) → worlds.begins old unique want (Refused errno) new → (worlds.begins old unique want (Refused (to_z w32 (of_z w32 errno))) new) × (new ≡ old)
+refuses old new unique want errno b = ((refused_bits old new unique want errno b.0, b.1), b.0.begins.1)
+
+pub carries : (old mid fin new : World) (unique : ℕ) (want : Want) (claim : Claim) (outcome : Outcome) (answer : Answer) (put : Option ℕ) (taken : Bool) → IsIdle old
+    → worlds.begins old unique want (Go claim) mid → worlds.finishes mid claim.id outcome answer fin → worlds.settles fin answer put taken new → worlds.knows answer × IsIdle new
+carries old mid fin new unique want claim outcome answer put taken idle begins finishes settles =
+    let alone = finishes_one old mid fin unique want claim outcome answer idle begins.0 finishes.0 in
+    (alone.not_lost, settles_one fin new claim.id answer taken settles.0 alone settles.1)
+
+pub forgets : (old new : World) (number n : ℕ) → IsIdle old → worlds.forgets old number n new → IsIdle new
+forgets old new number n idle f = forgets_idle old new number n f.0 idle f.1

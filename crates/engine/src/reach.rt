@@ -1,0 +1,127 @@
+//! Ways to reach a table.
+
+ghost use Rattle.std.specs.Prelude.{◌≡◌, ℕ, ℤ, Option, Bool};
+ghost use Rattle.std.proofs.Common.{to_z, of_z, w32};
+ghost use Rattle.table_files.specs.declared.data.OpenFile.{OpenFile};
+ghost use Rattle.table_requests.specs.declared.data.Want.{Want};
+ghost use Rattle.ledger.specs.Shares.{Part};
+ghost use Rattle.table_steps.specs.Answers.{Answer, Claim};
+ghost use Rattle.table_steps.specs.declared.data.Begin.TheVariants.{Busy, Go, Refused};
+ghost use Rattle.table_steps.specs.declared.data.Outcome.{Outcome};
+ghost use Rattle.engine.specs.Tables as tables;
+
+use ledger::{Ledgers, Share};
+use table::{Answered, Begin, Outcome, Table, Ticket};
+use table_files::OpenFile;
+use table_requests::Want;
+
+/// A way to reach a table: to have it alone, or to take its lock for each call.
+pub trait Reach<T: Ledgers> {
+    /// What is known of the table between two calls.
+    ghost World: { Type 0 };
+
+    ghost world: { Self → World };
+
+    /// What its calls may do.
+    ghost steps: { tables.Table World };
+
+    /// Nothing was posted: a call that does nothing.
+    fn attest(&self)
+        ensures { (share : Part) → steps.gains (world self.now) share (world self.now) share };
+
+    /// Takes up a request. Where another is in its way it may wait for the end of one, and then answers Busy.
+    fn begin(&mut self, unique: u64, want: Want) -> Begin
+        ensures begins { steps.begins (world self.old) unique want result (world self.new) }
+        ensures gains { (share : Part) → steps.gains (world self.old) share (world self.new) share };
+
+    /// Ends the work on a request.
+    fn finish(&mut self, share: &mut Share<T>, ticket: Ticket, outcome: Outcome) -> Answered
+        requires free { steps.is_free (world self.old) }
+        ensures finishes { steps.finishes (world self.old) ticket.id outcome result (world self.new) }
+        ensures holds { steps.holds (world self.new) result }
+        ensures gains { steps.gains (world self.old) share.old (world self.new) share.new };
+
+    /// Ends a request, or leaves that to the one who offers its reply. A listing may have been put for it.
+    fn settle(&mut self, share: &mut Share<T>, answered: Answered, put: Option<u64>, taken: bool)
+        requires holds { steps.holds (world self.old) answered }
+        ensures settles { steps.settles (world self.old) answered put taken (world self.new) }
+        ensures gains { steps.gains (world self.old) share.old (world self.new) share.new };
+
+    /// The client gives lookups of a node back.
+    fn forget(&mut self, share: &mut Share<T>, number: u64, n: u64)
+        ensures forgets { steps.forgets (world self.old) number n (world self.new) }
+        ensures gains { steps.gains (world self.old) share.old (world self.new) share.new };
+
+    /// The open file under a handle.
+    fn find(&mut self, fh: u64) -> Option<OpenFile>
+        ensures finds { steps.finds (world self.old) fh result }
+        ensures world { world self.new ≡ world self.old };
+
+    /// What is gained one call after another is gained in all.
+    ghost gains_on: { (old mid new : World) (before between after : Part) → steps.gains old before mid between → steps.gains mid between new after → steps.gains old before new after };
+
+    /// A request that has to wait changes nothing.
+    ghost waits: { (old new : World) (unique : ℕ) (want : Want) → steps.begins old unique want Busy new → new ≡ old };
+
+    /// A request that is refused changes nothing.
+    ghost refuses: { (old new : World) (unique : ℕ) (want : Want) (errno : ℤ) → steps.begins old unique want (Refused errno) new → (steps.begins old unique want (Refused (to_z w32 (of_z w32 errno))) new) × (new ≡ old) };
+
+    /// A request that goes on is not finished yet.
+    ghost begins_free: { (old new : World) (unique : ℕ) (want : Want) (claim : Claim) → steps.is_free old → steps.begins old unique want (Go claim) new → steps.is_free new };
+
+    /// A request that is carried from its begin to its settle.
+    ghost carries: { (old mid fin new : World) (unique : ℕ) (want : Want) (claim : Claim) (outcome : Outcome) (answer : Answer) (put : Option ℕ) (taken : Bool) → steps.is_idle old
+        → steps.begins old unique want (Go claim) mid → steps.finishes mid claim.id outcome answer fin → steps.settles fin answer put taken new → steps.knows answer × steps.is_idle new };
+
+    /// Lookups that are given back leave it idle.
+    ghost forgets_idle: { (old new : World) (number n : ℕ) → steps.is_idle old → steps.forgets old number n new → steps.is_idle new };
+}
+
+impl<T: Ledgers> Reach<T> for Table<T> {
+    ghost use Rattle.table_steps.specs.Kept.{world_of};
+    ghost use Rattle.table_steps.specs.World as kept;
+    ghost use Rattle.engine.specs.Tables.{worlds};
+    ghost use Rattle.engine.specs.Reaching as laws;
+
+    ghost World = { kept.World };
+
+    ghost world = { world_of };
+
+    ghost steps = { worlds };
+
+    fn attest(&self) {
+        Table::attest(self)
+    }
+
+    fn begin(&mut self, unique: u64, want: Want) -> Begin {
+        Table::begin(self, unique, want)
+    }
+
+    fn finish(&mut self, share: &mut Share<T>, ticket: Ticket, outcome: Outcome) -> Answered {
+        Table::finish(self, share, ticket, outcome)
+    }
+
+    fn settle(&mut self, share: &mut Share<T>, answered: Answered, _put: Option<u64>, taken: bool) {
+        let _ = Table::settle(self, share, answered, taken);
+    }
+
+    fn forget(&mut self, share: &mut Share<T>, number: u64, n: u64) {
+        let _ = Table::forget(self, share, number, n);
+    }
+
+    fn find(&mut self, fh: u64) -> Option<OpenFile> {
+        Table::file(self, fh)
+    }
+
+    ghost gains_on = { laws.gains_on };
+
+    ghost waits = { laws.waits };
+
+    ghost refuses = { laws.refuses };
+
+    ghost begins_free = { λ old new unique want claim free begins. tt };
+
+    ghost carries = { laws.carries };
+
+    ghost forgets_idle = { laws.forgets };
+}

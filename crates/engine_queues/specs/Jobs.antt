@@ -1,0 +1,46 @@
+-- What the passes of the job queue know.
+use Rattle.std.specs.Prelude.{◌≡◌, ℕ, zero, suc, ◌+◌, Bool, true, false, List, [], ◌∷◌, ◌++◌, length, map, eqb, Option}
+use mathlib.Core.Option.{some}
+use lib.ListN.{get_elem?}
+use Rattle.engine_queues.specs.Totals.{total, items_of}
+use Rattle.engine_queues.specs.declared.jobs.Hand.{Hand}
+
+module _ {J : Type 0} where
+  abbrev pub hand : ℕ → List J → List J → Hand J
+  hand parts put taken = record { parts = parts; put = put; taken = taken }
+
+  abbrev pub both : Hand J → Hand J → Hand J
+  both v w = hand (v.parts + w.parts) (v.put ++ w.put) (v.taken ++ w.taken)
+
+  abbrev pub put_of : Hand J → Option J → Hand J
+  put_of v x = hand v.parts (v.put ++ items_of (x ∷ [])) v.taken
+
+  abbrev pub taken_of : Hand J → Option J → Hand J
+  taken_of v x = hand v.parts v.put (v.taken ++ items_of (x ∷ []))
+
+  -- a pass with no part has put and taken nothing
+  abbrev pub IdleIsEmpty : List (Hand J) → Type 0
+  IdleIsEmpty views = (port : ℕ) (v : Hand J) → get_elem? views port ≡ some v → v.parts ≡ 0 → (v.put ≡ []) × (v.taken ≡ [])
+
+  -- what was put was taken or is left, however the jobs are weighed
+  abbrev pub Accounts : List J → List J → List J → Type 0
+  Accounts put taken left = (h : J → ℕ) → total h put ≡ total h taken + total h left
+
+  abbrev pub Balanced : List (Option J) → List (Hand J) → Type 0
+  Balanced items views =
+      (total (λ (v : Hand J). v.parts) views ≡ 8)
+      × ((h : J → ℕ) → total (λ (v : Hand J). total h v.put) views ≡ total (λ (v : Hand J). total h v.taken) views + total h (items_of items))
+      × IdleIsEmpty views
+
+-- n numbers from a on
+abbrev pub numbers : ℕ → ℕ → List ℕ
+numbers a zero = []
+numbers a (suc n) = a ∷ numbers (a + 1) n
+
+abbrev pub one_if : Bool → ℕ
+one_if true = 1
+one_if false = 0
+
+-- how many of them bear the number x
+abbrev pub times : {J : Type 0} → (J → ℕ) → ℕ → List J → ℕ
+times number x js = total (λ j. one_if (eqb (number j) x)) js

@@ -1,0 +1,80 @@
+//! The passes of threads that have ended, put together.
+
+ghost use Rattle.std.specs.Prelude.{◌≡◌, ◌<◌, ◌≤◌, ◌+◌, [], length, map, true, List, ℕ, vec_len, vec_capacity};
+ghost use Rattle.std.specs.List.{All, flat_map, range_with_len};
+ghost use Rattle.crossbeam_channel.specs.Claims.{view, IsSeatAt};
+ghost use Rattle.crossbeam_channel.specs.Ends.{sends_on};
+ghost use Rattle.engine_queues.specs.Jobs.{both, Accounts};
+ghost use Rattle.engine_queues.specs.Letters.{told, IsWhole};
+ghost use Rattle.engine_queues.specs.Gathered.{AreSeated, IsReading, IsWriting, numbers_of, puts_of, takings_of};
+ghost use Rattle.engine_queues.specs.declared.letters.Letter.{Letter};
+
+use crate::jobs::{Cut, JobPass, JobSender, Total};
+use crate::letters::{ReplyPass, ReplySender, Roles, Whole};
+use crate::passes::Passes;
+
+/// Takes in the passes of one worker, the next by its number.
+fn take_in<J: Drop, M: Drop>(
+    jobs: &JobSender<J>,
+    replies: &ReplySender<M>,
+    all: &mut JobPass<J>,
+    whole: &mut ReplyPass<M>,
+    passes: Passes<J, M>,
+) -> u64
+    requires read { IsSeatAt (sends_on jobs.now) all.old }
+    requires parts { 0 < (view all.old).parts }
+    requires written { IsSeatAt (sends_on replies.now) whole.old }
+    requires gets { (view whole.old).gets ≡ true }
+    requires job_pass { IsSeatAt (sends_on jobs.now) passes.job_pass }
+    requires reply_pass { IsSeatAt (sends_on replies.now) passes.reply_pass }
+    requires next { passes.number ≡ length (view whole.old).known }
+    ensures read { IsSeatAt (sends_on jobs.now) all.new }
+    ensures both { view all.new ≡ both (view all.old) (view passes.job_pass) }
+    ensures written { IsSeatAt (sends_on replies.now) whole.new }
+    ensures told { view whole.new ≡ told (view whole.old) (view passes.reply_pass) }
+    ensures count { result ≡ length (view passes.job_pass).taken }
+{
+    let Passes {
+        number: _,
+        count,
+        job_pass,
+        reply_pass,
+    } = passes;
+    jobs.absorb::<Cut>(all, job_pass);
+    replies.absorb::<Roles>(whole, reply_pass);
+    count
+}
+
+/// What the passes of the reader, of the workers in the order of their numbers and of the writer tell together. The vector that is handed
+/// in gets how many jobs each worker took.
+pub fn gather<J: Drop, M: Drop>(
+    jobs: &JobSender<J>,
+    replies: &ReplySender<M>,
+    read: JobPass<J>,
+    ended: Vec<Passes<J, M>>,
+    written: ReplyPass<M>,
+    taken: Vec<u64>,
+) -> Vec<u64>
+    requires read { IsSeatAt (sends_on jobs.now) read }
+    requires reading { IsReading (view read) (vec_len ended) }
+    requires seats { AreSeated (λ p. IsSeatAt (sends_on jobs.now) p) (λ p. IsSeatAt (sends_on replies.now) p) ended.items }
+    requires few { vec_len ended < 8 }
+    requires numbers { numbers_of ended.items ≡ range_with_len 0 (vec_len ended) }
+    requires written { IsSeatAt (sends_on replies.now) written }
+    requires writing { IsWriting (view written) (vec_len ended) }
+    requires room { vec_len ended ≤ vec_capacity taken }
+    requires empty { taken.items ≡ [] }
+    ensures taken { result.items ≡ map (λ js. length js) (takings_of ended.items) }
+    ensures jobs { (left : List J) × Accounts (view read).put (flat_map (λ js. js) (takings_of ended.items)) left }
+    ensures replies { (left : List (Letter M)) × IsWhole (puts_of ended.items) (view written).got left }
+{
+    let mut all = read;
+    let mut whole = written;
+    let mut taken = taken;
+    for passes in ended {
+        taken.push_reserved(take_in(jobs, replies, &mut all, &mut whole, passes));
+    }
+    jobs.learn_as::<Total>(&mut all);
+    replies.learn_as::<Whole>(&mut whole);
+    taken
+}

@@ -1,0 +1,13 @@
+use Rattle.engine_streams.proofs.Parts.{part_on, part_kept}
+use Rattle.engine_streams.proofs.writing.write_parts.Goals as goal
+use Rattle.engine_streams.proofs.writing.write_parts.Goals.{in-Ok, in-Err+else-ne}
+
+pub loop-try-preserved : goal.loop-try-preserved
+loop-try-preserved g c =
+    let start = g.W.Write.contents c.args.writer.now in
+    let before = g.W.Write.contents c.loop-try.writer in
+    let after = g.W.Write.contents c.write.new.self in
+    elim c.match-write.branch [
+      | in-Ok w ↦ part_on start before after c.loop-try.done w.in-Ok.count c.match-write.done c.args.bytes.now c.loop-try.invariant w.done-is w.in-Ok.ensures.bound w.in-Ok.ensures.bytes
+      | in-Err+else-ne w ↦ part_kept start before after c.loop-try.done c.match-write.done c.args.bytes.now c.loop-try.invariant w.done-is w.in-Err.ensures.bytes
+    ]

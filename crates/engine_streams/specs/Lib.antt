@@ -1,0 +1,4 @@
+pub mod Counting
+pub mod Passing
+pub mod Streams
+pub mod Writing

@@ -1,0 +1,8 @@
+//! Links over streams: sockets, pipes, and whatever else is read and written as bytes.
+#![tactic(auto)]
+
+mod link;
+mod writing;
+
+pub use link::StreamLink;
+pub use writing::write_flushed;

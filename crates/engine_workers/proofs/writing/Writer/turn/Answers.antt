@@ -1,0 +1,39 @@
+use Rattle.std.proofs.Common.{◌≡◌, Bool, Option, Some, None, refl, sym, ap, ◌∙◌, subst}
+use Rattle.table_steps.specs.Answers.{Settlement}
+use Rattle.engine_queues.proofs.LetterSteps.{gets}
+use Rattle.engine_workers.specs.Turns.{Offers, ended_as}
+use Rattle.engine_workers.specs.declared.working.Turn.{Turn}
+use Rattle.engine_workers.specs.declared.working.Turn.TheVariants.{Worked, Nothing}
+use Rattle.engine_workers.proofs.writing.Writer.turn.Goals as goal
+
+abbrev settled_by : Turn → Option Settlement
+settled_by (Worked settled) = settled
+settled_by Nothing = None
+
+pub recv_as-requires-clause-rule : goal.recv_as-requires-clause-rule
+recv_as-requires-clause-rule g c = (gets _ _ c.args.self.now.gets, λ items views b at. tt)
+
+pub returns-then-self-clause-wrote : goal.returns-then-self-clause-wrote
+returns-then-self-clause-wrote g c settled e =
+    let same : c.settle_left.result ≡ settled = ap settled_by e in
+    record {
+      front = c.in-Ok-Some.letter;
+      got = rw c.in-Ok-Some.field-0-is at c.in-Ok-Some.ensures.rule;
+      offers = subst (λ (b : Bool). Offers g.L.LinkOut.sends c.in-Ok-Some.letter settled c.args.link.now c.args.link.now b c.args.self.now.is_broken) (sym c.if-self.true)
+          (record { link_is = refl; settled_is = sym same ∙ c.settle_left.ensures.settled; broken_is = c.if-self.true });
+    }
+
+pub returns-else-self-clause-wrote : goal.returns-else-self-clause-wrote
+returns-else-self-clause-wrote g c settled e =
+    let same : c.settle_left-in-Ok-Some.result ≡ settled = ap settled_by e in
+    record {
+      front = c.in-Ok-Some.letter;
+      got = rw c.in-Ok-Some.field-0-is at c.in-Ok-Some.ensures.rule;
+      offers = subst (λ (b : Bool). Offers g.L.LinkOut.sends c.in-Ok-Some.letter settled c.args.link.now c.offer-sent.new.link b c.is_broken-self.result) (sym c.if-self.false)
+          (record {
+            sent = c.offer-sent.result;
+            offer = c.offer-sent.ensures;
+            settled_is = sym same ∙ (c.settle_left-in-Ok-Some.ensures.settled ∙ ap (λ (b : Bool). ended_as c.in-Ok-Some.letter.reply.left b) c.is_taken.ensures);
+            broken_is = c.is_broken-self.ensures;
+          });
+    }

@@ -1,0 +1,31 @@
+-- The right reply to a job: what the rules of a session say to its frame, where the table is behind a lock.
+use Rattle.std.specs.Prelude.{ℕ, ◌≡◌, Bool, List, Option, Some}
+use Rattle.wire.specs.Requests.{opcode_in}
+use Rattle.wire.specs.Written.{reply_bytes}
+use Rattle.ops.specs.declared.replies.Settings.{Settings}
+use Rattle.engine.specs.Classes.{class}
+use Rattle.engine.specs.Reference.{HandlesFrame, Offer, Turn}
+use Rattle.engine.specs.declared.links.Sent.TheVariants.{Taken}
+use Rattle.engine_workers.specs.Halls.{Fresh, Visited, halls, left_in}
+use Rattle.engine_workers.specs.declared.jobs.Job.{Job}
+use Rattle.engine_workers.specs.declared.left.Left.{Left}
+
+-- what the rules say to a job, with the calls that were made for it and their answers
+pub record IsMet (settings : Settings) (job : Job) (turn : Turn) (visited : Visited) : Type 0 where
+  pub frame_is : turn.frame ≡ job.frame.items
+  pub now : Bool
+  pub meets : HandlesFrame halls settings job.agreed (class job.agreed (opcode_in turn.frame)) Fresh turn visited now
+
+-- this offer, which was not made yet
+pub record IsWritten (offer : Offer) (bytes : List ℕ) : Type 0 where
+  pub bytes_are : bytes ≡ reply_bytes offer.reply
+  pub sent : offer.sent ≡ Taken
+
+pub record IsRight (settings : Settings) (job : Job) (bytes : List ℕ) (left : Option Left) : Type 0 where
+  pub turn : Turn
+  pub visited : Visited
+  pub met : IsMet settings job turn visited
+  pub offer : Offer
+  pub offered : turn.offer ≡ Some offer
+  pub written : IsWritten offer bytes
+  pub left_is : left ≡ left_in visited

@@ -1,0 +1,100 @@
+-- What one turn of each thread does.
+use Rattle.std.specs.Prelude.{◌≡◌, ◌⊎◌, ℕ, ◌+◌, ◌<◌, Bool, true, false, if◌then◌else◌, List, [], ◌∷◌, ◌++◌, length, map, Option, Some, None}
+use Rattle.backing.specs.Calls.{Asked}
+use Rattle.backing.specs.declared.call.Answer.{Answer as Told}
+use Rattle.ledger.specs.Shares.{Part}
+use Rattle.table_steps.specs.Answers.{Settlement, entries_in}
+use Rattle.wire.specs.Written.{reply_bytes}
+use Rattle.ops.specs.declared.replies.Settings.{Settings}
+use Rattle.engine.specs.Reference.{Offer, Turn, is_broken, is_taken}
+use Rattle.engine.specs.Serving.{Makes}
+use Rattle.engine.specs.declared.links.Sent.{Sent}
+use Rattle.engine.specs.declared.links.Sent.TheVariants.{Taken}
+use Rattle.engine_queues.specs.Jobs.{hand}
+use Rattle.engine_queues.specs.Letters as letters
+use Rattle.engine_queues.specs.declared.jobs.Hand.{Hand}
+use Rattle.engine_queues.specs.declared.letters.ReplyLane.{ReplyLane}
+use Rattle.engine_queues.specs.declared.letters.Letter.{Letter}
+use Rattle.engine_workers.specs.Halls.{Fresh, GainsListed, Visited, left_in, settled_in}
+use Rattle.engine_workers.specs.Rights.{IsMet, IsWritten}
+use Rattle.engine_workers.specs.Slips.{bytes_of}
+use Rattle.engine_workers.specs.declared.jobs.Job.{Job}
+use Rattle.engine_workers.specs.declared.left.Left.{Left}
+use Rattle.engine_workers.specs.declared.replies.Reply.{Reply}
+
+-- ---- a worker
+
+-- what is written for the turn's offer
+abbrev pub Writes : Option Offer → Option (List ℕ) → Type 0
+Writes None bytes = bytes ≡ None
+Writes (Some offer) bytes = (bytes ≡ Some (reply_bytes offer.reply)) × (offer.sent ≡ Taken)
+
+-- A job is met by the rules of a session: by these calls of the directory, each once and in order. The share gains the entries of the answer
+-- that is left or settled.
+pub record MeetsJob {C : Type 0} (gives : C → Asked → Told → C → Type 0) (settings : Settings) (job : Job) (calls : C) (before : Part) (bytes : Option (List ℕ)) (visited : Visited) (calls' : C) (after : Part) : Type 0 where
+  pub turn : Turn
+  pub met : IsMet settings job turn visited
+  pub makes : Makes gives calls turn.made calls'
+  pub writes : Writes turn.offer bytes
+  pub gains : GainsListed Fresh before visited after
+
+-- what is settled as untaken where the reply was handed back
+abbrev pub untaken_of : Option Left → Option Settlement → Option Settlement
+untaken_of None settled = settled
+untaken_of (Some left) settled = Some (record { id = left.answered.id; entries = entries_in left.answered.given; taken = false })
+
+abbrev pub untaken_in : Visited → Option Settlement
+untaken_in visited = untaken_of (left_in visited) (settled_in visited)
+
+-- the reply of that sender to that job
+pub record IsReplyTo (settings : Settings) (from : ℕ) (job : Job) (bytes : List ℕ) (visited : Visited) (letter : Letter Reply) : Type 0 where
+  pub from_is : letter.from ≡ from
+  pub settings_are : letter.reply.settings ≡ settings
+  pub job_is : letter.reply.job.value ≡ job
+  pub bytes_are : bytes_of letter.reply.bytes ≡ bytes
+  pub left_is : letter.reply.left ≡ left_in visited
+
+-- exactly one reply is put, unless the queue hands it back; none is put where nothing is written
+pub data PutsReply (settings : Settings) (from : ℕ) (job : Job) (visited : Visited) (old : ReplyLane Reply) (said : Option (List ℕ)) (new : ReplyLane Reply) (settled : Option Settlement) : Type 0 where
+  is_put : (bytes : List ℕ) (letter : Letter Reply) → said ≡ Some bytes → IsReplyTo settings from job bytes visited letter → new ≡ letters.put_of old (Some letter) → settled ≡ settled_in visited → PutsReply settings from job visited old said new settled
+  handed_back : (bytes : List ℕ) → said ≡ Some bytes → new ≡ old → settled ≡ untaken_in visited → PutsReply settings from job visited old said new settled
+  none : said ≡ None → new ≡ old → settled ≡ settled_in visited → PutsReply settings from job visited old said new settled
+
+-- one job was taken, met and answered
+pub record Worked {C : Type 0} (gives : C → Asked → Told → C → Type 0) (settings : Settings) (from : ℕ) (hand' : Hand Job) (lane : ReplyLane Reply) (calls : C) (before : Part) (settled : Option Settlement) (hand'' : Hand Job) (lane' : ReplyLane Reply) (calls' : C) (after : Part) : Type 0 where
+  pub job : Job
+  pub taken : hand'' ≡ hand hand'.parts hand'.put (hand'.taken ++ job ∷ [])
+  pub bytes : Option (List ℕ)
+  pub visited : Visited
+  pub meets : MeetsJob gives settings job calls before bytes visited calls' after
+  pub puts : PutsReply settings from job visited lane bytes lane' settled
+
+-- ---- the writer
+
+-- what became of the answer of a reply that was taken from the queue
+abbrev pub ended_as : Option Left → Bool → Option Settlement
+ended_as None taken = None
+ended_as (Some left) taken = Some (record { id = left.answered.id; entries = entries_in left.answered.given; taken = taken })
+
+-- its bytes are offered, and once
+pub record OffersBytes {L : Type 0} (sends : L → List ℕ → Sent → L → Type 0) (letter : Letter Reply) (settled : Option Settlement) (link link' : L) (broken : Bool) : Type 0 where
+  pub sent : Sent
+  pub offer : sends link (bytes_of letter.reply.bytes) sent link'
+  pub settled_is : settled ≡ ended_as letter.reply.left (is_taken sent)
+  pub broken_is : broken ≡ is_broken sent
+
+-- nothing is offered once the link broke
+pub record OffersNothing {L : Type 0} (letter : Letter Reply) (settled : Option Settlement) (link link' : L) (broken : Bool) : Type 0 where
+  pub link_is : link' ≡ link
+  pub settled_is : settled ≡ ended_as letter.reply.left false
+  pub broken_is : broken ≡ true
+
+abbrev pub Offers : {L : Type 0} → (L → List ℕ → Sent → L → Type 0) → Letter Reply → Option Settlement → L → L → (before after : Bool) → Type 0
+Offers sends letter settled link link' true broken = OffersNothing letter settled link link' broken
+Offers sends letter settled link link' false broken = OffersBytes sends letter settled link link' broken
+
+-- the front reply was taken and offered
+pub record Wrote {L : Type 0} (sends : L → List ℕ → Sent → L → Type 0) (lane : ReplyLane Reply) (link : L) (before : Bool) (settled : Option Settlement) (lane' : ReplyLane Reply) (link' : L) (after : Bool) : Type 0 where
+  pub front : Letter Reply
+  pub got : lane' ≡ letters.got_of lane (Some front)
+  pub offers : Offers sends front settled link link' before after

@@ -1,0 +1,55 @@
+//! Where the reply to a job is written: on a slip, which the worker then puts into its queue.
+
+ghost use Rattle.std.specs.Prelude.{◌≡◌, None, Some};
+ghost use Rattle.engine.specs.declared.links.Sent.TheVariants.{Taken};
+
+use engine::{Outlet, Sent};
+use std::alloc::Global;
+use std::mem;
+
+/// The bytes of a reply. A header alone takes no memory.
+#[derive(Drop)]
+pub enum Bytes {
+    Header([u8; 16]),
+    Whole(Vec<u8>),
+}
+
+/// Room for the reply to one job.
+#[derive(Drop)]
+pub struct Slip {
+    alloc: Global,
+    pub said: Option<Bytes>,
+}
+
+impl Slip {
+    pub fn new(alloc: Global) -> Slip
+        ensures { result.said ≡ None }
+    {
+        Slip { alloc, said: None }
+    }
+
+    /// What was written on it.
+    pub fn into_said(self) -> Option<Bytes>
+        ensures { result ≡ self.said }
+    {
+        let Slip { alloc: _, said } = self;
+        said
+    }
+}
+
+impl Outlet for Slip {
+    ghost use Rattle.engine_workers.specs.Slips.{bytes_in};
+
+    ghost sends = { λ old bytes sent new. (sent ≡ Taken) × (bytes_in new.said ≡ Some bytes) };
+
+    fn header(&mut self, frame: [u8; 16]) -> Sent {
+        self.said = Some(Bytes::Header(frame));
+        Sent::Taken
+    }
+
+    fn buffered(&mut self, frame: &mut Vec<u8>) -> Sent {
+        let bytes = mem::replace(frame, Vec::new(self.alloc));
+        self.said = Some(Bytes::Whole(bytes));
+        Sent::Taken
+    }
+}

@@ -1,0 +1,231 @@
+//! One job of a worker.
+
+ghost use Rattle.std.specs.Prelude.{◌≡◌, ◌+◌, [], ◌∷◌, ◌++◌, length, true, None, Some, Option, List, ℕ};
+ghost use Rattle.crossbeam_channel.specs.Claims.{view, IsSeatAt};
+ghost use Rattle.crossbeam_channel.specs.Ends.{sends_on, receives_on};
+ghost use Rattle.table_steps.specs.Answers.{Settlement, entries_in};
+ghost use Rattle.engine.specs.Reference.{Turn as IsHandled};
+ghost use Rattle.engine_workers.specs.Halls.{Visited, left_in, settled_in};
+ghost use Rattle.engine_workers.specs.Rights.{IsRight};
+ghost use Rattle.engine_workers.specs.Slips.{bytes_in, bytes_of};
+ghost use Rattle.engine_workers.specs.Turns.{ended_as, IsReplyTo, MeetsJob, PutsReply, Worked};
+ghost use Rattle.engine_workers.specs.Visits.{visited_of};
+
+use crate::halls::Hall;
+use crate::jobs::Job;
+use crate::left::Left;
+use crate::replies::Reply;
+use crate::slips::{Bytes, Slip};
+use crate::visits::{ComeTo, Visit};
+use backing::Calls;
+use engine::{Session, Settings};
+use engine_queues::jobs::{JobPass, JobReceiver, Takes};
+use engine_queues::letters::{Letter, Posts, ReplyPass, ReplySender};
+use handles::Dirs;
+use ledger::{Ledgers, Share};
+use std::alloc::Global;
+use std::snapshot::Snapshot;
+use std::sync::Wait;
+use table::Settled;
+
+/// What a turn did.
+#[derive(Drop)]
+pub enum Turn {
+    /// It took a message, and made this settle, if any.
+    Worked(Option<Settled>),
+    /// It took nothing from its queue.
+    Nothing,
+}
+
+/// Meets a job by the rules of a session: what is replied, and what has come of it in the table.
+fn meet_job<H: Wait, T: Ledgers, C: Calls>(
+    session: &mut Session,
+    rt: &H,
+    hall: &Hall<T>,
+    share: &mut Share<T>,
+    calls: &mut C,
+    dirs: &Dirs,
+    job: &Job,
+) -> (Option<Bytes>, ComeTo)
+    ensures meets { MeetsJob C.gives session.old.settings job.now calls.old share.old (bytes_in result.0) (visited_of result.1) calls.new share.new }
+    ensures settings { session.new.settings ≡ session.old.settings }
+{
+    session.agreed = job.agreed;
+    let mut slip = Slip::new(session.alloc);
+    let mut visit = Visit::new(rt, hall);
+    session.handle_frame(
+        rt,
+        dirs,
+        &mut slip,
+        calls,
+        &mut visit,
+        share,
+        job.frame.as_slice(),
+    );
+    (slip.into_said(), visit.into_end())
+}
+
+/// The answer that is left, and the settle that was made.
+fn parted(come_to: ComeTo) -> (Option<Left>, Option<Settled>)
+    ensures left { result.0 ≡ left_in (visited_of come_to) }
+    ensures settled { result.1 ≡ settled_in (visited_of come_to) }
+{
+    match come_to {
+        ComeTo::Nothing | ComeTo::Answer(_) => (None, None),
+        ComeTo::Left(left) => (Some(left), None),
+        ComeTo::Settled(settled) => (None, Some(settled)),
+    }
+}
+
+/// The reply to a job, which is right.
+fn reply_to(settings: Settings, job: &Job, bytes: Bytes, left: Option<Left>) -> Reply
+    requires { IsRight settings job.now (bytes_of bytes) left }
+    ensures { (result.settings ≡ settings) × (result.job.value ≡ job.now) × (result.bytes ≡ bytes) × (result.left ≡ left) }
+{
+    Reply {
+        settings,
+        job: Snapshot::of(job),
+        bytes,
+        left,
+    }
+}
+
+/// Settles what is left as untaken. A listing that was put for it is given up.
+pub(crate) fn settle_left<H: Wait, T: Ledgers>(
+    rt: &H,
+    hall: &Hall<T>,
+    share: &mut Share<T>,
+    dirs: &Dirs,
+    left: Option<Left>,
+    taken: bool,
+) -> Option<Settled>
+    ensures settled { result ≡ ended_as left taken }
+    ensures entries { share.new.totals.entries ≡ share.old.totals.entries }
+    ensures index { share.new.index ≡ share.old.index }
+{
+    let Some(left) = left else {
+        return None;
+    };
+    let (answered, put) = left.into_parts();
+    let settled = hall.settle(rt, share, answered, taken);
+    if !taken {
+        give_up(rt, dirs, put);
+    }
+    Some(settled)
+}
+
+fn give_up<H: Wait>(rt: &H, dirs: &Dirs, put: Option<u64>) {
+    match put {
+        Some(fh) => {
+            dirs.retire(rt, fh);
+        }
+        None => {}
+    }
+}
+
+/// A thread that takes jobs, and puts a reply to each that gets one.
+#[derive(Drop)]
+pub struct Worker {
+    pub number: u64,
+    pub session: Session,
+    pub jobs: JobReceiver<Job>,
+    pub job_pass: JobPass<Job>,
+    pub replies: ReplySender<Reply>,
+    pub reply_pass: ReplyPass<Reply>,
+    pub count: u64,
+    ghost seated: { IsSeatAt (receives_on jobs) job_pass },
+    ghost reply_seated: { IsSeatAt (sends_on replies) reply_pass },
+    ghost one_part: { (view job_pass).parts ≡ 1 },
+    ghost puts_none: { length (view job_pass).put ≡ 0 },
+    ghost counted: { length (view job_pass).taken ≡ count },
+    ghost sends: { (view reply_pass).sends ≡ true },
+    ghost from: { (view reply_pass).from ≡ number },
+}
+
+impl Worker {
+    /// Puts the reply to a job, if there is one. One that is handed back is settled as untaken.
+    fn put<H: Wait, T: Ledgers>(
+        &mut self,
+        rt: &H,
+        hall: &Hall<T>,
+        share: &mut Share<T>,
+        dirs: &Dirs,
+        job: &Job,
+        said: Option<Bytes>,
+        come_to: ComeTo,
+    ) -> Option<Settled>
+        requires right { (bytes : Bytes) → said ≡ Some bytes → IsRight self.old.session.settings job.now (bytes_of bytes) (left_in (visited_of come_to)) }
+        ensures puts { PutsReply self.old.session.settings self.old.number job.now (visited_of come_to) (view self.old.reply_pass) (bytes_in said) (view self.new.reply_pass) result }
+        ensures entries { share.new.totals.entries ≡ share.old.totals.entries }
+        ensures index { share.new.index ≡ share.old.index }
+        ensures jobs { (self.new.jobs ≡ self.old.jobs) × (view self.new.job_pass ≡ view self.old.job_pass) }
+        ensures ring { (sends_on self.new.replies ≡ sends_on self.old.replies) × (self.new.number ≡ self.old.number) × (self.new.session ≡ self.old.session) }
+    {
+        let (left, settled) = parted(come_to);
+        let Some(bytes) = said else {
+            return settled;
+        };
+        let letter = Letter {
+            from: self.number,
+            reply: reply_to(self.session.settings, job, bytes, left),
+        };
+        match self
+            .replies
+            .send_as::<Posts, H>(rt, &mut self.reply_pass, Some(letter))
+        {
+            Ok(()) => settled,
+            Err(back) => match back.into_inner() {
+                Some(letter) => {
+                    let Letter { from: _, reply } = letter;
+                    let Reply {
+                        settings: _,
+                        job: _,
+                        bytes: _,
+                        left,
+                    } = reply;
+                    match settle_left(rt, hall, share, dirs, left, false) {
+                        Some(untaken) => Some(untaken),
+                        None => settled,
+                    }
+                }
+                None => unreachable!(),
+            },
+        }
+    }
+
+    /// Takes one job, meets it, and puts its reply.
+    pub fn turn<H: Wait, T: Ledgers, C: Calls>(
+        &mut self,
+        rt: &H,
+        hall: &Hall<T>,
+        share: &mut Share<T>,
+        calls: &mut C,
+        dirs: &Dirs,
+    ) -> Turn
+        ensures rings { (receives_on self.new.jobs ≡ receives_on self.old.jobs) × (sends_on self.new.replies ≡ sends_on self.old.replies) × (self.new.number ≡ self.old.number) }
+        ensures worked { (settled : Option Settlement) → result ≡ Turn.Worked settled → Worked C.gives self.old.session.settings self.old.number (view self.old.job_pass) (view self.old.reply_pass) calls.old share.old settled
+            (view self.new.job_pass) (view self.new.reply_pass) calls.new share.new }
+        ensures nothing { result ≡ Turn.Nothing → (view self.new.job_pass ≡ view self.old.job_pass) × (view self.new.reply_pass ≡ view self.old.reply_pass) × (share.new ≡ share.old) × (calls.new ≡ calls.old) }
+        ensures settings { self.new.session.settings ≡ self.old.session.settings }
+    {
+        let Some(after) = self.count.checked_add(1) else {
+            return Turn::Nothing;
+        };
+        match self.jobs.recv_as::<Takes, H>(rt, &mut self.job_pass) {
+            Ok(Some(job)) => {
+                self.count = after;
+                let (said, come_to) = meet_job(
+                    &mut self.session,
+                    rt,
+                    hall,
+                    share,
+                    calls,
+                    dirs,
+                    &job,
+                );
+                Turn::Worked(self.put(rt, hall, share, dirs, &job, said, come_to))
+            }
+            Ok(None) | Err(_) => Turn::Nothing,
+        }
+    }
+}

@@ -1,7 +1,0 @@
-pub mod ById
-pub mod Lookups
-pub mod Summing
-mod InTheWay
-mod Kept
-mod Stepping
-mod Under

@@ -1,6 +1,0 @@
-use Rattle.std.proofs.Common.{◌≡◌, drop}
-use Rattle.flights.specs.Listed.{flight_in}
-use Rattle.flights.proofs.listed.index_of.Given as goal
-
-abbrev pub invariant-loop-i : goal.invariant-loop-i
-invariant-loop-i l = flight_in l.flights l.id ≡ flight_in (drop l.i l.flights) l.id

@@ -1,3 +1,0 @@
-pub mod Roomy
-pub mod Flying
-pub mod Listed

@@ -1,9 +1,0 @@
-use Rattle.std.proofs.Common.{◌≡◌, rules, sym, subst}
-use Rattle.hidden.specs.Hidden.{IsLawful, hidden_name}
-use Rattle.hidden.proofs.Digits.{lawful}
-use Rattle.hidden.proofs.hidden_name.Goals as goal
-
-pub returns-clause-lawful : goal.returns-clause-lawful
-returns-clause-lawful c =
-    let e : c.new.result ≡ hidden_name c.args.number c.args.counter = search rules in
-    subst IsLawful (sym e) (lawful c.args.number c.args.counter)

@@ -1,0 +1,70 @@
+//! The names that the server keeps for itself. An open file stays under one of them when its own name goes.
+#![tactic(auto)]
+
+ghost use Rattle.std.specs.Prelude.{◌≡◌, ◌<◌, ◌++◌, IfOk, OnOk, string_bytes};
+ghost use Rattle.hidden_names.specs.Hidden.{AreApart, AreModulo, IsLawfulName, candidate, hex_digit, hex_digits, hidden_name, is_reserved};
+
+use paths::Name;
+use std::alloc::{AllocError, Global};
+
+/// How each of these names begins.
+pub const RESERVED: &str = ".fuse_hidden";
+
+/// How many digits the number and the counter have each.
+const DIGITS: u8 = 8;
+
+/// Whether the server keeps the name for itself.
+pub fn is_reserved(name: &str) -> bool
+    ensures { result ≡ is_reserved name.now }
+{
+    name.as_bytes().starts_with(RESERVED.as_bytes())
+}
+
+/// The name under which a file of node `number` stays: `.fuse_hidden`, and eight lower-case hexadecimal digits each of
+/// the number modulo 2^32 and of the counter. Want of memory is the only error.
+pub fn hidden_name(alloc: Global, number: u64, counter: u32) -> Result<Name, AllocError>
+    ensures name { IfOk result (λ n. n ≡ hidden_name number counter) }
+    ensures lawful { IfOk result (λ n. IsLawfulName n) }
+{
+    let mut text = String::from_str(alloc, RESERVED)?;
+    push_digits(&mut text, number, DIGITS)?;
+    push_digits(&mut text, u64::from(counter), DIGITS)?;
+    Ok(Name::new(text))
+}
+
+/// The counter of the candidate of that index, from a counter on: modulo 2^32.
+pub fn candidate(counter: u32, i: u32) -> u32
+    ensures { result ≡ candidate counter i }
+{
+    counter.wrapping_add(i)
+}
+
+/// Appends the last `count` digits of the number in base 16.
+fn push_digits(text: &mut String, number: u64, count: u8) -> Result<(), AllocError>
+    ensures { OnOk result (string_bytes text.new ≡ string_bytes text.old ++ hex_digits count number) }
+{
+    if count == 0 {
+        return Ok(());
+    }
+    push_digits(text, number / 16, count - 1)?;
+    text.push(digit((number % 16) as u8))?;
+    Ok(())
+}
+
+/// The lower-case digit of that value.
+fn digit(value: u8) -> char
+    requires { value < 16 }
+    ensures { result ≡ hex_digit value }
+{
+    if value < 10 {
+        char::from(b'0' + value)
+    } else {
+        char::from(b'a' - 10 + value)
+    }
+}
+
+/// Names of one number with different counters differ. It does nothing.
+pub fn names_are_apart()
+    ensures apart { AreApart }
+    ensures modulo { AreModulo }
+{}

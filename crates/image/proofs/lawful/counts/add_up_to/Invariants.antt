@@ -1,6 +1,0 @@
-use Rattle.std.proofs.Common.{◌+◌, ◌≡◌, take}
-use Rattle.image.specs.Parts.{counts_in_all}
-use Rattle.image.proofs.lawful.counts.add_up_to.Given as goal
-
-abbrev pub invariant-loop-node : goal.invariant-loop-node
-invariant-loop-node l = l.left + counts_in_all (take l.node-index l.nodes) ≡ l.total

@@ -1,6 +1,0 @@
-use Rattle.image.specs.Parts.{HaveOtherPaths}
-use Rattle.image.proofs.Pairs.{PairsBelow}
-use Rattle.image.proofs.lawful.held.have_own_paths.Given as goal
-
-abbrev pub invariant-loop-i : goal.invariant-loop-i
-invariant-loop-i l = PairsBelow HaveOtherPaths l.holds l.i

@@ -1,6 +1,0 @@
-use Rattle.image.specs.Parts.{HaveOtherIds}
-use Rattle.image.proofs.Pairs.{PairsBelow}
-use Rattle.image.proofs.lawful.records.are_ids_distinct.Given as goal
-
-abbrev pub invariant-loop-i : goal.invariant-loop-i
-invariant-loop-i l = PairsBelow HaveOtherIds l.records l.i

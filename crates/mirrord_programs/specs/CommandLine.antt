@@ -1,0 +1,100 @@
+-- The command line, as clap reads it.
+use Rattle.std.specs.Prelude.{ℕ, ◌≡◌, ◌≢◌, ◌<◌, ◌^◌, pos, Bool, true, false, List, [], ◌∷◌, codes, Option, Some, None}
+use Rattle.std.specs.Str.Parse.{IsNumeral, without_leading_plus, digits_value}
+use Rattle.clap.specs.Words.{App, Row, Rule, Text, first_of, new_app, new_rule, one_of, with_rule, with_subcommand}
+use Rattle.clap.specs.declared.builder.action.ArgAction.TheVariants.{Set, SetTrue}
+use Rattle.clap.specs.declared.builder.value_parser.ValueParser.TheVariants.{Signed}
+use Rattle.mirrord_programs.specs.declared.options.Options.{Options}
+use Rattle.mirrord_programs.specs.declared.options.Options.TheVariants.{Serve, Pipe, Hex}
+
+-- ---- what may be written
+
+-- an option that takes a text and must be there
+abbrev pub text_rule : Text → Rule
+text_rule id = record (new_rule id) { long = Some id; action = Some Set; value_names = 1; required = true }
+
+-- an option that takes a number, and has a default
+abbrev pub number_rule : Text → (least most : ℕ) → (default : Text) → Rule
+number_rule id least most default = record (new_rule id) {
+  long = Some id;
+  action = Some Set;
+  value_names = 1;
+  parser = Some (Signed (pos least) (pos most));
+  defaults = default ∷ [];
+}
+
+-- a user or a group
+abbrev pub user : Text → Rule
+user id = number_rule id 0 4294967295 (codes "0")
+
+-- the flag `--sample`
+abbrev pub sample_rule : Rule
+sample_rule = record (new_rule (codes "sample")) { long = Some (codes "sample"); action = Some SetTrue }
+
+-- the subcommands
+abbrev pub hex_app : App
+hex_app = with_rule (new_app (codes "hex")) sample_rule
+
+-- told a user and a group, too
+abbrev pub owned : App → App
+owned app = with_rule (with_rule app (user (codes "uid"))) (user (codes "gid"))
+
+abbrev pub pipe_app : App
+pipe_app = owned (with_rule (new_app (codes "pipe")) (text_rule (codes "root")))
+
+abbrev pub serve_app : App
+serve_app =
+    owned (with_rule (with_rule (with_rule (new_app (codes "serve"))
+    (text_rule (codes "root"))) (text_rule (codes "socket"))) (number_rule (codes "workers") 1 4 (codes "2")))
+
+-- the program, whose version can be asked for, without its subcommands
+abbrev pub bare_app : App
+bare_app = record (new_app (codes "mirrord")) {
+  top = record (new_app (codes "mirrord")).top { has_version = true; subcommand_required = true; arg_required_else_help = true };
+}
+
+abbrev pub mirrord_app : App
+mirrord_app = with_subcommand (with_subcommand (with_subcommand bare_app serve_app.top) pipe_app.top) hex_app.top
+
+-- ---- what it asks for
+
+-- what an option reads as: its text; empty where there is none
+abbrev pub TextReads : Option Text → Text → Type 0
+TextReads None text = text ≡ []
+TextReads (Some t) text = text ≡ t
+
+abbrev pub IsText : Text → List Row → Text → Type 0
+IsText id rows = TextReads (first_of id rows)
+
+-- a text that spells a number of so many bits
+abbrev pub IsSpelt : (bits : ℕ) → Text → Type 0
+IsSpelt bits text = IsNumeral 10 (without_leading_plus text) × (digits_value 10 (without_leading_plus text) < 2 ^ bits)
+
+-- what a text reads as where a number is asked for: the one that it spells; 0 where it spells none
+pub record NumberReads (bits : ℕ) (text : Text) (n : ℕ) : Type 0 where
+  pub spelt : IsSpelt bits text → n ≡ digits_value 10 (without_leading_plus text)
+  pub none : (IsSpelt bits text → ⊥) → n ≡ 0
+
+abbrev pub IsNumber : (bits : ℕ) → Text → List Row → ℕ → Type 0
+IsNumber bits id rows n = (text : Text) × IsText id rows text × NumberReads bits text n
+
+-- what a flag reads as
+abbrev pub FlagReads : Option Text → Bool → Type 0
+FlagReads None flag = flag ≡ false
+FlagReads (Some text) flag = (text ≡ codes "true" → flag ≡ true) × (text ≡ codes "false" → flag ≡ false)
+
+abbrev pub IsFlag : Text → List Row → Bool → Type 0
+IsFlag id rows = FlagReads (one_of id rows)
+
+-- what is asked for by the subcommand of that name, which was met with these rows
+abbrev pub IsAskedBy : Text → List Row → Options → Type 0
+IsAskedBy name rows (Serve root socket workers uid gid) =
+    (name ≡ codes "serve") × IsText (codes "root") rows root.now × IsText (codes "socket") rows socket.now
+    × IsNumber 8 (codes "workers") rows workers × IsNumber 32 (codes "uid") rows uid × IsNumber 32 (codes "gid") rows gid
+IsAskedBy name rows (Pipe root uid gid) =
+    (name ≡ codes "pipe") × IsText (codes "root") rows root.now × IsNumber 32 (codes "uid") rows uid × IsNumber 32 (codes "gid") rows gid
+IsAskedBy name rows (Hex sample) = (name ≢ codes "serve") × (name ≢ codes "pipe") × IsFlag (codes "sample") rows sample
+
+abbrev pub IsAsked : Option (Text × List Row) → Options → Type 0
+IsAsked None options = options ≡ Hex false
+IsAsked (Some met) options = IsAskedBy met.0 met.1 options

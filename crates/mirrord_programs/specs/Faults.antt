@@ -1,0 +1,34 @@
+-- What a program ends with.
+use Rattle.std.specs.Prelude.{ℕ, List, [], ◌∷◌, ◌++◌, codes}
+use Rattle.std.specs.Fmt.{decimal}
+use Rattle.mirrord_programs.specs.declared.faults.Fault.{Fault}
+use Rattle.mirrord_programs.specs.declared.faults.Fault.TheVariants.{FrameLength, Line, Link, Memory, Seed}
+use Rattle.mirrord_programs.specs.declared.faults.Failure.{Failure}
+use Rattle.mirrord_programs.specs.declared.faults.Failure.TheVariants.{Stopped, NoFolder, NoSocket}
+
+-- the exit status after a failure
+abbrev pub status_of : Failure → ℕ
+status_of (Stopped (FrameLength len)) = 3
+status_of (Stopped (Line line)) = 4
+status_of (Stopped Link) = 4
+status_of (Stopped Memory) = 4
+status_of (Stopped Seed) = 4
+status_of (NoFolder root) = 4
+status_of (NoSocket path) = 4
+
+-- how it is worded
+abbrev pub fault_message : Fault → List ℕ
+fault_message (FrameLength len) = codes "frame length " ++ decimal len ++ codes " is not between 40 and 69632"
+fault_message (Line line) = codes "line " ++ decimal line ++ codes " is not hexadecimal"
+fault_message Link = codes "the link failed"
+fault_message Memory = codes "out of memory"
+fault_message Seed = codes "no random seed"
+
+abbrev pub message : Failure → List ℕ
+message (Stopped fault) = fault_message fault
+message (NoFolder root) = root.now ++ codes " is not a folder"
+message (NoSocket path) = codes "cannot listen on " ++ path.now
+
+-- the one line on standard error
+abbrev pub line_of : Failure → List ℕ
+line_of failure = codes "mirrord: " ++ message failure ++ 10 ∷ []

@@ -1,0 +1,116 @@
+-- Whole runs of the programs.
+use Rattle.std.specs.Prelude.{ℕ, ◌≡◌, ◌≢◌, ◌⊎◌, ◌++◌, Bool, true, false, List, [], take, Option, Some, Result}
+use Rattle.std.specs.Borrow.{Bor}
+use Rattle.std.specs.Io.KnownBytes.{Appends}
+use Rattle.backing.specs.Memory.{Memory as MemTree, Gives, memory_tree}
+use Rattle.clap.specs.Words.{IsAmong, Text, fault_of as refusals_of, subcommand_of, takes}
+use Rattle.clap.specs.declared.error.kind.ErrorKind.{ErrorKind}
+use Rattle.clap.specs.declared.error.kind.ErrorKind.TheVariants.{OutOfMemory, DisplayHelp, DisplayVersion}
+use Rattle.engine.specs.Serving.{events_of}
+use Rattle.engine.specs.declared.ends.SessionEnd.{SessionEnd}
+use Rattle.engine.specs.declared.ends.SessionEnd.TheVariants as end
+use Rattle.ops.specs.declared.replies.Settings.{Settings}
+use Rattle.mirrord_server.specs.Folders.{ServesFolder, ServesSocket}
+use Rattle.mirrord_server.specs.Known.{IsKnownServed}
+use Rattle.mirrord_server.specs.declared.folder.Unserved.{Unserved}
+use Rattle.mirrord_programs.specs.CommandLine.{mirrord_app, IsAsked}
+use Rattle.mirrord_programs.specs.Ends.{exit_of, failure_after, failure_of, Tells}
+use Rattle.mirrord_programs.specs.Lines.{Hexing, Receives, Sends, broken_line, lines_in, unread}
+use Rattle.mirrord_programs.specs.Samples.{IsStart}
+use Rattle.mirrord_programs.specs.declared.faults.Failure.TheVariants.{Stopped}
+use Rattle.mirrord_programs.specs.declared.faults.Fault.TheVariants.{Memory, Seed}
+use Rattle.mirrord_programs.specs.declared.options.Options.{Options}
+use Rattle.mirrord_programs.specs.declared.options.Options.TheVariants.{Serve, Pipe, Hex}
+
+-- ---- the program `hex`
+
+-- nobody owns what is mirrored
+abbrev pub nobody : Settings
+nobody = record { uid = 0; gid = 0 }
+
+-- how often calls of a memory tree have failed
+abbrev pub failed_in : MemTree → ℕ
+failed_in m = m.failed
+
+-- A link of hexadecimal lines is served from a new tree in memory. Its writer is given the replies that were taken, a line each,
+-- then the first bytes of the line of one that broke it, if one did, and nothing else.
+pub record IsHexServed (sampled : Bool) (old : Hexing) (over : SessionEnd) (new : Hexing) : Type 0 where
+  pub tree : MemTree
+  pub start : IsStart sampled tree
+  pub known : IsKnownServed nobody Receives Sends Gives memory_tree failed_in tree old over new
+  pub part : ℕ
+  pub written : Appends old.output new.output (lines_in (events_of known.served.run.client.steps) ++ take part (broken_line (events_of known.served.run.client.steps)))
+
+-- the same, unless there is no memory for a tree or a table
+abbrev pub ServesHex : Bool → Hexing → SessionEnd → Hexing → Type 0
+ServesHex sampled old over new = IsHexServed sampled old over new ⊎ ((over ≡ end.Memory) × (new ≡ old))
+
+-- its status, and all that it writes
+pub record RunsHex (sampled : Bool) (input output output' faults faults' : Option (List ℕ)) (status : ℕ) (told : Bool) : Type 0 where
+  pub over : SessionEnd
+  pub last : Hexing
+  pub serves : ServesHex sampled (unread input output) over last
+  pub output_is : output' ≡ last.output
+  pub status_is : status ≡ exit_of (failure_of over last.cause)
+  pub tells : Tells (failure_of over last.cause) told faults faults'
+
+-- the same, unless the system gives no seeds: then nothing is read and nothing written
+pub record HasNoSeed (output output' faults faults' : Option (List ℕ)) (status : ℕ) (told : Bool) : Type 0 where
+  pub output_is : output' ≡ output
+  pub status_is : status ≡ 4
+  pub tells : Tells (Some (Stopped Seed)) told faults faults'
+
+abbrev pub RunsSeeded : (sampled : Bool) → (input output output' faults faults' : Option (List ℕ)) → (status : ℕ) → (told : Bool) → Type 0
+RunsSeeded sampled input output output' faults faults' status told =
+    RunsHex sampled input output output' faults faults' status told ⊎ HasNoSeed output output' faults faults' status told
+
+-- ---- the programs `pipe` and `serve`
+
+-- how serving a folder is ended: the status, and what is told
+abbrev pub IsEnded : Result SessionEnd Unserved → (root path : Bor Text) → (faults faults' : Option (List ℕ)) → (status : ℕ) → (told : Bool) → Type 0
+IsEnded ended root path faults faults' status told =
+    (status ≡ exit_of (failure_after ended root path)) × Tells (failure_after ended root path) told faults faults'
+
+-- A folder is served over standard input and output.
+pub record RunsPipe (root : Bor Text) (settings : Settings) (input output output' faults faults' : Option (List ℕ)) (status : ℕ) (told : Bool) : Type 0 where
+  pub ended : Result SessionEnd Unserved
+  pub serves : ServesFolder settings input output ended output'
+  pub path : Bor Text
+  pub ends : IsEnded ended root path faults faults' status told
+
+-- A folder is served over a socket.
+pub record RunsServe (root path : Bor Text) (settings : Settings) (faults faults' : Option (List ℕ)) (status : ℕ) (told : Bool) : Type 0 where
+  pub ended : Result SessionEnd Unserved
+  pub serves : ServesSocket settings ended
+  pub ends : IsEnded ended root path faults faults' status told
+
+-- ---- from the command line
+
+-- How a command line ends that is not served: for want of memory by its status and its line, and nothing is written to the output; for
+-- help and the version by their status, and nothing is written to standard error; for a fault in it by its status, and nothing is
+-- written to the output.
+pub record IsUnserved (kind : ErrorKind) (output output' faults faults' : Option (List ℕ)) (status : ℕ) (told : Bool) : Type 0 where
+  pub memory : kind ≡ OutOfMemory → (status ≡ 4) × (output' ≡ output) × Tells (Some (Stopped Memory)) told faults faults'
+  pub help : (kind ≡ DisplayHelp) ⊎ (kind ≡ DisplayVersion) → (status ≡ 0) × (faults' ≡ faults)
+  pub fault : kind ≢ OutOfMemory → kind ≢ DisplayHelp → kind ≢ DisplayVersion → (status ≡ 2) × (output' ≡ output)
+
+-- why clap refuses a command line: one of the kinds that it has for those words, or want of memory. Words that it takes are
+-- refused for want of memory alone.
+pub record IsRefused (words : List Text) (kind : ErrorKind) : Type 0 where
+  pub among : (kind ≡ OutOfMemory) ⊎ IsAmong kind (refusals_of mirrord_app words)
+  pub memory : takes mirrord_app words ≡ true → kind ≡ OutOfMemory
+
+-- the program that was asked for
+abbrev pub RunsAsked : Options → (input output output' faults faults' : Option (List ℕ)) → (status : ℕ) → (told : Bool) → Type 0
+RunsAsked (Serve root socket workers uid gid) input output output' faults faults' status told =
+    RunsServe root socket (record { uid = uid; gid = gid }) faults faults' status told × (output' ≡ output)
+RunsAsked (Pipe root uid gid) input output output' faults faults' status told =
+    RunsPipe root (record { uid = uid; gid = gid }) input output output' faults faults' status told
+RunsAsked (Hex sampled) input output output' faults faults' status told = RunsSeeded sampled input output output' faults faults' status told
+
+-- The program does what the words ask for where clap has nothing against them. Else, or where memory is refused, it ends as a
+-- refusal does.
+abbrev pub RunsWords : List Text → (input output output' faults faults' : Option (List ℕ)) → (status : ℕ) → (told : Bool) → Type 0
+RunsWords words input output output' faults faults' status told =
+    ((refusals_of mirrord_app words ≡ []) × ((options : Options) × IsAsked (subcommand_of mirrord_app words) options × RunsAsked options input output output' faults faults' status told))
+    ⊎ ((kind : ErrorKind) × IsRefused words kind × IsUnserved kind output output' faults faults' status told)

@@ -1,0 +1,150 @@
+//! What a command line asks for.
+
+ghost use Rattle.std.specs.Prelude.{◌≡◌, codes, true, map, IfErr, IfOk};
+ghost use Rattle.clap.specs.Words.{fault_of, found_of, kind_of, rows_of, subcommand_of, subcommand_rows_of, takes, FailsBy};
+ghost use Rattle.clap.specs.declared.error.kind.ErrorKind.TheVariants.{OutOfMemory};
+ghost use Rattle.mirrord_programs.specs.CommandLine.{mirrord_app, IsAsked, IsAskedBy, IsFlag, IsNumber, IsText, NumberReads};
+
+use crate::command::command;
+use clap::{ArgMatches, Error};
+use std::alloc::Global;
+use std::convert::AsStr;
+
+/// What a command line asks for.
+#[derive(Clone, Copy, Debug, PartialEq, Eq)]
+pub enum Options<'a> {
+    /// Serve a folder over a Unix socket.
+    Serve {
+        /// The folder.
+        root: &'a str,
+        /// Where the socket is made.
+        socket: &'a str,
+        /// How many threads are to serve.
+        workers: u8,
+        /// Who all of it is told to belong to.
+        uid: u32,
+        gid: u32,
+    },
+    /// Serve a folder over standard input and output.
+    Pipe {
+        /// The folder.
+        root: &'a str,
+        /// Who all of it is told to belong to.
+        uid: u32,
+        gid: u32,
+    },
+    /// Serve a tree in memory over hexadecimal lines.
+    Hex {
+        /// Whether the tree has the sample names.
+        sample: bool,
+    },
+}
+
+/// The text of an option.
+fn text_in<'a>(matches: &ArgMatches<'a>, name: &str) -> &'a str
+    ensures { IsText name.now (rows_of (found_of matches.now)) result.now }
+{
+    matches.get_str(name).unwrap_or("")
+}
+
+/// The number that a text spells.
+fn number_of(text: &str) -> u32
+    ensures { NumberReads 32 text.now result }
+{
+    match text.parse::<u32>() {
+        Ok(number) => number,
+        Err(_) => 0,
+    }
+}
+
+/// The small number that a text spells.
+fn small_number_of(text: &str) -> u8
+    ensures { NumberReads 8 text.now result }
+{
+    match text.parse::<u8>() {
+        Ok(number) => number,
+        Err(_) => 0,
+    }
+}
+
+/// The number of an option.
+fn number_in(matches: &ArgMatches<'_>, name: &str) -> u32
+    ensures { IsNumber 32 name.now (rows_of (found_of matches.now)) result }
+{
+    number_of(text_in(matches, name))
+}
+
+/// The small number of an option.
+fn small_number_in(matches: &ArgMatches<'_>, name: &str) -> u8
+    ensures { IsNumber 8 name.now (rows_of (found_of matches.now)) result }
+{
+    small_number_of(text_in(matches, name))
+}
+
+/// Whether a flag is set.
+fn flag_in(matches: &ArgMatches<'_>, name: &str) -> bool
+    ensures { IsFlag name.now (rows_of (found_of matches.now)) result }
+{
+    matches.get_flag(name)
+}
+
+/// What `serve` asks for.
+fn serve_asked<'a>(matches: &ArgMatches<'a>) -> Options<'a>
+    ensures { IsAskedBy (codes "serve") (rows_of (found_of matches.now)) result }
+{
+    Options::Serve {
+        root: text_in(matches, "root"),
+        socket: text_in(matches, "socket"),
+        workers: small_number_in(matches, "workers"),
+        uid: number_in(matches, "uid"),
+        gid: number_in(matches, "gid"),
+    }
+}
+
+/// What `pipe` asks for.
+fn pipe_asked<'a>(matches: &ArgMatches<'a>) -> Options<'a>
+    ensures { IsAskedBy (codes "pipe") (rows_of (found_of matches.now)) result }
+{
+    Options::Pipe {
+        root: text_in(matches, "root"),
+        uid: number_in(matches, "uid"),
+        gid: number_in(matches, "gid"),
+    }
+}
+
+/// What a subcommand asks for.
+fn asked_by<'a>(name: &str, matches: &ArgMatches<'a>) -> Options<'a>
+    ensures { IsAskedBy name.now (rows_of (found_of matches.now)) result }
+{
+    if name == "serve" {
+        return serve_asked(matches);
+    }
+    if name == "pipe" {
+        return pipe_asked(matches);
+    }
+    let sample = flag_in(matches, "sample");
+    Options::Hex { sample }
+}
+
+/// What a command line that was read asks for.
+fn asked<'a>(matches: &ArgMatches<'a>) -> Options<'a>
+    ensures { IsAsked (subcommand_rows_of matches.now) result }
+{
+    match matches.subcommand() {
+        Some((name, met)) => asked_by(name, met),
+        None => Options::Hex { sample: false },
+    }
+}
+
+/// Reads a command line, whose first word names the program. Help and the version are answered as errors of clap's, too.
+pub fn read_options<'a, S: AsStr>(alloc: Global, words: &'a [S]) -> Result<Options<'a>, Error>
+    ensures asked { IfOk result (IsAsked (subcommand_of mirrord_app (map S.text words.entry.now))) }
+    ensures fails { FailsBy (fault_of mirrord_app (map S.text words.entry.now)) result }
+    ensures passes { IfErr result (λ e. takes mirrord_app (map S.text words.entry.now) ≡ true → kind_of e ≡ OutOfMemory) }
+{
+    let command = command(alloc)?;
+    match command.try_get_matches_from(words) {
+        Ok(matches) => Ok(asked(&matches)),
+        Err(error) => Err(error),
+    }
+}

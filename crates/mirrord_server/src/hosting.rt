@@ -1,0 +1,70 @@
+//! A session with a table of its own.
+
+ghost use Rattle.std.specs.Prelude.{◌≡◌};
+ghost use Rattle.mirrord_server.specs.Known.{ServesKnown};
+ghost use Rattle.mirrord_server.specs.Sessions.{ServesLink};
+
+use backing::{Calls, KnownTree};
+use engine::{Link, SessionEnd, Settings, serve};
+use handles::Dirs;
+use ledger::{Blanks, Ledgers};
+use std::alloc::Global;
+use std::marker::Brand;
+use std::sync::Wait;
+use table::{Limits, Seeds, Table};
+
+/// Serves a tree over a link with a table of one share.
+fn serve_link<H: Wait, T: Ledgers, L: Link, C: Calls + Drop>(
+    rt: &H,
+    alloc: Global,
+    blanks: Blanks,
+    seeds: Seeds,
+    mut tree: C,
+    link: &mut L,
+    settings: Settings,
+) -> SessionEnd
+    requires names { blanks ≡ T.names }
+    requires shares { T.names.parts ≡ 1 }
+    ensures { ServesLink settings L.receives L.sends C.gives tree link.old result link.new }
+{
+    let opened = Table::<T>::open(alloc, Limits::default(), seeds, blanks, 1);
+    let Ok((mut table, mut shares)) = opened else {
+        return SessionEnd::Memory;
+    };
+    let mut share = shares.pop().unwrap();
+    shares.destroy_empty();
+    let dirs = Dirs::new(alloc);
+    let end = serve(
+        rt, alloc, link, &mut tree, &mut table, &mut share, &dirs, settings,
+    );
+    share.leave();
+    end
+}
+
+/// Serves a tree to one client, until its session ends. It may wait for the link.
+pub fn serve_alone<H: Wait, L: Link, C: Calls + Drop>(
+    rt: &H,
+    alloc: Global,
+    seeds: Seeds,
+    tree: C,
+    link: &mut L,
+    settings: Settings,
+) -> SessionEnd
+    ensures { ServesLink settings L.receives L.sends C.gives tree link.old result link.new }
+{
+    serve_link::<H, Brand, L, C>(rt, alloc, Blanks::new(1), seeds, tree, link, settings)
+}
+
+/// The same from a tree that tells itself.
+pub fn serve_known<H: Wait, L: Link, C: KnownTree + Drop>(
+    rt: &H,
+    alloc: Global,
+    seeds: Seeds,
+    tree: C,
+    link: &mut L,
+    settings: Settings,
+) -> SessionEnd
+    ensures { ServesKnown settings L.receives L.sends C.gives C.tree C.faults tree link.old result link.new }
+{
+    serve_alone(rt, alloc, seeds, tree, link, settings)
+}

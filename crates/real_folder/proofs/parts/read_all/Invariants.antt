@@ -1,9 +1,0 @@
-use Rattle.std.proofs.Common.{◌-◌, length}
-use Rattle.real_folder.proofs.Passing.{SoFar}
-use Rattle.real_folder.proofs.parts.read_all.Given as goal
-
-abbrev pub invariant-loop-count : goal.invariant-loop-count
-invariant-loop-count g l = SoFar (g.F.Parts.reads l.file) l.offset l.count l.buffer
-
-abbrev pub decreases-loop-count : goal.decreases-loop-count
-decreases-loop-count g l = length l.initial.buffer - l.count

@@ -1,6 +1,0 @@
-use Rattle.engine.proofs.Alone.{opened_idle}
-use Rattle.steps.specs.Kept.{world_of}
-use Rattle.rows.proofs.client.serve_client.Goals as goal
-
-pub serve-end-requires : goal.serve-end-requires
-serve-end-requires g c = record { fresh = opened_idle _ (world_of c.in_ok-table.table) c.in_ok-table.ensures.opened }

@@ -1,2 +1,0 @@
-pub mod Outstanding
-pub mod Runs

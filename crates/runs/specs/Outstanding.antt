@@ -1,9 +1,0 @@
--- What contracts see of what a caller has in hand.
-use Rattle.std.specs.Prelude.{List}
-use Rattle.steps.specs.Answers.{Answer}
-use Rattle.runs.specs.declared.pending.Started.{Started}
-
--- the tickets that were not finished yet, each beside its want, and the answers that were not settled yet
-pub record Outstanding : Type 0 where
-  pub tickets : List Started
-  pub answers : List Answer

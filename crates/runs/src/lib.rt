@@ -1,8 +1,0 @@
-//! Runs of a table: any calls, in any order, on any tickets and answers that earlier calls gave.
-#![tactic(auto)]
-
-mod calls;
-mod pending;
-
-pub use calls::{Call, Told, make, run};
-pub use pending::{Pending, Started};

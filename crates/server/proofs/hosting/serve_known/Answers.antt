@@ -1,7 +1,0 @@
-use Rattle.server.proofs.KnownRuns.{known_served}
-use Rattle.server.proofs.hosting.serve_known.Goals as goal
-
-pub returns : goal.returns
-returns g c =
-    known_served c.args.settings g.L.LinkIn.receives g.L.LinkOut.sends g.C.Calls.gives g.C.KnownTree.tree g.C.Calls.faults g.met.C.KnownTree.known
-    c.args.tree c.args.link.now c.serve_alone.result c.serve_alone.new.link c.serve_alone.ensures

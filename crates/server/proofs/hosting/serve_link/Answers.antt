@@ -1,6 +1,0 @@
-use Rattle.engine.proofs.Alone.{opened_idle}
-use Rattle.steps.specs.Kept.{world_of}
-use Rattle.server.proofs.hosting.serve_link.Goals as goal
-
-pub serve-end-requires : goal.serve-end-requires
-serve-end-requires g c = record { fresh = opened_idle _ (world_of c.in-Ok.table) c.in-Ok.ensures.opened }

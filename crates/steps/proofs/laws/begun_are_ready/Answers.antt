@@ -1,5 +1,0 @@
-use Rattle.steps.proofs.Beginning.{begun_ready}
-use Rattle.steps.proofs.laws.begun_are_ready.Goals as goal
-
-pub returns : goal.returns
-returns c = begun_ready

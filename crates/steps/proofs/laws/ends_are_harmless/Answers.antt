@@ -1,5 +1,0 @@
-use Rattle.steps.proofs.Finishing.{ends_harmless}
-use Rattle.steps.proofs.laws.ends_are_harmless.Goals as goal
-
-pub returns : goal.returns
-returns c = ends_harmless

@@ -1,5 +1,0 @@
-use Rattle.steps.proofs.Guarding.{entries_harmless}
-use Rattle.steps.proofs.laws.entries_are_harmless.Goals as goal
-
-pub returns : goal.returns
-returns c = entries_harmless

@@ -1,5 +1,0 @@
-use Rattle.steps.proofs.Growing.{ledgers_grown}
-use Rattle.steps.proofs.laws.ledgers_are_grown.Goals as goal
-
-pub returns : goal.returns
-returns c = ledgers_grown

@@ -1,5 +1,0 @@
-use Rattle.steps.proofs.Guarding.{others_left}
-use Rattle.steps.proofs.laws.others_are_left.Goals as goal
-
-pub returns : goal.returns
-returns c = others_left

@@ -1,5 +1,0 @@
-use Rattle.steps.proofs.Attesting.{kept_lawful}
-use Rattle.steps.proofs.state.State.attest.Goals as goal
-
-pub returns : goal.returns
-returns c = kept_lawful c.args.self.now c.len-nodes.ensures.census c.promised-promised.ensures.tallied c.requires

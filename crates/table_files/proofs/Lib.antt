@@ -1,0 +1,4 @@
+mod Counting
+mod Keeping
+pub mod Listing
+mod Stepping

@@ -1,0 +1,86 @@
+//! How many files of each node are open, by the node's number.
+
+ghost use Rattle.std.specs.Prelude.{◌≡◌, ◌<◌, ◌≤◌, ◌+◌, ◌-◌, ◌*◌, ◌^◌, ℕ, nat_eq, if◌then◌else◌, IsOk, OnOk};
+ghost use Rattle.indexmap.specs.IndexMap.{IsUnchanged};
+ghost use Rattle.steady_map.specs.Living.{live, places};
+ghost use Rattle.table_files.specs.Counts.{openings_in, AddUpTo};
+
+use indexmap::IndexMap;
+use std::alloc::{AllocError, Global};
+use steady_map::{make_places, put, set, take_out, value_of};
+
+/// How many files of each node are open: a number stands there for each node with one.
+#[derive(Drop)]
+pub(crate) struct Counts {
+    pub(crate) by_number: IndexMap<u64, Option<u64>>,
+    /// How many nodes have an open file.
+    pub(crate) nodes: usize,
+}
+
+/// No file is open.
+pub(crate) fn no_counts(alloc: Global) -> Counts
+    ensures none { (n : ℕ) → openings_in result.by_number n ≡ 0 }
+    ensures total { AddUpTo result.by_number result.nodes 0 }
+{
+    Counts {
+        by_number: IndexMap::new(alloc),
+        nodes: 0,
+    }
+}
+
+/// How many files of the node are open.
+pub(crate) fn openings_of(counts: &Counts, number: u64) -> u64
+    ensures { result ≡ openings_in counts.now.by_number number }
+{
+    match value_of(&counts.by_number, &number) {
+        Some(count) => count,
+        None => 0,
+    }
+}
+
+/// One file more of the node is open. It takes no memory.
+pub(crate) fn raise(counts: &mut Counts, number: u64)
+    requires few { openings_in counts.old.by_number number + 1 < 2 ^ 64 }
+    requires nodes { counts.old.nodes + 1 < 2 ^ 64 }
+    requires room { 2 * (live counts.old.by_number + 1) ≤ places counts.old.by_number }
+    ensures raised { (n : ℕ) → openings_in counts.new.by_number n ≡ openings_in counts.old.by_number n + (if nat_eq number n then 1 else 0) }
+    ensures total { (total : ℕ) → AddUpTo counts.old.by_number counts.old.nodes total → AddUpTo counts.new.by_number counts.new.nodes (total + 1) }
+    ensures places { places counts.old.by_number ≤ places counts.new.by_number }
+{
+    match value_of(&counts.by_number, &number) {
+        Some(count) => set(&mut counts.by_number, &number, count + 1),
+        None => {
+            put(&mut counts.by_number, number, 1);
+            counts.nodes += 1;
+        }
+    }
+}
+
+/// One file less of the node is open. It takes no memory.
+pub(crate) fn lower(counts: &mut Counts, number: u64)
+    requires some { 0 < openings_in counts.old.by_number number }
+    requires nodes { counts.old.nodes ≡ live counts.old.by_number }
+    ensures lowered { (n : ℕ) → openings_in counts.new.by_number n ≡ openings_in counts.old.by_number n - (if nat_eq number n then 1 else 0) }
+    ensures total { (total : ℕ) → AddUpTo counts.old.by_number counts.old.nodes total → AddUpTo counts.new.by_number counts.new.nodes (total - 1) }
+    ensures places { places counts.old.by_number ≤ places counts.new.by_number }
+{
+    let count = openings_of(counts, number);
+    if count > 1 {
+        set(&mut counts.by_number, &number, count - 1);
+    } else {
+        take_out(&mut counts.by_number, &number);
+        counts.nodes -= 1;
+    }
+}
+
+/// Makes places for so many nodes with open files. Without memory nothing changes.
+pub(crate) fn make_room(counts: &mut Counts, nodes: usize) -> Result<(), AllocError>
+    requires nodes { counts.old.nodes ≡ live counts.old.by_number }
+    requires more { counts.old.nodes ≤ nodes }
+    ensures ok { OnOk result (2 * nodes ≤ places counts.new.by_number) }
+    ensures same { IsUnchanged counts.old.by_number counts.new.by_number }
+    ensures nodes { counts.new.nodes ≡ counts.old.nodes }
+    ensures places { places counts.old.by_number ≤ places counts.new.by_number }
+{
+    make_places(&mut counts.by_number, counts.nodes, nodes - counts.nodes)
+}

@@ -1,0 +1,126 @@
+use Rattle.std.proofs.Common.{◌≡◌, ◌++◌, List, length, sym, ◌∙◌, subst}
+use Rattle.std.specs.List.{AllZip}
+use Rattle.std.proofs.lemmas.List.{length-map}
+use Rattle.std.proofs.lemmas.Result.{err_from_is_err_and}
+use Rattle.table_files.specs.OpenEntry.{files_of}
+use Rattle.table_requests.specs.declared.data.Case.{Case}
+use Rattle.paths.specs.Prefixes.{Name}
+use Rattle.tree.specs.Places.{at_in}
+use Rattle.table_footprints.specs.declared.refusal.Refusal.{Refusal}
+use Rattle.table_footprints.specs.declared.refusal.Refusal.TheVariants as refusals
+use Rattle.table_footprints.specs.declared.footprints.Hold.{Hold}
+use Rattle.table_footprints.specs.Cases.{IsHidingCase, seen_of}
+use Rattle.table_footprints.specs.Gatherings.{AreNames, IsBadFootprint, IsShortPath, IsReservation, exclusive_in, refusal_errno, location_of, locations_of}
+use Rattle.table_footprints.specs.Removals.{IsGathered, IsRefusedGoing, going_footprint}
+use Rattle.table_footprints.specs.Footprints.{hidden_in, names_under}
+use Rattle.table_footprints.proofs.Removing.{going_agreed, going_bad, going_enough, going_lost, going_wrong, hiding_there}
+use Rattle.table_footprints.proofs.removals.going_reservation.Goals as goal
+
+pub returns-in_err-expect_rooted-clause-err : goal.returns-in_err-expect_rooted-clause-err
+returns-in_err-expect_rooted-clause-err c =
+    let p = err_from_is_err_and c.from_residual.result c.from_residual.ensures.1 in
+    let at = at_in c.args.tree.now in
+    let r = c.expect_rooted.ensures in
+    let it = c.in_err-expect_rooted.ensures.err in
+    let footprint = c.args.footprint.now in
+    let gone = c.args.gone.now in
+    let seen = seen_of c.args.tree.now c.args.files.now c.args.counter in
+    let case = hiding_there at _ _ r.tree r.census (files_of c.args.files.now) c.len-files.ensures.law c.args.counter gone.parent gone.name.now gone.may_hide in
+    rw (p.1, p.2) (subst (λ (k : Refusal). IsRefusedGoing seen footprint gone (refusal_errno k)) (sym it.0)
+    (record { case = case.0; fits = case.1; unsound = going_lost at r.tree (locations_of footprint) footprint.change gone.parent (hidden_in case.0) it.1 }))
+
+pub returns-in_err-found-clause-err : goal.returns-in_err-found-clause-err
+returns-in_err-found-clause-err c =
+    let p = err_from_is_err_and c.from_residual-in_err-found.result c.from_residual-in_err-found.ensures.1 in
+    let at = at_in c.args.tree.now in
+    let r = c.expect_rooted.ensures in
+    let footprint = c.args.footprint.now in
+    let gone = c.args.gone.now in
+    let case = hiding_there at _ _ r.tree r.census (files_of c.args.files.now) c.len-files.ensures.law c.args.counter gone.parent gone.name.now gone.may_hide in
+    rw (p.1, p.2) (record { case = case.0; fits = case.1; unsound = going_bad at r.tree (locations_of footprint) footprint.change gone.parent (hidden_in case.0) c.in_ok-expect_rooted.ensures.ok refusals.Memory tt })
+
+pub returns-in_err-beside-clause-err : goal.returns-in_err-beside-clause-err
+returns-in_err-beside-clause-err c =
+    let p = err_from_is_err_and c.from_residual-in_err-beside.result c.from_residual-in_err-beside.ensures.1 in
+    let at = at_in c.args.tree.now in
+    let r = c.expect_rooted.ensures in
+    let footprint = c.args.footprint.now in
+    let gone = c.args.gone.now in
+    let case = c.hiding_case-case.result in
+    let fits = c.hiding_case-case.ensures at gone.parent gone.name.now r.tree c.in_ok-found.ensures in
+    rw (p.1, p.2) (record { case = case; fits = fits; unsound = going_bad at r.tree (locations_of footprint) footprint.change gone.parent (hidden_in case) c.in_ok-expect_rooted.ensures.ok refusals.Memory tt })
+
+pub returns-in_err-gathering-clause-err : goal.returns-in_err-gathering-clause-err
+returns-in_err-gathering-clause-err c =
+    let p = err_from_is_err_and c.from_residual-in_err-gathering.result c.from_residual-in_err-gathering.ensures.1 in
+    let at = at_in c.args.tree.now in
+    let r = c.expect_rooted.ensures in
+    let footprint = c.args.footprint.now in
+    let ls = locations_of footprint in
+    let gone = c.args.gone.now in
+    let case = c.hiding_case-case.result in
+    let fits = c.hiding_case-case.ensures at gone.parent gone.name.now r.tree c.in_ok-found.ensures in
+    let hidden : c.as_slice.result.now ≡ hidden_in case = c.as_slice.ensures ∙ c.in_ok-beside.ensures in
+    let bad = subst (λ ns. IsBadFootprint at (ls ++ names_under gone.parent ns) c.in_err-gathering.field-0.0) hidden c.in_err-gathering.ensures.err in
+    rw (p.1, p.2) (record { case = case; fits = fits; unsound = going_bad at r.tree ls footprint.change gone.parent (hidden_in case) c.in_ok-expect_rooted.ensures.ok c.in_err-gathering.field-0.0 bad })
+
+pub expect_change-requires : goal.expect_change-requires
+expect_change-requires c =
+    let footprint = c.args.footprint.now in
+    let ls = locations_of footprint in
+    let hidden : c.as_slice.result.now ≡ hidden_in c.hiding_case-case.result = c.as_slice.ensures ∙ c.in_ok-beside.ensures in
+    rw c.as_slice-2.ensures.value (going_enough (at_in c.args.tree.now) c.expect_rooted.ensures.tree ls footprint.change c.args.gone.now.parent c.as_slice.result.now c.in_ok-gathering.gathering.paths.items (length footprint.locations.now)
+    (sym (length-map footprint.locations.now (λ l. location_of l))) c.in_ok-gathering.ensures.ok.paths c.requires.fit.enough)
+
+pub returns-in_err-expect_change-clause-err : goal.returns-in_err-expect_change-clause-err
+returns-in_err-expect_change-clause-err c =
+    let p = err_from_is_err_and c.from_residual-in_err-expect_change.result c.from_residual-in_err-expect_change.ensures.1 in
+    let at = at_in c.args.tree.now in
+    let r = c.expect_rooted.ensures in
+    let footprint = c.args.footprint.now in
+    let ls = locations_of footprint in
+    let gone = c.args.gone.now in
+    let x = c.in_ok-gathering.gathering in
+    let case = c.hiding_case-case.result in
+    let fits = c.hiding_case-case.ensures at gone.parent gone.name.now r.tree c.in_ok-found.ensures in
+    let hidden : c.as_slice.result.now ≡ hidden_in case = c.as_slice.ensures ∙ c.in_ok-beside.ensures in
+    let zip = subst (λ (ns : List Name). AllZip (IsShortPath at) (ls ++ names_under gone.parent ns) x.paths.items) hidden c.in_ok-gathering.ensures.ok.paths in
+    let wrong = rw c.as_slice-2.ensures.value at c.in_err-expect_change.ensures.err in
+    rw (p.1, p.2) (record {
+      case = case;
+      fits = fits;
+      unsound = going_wrong at r.tree ls footprint.change gone.parent (hidden_in case) x.paths.items c.in_ok-expect_rooted.ensures.ok zip (refusal_errno c.in_err-expect_change.field-0.0) wrong;
+    })
+
+pub returns-in_err-reservation-clause-err : goal.returns-in_err-reservation-clause-err
+returns-in_err-reservation-clause-err c =
+    let p = err_from_is_err_and c.from_residual-in_err-reservation.result c.from_residual-in_err-reservation.ensures.1 in
+    let at = at_in c.args.tree.now in
+    let r = c.expect_rooted.ensures in
+    let footprint = c.args.footprint.now in
+    let gone = c.args.gone.now in
+    let case = c.hiding_case-case.result in
+    let fits = c.hiding_case-case.ensures at gone.parent gone.name.now r.tree c.in_ok-found.ensures in
+    rw (p.1, p.2) (record { case = case; fits = fits; unsound = going_bad at r.tree (locations_of footprint) footprint.change gone.parent (hidden_in case) c.in_ok-expect_rooted.ensures.ok refusals.Memory tt })
+
+pub returns-clause-ok : goal.returns-clause-ok
+returns-clause-ok c =
+    let at = at_in c.args.tree.now in
+    let r = c.expect_rooted.ensures in
+    let footprint = c.args.footprint.now in
+    let ls = locations_of footprint in
+    let gone = c.args.gone.now in
+    let x = c.in_ok-gathering.gathering in
+    let seen = seen_of c.args.tree.now c.args.files.now c.args.counter in
+    let case = c.hiding_case-case.result in
+    let fits = c.hiding_case-case.ensures at gone.parent gone.name.now r.tree c.in_ok-found.ensures in
+    let hidden : c.as_slice.result.now ≡ hidden_in case = c.as_slice.ensures ∙ c.in_ok-beside.ensures in
+    let is : IsGathered at ls (ls ++ names_under gone.parent (hidden_in case)) x = subst (λ (ns : List Name). IsGathered at ls (ls ++ names_under gone.parent ns) x) hidden c.in_ok-gathering.ensures.ok in
+    let may = rw c.as_slice-2.ensures.value at c.in_ok-expect_change.ensures.ok in
+    let names = subst (λ (hold : Hold). AreNames (exclusive_in hold ls)) c.requires.exclusive c.requires.fit.names in
+    let same = c.in_ok-reservation.ensures.case_is in
+    let t = c.in_ok-reservation.reservation in
+    record {
+      fits = subst (λ (k : Case). IsHidingCase seen gone.parent gone.name.now gone.may_hide k) (sym same) fits;
+      reservation = subst (λ (k : Case). IsReservation at (going_footprint footprint gone k) t) (sym same) (going_agreed at r.tree ls footprint.change gone.parent (hidden_in case) x case t c.in_ok-expect_rooted.ensures.ok c.requires.under names is may c.in_ok-reservation.ensures);
+    }

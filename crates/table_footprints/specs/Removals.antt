@@ -1,0 +1,67 @@
+-- What the code gathers of names that go, since they are removed or replaced, and of those that a file may be hidden under.
+use Rattle.std.specs.Prelude.{ℕ, ℤ, ◌+◌, ◌≡◌, ◌≤◌, ◌↔◌, ◌⊎◌, List, [], ◌∷◌, ◌++◌, Some, All, Any, Contains, map}
+use Rattle.std.specs.List.{AllZip}
+use Rattle.paths.specs.Prefixes.{Name, Names}
+use Rattle.table_requests.specs.declared.data.Case.{Case}
+use Rattle.holds.specs.declared.held.GivenPath.{GivenPath}
+use Rattle.tree.specs.Places.{Lookup, IsPathOf}
+use Rattle.table_footprints.specs.declared.gatherings.Gathering.{Gathering}
+use Rattle.table_footprints.specs.declared.gatherings.Reservation.{Reservation}
+use Rattle.table_footprints.specs.declared.found.Found.{Found}
+use Rattle.table_footprints.specs.declared.removals.Gone.{Gone}
+use Rattle.table_footprints.specs.declared.footprints.Change as told_change
+use Rattle.table_footprints.specs.declared.footprints.Hold.TheVariants.{Exclusive}
+use Rattle.table_footprints.specs.declared.footprints.UniformFootprint.{UniformFootprint}
+use Rattle.table_footprints.specs.Asked.{HasPath, IsThere, IsUnsound}
+use Rattle.table_footprints.specs.Cases.{IsHidingCase, Seen}
+use Rattle.table_footprints.specs.Gatherings.{IsFit, IsSharedAt, IsShortPath, IsReservation, change_in, locations_of}
+use Rattle.table_footprints.specs.Laws.{base_of}
+use Rattle.table_footprints.specs.Footprints.{Footprint, Location, hidden_in, names_under, no_footprint}
+
+-- a footprint whose names are held exclusively, one of which goes and is under that node
+pub record IsGoing (footprint : UniformFootprint) (gone : Gone) : Type 0 where
+  pub fit : IsFit footprint
+  pub exclusive : footprint.hold ≡ Exclusive
+  pub under : Contains (map (λ l. base_of l) (locations_of footprint)) gone.parent
+
+-- the footprint of these locations, with names in that folder beside them
+abbrev pub going_in : List Location → told_change.Change → ℕ → List Name → Footprint
+going_in ls change folder hidden = record no_footprint {
+  given = map (λ l. base_of l) ls;
+  paths = ls ++ names_under folder hidden;
+  exclusive = ls ++ names_under folder hidden;
+  done = change_in change (ls ++ names_under folder hidden);
+  candidates = names_under folder hidden;
+}
+
+abbrev pub going_footprint : UniformFootprint → Gone → Case → Footprint
+going_footprint footprint gone c = going_in (locations_of footprint) footprint.change gone.parent (hidden_in c)
+
+-- one name more that is held exclusively, beside those of the footprint
+pub record AddsBeside (old : Gathering) (f : Found) (new : Gathering) : Type 0 where
+  pub given : new.given.items ≡ old.given.items
+  pub shared : new.shared.items ≡ old.shared.items
+  pub exclusive : new.exclusive.items ≡ old.exclusive.items ++ f.path ∷ []
+  pub paths : new.paths.items ≡ old.paths.items ++ f.path ∷ []
+  pub pins : (n : ℕ) → Contains new.pins.numbers n ↔ (Contains old.pins.numbers n ⊎ (f.node ≡ Some n))
+  pub room : old.pins.room ≤ new.pins.room + 1
+
+-- all that was found at these locations, of which the first give their nodes
+pub record IsGathered (at : Lookup) (firsts all : List Location) (x : Gathering) : Type 0 where
+  pub numbers : map (λ (lead : GivenPath). lead.number) x.given.items ≡ map (λ l. base_of l) firsts
+  pub leads : All (λ (lead : GivenPath). IsPathOf at lead.number lead.path) x.given.items
+  pub shared : (p : Names) → Contains x.shared.items p ↔ Any (IsSharedAt at Exclusive p) firsts
+  pub exclusive : (p : Names) → Contains x.exclusive.items p ↔ Any (λ l. HasPath at l p) all
+  pub paths : AllZip (IsShortPath at) all x.paths.items
+  pub pins : (n : ℕ) → Contains x.pins.numbers n ↔ (Contains (map (λ l. base_of l) firsts) n ⊎ Any (λ l. IsThere at l n) all)
+
+-- what the footprint asks for, in the case of the name that goes
+pub record AreGoingTerms (seen : Seen) (footprint : UniformFootprint) (gone : Gone) (t : Reservation) : Type 0 where
+  pub fits : IsHidingCase seen gone.parent gone.name.now gone.may_hide t.case
+  pub reservation : IsReservation seen.at (going_footprint footprint gone t.case) t
+
+-- why it is refused, in that case
+pub record IsRefusedGoing (seen : Seen) (footprint : UniformFootprint) (gone : Gone) (e : ℤ) : Type 0 where
+  pub case : Case
+  pub fits : IsHidingCase seen gone.parent gone.name.now gone.may_hide case
+  pub unsound : IsUnsound seen.at (going_footprint footprint gone case) e

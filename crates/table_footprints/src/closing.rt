@@ -1,0 +1,169 @@
+//! What the closing of a file asks for: its node's path, if it has one, which is held exclusively where a hidden file goes with its last opening.
+
+ghost use Rattle.std.specs.Prelude.{true, false, ◌≡◌, ◌≢◌, ◌↔◌, ◌∷◌, [], IfErr, IfOk, IsTrue};
+ghost use Rattle.table_files.specs.OpenEntry.{files_of};
+ghost use Rattle.table_files.specs.Handles.{AreOpenEntries};
+ghost use Rattle.tree.specs.Places.{IsPathOf, IsTree, at_in};
+ghost use Rattle.table_footprints.specs.Cases.{IsLastOpening};
+ghost use Rattle.table_footprints.specs.Gatherings.{IsClosing, IsClosingPath, IsHeldExclusively, IsNothing, IsWithoutPath, TellsPath};
+
+use crate::footprints::{Change, Hold, Location, UniformFootprint};
+use crate::found::above;
+use crate::gatherings::{Gathering, Reservation, reservation_of};
+use crate::refusal::Refusal;
+use holds::{GivenPath, GivenPaths, Held, Paths, prefixes_of};
+use paths::Path;
+use std::alloc::{AllocError, Global};
+use table_files::Files;
+use table_requests::{Case, Givens, Pins, Promise};
+use tree::Tree;
+
+/// Nothing is held, pinned or told.
+fn nothing(alloc: Global) -> Result<Reservation, Refusal>
+    ensures ok { IfOk result IsNothing }
+    ensures err { IfErr result (λ refusal. refusal ≡ Refusal.Memory) }
+{
+    let gathering = Gathering::new(alloc, 0)?;
+    let reservation = gathering.into_reservation(alloc, Case::Pathless, 0, 0)?;
+    Ok(reservation)
+}
+
+/// Whether it says that a node has no path, or one that is too long.
+fn is_without_path(refusal: Refusal) -> bool
+    ensures { IsTrue result ↔ IsWithoutPath refusal }
+{
+    match refusal {
+        Refusal::Stale | Refusal::TooLong => true,
+        Refusal::IntoItself | Refusal::OntoFolder | Refusal::Memory => false,
+    }
+}
+
+/// Whether the node, which is not the root, has a hidden mark, and one file of it is open.
+fn is_last(tree: &Tree, files: &Files, number: u64) -> bool
+    ensures { IsTrue result ↔ IsLastOpening (at_in tree.now) (files_of files.now).at number }
+{
+    if number == 1 {
+        return false;
+    }
+    if files.openings(number) != 1 {
+        return false;
+    }
+    match tree.at(number) {
+        Some(node) => node.hidden,
+        None => false,
+    }
+}
+
+/// That path alone.
+fn one_path(alloc: Global, path: Path) -> Result<Paths, AllocError>
+    ensures { IfOk result (λ paths. paths ≡ path ∷ []) }
+{
+    let mut paths = Vec::new(alloc);
+    paths.push(path)?;
+    Ok(Paths::from_vec(paths))
+}
+
+/// The path of the node is given for it.
+fn one_given(alloc: Global, number: u64, path: Path) -> Result<GivenPaths, AllocError>
+    ensures { IfOk result (λ given. given ≡ record { number = number; path = path } ∷ []) }
+{
+    let mut given = Vec::new(alloc);
+    given.push(GivenPath { number, path })?;
+    Ok(GivenPaths::from_vec(given))
+}
+
+/// The path of a node is held exclusively, and each nonempty prefix of its parent's is shared.
+fn held_alone(alloc: Global, _tree: &Tree, number: u64, path: &Path) -> Result<Held, AllocError>
+    requires tree { IsTree (at_in _tree.now) }
+    requires not_root { number ≢ 1 }
+    requires leads { IsPathOf (at_in _tree.now) number path.now }
+    ensures { IfOk result (IsHeldExclusively (at_in _tree.now) number path.now) }
+{
+    let above = above(path)?;
+    Ok(Held {
+        given: one_given(alloc, number, path.copy()?)?,
+        shared: prefixes_of(alloc, &above)?,
+        exclusive: one_path(alloc, path.copy()?)?,
+    })
+}
+
+/// What the last opening of a hidden file asks for: its node is removed where its work is done.
+fn last_reservation(alloc: Global, tree: &Tree, number: u64) -> Result<Reservation, Refusal>
+    requires { number ≢ 1 }
+    ensures ok { IfOk result (IsClosingPath (at_in tree.now) number true) }
+    ensures err { IfErr result (TellsPath (at_in tree.now) number) }
+{
+    let path = tree.path(alloc, number)?;
+    let held = held_alone(alloc, tree, number, &path)?;
+    let mut pins = Pins::with_capacity(alloc, 1)?;
+    pins.add(number);
+    Ok(Reservation {
+        case: Case::Last,
+        held,
+        promise: Promise {
+            nodes: 0,
+            postings: 0,
+            files: 0,
+        },
+        answer: Givens::new(alloc),
+        pins,
+        paths: one_path(alloc, path)?,
+    })
+}
+
+/// What any other opening asks for: that the path of its node stays.
+fn plain_reservation(alloc: Global, tree: &Tree, number: u64) -> Result<Reservation, Refusal>
+    ensures ok { IfOk result (IsClosingPath (at_in tree.now) number false) }
+    ensures err { IfErr result (TellsPath (at_in tree.now) number) }
+{
+    let footprint = UniformFootprint {
+        locations: &[Location::AtNode(number)],
+        hold: Hold::Shared,
+        enters: false,
+        change: Change::Stays,
+    };
+    reservation_of(alloc, tree, &footprint)
+}
+
+/// What the closing of a file asks for whose node has a path that is not too long.
+fn path_reservation(
+    alloc: Global,
+    tree: &Tree,
+    number: u64,
+    last: bool,
+) -> Result<Reservation, Refusal>
+    requires { last ≡ true → number ≢ 1 }
+    ensures ok { IfOk result (IsClosingPath (at_in tree.now) number last) }
+    ensures err { IfErr result (TellsPath (at_in tree.now) number) }
+{
+    if last {
+        last_reservation(alloc, tree, number)
+    } else {
+        plain_reservation(alloc, tree, number)
+    }
+}
+
+/// What the closing of a file of the node asks for. Want of memory alone refuses it.
+pub(crate) fn closing_reservation(
+    alloc: Global,
+    tree: &Tree,
+    files: &Files,
+    number: u64,
+) -> Result<Reservation, Refusal>
+    ensures ok { IfOk result (IsClosing (at_in tree.now) (files_of files.now).at number) }
+    ensures err { IfErr result (λ refusal. refusal ≡ Refusal.Memory) }
+    ensures tree { IsTree (at_in tree.now) }
+    ensures files { AreOpenEntries (files_of files.now) }
+{
+    let _nodes = tree.len();
+    let _files = files.len();
+    let last = is_last(tree, files, number);
+    let refusal = match path_reservation(alloc, tree, number, last) {
+        Ok(reservation) => return Ok(reservation),
+        Err(refusal) => refusal,
+    };
+    if is_without_path(refusal) {
+        return nothing(alloc);
+    }
+    Err(Refusal::Memory)
+}

@@ -1,0 +1,11 @@
+//! What a request is recorded with.
+
+use holds::Paths;
+use table_requests::{Pins, Work};
+
+/// What a request is recorded with, and the paths that its ticket tells.
+pub struct NewRequest {
+    pub work: Work,
+    pub pins: Pins,
+    pub paths: Paths,
+}

@@ -1,0 +1,180 @@
+//! What each want asks for: one footprint of one table.
+
+ghost use Rattle.std.specs.Prelude.{◌≡◌, IfOk, IfErr};
+ghost use Rattle.table_footprints.specs.Cases.{seen_of};
+ghost use Rattle.table_footprints.specs.Gatherings.{IsWanted, refusal_errno, location_of};
+ghost use Rattle.table_footprints.specs.Laws.{base_of};
+ghost use Rattle.table_footprints.specs.NewRequests.{IsRefusedRequest};
+ghost use Rattle.table_footprints.specs.Footprints.{are_same};
+
+use crate::closing::closing_reservation;
+use crate::gatherings::{Reservation, reservation_of, reservation_with_file};
+use crate::pages::page_reservation;
+use crate::refusal::Refusal;
+use crate::removals::{Gone, going_reservation};
+use paths::Name;
+use std::alloc::Global;
+use table_files::Files;
+use table_requests::Want;
+use tree::Tree;
+
+/// Where a node may stand, whether or not one does.
+#[derive(Clone, Copy)]
+pub(crate) enum Location<'a> {
+    /// That of the node.
+    AtNode(u64),
+    /// That of a name under the node.
+    AtName(u64, &'a Name),
+}
+
+impl Location<'_> {
+    /// The node, or the one that the name is under.
+    pub(crate) fn base(&self) -> u64
+        ensures { result ≡ base_of (location_of self.now) }
+    {
+        match self {
+            Location::AtNode(number) => *number,
+            Location::AtName(parent, _) => *parent,
+        }
+    }
+
+    /// Whether both are that of one node, or that of one name under one node.
+    fn is(&self, other: &Location) -> bool
+        ensures { result ≡ are_same (location_of self.now) (location_of other.now) }
+    {
+        match (self, other) {
+            (Location::AtName(parent, name), Location::AtName(other_parent, other_name)) => {
+                parent == other_parent && name.is(other_name)
+            }
+            (Location::AtNode(number), Location::AtNode(other_number)) => number == other_number,
+            (Location::AtNode(_), Location::AtName(_, _))
+            | (Location::AtName(_, _), Location::AtNode(_)) => false,
+        }
+    }
+}
+
+/// How paths are held.
+#[derive(Clone, Copy)]
+pub(crate) enum Hold {
+    /// Others may hold them too, with their nonempty prefixes.
+    Shared,
+    /// Nobody else may hold them, and their proper prefixes are shared.
+    Exclusive,
+}
+
+/// What becomes of names.
+#[derive(Clone, Copy)]
+pub(crate) enum Change {
+    Stays,
+    /// What stands at the first location is cut.
+    Cuts,
+    /// What stands at the first location is moved to the second.
+    Moves,
+}
+
+/// What a want asks for. The node of each location, or the one that its name is under, is given.
+#[derive(Clone, Copy)]
+pub(crate) struct UniformFootprint<'a> {
+    /// Whose paths the ticket tells.
+    pub(crate) locations: &'a [Location<'a>],
+    pub(crate) hold: Hold,
+    /// Whether an entry may be given for the name.
+    pub(crate) enters: bool,
+    pub(crate) change: Change,
+}
+
+/// What the want's footprint asks for: the table of footprints.
+pub(crate) fn reservation_for(
+    alloc: Global,
+    tree: &Tree,
+    files: &Files,
+    counter: u32,
+    want: &Want,
+) -> Result<Reservation, Refusal>
+    ensures ok { IfOk result (IsWanted (seen_of tree.now files.now counter) want.now) }
+    ensures err { IfErr result (λ refusal. IsRefusedRequest (seen_of tree.now files.now counter) want.now (refusal_errno refusal)) }
+{
+    match want {
+        Want::Node { number, handle: _ } => {
+            let footprint = UniformFootprint {
+                locations: &[Location::AtNode(*number)],
+                hold: Hold::Shared,
+                enters: false,
+                change: Change::Stays,
+            };
+            reservation_of(alloc, tree, &footprint)
+        }
+        Want::Name { parent, name } => {
+            let footprint = UniformFootprint {
+                locations: &[Location::AtName(*parent, name)],
+                hold: Hold::Shared,
+                enters: true,
+                change: Change::Stays,
+            };
+            reservation_of(alloc, tree, &footprint)
+        }
+        Want::Remove {
+            parent,
+            name,
+            may_hide,
+        } => {
+            let footprint = UniformFootprint {
+                locations: &[Location::AtName(*parent, name)],
+                hold: Hold::Exclusive,
+                enters: false,
+                change: Change::Cuts,
+            };
+            let gone = Gone {
+                parent: *parent,
+                name,
+                may_hide: *may_hide,
+            };
+            going_reservation(alloc, tree, files, counter, &footprint, &gone)
+        }
+        Want::Move {
+            parent,
+            name,
+            new_parent,
+            new_name,
+        } => {
+            let source = Location::AtName(*parent, name);
+            let target = Location::AtName(*new_parent, new_name);
+            let footprint = UniformFootprint {
+                locations: &[source, target],
+                hold: Hold::Exclusive,
+                enters: false,
+                change: Change::Moves,
+            };
+            let gone = Gone {
+                parent: *new_parent,
+                name: new_name,
+                may_hide: !source.is(&target),
+            };
+            going_reservation(alloc, tree, files, counter, &footprint, &gone)
+        }
+        Want::Page { folder, names } => page_reservation(alloc, tree, *folder, names.as_slice()),
+        Want::Open { number, access: _ } => {
+            let footprint = UniformFootprint {
+                locations: &[Location::AtNode(*number)],
+                hold: Hold::Shared,
+                enters: false,
+                change: Change::Stays,
+            };
+            reservation_with_file(alloc, tree, &footprint)
+        }
+        Want::Create {
+            parent,
+            name,
+            access: _,
+        } => {
+            let footprint = UniformFootprint {
+                locations: &[Location::AtName(*parent, name)],
+                hold: Hold::Shared,
+                enters: true,
+                change: Change::Stays,
+            };
+            reservation_with_file(alloc, tree, &footprint)
+        }
+        Want::Release { number, fh: _ } => closing_reservation(alloc, tree, files, *number),
+    }
+}

@@ -1,0 +1,120 @@
+//! What stands at a location.
+
+ghost use Rattle.std.specs.Prelude.{◌<◌, ◌≡◌, ◌++◌, ◌∷◌, [], Any, IfOk, IfErr, OnOk, length};
+ghost use Rattle.paths.specs.Prefixes.{Name as Spelt, Names};
+ghost use Rattle.tree.specs.Places.{IsCensus, IsTree, Leads, at_in};
+ghost use Rattle.table_footprints.specs.Gatherings.{AreEnough, AreRooted, CanMove, IsBadPath, IsFound, IsLost, IsWrongChange, MayChange, refusal_errno, location_of, told};
+ghost use Rattle.table_footprints.specs.Asked.{IsRefusedMove};
+ghost use Rattle.table_footprints.specs.Laws.{base_of};
+ghost use Rattle.table_footprints.specs.Footprints as footprints;
+
+use crate::footprints::{Change, Location};
+use crate::refusal::Refusal;
+use paths::{Name, Path};
+use std::alloc::{AllocError, Global};
+use tree::{Key, Tree};
+
+/// What stands at a location.
+#[derive(Drop)]
+pub(crate) struct Found {
+    /// The path of the node, or of the one that the name is under.
+    pub(crate) above: Path,
+    pub(crate) path: Path,
+    /// The node that stands there.
+    pub(crate) node: Option<u64>,
+}
+
+/// The path of the parent of the name with that path.
+pub(crate) fn above(path: &Path) -> Result<Path, AllocError>
+    ensures { IfOk result (λ up. (above : Names) (name : Spelt) → path.now ≡ above ++ name ∷ [] → up ≡ above) }
+{
+    let mut names = path.copy()?.into_names();
+    let _last = names.pop();
+    Ok(Path::from_names(names))
+}
+
+/// What stands at the location of a node.
+fn find_node(alloc: Global, tree: &Tree, number: u64) -> Result<Found, Refusal>
+    requires { Leads (at_in tree.now) number }
+    ensures ok { IfOk result (IsFound (at_in tree.now) (footprints.AtNode number)) }
+    ensures err { IfErr result (IsBadPath (at_in tree.now) (footprints.AtNode number)) }
+{
+    let path = tree.path(alloc, number)?;
+    let above = path.copy()?;
+    Ok(Found {
+        above,
+        path,
+        node: Some(number),
+    })
+}
+
+/// What stands at a name under a node.
+fn find_name(alloc: Global, tree: &Tree, parent: u64, name: &Name) -> Result<Found, Refusal>
+    requires { Leads (at_in tree.now) parent }
+    ensures ok { IfOk result (IsFound (at_in tree.now) (footprints.AtName parent name.now)) }
+    ensures err { IfErr result (IsBadPath (at_in tree.now) (footprints.AtName parent name.now)) }
+{
+    let name = name.copy()?;
+    let key = Key { parent, name };
+    let path = tree.path_of_name(alloc, &key)?;
+    let node = tree.find(&key);
+    let above = above(&path)?;
+    Ok(Found { above, path, node })
+}
+
+/// What stands at the location.
+pub(crate) fn find(alloc: Global, tree: &Tree, location: &Location) -> Result<Found, Refusal>
+    requires { Leads (at_in tree.now) (base_of (location_of location.now)) }
+    ensures ok { IfOk result (IsFound (at_in tree.now) (location_of location.now)) }
+    ensures err { IfErr result (IsBadPath (at_in tree.now) (location_of location.now)) }
+{
+    match location {
+        Location::AtNode(number) => find_node(alloc, tree, *number),
+        Location::AtName(parent, name) => find_name(alloc, tree, *parent, name),
+    }
+}
+
+/// Tests that each node leads to the root.
+pub(crate) fn expect_rooted(tree: &Tree, locations: &[Location]) -> Result<(), Refusal>
+    requires { 0 < length locations.now }
+    ensures ok { OnOk result (AreRooted (at_in tree.now) (told locations.now)) }
+    ensures err { IfErr result (λ refusal. (refusal ≡ Refusal.Stale) × Any (IsLost (at_in tree.now)) (told locations.now)) }
+    ensures census { IsCensus (at_in tree.now) tree.now.living tree.now.counts }
+    ensures tree { IsTree (at_in tree.now) }
+{
+    for location in locations {
+        if !tree.is_below(location.base(), 1) {
+            return Err(Refusal::Stale);
+        }
+    }
+    Ok(())
+}
+
+/// Tests that the path may be moved to the other.
+fn expect_movable(path: &Path, target: &Path) -> Result<(), Refusal>
+    ensures ok { OnOk result (CanMove path.now target.now) }
+    ensures err { IfErr result (λ refusal. IsRefusedMove path.now target.now (refusal_errno refusal)) }
+{
+    if path.is(target) {
+        return Ok(());
+    }
+    if path.is_prefix_of(target) {
+        return Err(Refusal::IntoItself);
+    }
+    if target.is_prefix_of(path) {
+        return Err(Refusal::OntoFolder);
+    }
+    Ok(())
+}
+
+/// Tests that what stands at the first of the paths may change so.
+pub(crate) fn expect_change(change: Change, paths: &[Path]) -> Result<(), Refusal>
+    requires { AreEnough change (length paths.now) }
+    ensures ok { OnOk result (MayChange change paths.now) }
+    ensures err { IfErr result (λ refusal. IsWrongChange change paths.now (refusal_errno refusal)) }
+{
+    match change {
+        Change::Stays | Change::Cuts => Ok(()),
+        Change::Moves => expect_movable(&paths[0], &paths[1]),
+    }
+}

@@ -1,0 +1,283 @@
+//! What a footprint asks for, gathered location by location.
+
+ghost use Rattle.std.specs.Prelude.{ℕ, ◌+◌, ◌*◌, ◌^◌, ◌<◌, ◌≤◌, ◌≡◌, ◌↔◌, ◌⊎◌, ◌++◌, Contains, Some, IfOk, IfErr, OnOk, length};
+ghost use Rattle.paths.specs.Prefixes.{prefixes};
+ghost use Rattle.tree.specs.Places.{IsCensus, IsTree, at_in};
+ghost use Rattle.table_footprints.specs.Asked.{IsUnsound};
+ghost use Rattle.table_footprints.specs.Gatherings.{Adds, AreRooted, entered_case, IsAgreed, IsBadFootprint, IsGathering, IsReserved, IsFit, IsNoGathering, IsOpening, footprint_from, entries_of, refusal_errno, locations_of, own_paths, shared_path};
+ghost use Rattle.table_footprints.specs.Footprints.{births_in};
+
+use crate::footprints::{Hold, UniformFootprint};
+use crate::found::{Found, expect_change, expect_rooted, find};
+use crate::refusal::Refusal;
+use holds::{GivenPath, GivenPaths, Held, Paths, prefixes_of};
+use paths::Path;
+use std::alloc::{AllocError, Global};
+use table_requests::{Case, Givens, Pins, Promise};
+use tree::Tree;
+
+/// The postings that an entry may make: a birth, the entry itself, and that by which it is taken back.
+const ENTRY_POSTINGS: u64 = 3;
+
+/// What a footprint asks for.
+#[derive(Drop)]
+pub(crate) struct Reservation {
+    pub(crate) case: Case,
+    pub(crate) held: Held,
+    pub(crate) promise: Promise,
+    pub(crate) answer: Givens,
+    pub(crate) pins: Pins,
+    pub(crate) paths: Paths,
+}
+
+/// What was gathered so far.
+#[derive(Drop)]
+pub(crate) struct Gathering {
+    given: Vec<GivenPath>,
+    shared: Vec<Path>,
+    pub(crate) exclusive: Vec<Path>,
+    pub(crate) pins: Pins,
+    pub(crate) paths: Vec<Path>,
+    /// Whether no node stands at one of the locations.
+    absent: bool,
+}
+
+/// Shares the nonempty prefixes of the path.
+fn share(alloc: Global, shared: &mut Vec<Path>, path: &Path) -> Result<(), AllocError>
+    ensures { OnOk result (shared.new.items ≡ shared.old.items ++ prefixes path.now) }
+{
+    let mut prefixes = prefixes_of(alloc, path)?.into_vec();
+    shared.append(&mut prefixes)
+}
+
+/// Pins the node, and the one that was found.
+fn pin(pins: &mut Pins, number: u64, found: Option<u64>)
+    requires { 2 ≤ pins.old.room }
+    ensures room { pins.old.room ≤ pins.new.room + 2 }
+    ensures pins { (n : ℕ) → Contains pins.new.numbers n ↔ (Contains pins.old.numbers n ⊎ ((number ≡ n) ⊎ (found ≡ Some n))) }
+{
+    pins.add(number);
+    match found {
+        Some(node) => {
+            if node != number {
+                pins.add(node);
+            }
+        }
+        None => {}
+    }
+}
+
+/// The case of a footprint that may give entries, by whether no node stands at one of its locations.
+fn entered_case(none: bool, enters: bool) -> Case
+    ensures { result ≡ entered_case none enters }
+{
+    if none && enters {
+        Case::Absent
+    } else {
+        Case::Plain
+    }
+}
+
+/// How many nodes may be born for a name.
+fn births_in(case: Case) -> u64
+    ensures { result ≡ births_in case }
+{
+    match case {
+        Case::Plain | Case::Pathless | Case::Last | Case::Hiding { .. } => 0,
+        Case::Absent => 1,
+    }
+}
+
+impl Gathering {
+    /// Nothing yet, with room for so many pins.
+    pub(crate) fn new(alloc: Global, pins: usize) -> Result<Gathering, AllocError>
+        ensures { IfOk result (IsNoGathering pins) }
+    {
+        let pins = Pins::with_capacity(alloc, pins)?;
+        Ok(Gathering {
+            given: Vec::new(alloc),
+            shared: Vec::new(alloc),
+            exclusive: Vec::new(alloc),
+            pins,
+            paths: Vec::new(alloc),
+            absent: false,
+        })
+    }
+
+    /// Holds the path of what was found.
+    fn hold(&mut self, alloc: Global, found: &Found, hold: Hold) -> Result<(), AllocError>
+        ensures shared { OnOk result (self.new.shared.items ≡ self.old.shared.items ++ prefixes (shared_path hold found.now)) }
+        ensures exclusive { OnOk result (self.new.exclusive.items ≡ self.old.exclusive.items ++ own_paths hold found.now) }
+        ensures given { self.new.given ≡ self.old.given }
+        ensures pins { self.new.pins ≡ self.old.pins }
+        ensures paths { self.new.paths ≡ self.old.paths }
+        ensures absent { self.new.absent ≡ self.old.absent }
+    {
+        match hold {
+            Hold::Shared => share(alloc, &mut self.shared, &found.path),
+            Hold::Exclusive => {
+                self.exclusive.push(found.path.copy()?)?;
+                share(alloc, &mut self.shared, &found.above)
+            }
+        }
+    }
+
+    /// Adds what was found at a location of that node.
+    pub(crate) fn add(
+        &mut self,
+        alloc: Global,
+        number: u64,
+        found: Found,
+        hold: Hold,
+    ) -> Result<(), AllocError>
+        requires { 2 ≤ self.old.pins.room }
+        ensures { OnOk result (Adds self.old number found hold self.new) }
+    {
+        pin(&mut self.pins, number, found.node);
+        self.absent = self.absent || found.node.is_none();
+        self.hold(alloc, &found, hold)?;
+        let Found {
+            above,
+            path,
+            node: _,
+        } = found;
+        self.given.push(GivenPath {
+            number,
+            path: above,
+        })?;
+        self.paths.push(path)?;
+        Ok(())
+    }
+
+    /// What is to be recorded, once all was added.
+    pub(crate) fn into_reservation(
+        self,
+        alloc: Global,
+        case: Case,
+        births: u64,
+        entries: usize,
+    ) -> Result<Reservation, AllocError>
+        requires { 3 * entries < 2 ^ 64 }
+        ensures { IfOk result (IsReserved self case births entries) }
+    {
+        let answer = Givens::with_capacity(alloc, entries)?;
+        let promise = Promise {
+            nodes: births,
+            postings: ENTRY_POSTINGS * entries as u64,
+            files: 0,
+        };
+        let Gathering {
+            given,
+            shared,
+            exclusive,
+            pins,
+            paths,
+            absent: _,
+        } = self;
+        let held = Held {
+            given: GivenPaths::from_vec(given),
+            shared: Paths::from_vec(shared),
+            exclusive: Paths::from_vec(exclusive),
+        };
+        Ok(Reservation {
+            case,
+            held,
+            promise,
+            answer,
+            pins,
+            paths: Paths::from_vec(paths),
+        })
+    }
+}
+
+/// The same with one file that may be opened.
+fn with_file(reservation: Reservation) -> Reservation
+    ensures { result ≡ record reservation { promise = record reservation.promise { files = 1 } } }
+{
+    let Reservation {
+        case,
+        held,
+        promise,
+        answer,
+        pins,
+        paths,
+    } = reservation;
+    Reservation {
+        case,
+        held,
+        promise: Promise {
+            files: 1,
+            ..promise
+        },
+        answer,
+        pins,
+        paths,
+    }
+}
+
+/// What is found at the footprint's locations, which lead to the root, with room for so many pins more.
+pub(crate) fn gathering_of(
+    alloc: Global,
+    tree: &Tree,
+    footprint: &UniformFootprint,
+    more: usize,
+) -> Result<Gathering, Refusal>
+    requires tree { IsTree (at_in tree.now) }
+    requires rooted { AreRooted (at_in tree.now) (locations_of footprint.now) }
+    requires few { length footprint.now.locations.now ≤ 2 }
+    requires short { more + 5 < 2 ^ 64 }
+    ensures ok { IfOk result (IsGathering (at_in tree.now) footprint.now.hold (locations_of footprint.now)) }
+    ensures room { IfOk result (λ gathering. entries_of footprint.now + more ≤ gathering.pins.room) }
+    ensures err { IfErr result (IsBadFootprint (at_in tree.now) (locations_of footprint.now)) }
+{
+    let entries = usize::from(footprint.enters);
+    let mut gathering = Gathering::new(alloc, 2 * footprint.locations.len() + entries + more)?;
+    for location in footprint.locations {
+        let found = find(alloc, tree, location)?;
+        gathering.add(alloc, location.base(), found, footprint.hold)?;
+    }
+    Ok(gathering)
+}
+
+/// What the footprint asks for, if the tests of the nodes allow it.
+pub(crate) fn reservation_of(
+    alloc: Global,
+    tree: &Tree,
+    footprint: &UniformFootprint,
+) -> Result<Reservation, Refusal>
+    requires { IsFit footprint.now }
+    ensures ok { IfOk result (IsAgreed (at_in tree.now) footprint.now) }
+    ensures err { IfErr result (λ refusal. (c : Case) → IsUnsound (at_in tree.now) (footprint_from footprint.now c) (refusal_errno refusal)) }
+    ensures census { IsCensus (at_in tree.now) tree.now.living tree.now.counts }
+    ensures tree { IsTree (at_in tree.now) }
+{
+    expect_rooted(tree, footprint.locations)?;
+    let gathering = gathering_of(alloc, tree, footprint, 0)?;
+    expect_change(footprint.change, gathering.paths.as_slice())?;
+    let case = entered_case(gathering.absent, footprint.enters);
+    let reservation = gathering.into_reservation(
+        alloc,
+        case,
+        births_in(case),
+        usize::from(footprint.enters),
+    )?;
+    Ok(reservation)
+}
+
+/// What the footprint asks for, and a file that may be opened.
+pub(crate) fn reservation_with_file(
+    alloc: Global,
+    tree: &Tree,
+    footprint: &UniformFootprint,
+) -> Result<Reservation, Refusal>
+    requires { IsFit footprint.now }
+    ensures ok { IfOk result (IsOpening (at_in tree.now) footprint.now) }
+    ensures err { IfErr result (λ refusal. (c : Case) → IsUnsound (at_in tree.now) (footprint_from footprint.now c) (refusal_errno refusal)) }
+    ensures census { IsCensus (at_in tree.now) tree.now.living tree.now.counts }
+    ensures tree { IsTree (at_in tree.now) }
+{
+    match reservation_of(alloc, tree, footprint) {
+        Ok(reservation) => Ok(with_file(reservation)),
+        Err(refusal) => Err(refusal),
+    }
+}

@@ -1,0 +1,125 @@
+//! What a want asks of a table, one footprint for each want.
+#![tactic(auto)]
+
+mod closing;
+mod data;
+mod footprints;
+mod found;
+mod gatherings;
+mod pages;
+mod refusal;
+mod removals;
+
+ghost use Rattle.std.specs.Prelude.{◌≡◌, IfOk, IfErr};
+ghost use Rattle.table_footprints.specs.Cases.{seen_of};
+ghost use Rattle.table_footprints.specs.Laws.{AreFootprintsFixed, AreGrounded};
+ghost use Rattle.table_footprints.specs.NewRequests.{IsNewRequest, IsRefusedRequest, copied as name_copied, copied_page};
+ghost use Rattle.table_footprints.specs.Gatherings.{IsRecord};
+ghost use Rattle.table_footprints.specs.Footprints.{hidden_in};
+
+pub use data::NewRequest;
+use errno::ENOMEM;
+use footprints::reservation_for;
+use gatherings::Reservation;
+use paths::Name;
+use removals::candidates;
+use std::alloc::{AllocError, Global};
+use table_files::Files;
+use table_requests::{Case, Names, Want, Work};
+use tree::Tree;
+
+/// A want asks for one footprint, as the nodes stand.
+pub fn footprints_are_fixed()
+    ensures { AreFootprintsFixed }
+{}
+
+/// Each footprint has its locations at or under the nodes that it names, covers their paths, and holds exclusively the names that change.
+pub fn footprints_are_grounded()
+    ensures { AreGrounded }
+{}
+
+/// What a request with that want is to be recorded with, if the tests of the nodes alone allow it: the nodes, the open files
+/// and the counter of the next hidden name say which case of its footprint the want is.
+///
+/// The tests come in this order. [`errno::ESTALE`]: a node that the want names is not alive, or is cut; no memory was asked for
+/// until then. [`errno::ENAMETOOLONG`]: a path of the ticket is longer than 4,096 bytes. [`errno::EINVAL`]: a name would be moved
+/// below itself. [`errno::ENOTEMPTY`]: a name would be moved onto a folder that it stands in. [`errno::ENOMEM`] may stand in place
+/// of any but the first, where memory is refused.
+pub fn new_request(
+    alloc: Global,
+    tree: &Tree,
+    files: &Files,
+    counter: u32,
+    want: Want,
+) -> Result<NewRequest, i32>
+    ensures ok { IfOk result (IsNewRequest (seen_of tree.now files.now counter) want) }
+    ensures err { IfErr result (IsRefusedRequest (seen_of tree.now files.now counter) want) }
+{
+    let reservation = match reservation_for(alloc, tree, files, counter, &want) {
+        Ok(reservation) => reservation,
+        Err(refusal) => return Err(refusal.errno()),
+    };
+    match recorded(alloc, want, reservation) {
+        Ok(new_request) => Ok(new_request),
+        Err(_) => Err(ENOMEM),
+    }
+}
+
+/// A copy of the name that the want may give to a node.
+fn copied(want: &Want) -> Result<Option<Name>, AllocError>
+    ensures { IfOk result (λ copy. copy ≡ name_copied want.now) }
+{
+    match want {
+        Want::Node { .. }
+        | Want::Remove { .. }
+        | Want::Page { .. }
+        | Want::Open { .. }
+        | Want::Release { .. } => Ok(None),
+        Want::Name { name, .. } | Want::Move { new_name: name, .. } | Want::Create { name, .. } => {
+            Ok(Some(name.copy()?))
+        }
+    }
+}
+
+/// A copy of the names of a page, or of those that a file may be hidden under.
+fn copies(alloc: Global, want: &Want, case: Case) -> Result<Names, AllocError>
+    ensures { IfOk result (λ copies. copies ≡ copied_page want.now case) }
+{
+    match want {
+        Want::Page { names, .. } => names.copy(),
+        Want::Remove { .. } | Want::Move { .. } => candidates(alloc, case),
+        Want::Node { .. }
+        | Want::Name { .. }
+        | Want::Open { .. }
+        | Want::Create { .. }
+        | Want::Release { .. } => Ok(Names::new(alloc)),
+    }
+}
+
+/// The record of a request with that want and those terms.
+fn recorded(alloc: Global, want: Want, reservation: Reservation) -> Result<NewRequest, AllocError>
+    ensures { IfOk result (IsRecord want reservation) }
+{
+    let copy = copied(&want)?;
+    let copies = copies(alloc, &want, reservation.case)?;
+    let candidates = candidates(alloc, reservation.case)?;
+    let Reservation {
+        case,
+        held,
+        promise,
+        answer,
+        pins,
+        paths,
+    } = reservation;
+    let work = Work {
+        want,
+        case,
+        copy,
+        candidates,
+        copies,
+        held,
+        promise,
+        answer,
+    };
+    Ok(NewRequest { work, pins, paths })
+}

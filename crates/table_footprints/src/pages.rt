@@ -1,0 +1,96 @@
+//! What a page asks for: a folder, and names of which nothing is held.
+
+ghost use Rattle.std.specs.Prelude.{ℕ, ◌+◌, ◌*◌, ◌^◌, ◌<◌, ◌≤◌, ◌≡◌, ◌↔◌, ◌⊎◌, [], ◌∷◌, Some, Contains, IfOk, IfErr, OnOk, length};
+ghost use Rattle.tree.specs.Places.{IsTree, Leads, at_in};
+ghost use Rattle.table_footprints.specs.Asked.{IsUnsound};
+ghost use Rattle.table_footprints.specs.Gatherings.{IsBadFootprint, IsReservation, refusal_errno};
+ghost use Rattle.table_footprints.specs.Pages.{AddsName, IsPage};
+ghost use Rattle.table_footprints.specs.Footprints.{AtNode, page_names, page_footprint};
+
+use crate::footprints::{Hold, Location};
+use crate::found::{Found, expect_rooted, find};
+use crate::gatherings::{Gathering, Reservation};
+use crate::refusal::Refusal;
+use paths::Name;
+use std::alloc::{AllocError, Global};
+use table_requests::{Case, Pins};
+use tree::Tree;
+
+/// Pins the node that was found.
+pub(crate) fn pin_found(pins: &mut Pins, found: Option<u64>)
+    requires { 1 ≤ pins.old.room }
+    ensures room { pins.old.room ≤ pins.new.room + 1 }
+    ensures pins { (n : ℕ) → Contains pins.new.numbers n ↔ (Contains pins.old.numbers n ⊎ (found ≡ Some n)) }
+{
+    match found {
+        Some(node) => pins.add(node),
+        None => {}
+    }
+}
+
+/// Adds what was found at a name of which nothing is held.
+fn add_name(gathering: &mut Gathering, found: Found) -> Result<(), AllocError>
+    requires { 1 ≤ gathering.old.pins.room }
+    ensures { OnOk result (AddsName gathering.old found gathering.new) }
+{
+    let Found {
+        above: _,
+        path,
+        node,
+    } = found;
+    pin_found(&mut gathering.pins, node);
+    gathering.paths.push(path)?;
+    Ok(())
+}
+
+/// What is found at the folder, with room for so many names: what stands there and what is given are pinned.
+fn folder_draft(alloc: Global, tree: &Tree, folder: u64, names: usize) -> Result<Gathering, Refusal>
+    requires tree { IsTree (at_in tree.now) }
+    requires rooted { Leads (at_in tree.now) folder }
+    requires short { 2 * names + 2 < 2 ^ 64 }
+    ensures ok { IfOk result (IsPage (at_in tree.now) folder []) }
+    ensures room { IfOk result (λ gathering. 2 * names ≤ gathering.pins.room) }
+    ensures err { IfErr result (IsBadFootprint (at_in tree.now) (AtNode folder ∷ [])) }
+{
+    let mut gathering = Gathering::new(alloc, 2 * names + 2)?;
+    let found = find(alloc, tree, &Location::AtNode(folder))?;
+    gathering.add(alloc, folder, found, Hold::Shared)?;
+    Ok(gathering)
+}
+
+/// What is found at the folder and at the names.
+fn page_draft(alloc: Global, tree: &Tree, folder: u64, names: &[Name]) -> Result<Gathering, Refusal>
+    requires tree { IsTree (at_in tree.now) }
+    requires rooted { Leads (at_in tree.now) folder }
+    ensures ok { IfOk result (IsPage (at_in tree.now) folder (page_names folder names.now)) }
+    ensures room { IfOk result (λ gathering. length names.now ≤ gathering.pins.room) }
+    ensures err { IfErr result (IsBadFootprint (at_in tree.now) (AtNode folder ∷ page_names folder names.now)) }
+{
+    let mut gathering = folder_draft(alloc, tree, folder, names.len())?;
+    for name in names {
+        let found = find(alloc, tree, &Location::AtName(folder, name))?;
+        add_name(&mut gathering, found)?;
+    }
+    Ok(gathering)
+}
+
+/// What a page of these names asks for, if the tests of the nodes allow it.
+pub(crate) fn page_reservation(
+    alloc: Global,
+    tree: &Tree,
+    folder: u64,
+    names: &[Name],
+) -> Result<Reservation, Refusal>
+    ensures ok { IfOk result (λ reservation. (reservation.case ≡ Case.Plain) × IsReservation (at_in tree.now) (page_footprint folder names.now) reservation) }
+    ensures err { IfErr result (λ refusal. IsUnsound (at_in tree.now) (page_footprint folder names.now) (refusal_errno refusal)) }
+{
+    expect_rooted(tree, &[Location::AtNode(folder)])?;
+    let gathering = page_draft(alloc, tree, folder, names)?;
+    let reservation = gathering.into_reservation(
+        alloc,
+        Case::Plain,
+        names.len() as u64,
+        names.len(),
+    )?;
+    Ok(reservation)
+}

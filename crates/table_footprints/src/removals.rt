@@ -1,0 +1,146 @@
+//! What a name that goes asks for, since it is removed or replaced: it, and the names that its file may be hidden under, beside it.
+
+ghost use Rattle.std.specs.Prelude.{ℕ, ◌+◌, ◌++◌, ◌^◌, ◌≡◌, ◌<◌, ◌≤◌, ◌↔◌, ◌⊎◌, Some, Contains, IfOk, IfErr, OnOk, length, map};
+ghost use Rattle.table_files.specs.OpenEntry.{files_of};
+ghost use Rattle.tree.specs.Places.{IsNamed, IsTree, Lookup, at_in};
+ghost use Rattle.paths.specs.Prefixes.{Name as Spelt};
+ghost use Rattle.table_footprints.specs.Cases.{IsHidingCase, seen_of};
+ghost use Rattle.table_footprints.specs.Gatherings.{AreRooted, IsBadFootprint, refusal_errno, locations_of};
+ghost use Rattle.table_footprints.specs.Laws.{base_of};
+ghost use Rattle.table_footprints.specs.Removals.{AddsBeside, AreGoingTerms, IsGathered, IsGoing, IsRefusedGoing};
+ghost use Rattle.table_footprints.specs.Footprints.{hidden_in, hidden_names, names_under};
+
+use crate::footprints::{Hold, Location, UniformFootprint};
+use crate::found::{Found, expect_change, expect_rooted, find};
+use crate::gatherings::{Gathering, Reservation, gathering_of};
+use crate::pages::pin_found;
+use crate::refusal::Refusal;
+use hidden_names::{candidate, hidden_name};
+use paths::Name;
+use std::alloc::{AllocError, Global};
+use table_files::Files;
+use table_requests::{Case, Names};
+use tree::{Key, Tree};
+
+/// A name that goes, since it is removed or replaced.
+#[derive(Clone, Copy)]
+pub(crate) struct Gone<'a> {
+    pub(crate) parent: u64,
+    pub(crate) name: &'a Name,
+    /// Whether the file of the node that stands there is hidden while it is open.
+    pub(crate) may_hide: bool,
+}
+
+/// How many names a file may be hidden under.
+const CANDIDATES: u32 = 10;
+
+/// The node that stands at the name.
+fn standing(tree: &Tree, gone: &Gone) -> Result<Option<u64>, AllocError>
+    ensures { IfOk result (λ node. (n : ℕ) → (node ≡ Some n) ↔ IsNamed (at_in tree.now) n gone.now.parent gone.now.name.now) }
+{
+    let key = Key {
+        parent: gone.parent,
+        name: gone.name.copy()?,
+    };
+    Ok(tree.find(&key))
+}
+
+/// The case of a name that goes, by the node that was found there.
+fn hiding_case(files: &Files, counter: u32, may_hide: bool, found: Option<u64>) -> Case
+    ensures { (at : Lookup) (parent : ℕ) (name : Spelt) → IsTree at → ((n : ℕ) → (found ≡ Some n) ↔ IsNamed at n parent name) → IsHidingCase (record { at = at; files = (files_of files.now).at; counter = counter }) parent name may_hide result }
+{
+    let Some(number) = found else {
+        return Case::Plain;
+    };
+    if may_hide && files.is_open(number) {
+        Case::Hiding { number, counter }
+    } else {
+        Case::Plain
+    }
+}
+
+#[tactic(auto, unfolding(crate::specs::Footprints::hidden_names))]
+/// The names from that counter on that a file of the node may be hidden under.
+fn candidates_of(alloc: Global, number: u64, counter: u32) -> Result<Names, AllocError>
+    ensures { IfOk result (λ names. names ≡ hidden_names number counter 10) }
+{
+    let mut names = Vec::with_capacity(alloc, CANDIDATES as usize)?;
+    for i in 0..CANDIDATES {
+        names.push(hidden_name(alloc, number, candidate(counter, i))?)?;
+    }
+    Ok(Names::from_vec(names))
+}
+
+/// The names that a file may be hidden under in that case.
+pub(crate) fn candidates(alloc: Global, case: Case) -> Result<Names, AllocError>
+    ensures { IfOk result (λ names. names ≡ hidden_in case) }
+{
+    match case {
+        Case::Plain | Case::Absent | Case::Pathless | Case::Last => Ok(Names::new(alloc)),
+        Case::Hiding { number, counter } => candidates_of(alloc, number, counter),
+    }
+}
+
+/// Adds what was found at a name beside the one that goes.
+fn add_beside(gathering: &mut Gathering, found: Found) -> Result<(), AllocError>
+    requires { 1 ≤ gathering.old.pins.room }
+    ensures { OnOk result (AddsBeside gathering.old found gathering.new) }
+{
+    let Found {
+        above: _,
+        path,
+        node,
+    } = found;
+    pin_found(&mut gathering.pins, node);
+    gathering.exclusive.push(path.copy()?)?;
+    gathering.paths.push(path)?;
+    Ok(())
+}
+
+/// What is found at the footprint's locations, and at the names beside the one that goes.
+fn gathered(
+    alloc: Global,
+    tree: &Tree,
+    footprint: &UniformFootprint,
+    folder: u64,
+    beside: &[Name],
+) -> Result<Gathering, Refusal>
+    requires tree { IsTree (at_in tree.now) }
+    requires rooted { AreRooted (at_in tree.now) (locations_of footprint.now) }
+    requires few { length footprint.now.locations.now ≤ 2 }
+    requires exclusive { footprint.now.hold ≡ Hold.Exclusive }
+    requires under { Contains (map (λ l. base_of l) (locations_of footprint.now)) folder }
+    ensures ok { IfOk result (IsGathered (at_in tree.now) (locations_of footprint.now) (locations_of footprint.now ++ names_under folder beside.now)) }
+    ensures err { IfErr result (IsBadFootprint (at_in tree.now) (locations_of footprint.now ++ names_under folder beside.now)) }
+{
+    let mut gathering = gathering_of(alloc, tree, footprint, beside.len())?;
+    for other in beside {
+        let found = find(alloc, tree, &Location::AtName(folder, other))?;
+        add_beside(&mut gathering, found)?;
+    }
+    Ok(gathering)
+}
+
+/// What the footprint of a name that goes asks for, if the tests of the nodes allow it.
+pub(crate) fn going_reservation(
+    alloc: Global,
+    tree: &Tree,
+    files: &Files,
+    counter: u32,
+    footprint: &UniformFootprint,
+    gone: &Gone,
+) -> Result<Reservation, Refusal>
+    requires { IsGoing footprint.now gone.now }
+    ensures ok { IfOk result (AreGoingTerms (seen_of tree.now files.now counter) footprint.now gone.now) }
+    ensures err { IfErr result (λ refusal. IsRefusedGoing (seen_of tree.now files.now counter) footprint.now gone.now (refusal_errno refusal)) }
+{
+    let _files = files.len();
+    expect_rooted(tree, footprint.locations)?;
+    let found = standing(tree, gone)?;
+    let case = hiding_case(files, counter, gone.may_hide, found);
+    let beside = candidates(alloc, case)?;
+    let gathering = gathered(alloc, tree, footprint, gone.parent, beside.as_slice())?;
+    expect_change(footprint.change, gathering.paths.as_slice())?;
+    let reservation = gathering.into_reservation(alloc, case, 0, 0)?;
+    Ok(reservation)
+}

@@ -1,0 +1,22 @@
+use Rattle.std.proofs.Common.{◌<◌, length, arith}
+use Rattle.ledger.specs.declared.postings.Posting.TheVariants.{Born}
+use Rattle.table_image.proofs.Balance.{one_more}
+use Rattle.table_image.proofs.lawful.postings.count_in_all.Goals as goal
+
+pub overflow_add-left : goal.overflow_add-left
+overflow_add-left c =
+    let within : c.loop-posting.posting-index < length c.args.postings.now = omega arith in
+    let more = one_more c.args.postings.now c.loop-posting.posting-index (Born 0 0) within c.requires in
+    record { fits = omega (arith, more.entries, more.short, c.loop-posting.invariant, c.made-left.ensures) }
+
+pub overflow_sub-left : goal.overflow_sub-left
+overflow_sub-left c =
+    let within : c.loop-posting.posting-index < length c.args.postings.now = omega arith in
+    let more = one_more c.args.postings.now c.loop-posting.posting-index (Born 0 0) within c.requires in
+    omega (arith, more.entries, more.gifts, more.covered, c.loop-posting.invariant, c.made-left.ensures, c.taken-left.ensures)
+
+pub loop-posting-preserved : goal.loop-posting-preserved
+loop-posting-preserved c =
+    let within : c.loop-posting.posting-index < length c.args.postings.now = omega arith in
+    let more = one_more c.args.postings.now c.loop-posting.posting-index (Born 0 0) within c.requires in
+    omega (arith, more.entries, more.gifts, more.covered, c.loop-posting.invariant, c.made-left.ensures, c.taken-left.ensures)

@@ -1,0 +1,10 @@
+pub mod ById
+pub mod Lookups
+pub mod Summing
+mod CountedPins
+mod InTheWay
+mod Kept
+mod NextIds
+mod PinCounting
+mod Stepping
+mod Under

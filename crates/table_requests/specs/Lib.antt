@@ -1,0 +1,4 @@
+pub mod Roomy
+pub mod PinCounts
+pub mod RequestMaps
+pub mod Listed

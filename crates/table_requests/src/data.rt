@@ -1,0 +1,311 @@
+//! The data of a request in flight.
+
+ghost use Rattle.std.specs.Prelude.{◌≡◌, ◌==◌, ◌+◌, ◌-◌, ◌<◌, [], ◌∷◌, ◌++◌, IfOk, Some, length, count_by, is_some};
+ghost use Rattle.std.specs.List.{list_any};
+
+use crate::names::Names;
+use holds::Held;
+use paths::{Name, Path};
+use std::alloc::{AllocError, Global};
+use std::marker::Model;
+use table_files::{Access, Need};
+
+/// The handle of an open file, and what it is used for.
+#[derive(Clone, Copy, Debug, PartialEq, Eq)]
+pub struct Handle {
+    pub fh: u64,
+    pub need: Need,
+}
+
+/// What a request is begun with.
+#[derive(Drop)]
+pub enum Want {
+    /// A node (GETATTR), and the open file that it is used by, if one is (READ, WRITE, FSYNC, SETATTR with a handle).
+    Node {
+        number: u64,
+        handle: Option<Handle>,
+    },
+    /// A name under a parent (LOOKUP).
+    Name {
+        parent: u64,
+        name: Name,
+    },
+    /// A name to be removed, whatever stands there (UNLINK, RMDIR).
+    Remove {
+        parent: u64,
+        name: Name,
+        /// Whether a file that is open may be hidden instead.
+        may_hide: bool,
+    },
+    /// A name to be moved to another, whatever stands at either (RENAME).
+    Move {
+        parent: u64,
+        name: Name,
+        new_parent: u64,
+        new_name: Name,
+    },
+    /// Names in a folder (READDIRPLUS).
+    Page {
+        folder: u64,
+        names: Names,
+    },
+    /// A file to be opened (OPEN).
+    Open {
+        number: u64,
+        access: Access,
+    },
+    /// A file to be made and opened (CREATE).
+    Create {
+        parent: u64,
+        name: Name,
+        access: Access,
+    },
+    /// An open file of a node to be closed (RELEASE).
+    Release {
+        number: u64,
+        fh: u64,
+    },
+}
+
+/// What a request's footprint takes from the table besides its want, as the table stood when the request began.
+#[derive(Clone, Copy, Debug, PartialEq, Eq)]
+pub enum Case {
+    /// Nothing, or a node stands at the name for which an entry may be given.
+    Plain,
+    /// No node stands at that name.
+    Absent,
+    /// The node whose file is closed has no path, or one that is longer than 4,096 bytes.
+    Pathless,
+    /// The node whose file is closed has a hidden mark and a path that is not longer, and no other file of it is open: it is removed.
+    Last,
+    /// The node that stands at the name which goes has an open file, which may be hidden.
+    Hiding {
+        number: u64,
+        /// The counter of the first name that it may be hidden under.
+        counter: u32,
+    },
+}
+
+/// What a request may still add, kept free for it from its begin to its finish.
+#[derive(Clone, Copy, Debug, PartialEq, Eq)]
+pub struct Promise {
+    /// Nodes that it may bear.
+    pub nodes: u64,
+    /// Postings that it may make, with those by which they are taken back.
+    pub postings: u64,
+    /// Files that it may open, each under a handle of its own.
+    pub files: u64,
+}
+
+impl Promise {
+    /// Nothing is promised.
+    pub const NONE: Promise = Promise {
+        nodes: 0,
+        postings: 0,
+        files: 0,
+    };
+}
+
+/// A node that was given to the client.
+#[derive(Clone, Copy, Debug, PartialEq, Eq)]
+pub struct Given {
+    /// The inode number.
+    pub number: u64,
+    pub generation: u64,
+}
+
+/// For each name of a request the node that was given for it, with room for more.
+#[derive(Drop)]
+pub struct Givens {
+    given: Vec<Option<Given>>,
+}
+
+impl Model for Givens {
+    ghost use Rattle.std.specs.Prelude.{◌-◌, vec_len, vec_capacity};
+    ghost use Rattle.table_requests.specs.Roomy.{Listed};
+
+    ghost Value = { Listed };
+
+    ghost view = { λ g. record { items = g.given.items; room = vec_capacity g.given - vec_len g.given } };
+}
+
+impl Givens {
+    /// None, without memory.
+    pub fn new(alloc: Global) -> Givens
+        ensures { result.items ≡ [] }
+    {
+        Givens {
+            given: Vec::new(alloc),
+        }
+    }
+
+    /// None yet, with room for so many.
+    pub fn with_capacity(alloc: Global, capacity: usize) -> Result<Givens, AllocError>
+        ensures { IfOk result (λ g. g ≡ record { items = []; room = capacity }) }
+    {
+        let given = Vec::with_capacity(alloc, capacity)?;
+        Ok(Givens { given })
+    }
+
+    /// Adds what is given for the next name, for which there is room.
+    pub fn add(&mut self, given: Option<Given>)
+        requires { 0 < self.old.room }
+        ensures { self.new ≡ record { items = self.old.items ++ given ∷ []; room = self.old.room - 1 } }
+    {
+        self.given.push_reserved(given);
+    }
+
+    /// What is given for each name.
+    pub fn as_slice(&self) -> &[Option<Given>]
+        ensures { result.now ≡ self.now.items }
+    {
+        self.given.as_slice()
+    }
+
+    /// How many nodes are given.
+    pub fn entries(&self) -> u64
+        ensures { result ≡ count_by (λ g. is_some g) self.now.items }
+    {
+        self.given.iter().filter(|g| g.is_some()).count() as u64
+    }
+}
+
+/// Numbers of nodes that a request pins, with room for more.
+#[derive(Drop)]
+pub struct Pins {
+    numbers: Vec<u64>,
+}
+
+impl Model for Pins {
+    ghost use Rattle.std.specs.Prelude.{◌-◌, vec_len, vec_capacity};
+    ghost use Rattle.table_requests.specs.Roomy.{Pinned};
+
+    ghost Value = { Pinned };
+
+    ghost view = { λ p. record { numbers = p.numbers.items; room = vec_capacity p.numbers - vec_len p.numbers } };
+}
+
+impl Pins {
+    /// None yet, with room for so many.
+    pub fn with_capacity(alloc: Global, capacity: usize) -> Result<Pins, AllocError>
+        ensures { IfOk result (λ p. p ≡ record { numbers = []; room = capacity }) }
+    {
+        let numbers = Vec::with_capacity(alloc, capacity)?;
+        Ok(Pins { numbers })
+    }
+
+    /// Adds a number, for which there is room.
+    pub fn add(&mut self, number: u64)
+        requires { 0 < self.old.room }
+        ensures { self.new ≡ record { numbers = self.old.numbers ++ number ∷ []; room = self.old.room - 1 } }
+    {
+        self.numbers.push_reserved(number);
+    }
+
+    /// The numbers, in the order in which they were added.
+    pub fn as_slice(&self) -> &[u64]
+        ensures { result.now ≡ self.now.numbers }
+    {
+        self.numbers.as_slice()
+    }
+
+    /// Whether the number is one of them.
+    pub fn contains(&self, number: u64) -> bool
+        ensures { result ≡ list_any (λ m. m == number) self.now.numbers }
+    {
+        self.numbers.iter().any(|m| *m == number)
+    }
+}
+
+/// What is still to do for a request.
+#[derive(Drop)]
+pub struct Work {
+    pub want: Want,
+    pub case: Case,
+    /// The name that the want may give to a node, once more: a node is put into the tree under two keys.
+    pub copy: Option<Name>,
+    /// The names that an open file may be hidden under.
+    pub candidates: Names,
+    /// The names of its page, or those candidates, once more, for the same reason.
+    pub copies: Names,
+    /// The names that others have to wait for.
+    pub held: Held,
+    pub promise: Promise,
+    /// Where its answer is put, so that the end of the work takes no memory.
+    pub answer: Givens,
+}
+
+/// How far a request has come.
+#[derive(Drop)]
+pub enum Stage {
+    /// It was begun, and its work goes on.
+    Working(Work),
+    /// Its work has ended, and its reply is not settled yet.
+    Answered,
+}
+
+impl Stage {
+    ghost use Rattle.std.specs.Prelude.{◌↔◌, IsTrue};
+    ghost use Rattle.table_requests.specs.RequestMaps.{files_promised, is_working, nodes_promised, postings_promised, IsInTheWay, has_exclusive, has_shared};
+
+    /// Whether the request is worked on, and what it holds conflicts with these names.
+    pub fn conflicts_with(&self, wanted: &Held) -> bool
+        ensures { IsTrue result ↔ IsInTheWay self.now wanted.now }
+    {
+        match self {
+            Stage::Working(work) => work.held.conflicts_with(wanted),
+            Stage::Answered => false,
+        }
+    }
+
+    /// Whether the request is worked on, and shares the path.
+    pub fn shares(&self, path: &Path) -> bool
+        ensures { result ≡ has_shared self.now path.now }
+    {
+        match self {
+            Stage::Working(work) => work.held.shared.contains(path),
+            Stage::Answered => false,
+        }
+    }
+
+    /// Whether the request is worked on, and holds the path for itself.
+    pub fn holds_exclusively(&self, path: &Path) -> bool
+        ensures { result ≡ has_exclusive self.now path.now }
+    {
+        match self {
+            Stage::Working(work) => work.held.exclusive.contains(path),
+            Stage::Answered => false,
+        }
+    }
+
+    /// Whether the request is worked on.
+    pub fn is_working(&self) -> bool
+        ensures { result ≡ is_working self.now }
+    {
+        matches!(self, Stage::Working(_))
+    }
+
+    /// What the request may still add.
+    pub fn promise(&self) -> Promise
+        ensures nodes { result.nodes ≡ nodes_promised self.now }
+        ensures postings { result.postings ≡ postings_promised self.now }
+        ensures files { result.files ≡ files_promised self.now }
+    {
+        match self {
+            Stage::Working(work) => work.promise,
+            Stage::Answered => Promise::NONE,
+        }
+    }
+}
+
+/// A request in flight.
+#[derive(Drop)]
+pub struct RequestInFlight {
+    /// Tells it from the others of its table.
+    pub id: u64,
+    /// The number that the client gave the request.
+    pub unique: u64,
+    pub stage: Stage,
+    /// The nodes that may not go before it is settled.
+    pub pins: Pins,
+}

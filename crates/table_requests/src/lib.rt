@@ -1,0 +1,13 @@
+//! The requests in flight: what each was begun with, the nodes that it pins, and what it may still add.
+#![tactic(auto)]
+
+mod data;
+mod exclusive_holders;
+mod listed;
+mod names;
+mod pin_counts;
+mod request_maps;
+
+pub use data::{Case, Given, Givens, Handle, Pins, Promise, RequestInFlight, Stage, Want, Work};
+pub use names::Names;
+pub use request_maps::RequestsInFlight;

@@ -1,0 +1,197 @@
+//! The requests in flight as a list of them, each step on its own.
+
+ghost use Rattle.std.specs.Prelude.{true, false, ◌≡◌, nat_eq, if◌then◌else◌, ◌<◌, ◌≤◌, ◌+◌, ◌^◌, ◌↔◌, ℕ, None, Some, IfNone, IfSome, IsTrue, count_by, length, slice_get, slice_set, slice_index_or, vec_len, vec_capacity};
+ghost use Rattle.std.specs.List.{remove};
+ghost use Rattle.table_requests.specs.declared.data.RequestInFlight.{RequestInFlight};
+ghost use Rattle.table_requests.specs.declared.data.Stage.TheVariants as Stage;
+ghost use Rattle.table_requests.specs.RequestMaps.{is_working, answered, pinning, HasNoneWorking, HasNoneAnswered, Answers, PinsMore, Goes, HoldsUp, has_exclusive, has_shared};
+ghost use Rattle.table_requests.specs.Listed.{flight_in, in_flight, requests_of, AreBelow, HaveOwnIds};
+ghost use Rattle.table_requests.specs.PinCounts.{pins_in, times};
+
+use crate::data::{Pins, RequestInFlight, Stage, Work};
+use holds::Held;
+use paths::Path;
+use std::mem;
+
+/// The place of the request in the list. Where ids rise, as they do where each is the next one, that takes as many steps
+/// as the number of requests has binary digits.
+fn index_of(flights: &[RequestInFlight], id: u64) -> Option<usize>
+    requires { HaveOwnIds flights.now }
+    ensures none { IfNone result (flight_in flights.now id ≡ None) }
+    ensures within { IfSome result (λ i. i < length flights.now) }
+    ensures found { IfSome result (λ i. slice_get flights.now i ≡ flight_in flights.now id) }
+{
+    let i = flights.partition_point(|f| f.id < id);
+    if i < flights.len() && flights[i].id == id {
+        return Some(i);
+    }
+    walk_to(flights, id)
+}
+
+/// The place of the request in the list, in whatever order it stands.
+fn walk_to(flights: &[RequestInFlight], id: u64) -> Option<usize>
+    ensures none { IfNone result (flight_in flights.now id ≡ None) }
+    ensures within { IfSome result (λ i. i < length flights.now) }
+    ensures found { IfSome result (λ i. slice_get flights.now i ≡ flight_in flights.now id) }
+{
+    for (i, flight) in flights.iter().enumerate() {
+        if flight.id == id {
+            return Some(i);
+        }
+    }
+    None
+}
+
+/// Whether one of the requests is in the way of these names.
+pub fn holds_up(flights: &[RequestInFlight], wanted: &Held) -> bool
+    requires { HaveOwnIds flights.now }
+    ensures { IsTrue result ↔ HoldsUp (flight_in flights.now) wanted.now }
+{
+    for flight in flights {
+        if flight.stage.conflicts_with(wanted) {
+            return true;
+        }
+    }
+    false
+}
+
+/// How many of the requests that are worked on share the path.
+pub fn shared_on(flights: &[RequestInFlight], path: &Path) -> u64
+    ensures { result ≡ count_by (λ (f : RequestInFlight). has_shared f.stage path.now) flights.now }
+{
+    let mut count = 0;
+    for flight in flights {
+        if flight.stage.shares(path) {
+            count += 1;
+        }
+    }
+    count
+}
+
+/// How many of the requests that are worked on hold the path for themselves.
+pub fn exclusive_on(flights: &[RequestInFlight], path: &Path) -> u64
+    ensures { result ≡ count_by (λ (f : RequestInFlight). has_exclusive f.stage path.now) flights.now }
+{
+    let mut count = 0;
+    for flight in flights {
+        if flight.stage.holds_exclusively(path) {
+            count += 1;
+        }
+    }
+    count
+}
+
+/// Ends the work on the request at that place, and gives it back.
+fn end_work_at(flights: &mut Vec<RequestInFlight>, i: usize) -> Option<Work>
+    requires { i < vec_len flights.old }
+    ensures none { IfNone result ((d : RequestInFlight) → (slice_index_or flights.old.items i d).stage ≡ Stage.Answered) }
+    ensures some { IfSome result (λ work. (d : RequestInFlight) → (slice_index_or flights.old.items i d).stage ≡ Stage.Working work) }
+    ensures items { (d : RequestInFlight) → flights.new.items ≡ slice_set flights.old.items i (answered (slice_index_or flights.old.items i d)) }
+    ensures len { vec_len flights.new ≡ vec_len flights.old }
+    ensures capacity { vec_capacity flights.new ≡ vec_capacity flights.old }
+{
+    let flight = &mut flights[i];
+    match mem::replace(&mut flight.stage, Stage::Answered) {
+        Stage::Working(work) => Some(work),
+        Stage::Answered => None,
+    }
+}
+
+/// Ends the work on the request, and gives it back.
+pub fn end_work(flights: &mut Vec<RequestInFlight>, id: u64) -> Option<Work>
+    requires { HaveOwnIds flights.old.items }
+    ensures none { IfNone result (HasNoneWorking (flight_in flights.old.items) id) }
+    ensures same { IfNone result (flights.new.items ≡ flights.old.items) }
+    ensures some { IfSome result (λ work. Answers (requests_of (in_flight flights.old)) id work (requests_of (in_flight flights.new))) }
+    ensures pinned { (n : ℕ) → pins_in flights.new.items n ≡ pins_in flights.old.items n }
+    ensures apart { HaveOwnIds flights.new.items }
+    ensures below { (n : ℕ) → AreBelow n (flight_in flights.old.items) → AreBelow n (flight_in flights.new.items) }
+    ensures len { vec_len flights.new ≡ vec_len flights.old }
+    ensures capacity { vec_capacity flights.new ≡ vec_capacity flights.old }
+{
+    let i = index_of(flights.as_slice(), id)?;
+    end_work_at(flights, i)
+}
+
+/// Pins one more number for the request at that place.
+fn pin_at(flights: &mut Vec<RequestInFlight>, i: usize, number: u64)
+    requires within { i < vec_len flights.old }
+    requires room { (d : RequestInFlight) → 0 < (slice_index_or flights.old.items i d).pins.room }
+    ensures items { (d : RequestInFlight) → flights.new.items ≡ slice_set flights.old.items i (pinning (slice_index_or flights.old.items i d) number) }
+    ensures len { vec_len flights.new ≡ vec_len flights.old }
+    ensures capacity { vec_capacity flights.new ≡ vec_capacity flights.old }
+{
+    let flight = &mut flights[i];
+    flight.pins.add(number);
+}
+
+/// Pins one more number for the request.
+pub fn pin_for(flights: &mut Vec<RequestInFlight>, id: u64, number: u64)
+    requires apart { HaveOwnIds flights.old.items }
+    requires room { (f : RequestInFlight) × (flight_in flights.old.items id ≡ Some f) × (0 < f.pins.room) }
+    ensures pins { (f : RequestInFlight) → flight_in flights.old.items id ≡ Some f → PinsMore (requests_of (in_flight flights.old)) id f number (requests_of (in_flight flights.new)) }
+    ensures pinned { (n : ℕ) → pins_in flights.new.items n ≡ pins_in flights.old.items n + (if nat_eq number n then 1 else 0) }
+    ensures apart { HaveOwnIds flights.new.items }
+    ensures below { (n : ℕ) → AreBelow n (flight_in flights.old.items) → AreBelow n (flight_in flights.new.items) }
+    ensures len { vec_len flights.new ≡ vec_len flights.old }
+    ensures capacity { vec_capacity flights.new ≡ vec_capacity flights.old }
+{
+    match index_of(flights.as_slice(), id) {
+        Some(i) => pin_at(flights, i, number),
+        None => unreachable!(),
+    }
+}
+
+/// Takes the request at that place out if it was answered, and gives its pins.
+fn take_at(flights: &mut Vec<RequestInFlight>, i: usize) -> Option<Pins>
+    requires { i < vec_len flights.old }
+    ensures none { IfNone result ((d : RequestInFlight) → is_working (slice_index_or flights.old.items i d).stage ≡ true) }
+    ensures same { IfNone result (flights.new.items ≡ flights.old.items) }
+    ensures answered { IfSome result (λ _. (d : RequestInFlight) → (slice_index_or flights.old.items i d).stage ≡ Stage.Answered) }
+    ensures pins { IfSome result (λ pins. (d : RequestInFlight) → (slice_index_or flights.old.items i d).pins ≡ pins) }
+    ensures items { IfSome result (λ _. flights.new.items ≡ remove flights.old.items i) }
+    ensures capacity { vec_capacity flights.new ≡ vec_capacity flights.old }
+{
+    let flight = &flights[i];
+    if flight.stage.is_working() {
+        return None;
+    }
+    let flight = flights.remove(i);
+    Some(flight.pins)
+}
+
+/// Takes an answered request out, and gives its pins.
+pub fn take_answered(flights: &mut Vec<RequestInFlight>, id: u64) -> Option<Pins>
+    requires { HaveOwnIds flights.old.items }
+    ensures none { IfNone result (HasNoneAnswered (flight_in flights.old.items) id) }
+    ensures same { IfNone result (flights.new.items ≡ flights.old.items) }
+    ensures some { IfSome result (λ pins. Goes (requests_of (in_flight flights.old)) id pins.numbers (requests_of (in_flight flights.new))) }
+    ensures pinned { IfSome result (λ pins. (n : ℕ) → pins_in flights.new.items n + times n pins.numbers ≡ pins_in flights.old.items n) }
+    ensures apart { HaveOwnIds flights.new.items }
+    ensures below { (n : ℕ) → AreBelow n (flight_in flights.old.items) → AreBelow n (flight_in flights.new.items) }
+    ensures capacity { vec_capacity flights.new ≡ vec_capacity flights.old }
+{
+    let i = index_of(flights.as_slice(), id)?;
+    take_at(flights, i)
+}
+
+/// A number above this one and above the id, but for the greatest number, which says that none is known.
+pub fn next_after(next: u64, id: u64) -> u64
+    ensures more { next ≤ result }
+    ensures above { result + 1 < 2 ^ 64 → id < result }
+{
+    next.max(id.saturating_add(1))
+}
+
+/// The least number that is the id of none.
+pub fn least_free(flights: &[RequestInFlight]) -> u64
+    requires apart { HaveOwnIds flights.now }
+    requires short { length flights.now + 1 < 2 ^ 64 }
+    ensures free { flight_in flights.now result ≡ None }
+{
+    let mut id = 0;
+    while let Some(_place) = index_of(flights, id) {
+        id += 1;
+    }
+    id
+}

@@ -1,0 +1,216 @@
+//! The requests in flight, with the totals of what is promised to them.
+
+ghost use Rattle.std.specs.Prelude.{true, false, ◌≡◌, ◌≢◌, ◌<◌, ◌≤◌, ◌+◌, ◌^◌, ◌++◌, ◌∷◌, [], ℕ, None, Some, IfNone, IfSome, IsOk, OnOk, IsTrue, AllPairs, ◌↔◌, option_copied, count_by, length};
+ghost use Rattle.table_requests.specs.declared.data.RequestInFlight.{RequestInFlight};
+ghost use Rattle.table_requests.specs.RequestMaps.{files_promised, no_requests, nodes_promised, postings_promised, IsFlying, IsTallied, HasNoneWorking, HasNoneAnswered, Adds, Answers, PinsMore, Goes, HoldsUp, IsHeldByOne, has_exclusive, has_shared};
+ghost use Rattle.table_requests.specs.Listed.{requests_of, flight_in, pinned_in};
+
+use crate::data::{Pins, Promise, RequestInFlight, Work};
+use crate::exclusive_holders::is_held_exclusively;
+use crate::listed::{
+    end_work, exclusive_on, holds_up, least_free, next_after, pin_for, shared_on, take_answered,
+};
+use crate::pin_counts::{PinCounts, count, count_all, count_of, make_room, no_pins, uncount_all};
+use holds::Held;
+use paths::{Name, Path};
+use std::alloc::{AllocError, Global};
+use std::marker::Model;
+
+/// The requests in flight, each under an id of its own.
+#[derive(Drop)]
+pub struct RequestsInFlight {
+    flights: Vec<RequestInFlight>,
+    pinned: PinCounts,
+    promised: Promise,
+    /// Above all ids, or the greatest number if such a one is not known.
+    next: u64,
+}
+
+impl Model for RequestsInFlight {
+    ghost use Rattle.table_requests.specs.Listed.{InFlight, in_flight, IsTotalled};
+
+    ghost Value = { InFlight };
+
+    ghost view = { λ a. in_flight a.flights };
+
+    ghost invariant = { λ a. IsTotalled a.flights.items a.pinned a.promised a.next };
+}
+
+#[tactic(auto, using(crate::proofs::Kept::IsFlying_listed), unfolding(crate::specs::Listed::requests_of))]
+impl RequestsInFlight {
+    /// None in flight.
+    pub fn new(alloc: Global) -> RequestsInFlight
+        ensures at { (requests_of result).at ≡ no_requests }
+        ensures pinned { (requests_of result).pinned ≡ (λ _. false) }
+        ensures many { (requests_of result).many ≡ 0 }
+        ensures nodes { (requests_of result).nodes ≡ 0 }
+        ensures postings { (requests_of result).postings ≡ 0 }
+        ensures files { (requests_of result).files ≡ 0 }
+        ensures law { IsFlying (requests_of result) }
+    {
+        RequestsInFlight {
+            flights: Vec::new(alloc),
+            pinned: no_pins(alloc),
+            promised: Promise::NONE,
+            next: 0,
+        }
+    }
+
+    /// How many are in flight.
+    pub fn len(&self) -> usize
+        ensures many { result ≡ (requests_of self.now).many }
+        ensures law { IsFlying (requests_of self.now) }
+    {
+        self.flights.len()
+    }
+
+    /// What is promised to all of them together.
+    pub fn promised(&self) -> Promise
+        ensures nodes { result.nodes ≡ (requests_of self.now).nodes }
+        ensures postings { result.postings ≡ (requests_of self.now).postings }
+        ensures files { result.files ≡ (requests_of self.now).files }
+        ensures tallied { IsTallied (requests_of self.now) }
+        ensures law { IsFlying (requests_of self.now) }
+    {
+        self.promised
+    }
+
+    /// A number that is the id of none.
+    pub fn free_id(&self) -> u64
+        ensures free { (requests_of self.now).at result ≡ None }
+        ensures law { IsFlying (requests_of self.now) }
+    {
+        if self.next < u64::MAX {
+            self.next
+        } else {
+            least_free(&self.flights)
+        }
+    }
+
+    /// Whether one of them pins the number.
+    pub fn pins(&self, number: u64) -> bool
+        ensures pinned { result ≡ (requests_of self.now).pinned number }
+        ensures law { IsFlying (requests_of self.now) }
+    {
+        if count_of(&self.pinned, number) > 0 {
+            return true;
+        }
+        if self.pinned.loose == 0 {
+            return false;
+        }
+        self.flights.iter().any(|f| f.pins.contains(number))
+    }
+
+    /// Whether one that is worked on holds a name that is in the way of these.
+    pub fn holds_up(&self, wanted: &Held) -> bool
+        ensures held { IsTrue result ↔ HoldsUp (requests_of self.now).at wanted.now }
+        ensures law { IsFlying (requests_of self.now) }
+    {
+        holds_up(&self.flights, wanted)
+    }
+
+    /// Whether one that is worked on holds the name under the parent's path for itself.
+    pub fn holds_exclusively(&self, parent: &Path, name: &Name) -> bool
+        ensures owned { IsTrue result ↔ IsHeldByOne (requests_of self.now).at (parent.now ++ name.now ∷ []) }
+        ensures law { IsFlying (requests_of self.now) }
+    {
+        is_held_exclusively(&self.flights, parent, name)
+    }
+
+    /// How many of those that are worked on share the path.
+    pub fn shared_on(&self, path: &Path) -> u64
+        ensures { result ≡ count_by (λ (f : RequestInFlight). has_shared f.stage path.now) self.now.flights }
+    {
+        shared_on(&self.flights, path)
+    }
+
+    /// How many of those that are worked on hold the path for themselves.
+    pub fn exclusive_on(&self, path: &Path) -> u64
+        ensures { result ≡ count_by (λ (f : RequestInFlight). has_exclusive f.stage path.now) self.now.flights }
+    {
+        exclusive_on(&self.flights, path)
+    }
+
+    /// Makes room for one more.
+    pub fn reserve(&mut self) -> Result<(), AllocError>
+        ensures ok { OnOk result (0 < (requests_of self.new).room) }
+        ensures had_room { 0 < (requests_of self.old).room → IsOk result }
+        ensures same { requests_of self.new ≡ record (requests_of self.old) { room = (requests_of self.new).room } }
+        ensures room { (requests_of self.old).room ≤ (requests_of self.new).room }
+        ensures law { IsFlying (requests_of self.new) }
+    {
+        make_room(&mut self.pinned);
+        self.flights.reserve(1)
+    }
+
+    /// Adds a request, for which there is room.
+    pub fn add(&mut self, flight: RequestInFlight)
+        requires room { 0 < (requests_of self.old).room }
+        requires fresh { (requests_of self.old).at flight.id ≡ None }
+        requires nodes { (requests_of self.old).nodes + nodes_promised flight.stage < 2 ^ 64 }
+        requires postings { (requests_of self.old).postings + postings_promised flight.stage < 2 ^ 64 }
+        requires files { (requests_of self.old).files + files_promised flight.stage < 2 ^ 64 }
+        ensures adds { Adds (requests_of self.old) flight (requests_of self.new) }
+        ensures room { (requests_of self.old).room ≤ (requests_of self.new).room + 1 }
+        ensures law { IsFlying (requests_of self.new) }
+    {
+        let promise = flight.stage.promise();
+        self.promised.nodes += promise.nodes;
+        self.promised.postings += promise.postings;
+        self.promised.files += promise.files;
+        self.next = next_after(self.next, flight.id);
+        count_all(&mut self.pinned, flight.pins.as_slice());
+        self.flights.push_reserved(flight);
+    }
+
+    /// Ends the work on the request and gives it back, if one is worked on under the id.
+    /// The request keeps its pins and is promised nothing more.
+    pub fn answer(&mut self, id: u64) -> Option<Work>
+        ensures none { IfNone result (HasNoneWorking (requests_of self.old).at id) }
+        ensures same { IfNone result (self.new ≡ self.old) }
+        ensures some { IfSome result (λ work. Answers (requests_of self.old) id work (requests_of self.new)) }
+        ensures room { (requests_of self.new).room ≡ (requests_of self.old).room }
+        ensures law { IsFlying (requests_of self.new) }
+    {
+        let work = end_work(&mut self.flights, id)?;
+        self.promised.nodes -= work.promise.nodes;
+        self.promised.postings -= work.promise.postings;
+        self.promised.files -= work.promise.files;
+        Some(work)
+    }
+
+    /// Pins one more number for the request, which has room for it.
+    pub fn pin(&mut self, id: u64, number: u64)
+        requires { (f : RequestInFlight) × ((requests_of self.old).at id ≡ Some f) × (0 < f.pins.room) }
+        ensures pins { (f : RequestInFlight) → (requests_of self.old).at id ≡ Some f → PinsMore (requests_of self.old) id f number (requests_of self.new) }
+        ensures room { (requests_of self.new).room ≡ (requests_of self.old).room }
+        ensures law { IsFlying (requests_of self.new) }
+    {
+        pin_for(&mut self.flights, id, number);
+        count(&mut self.pinned, number);
+    }
+
+    /// Takes the request out and gives its pins, if one was answered under the id.
+    pub fn take(&mut self, id: u64) -> Option<Pins>
+        ensures none { IfNone result (HasNoneAnswered (requests_of self.old).at id) }
+        ensures same { IfNone result (self.new ≡ self.old) }
+        ensures some { IfSome result (λ pins. Goes (requests_of self.old) id pins.numbers (requests_of self.new)) }
+        ensures room { (requests_of self.old).room ≤ (requests_of self.new).room }
+        ensures law { IsFlying (requests_of self.new) }
+    {
+        let pins = take_answered(&mut self.flights, id)?;
+        uncount_all(&mut self.pinned, pins.as_slice());
+        Some(pins)
+    }
+
+    /// All of them, in some order.
+    pub fn as_slice(&self) -> &[RequestInFlight]
+        ensures at { flight_in result.now ≡ (requests_of self.now).at }
+        ensures pinned { pinned_in result.now ≡ (requests_of self.now).pinned }
+        ensures many { length result.now ≡ (requests_of self.now).many }
+        ensures apart { AllPairs (λ (f g : RequestInFlight). f.id ≢ g.id) result.now }
+        ensures law { IsFlying (requests_of self.now) }
+    {
+        self.flights.as_slice()
+    }
+}

@@ -1,4 +1,0 @@
-use Rattle.table_rows.proofs.teller.stranger.Given as goal
-
-abbrev pub ghosts-stranger_on : goal.ghosts-stranger_on
-ghosts-stranger_on a = record { names = a.blanks }

@@ -1,0 +1,183 @@
+//! Lists of calls, and what each told.
+
+ghost use Rattle.std.specs.Prelude.{ℕ, ◌≡◌, ◌+◌, ◌++◌, List, OnOk, OnErr, IfOk, length, drop, take};
+ghost use Rattle.ledger.specs.Shares.{plus};
+ghost use Rattle.ledger.specs.Sums.{totals_of};
+ghost use Rattle.table_steps.specs.Answers.{Answer};
+ghost use Rattle.table_steps.specs.Kept.{world_of};
+ghost use Rattle.table_steps.specs.Steps.{gained};
+ghost use Rattle.table_steps.specs.World.{IsLawfulWorld};
+ghost use Rattle.table_runs.specs.declared.calls.Call.TheVariants as Call;
+ghost use Rattle.table_runs.specs.Runs.{ChangesNothing, IsCurrentAt, IsStep, Runs};
+
+use crate::pending::{Pending, Started, copy_of};
+use ledger::{Ledgers, Share};
+use std::alloc::AllocError;
+use table::{Answered, Begin, Outcome, Settled, Table, Want};
+
+/// One call. A ticket and an answer are named by their place in what is pending.
+#[derive(Drop)]
+pub enum Call {
+    /// Takes up a request.
+    Begin { unique: u64, want: Want },
+    /// Ends the work on the request of a ticket.
+    Finish { place: usize, outcome: Outcome },
+    /// Ends the request of an answer.
+    Settle { place: usize, taken: bool },
+    /// Gives lookups of a node back.
+    Forget { number: u64, n: u64 },
+}
+
+/// What a call told.
+#[derive(Drop)]
+pub enum Told {
+    /// At its place nothing was pending, so that nothing was done.
+    Nothing,
+    /// The request goes on. Its ticket is the last one pending.
+    Begun,
+    /// Another request holds a name that this one needs.
+    Busy,
+    /// The request may not go on: an error number of Linux.
+    Refused(i32),
+    /// The work has ended. Its answer is the last one pending.
+    Finished,
+    /// The request was settled.
+    Settled(Settled),
+    /// So many lookups were given back.
+    Forgot(u64),
+}
+
+/// Takes up a request, with room for its ticket.
+fn begin<T: Ledgers>(
+    table: &mut Table<T>,
+    tickets: &mut Vec<Started>,
+    unique: u64,
+    want: Want,
+) -> Result<Told, AllocError>
+    ensures begins { IfOk result (λ told. (answers : List Answer) → IsStep (world_of table.old) (record { tickets = tickets.old.items; answers = answers }) (Call.Begin unique want) told (world_of table.new) (record { tickets = tickets.new.items; answers = answers })) }
+    ensures refused { OnErr result ((world_of table.new ≡ world_of table.old) × (tickets.new.items ≡ tickets.old.items)) }
+    ensures lawful { IsLawfulWorld (world_of table.new) }
+    ensures postings { (world_of table.new).postings ≡ (world_of table.old).postings }
+{
+    table.attest();
+    tickets.reserve(1)?;
+    let copy = copy_of(&want)?;
+    match table.begin(unique, want) {
+        Begin::Go(ticket) => {
+            tickets.push_reserved(Started { ticket, want: copy });
+            Ok(Told::Begun)
+        }
+        Begin::Busy => Ok(Told::Busy),
+        Begin::Refused(errno) => Ok(Told::Refused(errno)),
+    }
+}
+
+/// Ends the work on the request of the ticket at that place, with room for its answer.
+fn finish<T: Ledgers>(
+    table: &mut Table<T>,
+    share: &mut Share<T>,
+    pending: &mut Pending,
+    place: usize,
+    outcome: Outcome,
+) -> Result<Told, AllocError>
+    ensures finishes { IfOk result (λ told. IsStep (world_of table.old) pending.old (Call.Finish place outcome) told (world_of table.new) pending.new) }
+    ensures refused { OnErr result (ChangesNothing (world_of table.old) pending.old (world_of table.new) pending.new) }
+    ensures lawful { IsLawfulWorld (world_of table.new) }
+    ensures grows { (world_of table.new).postings ≡ (world_of table.old).postings ++ gained (world_of table.old) (world_of table.new) }
+    ensures share { share.new ≡ record share.old { totals = plus share.old.totals (totals_of (gained (world_of table.old) (world_of table.new))) } }
+{
+    table.attest();
+    if pending.tickets.len() <= place {
+        return Ok(Told::Nothing);
+    }
+    pending.answers.reserve(1)?;
+    let Started { ticket, want: _ } = pending.tickets.remove(place);
+    let answered = table.finish(share, ticket, outcome);
+    pending.answers.push_reserved(answered);
+    Ok(Told::Finished)
+}
+
+/// Ends the request of the answer at that place.
+fn settle<T: Ledgers>(
+    table: &mut Table<T>,
+    share: &mut Share<T>,
+    pending: &mut Pending,
+    place: usize,
+    taken: bool,
+) -> Told
+    ensures settles { IsStep (world_of table.old) pending.old (Call.Settle place taken) result (world_of table.new) pending.new }
+    ensures lawful { IsLawfulWorld (world_of table.new) }
+    ensures grows { (world_of table.new).postings ≡ (world_of table.old).postings ++ gained (world_of table.old) (world_of table.new) }
+    ensures share { share.new ≡ record share.old { totals = plus share.old.totals (totals_of (gained (world_of table.old) (world_of table.new))) } }
+{
+    table.attest();
+    if pending.answers.len() <= place {
+        return Told::Nothing;
+    }
+    let answered = pending.answers.remove(place);
+    Told::Settled(table.settle(share, answered, taken))
+}
+
+/// Makes one call.
+fn step<T: Ledgers>(
+    table: &mut Table<T>,
+    share: &mut Share<T>,
+    pending: &mut Pending,
+    call: Call,
+) -> Result<Told, AllocError>
+    ensures step { IfOk result (λ told. IsStep (world_of table.old) pending.old call told (world_of table.new) pending.new) }
+    ensures refused { OnErr result (ChangesNothing (world_of table.old) pending.old (world_of table.new) pending.new) }
+    ensures lawful { IsLawfulWorld (world_of table.new) }
+    ensures grows { (world_of table.new).postings ≡ (world_of table.old).postings ++ gained (world_of table.old) (world_of table.new) }
+    ensures share { share.new ≡ record share.old { totals = plus share.old.totals (totals_of (gained (world_of table.old) (world_of table.new))) } }
+{
+    match call {
+        Call::Begin { unique, want } => begin(table, &mut pending.tickets, unique, want),
+        Call::Finish { place, outcome } => finish(table, share, pending, place, outcome),
+        Call::Settle { place, taken } => Ok(settle(table, share, pending, place, taken)),
+        Call::Forget { number, n } => Ok(Told::Forgot(table.forget(share, number, n))),
+    }
+}
+
+/// Makes one call on what is pending. A refused growth changes nothing.
+pub fn make<T: Ledgers>(
+    table: &mut Table<T>,
+    share: &mut Share<T>,
+    pending: &mut Pending,
+    call: Call,
+) -> Result<Told, AllocError>
+    ensures step { IfOk result (λ told. IsStep (world_of table.old) pending.old call told (world_of table.new) pending.new) }
+    ensures refused { OnErr result (ChangesNothing (world_of table.old) pending.old (world_of table.new) pending.new) }
+    ensures lawful { IsLawfulWorld (world_of table.new) }
+    ensures current { (id : ℕ) → IsCurrentAt (world_of table.old) pending.old id → IsCurrentAt (world_of table.new) pending.new id }
+    ensures grows { (world_of table.new).postings ≡ (world_of table.old).postings ++ gained (world_of table.old) (world_of table.new) }
+    ensures share { share.new ≡ record share.old { totals = plus share.old.totals (totals_of (gained (world_of table.old) (world_of table.new))) } }
+{
+    table.attest();
+    let told = step(table, share, pending, call)?;
+    Ok(told)
+}
+
+/// Makes all calls in order, and adds what each told. Where a growth is refused, the calls before it stand, and what they told.
+pub fn run<T: Ledgers>(
+    table: &mut Table<T>,
+    share: &mut Share<T>,
+    pending: &mut Pending,
+    calls: Vec<Call>,
+    told: &mut Vec<Told>,
+) -> Result<(), AllocError>
+    ensures told { told.new.items ≡ told.old.items ++ drop (length told.old.items) told.new.items }
+    ensures runs { let ts = drop (length told.old.items) told.new.items in Runs (world_of table.old) pending.old (take (length ts) calls.items) ts (world_of table.new) pending.new }
+    ensures all { OnOk result (length told.new.items ≡ length told.old.items + length calls.items) }
+    ensures lawful { IsLawfulWorld (world_of table.new) }
+    ensures current { (id : ℕ) → IsCurrentAt (world_of table.old) pending.old id → IsCurrentAt (world_of table.new) pending.new id }
+    ensures grows { (world_of table.new).postings ≡ (world_of table.old).postings ++ gained (world_of table.old) (world_of table.new) }
+    ensures share { share.new ≡ record share.old { totals = plus share.old.totals (totals_of (gained (world_of table.old) (world_of table.new))) } }
+{
+    table.attest();
+    told.reserve(calls.len())?;
+    for next in calls {
+        told.push_reserved(make(table, share, pending, next)?);
+    }
+    Ok(())
+}

@@ -1,0 +1,10 @@
+//! Runs of a table: any calls, in any order, on any tickets and answers that earlier calls gave.
+#![tactic(auto)]
+
+mod calls;
+mod laws;
+mod pending;
+
+pub use calls::{Call, Told, make, run};
+pub use laws::forgotten_are_gone;
+pub use pending::{Pending, Started};

@@ -1,0 +1,27 @@
+-- What holds of the parts makes a lawful world.
+use Rattle.std.proofs.Common.{arith}
+use Rattle.table_requests.specs.RequestMaps.{IsTallied}
+use Rattle.table_requests.specs.Listed.{requests_of}
+use Rattle.tree.specs.Places.{IsCensus, at_in}
+use Rattle.table_steps.specs.Keeping.{kept_by}
+use Rattle.table_steps.specs.declared.state.State.{State}
+use Rattle.table_steps.specs.Kept.{IsKept, tally_of, world_of}
+use Rattle.table_steps.specs.World.{IsLawfulWorld}
+use Rattle.table_steps.proofs.Tallying.{tallied}
+use Rattle.table_steps.proofs.Viewed.{are_kept}
+
+pub kept_lawful : (s : State) → IsCensus (at_in s.tree) s.tree.living s.tree.counts → IsTallied (requests_of s.flights) → IsKept s → IsLawfulWorld (world_of s)
+kept_lawful s census totals kept = record {
+  kept = kept_by s.flights s.files;
+  keeps = are_kept s.flights s.files kept.flying kept.filed;
+  law = kept.law;
+  held = kept.held;
+  ready = kept.ready;
+  within = record {
+    tally = tally_of s;
+    tallied = tallied s census totals kept.provided kept.filed;
+    room = record { nodes = omega (arith, kept.limited.nodes); postings = omega (arith, kept.limited.postings); files = omega (arith, kept.limited.files); handles = omega (arith, kept.limited.handles) };
+    flights = kept.limited.flights;
+  };
+  files = record { nodes = kept.files; given = kept.filed.given };
+}

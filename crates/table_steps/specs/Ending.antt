@@ -1,0 +1,254 @@
+-- What the end of a request's work rests on, and what it does.
+use Rattle.std.specs.Prelude.{ℕ, ℤ, ◌+◌, ◌*◌, ◌^◌, ◌<◌, ◌≡◌, ◌≤◌, ◌⊎◌, Bool, true, false, if◌then◌else◌, List, [], ◌∷◌, Option, Some, None, Contains, length}
+use Rattle.table_files.specs.declared.data.Access.{Access}
+use Rattle.table_files.specs.OpenEntry.{files_of}
+use Rattle.table_files.specs.Handles.{AreOpenEntries, after_open}
+use Rattle.table_requests.specs.declared.data.RequestInFlight.{RequestInFlight as Recorded}
+use Rattle.table_requests.specs.declared.data.Given.{Given}
+use Rattle.table_requests.specs.declared.data.Promise.{Promise}
+use Rattle.table_requests.specs.declared.data.Stage.TheVariants as recorded
+use Rattle.table_requests.specs.declared.data.Work.{Work as RecordedWork}
+use Rattle.table_requests.specs.Listed.{requests_of}
+use Rattle.holds.specs.declared.held.GivenPath.{GivenPath}
+use Rattle.holds.specs.declared.held.Held.{Held}
+use Rattle.tree.specs.declared.nodes.Key.{Key}
+use Rattle.tree.specs.declared.nodes.Node.{Node}
+use Rattle.tree.specs.Places.{Lookup, HasChild, IsAlive, IsCut, IsNamed, IsPathOf, Leads, at_in}
+use Rattle.table_footprints.specs.Asked.{Holds, IsMisplaced}
+use Rattle.table_footprints.specs.Laws.{AreOwn, IsGrounded, base_of}
+use Rattle.table_footprints.specs.NewRequests.{IsProvided}
+use Rattle.table_footprints.specs.Footprints.{Change, Footprint, AtName, AtNode, Location, Opening, cuts, hides, moves, page_keys, page_names, replaces, stays}
+use Rattle.table_steps.specs.declared.acts.Change.{Change as Changing}
+use Rattle.table_steps.specs.declared.acts.Change.TheVariants.{Stays, Cuts, CutsNode, Moves, Hides, Replaces}
+use Rattle.table_steps.specs.declared.acts.Entries.{Entries}
+use Rattle.table_steps.specs.declared.acts.Entries.TheVariants.{Nothing, One, Page}
+use Rattle.table_steps.specs.declared.keys.Keys.{Keys}
+use Rattle.table_steps.specs.declared.keys.FolderKeys.{FolderKeys}
+use Rattle.table_steps.specs.declared.acts.Opens.{Opens}
+use Rattle.table_steps.specs.declared.acts.Opens.TheVariants as opens
+use Rattle.table_steps.specs.declared.state.State.{State}
+use Rattle.table_steps.specs.Entries.{Enters}
+use Rattle.table_steps.specs.Keeping.{kept_by}
+use Rattle.table_steps.specs.Kept.{IsRoomFor, flight_of, flights_in, work_of}
+use Rattle.table_steps.specs.Laws.{IsPlaced}
+use Rattle.paths.specs.Prefixes.{Name}
+use Rattle.table_steps.specs.Sweeping.{parent_at}
+use Rattle.table_steps.specs.Steps.{Alters, EntersAll, HoldsUp, IsHeldByOne, Sweeps, answered}
+use Rattle.table_steps.specs.World.{RequestInFlight, IsReady, World, with_entry}
+
+-- ---- the acts of a footprint
+
+abbrev pub keys_in : Entries → List Key
+keys_in Nothing = []
+keys_in (One keys) = keys.key ∷ []
+keys_in (Page keys) = page_keys keys.folder keys.names
+
+abbrev pub is_page : Entries → Bool
+is_page Nothing = false
+is_page (One keys) = false
+is_page (Page keys) = true
+
+-- the folder of a page
+abbrev pub folders_in : Entries → List ℕ
+folders_in Nothing = []
+folders_in (One keys) = []
+folders_in (Page keys) = keys.folder ∷ []
+
+abbrev pub folders_of : Footprint → List ℕ
+folders_of d = if d.page then d.given else []
+
+abbrev pub name_at : Key → Location
+name_at key = AtName key.parent key.name
+
+abbrev pub change_in : Changing → Change
+change_in Stays = stays
+change_in (Cuts key) = cuts (name_at key)
+change_in (CutsNode number) = cuts (AtNode number)
+change_in (Moves key target) = moves (name_at key) (name_at target.key)
+change_in (Hides key candidate) = hides (name_at key) (name_at candidate.key)
+change_in (Replaces key target candidate moved) = replaces (name_at key) (name_at target.key) (name_at candidate.key) moved
+
+abbrev pub keyed_name : Keys → Location
+keyed_name keys = name_at keys.key
+
+abbrev pub names_in : FolderKeys → List Location
+names_in keys = page_names keys.folder keys.names
+
+abbrev pub candidates_in : Option FolderKeys → List Location
+candidates_in None = []
+candidates_in (Some keys) = names_in keys
+
+-- the file that is opened without an entry, and the one of the name for which an entry is given
+abbrev pub exclusive_in : Opens → Option Opening
+exclusive_in opens.Nothing = None
+exclusive_in (opens.Node number access) = Some (record { target = AtNode number; access = access })
+exclusive_in (opens.Entry access) = None
+
+abbrev pub with_in : Opens → Entries → Option Opening
+with_in opens.Nothing entries = None
+with_in (opens.Node number access) entries = None
+with_in (opens.Entry access) Nothing = None
+with_in (opens.Entry access) (One keys) = Some (record { target = name_at keys.key; access = access })
+with_in (opens.Entry access) (Page keys) = None
+
+-- one file more may be opened
+pub record HasFileRoom (s : State) : Type 0 where
+  pub room : (requests_of s.flights).files + 1 ≤ (files_of s.files).room
+  pub within : (files_of s.files).many + (requests_of s.flights).files + 1 ≤ s.limits.files
+  pub handles : (files_of s.files).last + (requests_of s.flights).files + 1 < 2 ^ 64
+
+-- the file may be opened, if there is one
+abbrev pub MayOpen : State → Opens → Type 0
+MayOpen s opens.Nothing = Unit {0}
+MayOpen s (opens.Node number access) = IsAlive (at_in s.tree) number × HasFileRoom s
+MayOpen s (opens.Entry access) = Unit {0}
+
+abbrev pub MayOpenGiven : State → Opens → Option Given → Type 0
+MayOpenGiven s opens.Nothing entered = Unit {0}
+MayOpenGiven s (opens.Node number access) entered = Unit {0}
+MayOpenGiven s (opens.Entry access) None = Unit {0}
+MayOpenGiven s (opens.Entry access) (Some g) = IsAlive (at_in s.tree) g.number × HasFileRoom s
+
+-- the files with one of that node more
+pub record OpensAt (s : State) (number : ℕ) (access : Access) (new : State) : Type 0 where
+  pub node : Node
+  pub here : at_in s.tree number ≡ Some node
+  pub rest : new ≡ record s { files = new.files }
+  pub files : files_of new.files ≡ after_open (files_of s.files) (record { number = number; generation = node.generation; access = access })
+  pub filed : AreOpenEntries (files_of new.files)
+
+-- the file of the node is opened, if one may be
+abbrev pub OpensNode : State → Opens → Option ℕ → State → Type 0
+OpensNode s opens.Nothing opened new = (opened ≡ None) × (new ≡ s)
+OpensNode s (opens.Node number access) opened new = (opened ≡ Some ((files_of s.files).last + 1)) × OpensAt s number access new
+OpensNode s (opens.Entry access) opened new = (opened ≡ None) × (new ≡ s)
+
+-- that of the node that was given is, if one may be
+abbrev pub OpensGiven : State → Opens → Option Given → Option ℕ → State → Type 0
+OpensGiven s opens.Nothing entered opened new = (opened ≡ None) × (new ≡ s)
+OpensGiven s (opens.Node number access) entered opened new = (opened ≡ None) × (new ≡ s)
+OpensGiven s (opens.Entry access) None opened new = (opened ≡ None) × (new ≡ s)
+OpensGiven s (opens.Entry access) (Some g) opened new = (opened ≡ Some ((files_of s.files).last + 1)) × OpensAt s g.number access new
+
+-- what was given for the one name, if there is one
+abbrev pub IsGivenFor : State → Entries → List (Option Given) → Option Given → Type 0
+IsGivenFor new Nothing given entered = entered ≡ None
+IsGivenFor new (One keys) given entered = (g : Given) × (entered ≡ Some g) × (given ≡ Some g ∷ []) × IsAlive (at_in new.tree) g.number
+IsGivenFor new (Page keys) given entered = entered ≡ None
+
+-- ---- what its end rests on
+
+-- a request whose work has ended still has what it relied on
+pub record IsEnding (s : State) (id : ℕ) (work : RecordedWork) : Type 0 where
+  pub flight : Recorded
+  pub here : (requests_of s.flights).at id ≡ Some flight
+  pub answered : flight.stage ≡ recorded.Answered
+  pub provided : IsProvided work flight.pins
+  pub ready : IsReady (at_in s.tree) (flight_of flight) (work_of work)
+  -- no request that is still worked on is in its way
+  pub clear : HoldsUp (flights_in (requests_of s.flights)) work.held → ⊥
+  pub room : IsRoomFor s work.promise
+
+-- an entry may be given for each name
+pub record MayEnter (s : State) (id : ℕ) (keys : List Key) : Type 0 where
+  pub flight : Recorded
+  pub here : (requests_of s.flights).at id ≡ Some flight
+  pub answered : flight.stage ≡ recorded.Answered
+  pub pin_room : length keys ≤ flight.pins.room
+  pub leads : (key : Key) → Contains keys key → Leads (at_in s.tree) key.parent
+  pub promise : Promise
+  -- a birth was promised for each of the names, or a node stands there
+  pub births : (promise.nodes ≡ length keys) ⊎ ((key : Key) → Contains keys key → (n : ℕ) × IsNamed (at_in s.tree) n key.parent key.name)
+  pub postings : promise.postings ≡ 3 * length keys
+  pub room : IsRoomFor s promise
+
+-- no request that is worked on holds one of the names alone
+abbrev pub AreUnowned : State → List Key → Type 0
+AreUnowned s keys = (key : Key) → Contains keys key → IsHeldByOne (at_in s.tree) (flights_in (requests_of s.flights)) key → ⊥
+
+-- a node and an entry may be given for each name: both were promised for each of them
+pub record MayFill (s : State) (id : ℕ) (keys : List Key) : Type 0 where
+  pub flight : Recorded
+  pub here : (requests_of s.flights).at id ≡ Some flight
+  pub answered : flight.stage ≡ recorded.Answered
+  pub pin_room : length keys ≤ flight.pins.room
+  pub leads : (key : Key) → Contains keys key → Leads (at_in s.tree) key.parent
+  pub room : IsRoomFor s (record { nodes = length keys; postings = 3 * length keys; files = 0 })
+
+-- the request named that node alone, by its path
+pub record LeadsTo (at : Lookup) (given : List GivenPath) (number : ℕ) : Type 0 where
+  pub lead : GivenPath
+  pub only : given ≡ lead ∷ []
+  pub leads : IsPathOf at number lead.path
+
+-- names may change that a footprint holds exclusively, where no request that is worked on is in the way
+pub record MayAlter (s : State) (change : Change) : Type 0 where
+  pub footprint : Footprint
+  pub grounded : IsGrounded footprint
+  pub placed : IsPlaced footprint.exclusive
+  pub own : AreOwn footprint.exclusive change
+  pub held : Held
+  pub holds : Holds (at_in s.tree) footprint held
+  pub clear : HoldsUp (flights_in (requests_of s.flights)) held → ⊥
+  pub kept : (n : ℕ) → Contains footprint.given n → kept_by s.flights s.files n ≡ true
+  pub not_misplaced : (e : ℤ) → IsMisplaced (at_in s.tree) change e → ⊥
+
+-- ---- what it does
+
+-- the nodes that the names that change are under
+abbrev pub AreUnder : (ℕ → Type 0) → Change → Type 0
+AreUnder P stays = Unit {0}
+AreUnder P (cuts l) = P (base_of l)
+AreUnder P (moves source target) = P (base_of source) × P (base_of target)
+AreUnder P (hides l candidate) = P (base_of l) × P (base_of candidate)
+AreUnder P (replaces source target candidate moved) = P (base_of source) × P (base_of target) × P (base_of candidate)
+
+-- what stands there is named under the node
+abbrev pub IsOver : Lookup → Location → ℕ → Type 0
+IsOver at (AtName parent name) n = n ≡ parent
+IsOver at (AtNode number) n = (name : Name) × IsNamed at number n name
+
+abbrev pub IsUnder : Lookup → Change → ℕ → Type 0
+IsUnder at stays n = ⊥
+IsUnder at (cuts l) n = IsOver at l n
+IsUnder at (moves source target) n = (n ≡ base_of source) ⊎ (n ≡ base_of target)
+IsUnder at (hides l candidate) n = (n ≡ base_of l) ⊎ (n ≡ base_of candidate)
+IsUnder at (replaces source target candidate moved) n = (n ≡ base_of source) ⊎ ((n ≡ base_of target) ⊎ (n ≡ base_of candidate))
+
+-- the node that is not given and may lose its last child: that over a node which is cut by its number
+abbrev pub loses : Lookup → Change → Option ℕ
+loses at stays = None
+loses at (cuts (AtName parent name)) = None
+loses at (cuts (AtNode number)) = parent_at (at number)
+loses at (moves source target) = None
+loses at (hides l candidate) = None
+loses at (replaces source target candidate moved) = None
+
+-- an entry of the name is given, and the request pins its node
+pub record EntersName (old : World) (id : ℕ) (f : RequestInFlight) (key : Key) (g : Given) (new : World) : Type 0 where
+  pub enters : Enters old.at old.postings key.parent key.name g new.at new.postings
+  pub new_is : new ≡ record old {
+    at = new.at;
+    postings = new.postings;
+    flights = with_entry old.flights id (Some (answered f (Some g ∷ [])));
+  }
+
+-- entries of these names are given as they were found, and the request pins what it gave
+pub record GivesAll (old : World) (id : ℕ) (f : RequestInFlight) (keys : List Key) (found : List Bool) (given : List (Option Given)) (new : World) : Type 0 where
+  pub enters : EntersAll old.flights old.at old.postings keys found given new.at new.postings
+  pub new_is : new ≡ record old {
+    at = new.at;
+    postings = new.postings;
+    flights = with_entry old.flights id (Some (answered f given));
+  }
+
+-- names change, and what nothing keeps any more goes
+pub record ChangesNames (old : World) (change : Change) (new : World) : Type 0 where
+  pub altered : Lookup
+  pub alters : Alters old.at change altered
+  pub sweeps : Sweeps altered new
+  pub new_is : new ≡ record old { at = new.at }
+
+-- each node with a child keeps one, is cut, or is one of these
+pub record KeepsChildren (old : Lookup) (but : ℕ → Type 0) (new : Lookup) : Type 0 where
+  pub child : (n : ℕ) → HasChild old n → HasChild new n ⊎ (IsCut new n ⊎ but n)

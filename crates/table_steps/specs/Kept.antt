@@ -1,0 +1,101 @@
+-- The parts of a table as a world, and what holds of the parts.
+use Rattle.std.specs.Prelude.{ℕ, ◌+◌, ◌^◌, ◌<◌, ◌≤◌, ◌≡◌, Some, length, option_map}
+use Rattle.table_files.specs.OpenEntry.{files_of}
+use Rattle.table_files.specs.Handles.{AreOpenEntries, Opened}
+use Rattle.table_requests.specs.declared.data.RequestInFlight.{RequestInFlight as Recorded}
+use Rattle.table_requests.specs.declared.data.Promise.{Promise}
+use Rattle.table_requests.specs.declared.data.Stage.{Stage as Recording}
+use Rattle.table_requests.specs.declared.data.Stage.TheVariants as recorded
+use Rattle.table_requests.specs.declared.data.Work.{Work as RecordedWork}
+use Rattle.table_requests.specs.RequestMaps.{RequestMaps, IsFlying}
+use Rattle.table_requests.specs.Listed.{requests_of}
+use Rattle.table_image.specs.Law.{IsLawful}
+use Rattle.ledger.specs.Postings.{Postings}
+use Rattle.tree.specs.Places.{Nodes, at_in}
+use Rattle.table_footprints.specs.NewRequests.{IsProvided, footprint_in}
+use Rattle.table_steps.specs.declared.state.State.{State}
+use Rattle.table_steps.specs.Keeping.{kept_by}
+use Rattle.table_steps.specs.World.{AreHeld, AreReady, Answered, RequestInFlight, RequestsInFlight, HaveNodes, Stage, Tally, Work, Working, World}
+
+-- ---- the parts as a world
+
+abbrev pub work_of : RecordedWork → Work
+work_of work = record { want = work.want; footprint = footprint_in work; held = work.held }
+
+abbrev pub stage_of : Recording → Stage
+stage_of (recorded.Working work) = Working (work_of work)
+stage_of recorded.Answered = Answered
+
+abbrev pub flight_of : Recorded → RequestInFlight
+flight_of f = record { unique = f.unique; stage = stage_of f.stage; pins = f.pins.numbers }
+
+abbrev pub flights_in : RequestMaps → RequestsInFlight
+flights_in all = λ id. option_map flight_of (all.at id)
+
+abbrev pub world_of : State → World
+world_of s = record {
+  at = at_in s.tree;
+  postings = s.ledger.made;
+  flights = flights_in (requests_of s.flights);
+  limits = s.limits;
+  files = (files_of s.files).at;
+  counter = s.counter;
+  last_handle = (files_of s.files).last;
+}
+
+-- the totals that run along
+abbrev pub tally_of : State → Tally
+tally_of s = record {
+  living = s.tree.living;
+  counts = s.tree.counts;
+  flights = (requests_of s.flights).many;
+  promised = record { nodes = (requests_of s.flights).nodes; postings = (requests_of s.flights).postings; files = (requests_of s.flights).files };
+  files = (files_of s.files).many;
+}
+
+-- ---- what holds of the parts
+
+-- the end of each request that is worked on takes no memory
+abbrev pub AreProvided : RequestMaps → Type 0
+AreProvided all = (id : ℕ) (f : Recorded) (work : RecordedWork) → all.at id ≡ Some f → f.stage ≡ recorded.Working work → IsProvided work f.pins
+
+-- there is room for all that may still come, so that only a begin takes memory
+pub record IsReserved (tree : Nodes) (ledger : Postings) (flying : RequestMaps) (filed : Opened) : Type 0 where
+  pub nodes : flying.nodes ≤ tree.room
+  pub postings : tree.counts + flying.postings ≤ ledger.room
+  pub files : flying.files ≤ filed.room
+
+-- what stands and what is promised keeps within the limits
+pub record IsLimited (s : State) : Type 0 where
+  pub nodes : s.tree.living + (requests_of s.flights).nodes ≤ s.limits.nodes
+  pub postings : length s.ledger.made + s.tree.counts + (requests_of s.flights).postings ≤ s.limits.postings
+  pub flights : (requests_of s.flights).many ≤ s.limits.flights
+  pub files : (files_of s.files).many + (requests_of s.flights).files ≤ s.limits.files
+  pub handles : (files_of s.files).last + (requests_of s.flights).files < 2 ^ 64
+  -- each part knows its limit, and the limits fit their type
+  pub node_limit : s.tree.limit ≡ s.limits.nodes
+  pub posting_limit : s.ledger.limit ≡ s.limits.postings
+  pub short : (s.limits.nodes < 2 ^ 64) × (s.limits.postings < 2 ^ 64) × (s.limits.files < 2 ^ 64)
+
+-- the parts fit each other
+pub record IsKept (s : State) : Type 0 where
+  pub law : IsLawful (at_in s.tree) s.ledger.made (kept_by s.flights s.files)
+  pub flying : IsFlying (requests_of s.flights)
+  pub held : AreHeld (at_in s.tree) (flights_in (requests_of s.flights))
+  pub ready : AreReady (at_in s.tree) (flights_in (requests_of s.flights))
+  pub provided : AreProvided (requests_of s.flights)
+  pub reserved : IsReserved s.tree s.ledger (requests_of s.flights) (files_of s.files)
+  pub limited : IsLimited s
+  pub counts : s.counts ≡ s.tree.counts
+  pub filed : AreOpenEntries (files_of s.files)
+  pub files : HaveNodes (at_in s.tree) (files_of s.files).at
+
+-- beside what is promised to others there is room for this promise
+pub record IsRoomFor (s : State) (promise : Promise) : Type 0 where
+  pub nodes : (requests_of s.flights).nodes + promise.nodes ≤ s.tree.room
+  pub postings : s.tree.counts + (requests_of s.flights).postings + promise.postings ≤ s.ledger.room
+  pub nodes_within : s.tree.living + (requests_of s.flights).nodes + promise.nodes ≤ s.limits.nodes
+  pub postings_within : length s.ledger.made + s.tree.counts + (requests_of s.flights).postings + promise.postings ≤ s.limits.postings
+  pub files : (requests_of s.flights).files + promise.files ≤ (files_of s.files).room
+  pub files_within : (files_of s.files).many + (requests_of s.flights).files + promise.files ≤ s.limits.files
+  pub handles : (files_of s.files).last + (requests_of s.flights).files + promise.files < 2 ^ 64

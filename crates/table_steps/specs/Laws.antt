@@ -1,0 +1,80 @@
+-- What is proved of the steps, whatever the want.
+use Rattle.std.specs.Prelude.{ℕ, ◌≡◌, Bool, List, Option, None, Contains, ◌++◌}
+use Rattle.table_files.specs.Handles.{Files}
+use Rattle.table_requests.specs.declared.data.Case.{Case}
+use Rattle.table_requests.specs.declared.data.Given.{Given}
+use Rattle.table_requests.specs.declared.data.Want.{Want}
+use Rattle.holds.specs.declared.held.Held.{Held}
+use Rattle.ledger.specs.declared.postings.Posting.{Posting}
+use Rattle.paths.specs.Prefixes.{Names}
+use Rattle.tree.specs.declared.nodes.Key.{Key}
+use Rattle.tree.specs.Places.{Lookup, IsTree}
+use Rattle.table_footprints.specs.Asked.{ArePaths, Holds}
+use Rattle.table_footprints.specs.Cases.{IsFootprint}
+use Rattle.table_footprints.specs.Laws.{AreOwn}
+use Rattle.table_footprints.specs.Footprints.{Change, Footprint, Location, AtNode, footprint_of}
+use Rattle.table_steps.specs.declared.data.Begin.{Begin}
+use Rattle.table_steps.specs.declared.data.Outcome.{Outcome}
+use Rattle.table_steps.specs.Answers.{Answer, Claim, Settlement}
+use Rattle.table_steps.specs.Steps.{Alters, Begins, Ends, EntersAll, Finishes, Forgets, GoesOn, HoldsUp, MayBegin, Settles, act_of}
+use Rattle.table_steps.specs.Swept.{IsSwept}
+use Rattle.table_steps.specs.World.{AreKept, RequestInFlight, RequestsInFlight, IsAtWork, IsReady, IsTally, Tally, Work, Working, World, seen_in, with_entry}
+
+-- ---- what others were given stays
+
+-- none of the locations is the root
+abbrev pub IsPlaced : List Location → Type 0
+IsPlaced exclusive = Contains exclusive (AtNode 1) → ⊥
+
+-- whatever the outcome, a request changes no names but those that its footprint holds exclusively
+abbrev pub AreActsOwn : Type 0
+AreActsOwn = (want : Want) (case : Case) (outcome : Outcome) → AreOwn (footprint_of want case).exclusive (act_of (footprint_of want case) outcome).change
+
+-- every request that is worked on has what it relies on still, and the paths of its ticket are the same
+pub record LeavesWork (old new : Lookup) (flights : RequestsInFlight) : Type 0 where
+  pub ready : (id : ℕ) (f : RequestInFlight) (work : Work) → IsAtWork flights id f work → IsReady old f work → IsReady new f work
+  pub paths : (id : ℕ) (f : RequestInFlight) (work : Work) → IsAtWork flights id f work → IsReady old f work → (paths : List Names) → ArePaths old work.footprint.paths paths → ArePaths new work.footprint.paths paths
+
+-- a request that goes on has what it relies on
+abbrev pub AreBegunReady : Type 0
+AreBegunReady = (old new : World) (unique : ℕ) (want : Want) (d : Footprint) (ticket : Claim) → IsFootprint (seen_in old) want d → MayBegin old d → (goes : GoesOn old unique want d ticket new)
+    → IsReady old.at (record { unique = unique; stage = Working (record { want = want; footprint = d; held = goes.held }); pins = goes.pins }) (record { want = want; footprint = d; held = goes.held })
+
+-- a change of names that nothing is in the way of leaves all others
+abbrev pub AreOthersLeft : Type 0
+AreOthersLeft = (old new : Lookup) (flights : RequestsInFlight) (d : Footprint) (held : Held) (change : Change) → IsTree new → Holds old d held
+    → (HoldsUp flights held → ⊥) → IsPlaced d.exclusive → AreOwn d.exclusive change → Alters old change new → LeavesWork old new flights
+
+-- so do entries and births, and so does a sweep
+abbrev pub AreEntriesHarmless : Type 0
+AreEntriesHarmless = (flights owners : RequestsInFlight) (old new : Lookup) (ps qs : List Posting) (keys : List Key) (found : List Bool) (given : List (Option Given)) → IsTree new
+    → EntersAll owners old ps keys found given new qs → LeavesWork old new flights
+
+abbrev pub AreSweepsHarmless : Type 0
+AreSweepsHarmless = (flights : RequestsInFlight) (files : Files) (old new : Lookup) (kept : ℕ → Bool) → IsTree new
+    → AreKept flights files kept → IsSwept kept old new → LeavesWork old new flights
+
+-- so does the end of a request's work, whatever its want and its outcome
+abbrev pub AreEndsHarmless : Type 0
+AreEndsHarmless = (old new : World) (id : ℕ) (f : RequestInFlight) (work : Work) (outcome : Outcome) (answer : Answer) → IsReady old.at f work
+    → (HoldsUp (with_entry old.flights id None) work.held → ⊥)
+    → (e : Ends old id f (act_of work.footprint outcome) work.footprint.entries answer new) → IsTree e.entered → IsTree new.at
+    → LeavesWork old.at new.at (with_entry old.flights id None)
+
+-- ---- worlds and steps
+
+-- what the limits are judged by is fixed by what stands
+abbrev pub AreTalliesFixed : Type 0
+AreTalliesFixed = (w : World) (s t : Tally) → IsTally w s → IsTally w t → s ≡ t
+
+-- the ledger has the same postings, and maybe more
+pub record Grows (old new : World) : Type 0 where
+  pub more : List Posting
+  pub grown : new.postings ≡ old.postings ++ more
+
+-- no step takes a posting away
+pub record AreLedgersGrown : Type 0 where
+  pub begin : (old : World) (unique : ℕ) (want : Want) (answer : Begin) (new : World) → Begins old unique want answer new → Grows old new
+  pub finish : (old : World) (id : ℕ) (outcome : Outcome) (answer : Answer) (new : World) → Finishes old id outcome answer new → Grows old new
+  pub settle : (old : World) (answer : Answer) (taken : Bool) (settled : Settlement) (new : World) → Settles old answer taken settled new → Grows old new
+  pub forget : (old : World) (number n amount : ℕ) (new : World) → Forgets old number n amount new → Grows old new

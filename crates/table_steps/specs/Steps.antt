@@ -1,0 +1,392 @@
+-- The steps of a table. Each says the whole new world.
+use Rattle.std.specs.Prelude.{ℕ, ℤ, is_some, ◌+◌, ◌-◌, ◌%◌, ◌^◌, ◌<◌, ◌≡◌, ◌==◌, ◌&&◌, ◌↔◌, not, if◌then◌else◌, Bool, true, false, List, [], ◌∷◌, ◌++◌, Option, Some, None, Contains, length, drop, map, min}
+use Rattle.errno.specs.declared.TheConstants.{EAGAIN, EBADF, ENFILE}
+use Rattle.std.specs.List.{slice_get}
+use Rattle.table_files.specs.declared.data.OpenFile.{OpenFile}
+use Rattle.table_files.specs.Handles.{Files, allows}
+use Rattle.table_image.specs.Law.{HaveReasons}
+use Rattle.table_requests.specs.declared.data.Given.{Given}
+use Rattle.table_requests.specs.declared.data.Want.{Want}
+use Rattle.holds.specs.declared.held.Held.{Held}
+use Rattle.holds.specs.Conflicts.{Conflict}
+use Rattle.ledger.specs.declared.postings.Posting.{Posting}
+use Rattle.ledger.specs.declared.postings.Posting.TheVariants as posting
+use Rattle.paths.specs.Prefixes.{Names, is_prefix}
+use Rattle.tree.specs.declared.nodes.Key.{Key}
+use Rattle.tree.specs.declared.nodes.Node.{Node}
+use Rattle.tree.specs.Moves.{Changes, IsPathOfName, Where, after_cut, after_move}
+use Rattle.tree.specs.Places.{Lookup, with_node}
+use Rattle.table_footprints.specs.Asked.{ArePaths, HasPath, Holds, IsPin, IsSound, IsThere, IsUnsound, promise_of}
+use Rattle.table_footprints.specs.Cases.{IsFootprint}
+use Rattle.table_footprints.specs.Footprints.{AtName, AtNode, Change, Footprint, Location, Opening, Used, cuts, hides, is_same, moves, replaces, stays}
+use Rattle.table_steps.specs.declared.data.Begin.{Begin}
+use Rattle.table_steps.specs.declared.data.Begin.TheVariants.{Go, Busy, Refused}
+use Rattle.table_steps.specs.declared.data.Outcome.{Outcome}
+use Rattle.table_steps.specs.declared.data.Outcome.TheVariants.{Done, Entries, Entry, Failed, Hidden, HiddenMove}
+use Rattle.table_steps.specs.Answers.{Answer, Claim, Settlement, entries_in}
+use Rattle.table_steps.specs.Entries.{Enters, TakesAllBack, untaken_of}
+use Rattle.table_steps.specs.Swept.{IsSwept}
+use Rattle.table_steps.specs.World.{AreKept, Answered, RequestInFlight, RequestsInFlight, HasRoom, IsAtWork, IsTally, Tally, Work, Working, World, seen_in, with_entry}
+
+-- what the ledger gained by a step
+abbrev pub gained : World → World → List Posting
+gained old new = drop (length old.postings) new.postings
+
+-- the new nodes are these, less those that nothing keeps any more, and none is left that nothing keeps
+pub record Sweeps (mid : Lookup) (new : World) : Type 0 where
+  pub kept : ℕ → Bool
+  pub keeps : AreKept new.flights new.files kept
+  pub swept : IsSwept kept mid new.at
+  pub reasons : HaveReasons new.at kept
+
+-- the same files, but the one that is closed
+abbrev pub files_without : Option ℕ → Files → Files
+files_without None files = files
+files_without (Some handle) files = with_entry files handle None
+
+-- ---- forget
+
+-- so much is taken from the node's count
+pub record Takes (old : World) (number amount : ℕ) (x : Node) (new : World) : Type 0 where
+  pub sweeps : Sweeps (with_node old.at number (record x { count = x.count - amount })) new
+  pub new_is : new ≡ record old { at = new.at; postings = old.postings ++ posting.Forget number x.generation amount ∷ [] }
+
+-- the smaller of n and the node's count is taken and posted, and what nothing keeps any more goes
+pub record Forgets (old : World) (number n amount : ℕ) (new : World) : Type 0 where
+  pub unknown : old.at number ≡ None → amount ≡ 0
+  pub smaller : (x : Node) → old.at number ≡ Some x → amount ≡ min n x.count
+  pub nothing : amount ≡ 0 → new ≡ old
+  pub something : (x : Node) → old.at number ≡ Some x → 0 < amount → Takes old number amount x new
+
+-- ---- begin: its tests, in order
+
+-- a request that is worked on holds a path in the way of these
+pub record HoldsUp (flights : RequestsInFlight) (wanted : Held) : Type 0 where
+  pub id : ℕ
+  pub flight : RequestInFlight
+  pub work : Work
+  pub here : IsAtWork flights id flight work
+  pub conflict : Conflict work.held wanted
+
+pub record IsHeldUp (w : World) (d : Footprint) : Type 0 where
+  pub held : Held
+  pub holds : Holds w.at d held
+  pub up : HoldsUp w.flights held
+
+-- the handle is that of an open file of the node, which may be used so
+pub record IsUsable (files : Files) (used : Used) : Type 0 where
+  pub file : OpenFile
+  pub here : files used.handle.fh ≡ Some file
+  pub node : file.number ≡ used.number
+  pub access : allows file.access used.handle.need ≡ true
+
+-- the handle that the footprint uses is not open, is open on another node, or lacks the access
+pub record IsBadHandle (w : World) (d : Footprint) : Type 0 where
+  pub used : Used
+  pub asked : d.used ≡ Some used
+  pub unusable : IsUsable w.files used → ⊥
+
+-- the tests of its handle and of the nodes alone pass
+pub record IsAdmissible (w : World) (d : Footprint) : Type 0 where
+  pub usable : IsBadHandle w d → ⊥
+  pub sound : IsSound w.at d
+
+-- with what is promised, the nodes, the postings, the open files or the handles would pass their limit
+pub record IsFull (w : World) (d : Footprint) : Type 0 where
+  pub tally : Tally
+  pub tallied : IsTally w tally
+  pub none : HasRoom w tally (promise_of d) → ⊥
+
+-- one request more would pass the limit
+pub record IsCrowded (w : World) : Type 0 where
+  pub tally : Tally
+  pub tallied : IsTally w tally
+  pub over : w.limits.flights < tally.flights + 1
+
+-- no test refuses the footprint, and none is in its way
+pub record MayBegin (w : World) (d : Footprint) : Type 0 where
+  pub usable : IsBadHandle w d → ⊥
+  pub sound : IsSound w.at d
+  pub clear : IsHeldUp w d → ⊥
+  pub room : IsFull w d → ⊥
+  pub uncrowded : IsCrowded w → ⊥
+
+-- the refusals in the order of their tests: that of the handle comes first, then those of the nodes alone, and want of memory
+pub data IsRefusal (w : World) (d : Footprint) (e : ℤ) : Type 0 where
+  bad_handle : e ≡ EBADF → IsBadHandle w d → IsRefusal w d e
+  unsound : (IsBadHandle w d → ⊥) → IsUnsound w.at d e → IsRefusal w d e
+  full : e ≡ ENFILE → IsAdmissible w d → (IsHeldUp w d → ⊥) → IsFull w d → IsRefusal w d e
+  crowded : e ≡ EAGAIN → IsAdmissible w d → (IsHeldUp w d → ⊥) → (IsFull w d → ⊥) → IsCrowded w → IsRefusal w d e
+
+-- ---- begin
+
+-- whether an open file may have to be hidden
+abbrev pub may_hide : Footprint → Bool
+may_hide d = not (length d.candidates == 0)
+
+-- the counter of the next hidden name: ten names more are taken where a file may have to be hidden
+abbrev pub counter_after : Footprint → ℕ → ℕ
+counter_after d counter = if may_hide d then (counter + 10) % 2 ^ 32 else counter
+
+abbrev pub is_cut : Change → Bool
+is_cut stays = false
+is_cut (cuts l) = true
+is_cut (moves source target) = false
+is_cut (hides l candidate) = false
+is_cut (replaces source target candidate moved) = false
+
+-- whether a file is closed whose node is removed by the end of the work
+abbrev pub is_last : Footprint → Bool
+is_last d = is_some d.closes && is_cut d.done
+
+-- the ticket tells the paths, whether a name is moved to itself, or may have to be hidden, and whether a last opening removes a file
+pub record IsTicket (at : Lookup) (d : Footprint) (ticket : Claim) : Type 0 where
+  pub paths : ArePaths at d.paths ticket.paths
+  pub same : ticket.same ≡ is_same d.done
+  pub hide : ticket.hide ≡ may_hide d
+  pub last : ticket.last ≡ is_last d
+
+-- where a file is closed what nothing keeps any more goes, else all nodes stay
+abbrev pub Leaves : Lookup → Option ℕ → World → Type 0
+Leaves at None new = new.at ≡ at
+Leaves at (Some handle) new = Sweeps at new
+
+-- one request more is in flight, under an id that none bore, and the handle that it closes is closed
+pub record GoesOn (old : World) (unique : ℕ) (want : Want) (d : Footprint) (ticket : Claim) (new : World) : Type 0 where
+  pub fresh : old.flights ticket.id ≡ None
+  pub ticket_is : IsTicket old.at d ticket
+  pub held : Held
+  pub holds : Holds old.at d held
+  pub pins : List ℕ
+  pub pinned : (n : ℕ) → Contains pins n ↔ IsPin old.at d n
+  pub leaves : Leaves old.at d.closes new
+  pub new_is : new ≡ record old {
+    at = new.at;
+    flights = with_entry old.flights ticket.id (Some (record { unique = unique; stage = Working (record { want = want; footprint = d; held = held }); pins = pins }));
+    files = files_without d.closes old.files;
+    counter = counter_after d old.counter;
+  }
+
+abbrev pub BeginsAs : World → ℕ → Want → Footprint → Begin → World → Type 0
+BeginsAs old unique want d (Go ticket) new = MayBegin old d × GoesOn old unique want d ticket new
+BeginsAs old unique want d Busy new = IsAdmissible old d × IsHeldUp old d × (new ≡ old)
+BeginsAs old unique want d (Refused e) new = IsRefusal old d e × (new ≡ old)
+
+pub record Begins (old : World) (unique : ℕ) (want : Want) (answer : Begin) (new : World) : Type 0 where
+  pub footprint : Footprint
+  pub footprint_is : IsFootprint (seen_in old) want footprint
+  pub begins : BeginsAs old unique want footprint answer new
+
+-- ---- finish: what an outcome comes to
+
+-- which names are to be given, what becomes of names, and which file is opened
+pub record Act : Type 0 where
+  pub found : List Bool
+  pub change : Change
+  pub opens : Option Opening
+
+-- nothing is done
+abbrev pub none_found : List Key → List Bool
+none_found keys = map (λ key. false) keys
+
+abbrev pub failure : Footprint → Act
+failure d = record { found = none_found d.entries; change = stays; opens = None }
+
+-- the name of a request that has one, and is no page
+abbrev pub one_found : Bool → List Key → List Bool
+one_found page keys = map (λ key. not page) keys
+
+-- the names of a page, where it is told of each whether it was found
+abbrev pub page_found : Bool → List Key → List Bool → List Bool
+page_found page keys found = if page && (length found == length keys) then found else none_found keys
+
+-- the file that is opened without an entry, and the one that is opened with one
+abbrev pub opened_alone : Footprint → Option Opening
+opened_alone d = if length d.entries == 0 then d.opens else None
+
+abbrev pub opened_with : Footprint → Option Opening
+opened_with d = if length d.entries == 0 then None else d.opens
+
+-- what was to be cut at a name is hidden under the candidate, if there is one
+abbrev pub hiding_at : Change → Option Location → Change
+hiding_at stays candidate = stays
+hiding_at (cuts (AtNode number)) candidate = stays
+hiding_at (cuts (AtName parent name)) None = stays
+hiding_at (cuts (AtName parent name)) (Some candidate) = hides (AtName parent name) candidate
+hiding_at (moves source target) candidate = stays
+hiding_at (hides l other) candidate = stays
+hiding_at (replaces source target other moved) candidate = stays
+
+-- what was to be replaced is, and then another name is moved to its place, if it may be
+abbrev pub replacing_at : Change → Option Location → Bool → Change
+replacing_at stays candidate moved = stays
+replacing_at (cuts l) candidate moved = stays
+replacing_at (moves source target) None moved = stays
+replacing_at (moves source target) (Some candidate) moved = replaces source target candidate moved
+replacing_at (hides l other) candidate moved = stays
+replacing_at (replaces source target other again) candidate moved = stays
+
+-- an outcome that does not fit the footprint acts as a failure
+abbrev pub act_of : Footprint → Outcome → Act
+act_of d Failed = failure d
+act_of d Done = record (failure d) { change = d.done; opens = opened_alone d }
+act_of d Entry = record (failure d) { found = one_found d.page d.entries; opens = opened_with d }
+act_of d (Entries found) = record (failure d) { found = page_found d.page d.entries found }
+act_of d (Hidden candidate) = record (failure d) { change = hiding_at d.done (slice_get d.candidates candidate) }
+act_of d (HiddenMove candidate moved) = record (failure d) { change = replacing_at d.done (slice_get d.candidates candidate) moved }
+
+-- ---- finish: entries
+
+-- a request that is worked on holds the path of the name alone
+pub record IsHeldByOne (at : Lookup) (flights : RequestsInFlight) (key : Key) : Type 0 where
+  pub path : Names
+  pub leads : IsPathOfName at key.parent key.name path
+  pub id : ℕ
+  pub flight : RequestInFlight
+  pub work : Work
+  pub here : IsAtWork flights id flight work
+  pub exclusive : Contains work.held.exclusive path
+
+-- each name in turn: an entry of it is given, with a birth where no node stands, if it was found and no request holds it exclusively
+abbrev pub EntersAll : RequestsInFlight → Lookup → List Posting → List Key → List Bool → List (Option Given) → Lookup → List Posting → Type 0
+EntersAll flights at ps (key ∷ keys) (true ∷ found) (Some g ∷ given) at' ps' =
+    (IsHeldByOne at flights key → ⊥) × ((mid : Lookup) × (qs : List Posting) × Enters at ps key.parent key.name g mid qs × EntersAll flights mid qs keys found given at' ps')
+EntersAll flights at ps (key ∷ keys) (true ∷ found) (None ∷ given) at' ps' = IsHeldByOne at flights key × EntersAll flights at ps keys found given at' ps'
+EntersAll flights at ps (key ∷ keys) (false ∷ found) (None ∷ given) at' ps' = EntersAll flights at ps keys found given at' ps'
+EntersAll flights at ps [] [] [] at' ps' = (at' ≡ at) × (ps' ≡ ps)
+EntersAll flights at ps keys found given at' ps' = ⊥
+
+-- ---- finish: names
+
+-- what stands at the location or below is cut
+pub record Cuts (old : Lookup) (l : Location) (new : Lookup) : Type 0 where
+  pub path : Names
+  pub leads : HasPath old l path
+  pub changes : Changes (after_cut path) old new
+
+-- what stands at the source or below is moved to the target, where what stood is cut
+pub record Moves (old : Lookup) (source target : Location) (new : Lookup) : Type 0 where
+  pub path : Names
+  pub leads : HasPath old source path
+  pub new_path : Names
+  pub new_leads : HasPath old target new_path
+  pub changes : Changes (after_move path new_path) old new
+
+-- what stood at the location before, if anything did, has a hidden mark, and all else is as it was
+pub data Marks (before : Lookup) (l : Location) (old new : Lookup) : Type 0 where
+  none_there : ((n : ℕ) → IsThere before l n → ⊥) → new ≡ old → Marks before l old new
+  one_there : (n : ℕ) (x : Node) → IsThere before l n → old n ≡ Some x → new ≡ with_node old n (record x { hidden = true }) → Marks before l old new
+
+-- what stands at the location or below is moved to the candidate, where what stood is cut, and what stood at the location is marked
+pub record Hides (old : Lookup) (l candidate : Location) (new : Lookup) : Type 0 where
+  pub mid : Lookup
+  pub moves : Moves old l candidate mid
+  pub marks : Marks old l mid new
+
+-- p is moved to q once what stood at q is hidden at c. The paths are those of before: where c leads to p, what stood there was cut, and so
+-- what stands at q is cut alone
+abbrev pub after_follow : Names → Names → Names → Where → Where
+after_follow c p q w = if is_prefix c p && not (is_prefix p c) then after_cut q w else after_move p q w
+
+abbrev pub Follows : Lookup → Names → Names → Names → Bool → Lookup → Type 0
+Follows old candidate path new_path true new = Changes (after_follow candidate path new_path) old new
+Follows old candidate path new_path false new = new ≡ old
+
+-- what stands at the target is hidden, and then what stood at the source is moved to the target, if it may be
+pub record Replaces (old : Lookup) (source target candidate : Location) (moved : Bool) (new : Lookup) : Type 0 where
+  pub path : Names
+  pub leads : HasPath old source path
+  pub new_path : Names
+  pub new_leads : HasPath old target new_path
+  pub hidden : Lookup
+  pub hides : Hides old target candidate hidden
+  pub follows : Follows hidden hides.moves.new_path path new_path moved new
+
+abbrev pub Alters : Lookup → Change → Lookup → Type 0
+Alters old stays new = new ≡ old
+Alters old (cuts l) new = Cuts old l new
+Alters old (moves source target) new = Moves old source target new
+Alters old (hides l candidate) new = Hides old l candidate new
+Alters old (replaces source target candidate moved) new = Replaces old source target candidate moved new
+
+-- ---- finish: files
+
+-- a file of the node that stands at the target is opened under the next handle
+pub record OpensFile (at : Lookup) (opening : Opening) (old : World) (opened : Option ℕ) (files : Files) (last : ℕ) : Type 0 where
+  pub number : ℕ
+  pub there : IsThere at opening.target number
+  pub node : Node
+  pub here : at number ≡ Some node
+  pub last_is : last ≡ old.last_handle + 1
+  pub opened_is : opened ≡ Some last
+  pub files_are : files ≡ with_entry old.files last (Some (record { number = number; generation = node.generation; access = opening.access }))
+
+abbrev pub Opens : Lookup → Option Opening → World → Option ℕ → Files → ℕ → Type 0
+Opens at None old opened files last = (opened ≡ None) × (files ≡ old.files) × (last ≡ old.last_handle)
+Opens at (Some opening) old opened files last = OpensFile at opening old opened files last
+
+-- ---- finish
+
+-- the numbers of the nodes given
+abbrev pub numbers_of : List (Option Given) → List ℕ
+numbers_of [] = []
+numbers_of (None ∷ given) = numbers_of given
+numbers_of (Some g ∷ given) = g.number ∷ numbers_of given
+
+-- the same request, answered: it holds nothing, keeps its pins, and pins what it gave
+abbrev pub answered : RequestInFlight → List (Option Given) → RequestInFlight
+answered f given = record f { stage = Answered; pins = f.pins ++ numbers_of given }
+
+-- the act comes about: entries, then changes of names, and then the file; what nothing keeps any more goes
+pub record Ends (old : World) (id : ℕ) (f : RequestInFlight) (act : Act) (entries : List Key) (answer : Answer) (new : World) : Type 0 where
+  pub answer_id : answer.id ≡ id
+  pub not_lost : answer.lost ≡ false
+  pub entered : Lookup
+  pub enters : EntersAll (with_entry old.flights id (Some (answered f []))) old.at old.postings entries act.found answer.given entered new.postings
+  pub altered : Lookup
+  pub alters : Alters entered act.change altered
+  pub opens : Opens altered act.opens old answer.opened new.files new.last_handle
+  pub sweeps : Sweeps altered new
+  pub new_is : new ≡ record old {
+    at = new.at;
+    postings = new.postings;
+    flights = with_entry old.flights id (Some (answered f answer.given));
+    files = new.files;
+    last_handle = new.last_handle;
+  }
+
+pub record Finishes (old : World) (id : ℕ) (outcome : Outcome) (answer : Answer) (new : World) : Type 0 where
+  -- a ticket that no request is worked on under
+  pub lost : ((f : RequestInFlight) (work : Work) → IsAtWork old.flights id f work → ⊥) → (answer ≡ record { id = id; given = []; lost = true; opened = None }) × (new ≡ old)
+  pub found : (f : RequestInFlight) (work : Work) → IsAtWork old.flights id f work → Ends old id f (act_of work.footprint outcome) work.footprint.entries answer new
+
+-- ---- settle
+
+-- the handle that is closed: none where the reply was taken
+abbrev pub untaken_file : Bool → Option ℕ → Option ℕ
+untaken_file true opened = None
+untaken_file false opened = opened
+
+-- the request goes with its pins; what was not taken goes back, entries in order, and the file that it opened is closed, if it still is open
+pub record EndsFor (old : World) (answer : Answer) (taken : Bool) (new : World) : Type 0 where
+  pub mid : Lookup
+  pub back : TakesAllBack old.at old.postings (untaken_of taken answer.given) mid new.postings
+  pub sweeps : Sweeps mid new
+  pub new_is : new ≡ record old {
+    at = new.at;
+    postings = new.postings;
+    flights = with_entry old.flights answer.id None;
+    files = files_without (untaken_file taken answer.opened) old.files;
+  }
+
+-- a request whose work has ended is in flight under the id
+pub record IsAnswered (flights : RequestsInFlight) (id : ℕ) : Type 0 where
+  pub flight : RequestInFlight
+  pub here : flights id ≡ Some flight
+  pub ended : flight.stage ≡ Answered
+
+pub record Settles (old : World) (answer : Answer) (taken : Bool) (settled : Settlement) (new : World) : Type 0 where
+  pub settled_is : settled ≡ record { id = answer.id; entries = entries_in answer.given; taken = taken }
+  pub lost : answer.lost ≡ true → new ≡ old
+  pub unknown : (IsAnswered old.flights answer.id → ⊥) → new ≡ old
+  pub found : answer.lost ≡ false → IsAnswered old.flights answer.id → EndsFor old answer taken new

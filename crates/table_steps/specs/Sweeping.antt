@@ -1,0 +1,100 @@
+-- What holds while nodes that nothing keeps are dropped one by one.
+use Rattle.std.specs.Prelude.{ℕ, ◌+◌, ◌≡◌, ◌≢◌, ◌≤◌, ◌<◌, ◌⊎◌, Bool, true, List, [], ◌∷◌, Option, Some, None, length}
+use Rattle.table_files.specs.Handles.{AreOpenEntries, Opened}
+use Rattle.paths.specs.Prefixes.{Name}
+use Rattle.tree.specs.declared.nodes.Node.{Node}
+use Rattle.tree.specs.declared.nodes.Place.{Place}
+use Rattle.tree.specs.declared.nodes.Place.TheVariants.{Root, Named, Cut}
+use Rattle.tree.specs.Places.{Lookup, Nodes, at_in, IsNamed, IsTree}
+use Rattle.ledger.specs.Postings.{Postings}
+use Rattle.ledger.specs.declared.postings.Posting.{Posting}
+use Rattle.table_steps.specs.Steps.{files_without}
+use Rattle.table_image.specs.Law.{HasPlainRoot, IsCounted, IsBornInOrder, AreMarksNamed, AreAlive, HasReason}
+
+abbrev pub IsAmong : ℕ → List ℕ → Type 0
+IsAmong n [] = ⊥
+IsAmong n (b ∷ bs) = (n ≡ b) ⊎ IsAmong n bs
+
+-- what the law says of nodes, ledger and what is kept, but for the tree and the reasons
+pub record IsBooked (at : Lookup) (ps : List Posting) (kept : ℕ → Bool) : Type 0 where
+  pub root : HasPlainRoot at ps
+  pub counted : IsCounted at ps
+  pub born : IsBornInOrder at ps
+  pub marks : AreMarksNamed at
+  pub alive : AreAlive at kept
+
+-- each node but the root has a reason, those that are left out aside
+abbrev pub HaveReasonsBut : Lookup → (ℕ → Bool) → List ℕ → Type 0
+HaveReasonsBut at kept but = (n : ℕ) (x : Node) → at n ≡ Some x → n ≢ 1 → (IsAmong n but → ⊥) → HasReason at kept n x
+
+-- each node but the root has a reason, those aside that are cut and whose number is 0 or not below that one, and one that may be left out
+pub record HaveReasonsBelow (at : Lookup) (kept : ℕ → Bool) (but : Option ℕ) (bound : ℕ) : Type 0 where
+  pub reasons : (n : ℕ) (x : Node) → at n ≡ Some x → n ≢ 1 → (but ≡ Some n → ⊥) → (x.place ≡ Cut → (0 < n) × (n < bound)) → HasReason at kept n x
+
+-- the one that may be left out
+abbrev pub listed : Option ℕ → List ℕ
+listed None = []
+listed (Some n) = n ∷ []
+
+-- the nodes are a tree in which all have a reason, those that are left out aside
+pub record IsPruned (at : Lookup) (kept : ℕ → Bool) (but : List ℕ) : Type 0 where
+  pub tree : IsTree at
+  pub reasons : HaveReasonsBut at kept but
+
+-- the law, but that some nodes may lack a reason
+pub record IsNearly (at : Lookup) (ps : List Posting) (kept : ℕ → Bool) (but : List ℕ) : Type 0 where
+  pub booked : IsBooked at ps kept
+  pub pruned : IsPruned at kept but
+
+-- the number that a place is under
+abbrev pub parent_in : Place → Option ℕ
+parent_in Root = None
+parent_in (Named key) = Some key.parent
+parent_in Cut = None
+
+-- the same of a node, if there is one
+abbrev pub parent_at : Option Node → Option ℕ
+parent_at None = None
+parent_at (Some x) = parent_in x.place
+
+-- nodes with a count of 0 went: the sum of the counts and the limit are the same, and there is no less room
+pub record IsSameRest (old new : Nodes) : Type 0 where
+  pub fewer : new.living ≤ old.living
+  pub counts : new.counts ≡ old.counts
+  pub limit : new.limit ≡ old.limit
+  pub room : old.room ≤ new.room
+
+-- the files without one or none of them: the handles stay given, and there is no less room
+pub record IsClosed (old : Opened) (handle : Option ℕ) (new : Opened) : Type 0 where
+  pub at : new.at ≡ files_without handle old.at
+  pub opened : (n : ℕ) → new.opened n ≡ true → old.opened n ≡ true
+  pub fewer : new.many ≤ old.many
+  pub last : new.last ≡ old.last
+  pub room : old.room ≤ new.room
+  pub filed : AreOpenEntries new
+
+-- what an entry adds, with a birth or without one: one to the sum of the counts, and so many nodes and postings
+pub record IsOneMore (born : ℕ) (old : Nodes) (made : Postings) (new : Nodes) (more : Postings) : Type 0 where
+  pub living : new.living ≡ old.living + born
+  pub room : old.room ≤ new.room + born
+  pub counts : new.counts ≡ old.counts + 1
+  pub limit : new.limit ≡ old.limit
+  pub postings : length more.made ≡ length made.made + 1 + born
+  pub posting_room : made.room ≤ more.room + 1 + born
+  pub posting_limit : more.limit ≡ made.limit
+
+-- a node is born at most, and none where one is named so
+pub record IsEntered (old : Nodes) (made : Postings) (parent : ℕ) (name : Name) (new : Nodes) (more : Postings) : Type 0 where
+  pub born : ℕ
+  pub one : born ≤ 1
+  pub none : (n : ℕ) → IsNamed (at_in old) n parent name → born ≡ 0
+  pub more_is : IsOneMore born old made new more
+
+-- what is taken back: postings take the place of counts
+pub record IsTakenBack (old : Nodes) (made : Postings) (new : Nodes) (more : Postings) : Type 0 where
+  pub living : new.living ≡ old.living
+  pub room : new.room ≡ old.room
+  pub limit : new.limit ≡ old.limit
+  pub postings : length more.made + new.counts ≤ length made.made + old.counts
+  pub posting_room : made.room + new.counts ≤ more.room + old.counts
+  pub posting_limit : more.limit ≡ made.limit

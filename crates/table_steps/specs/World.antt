@@ -1,0 +1,192 @@
+-- All that a table keeps, and the law of it. No number stands here that the rest already fixes: what the limits are judged
+-- by is added up over what stands.
+use Rattle.std.specs.Prelude.{ℕ, ℤ, ◌+◌, ◌^◌, ◌<◌, ◌≤◌, ◌≡◌, ◌≢◌, ◌==◌, ◌↔◌, ◌⊎◌, Bool, true, if◌then◌else◌, List, [], Option, Some, None, All, Contains, length}
+use Rattle.holds.specs.declared.held.Held.{Held}
+use Rattle.holds.specs.Conflicts.{Conflict}
+use Rattle.ledger.specs.declared.postings.Posting.{Posting}
+use Rattle.table_requests.specs.declared.data.Case.{Case}
+use Rattle.table_requests.specs.declared.data.Promise.{Promise}
+use Rattle.table_requests.specs.declared.data.Want.{Want}
+use Rattle.table_files.specs.declared.data.OpenFile.{OpenFile}
+use Rattle.table_files.specs.Handles.{Files, IsOpen, no_files}
+use Rattle.tree.specs.declared.nodes.Key.{Key}
+use Rattle.tree.specs.Places.{Lookup, IsNamed, no_nodes, root_node, with_node}
+use Rattle.table_image.specs.Law.{HasNode, IsLawful, IsGivenPath}
+use Rattle.sums.specs.Sum.{IsSum}
+use Rattle.table_steps.specs.declared.data.Limits.{Limits}
+use Rattle.table_footprints.specs.Asked.{Holds, IsMisplaced, promise_of}
+use Rattle.table_footprints.specs.Cases.{Seen}
+use Rattle.table_footprints.specs.Footprints.{AtNode, Footprint, footprint_of}
+
+-- ---- what a table keeps
+
+-- what is still to do for a request: its footprint is that of its want when it began
+pub record Work : Type 0 where
+  pub want : Want
+  pub footprint : Footprint
+  pub held : Held
+
+pub data Stage : Type 0 where
+  Working : Work → Stage
+  Answered : Stage
+
+pub record RequestInFlight : Type 0 where
+  -- the number that the client gave the request
+  pub unique : ℕ
+  pub stage : Stage
+  pub pins : List ℕ
+
+-- requests by their ids
+abbrev pub RequestsInFlight : Type 0
+RequestsInFlight = ℕ → Option RequestInFlight
+
+pub record World : Type 0 where
+  -- nodes by their numbers, with their lookup counts and hidden marks
+  pub at : Lookup
+  -- the ledger: all postings, the oldest first
+  pub postings : List Posting
+  pub flights : RequestsInFlight
+  pub limits : Limits
+  -- open files by their handles
+  pub files : Files
+  -- the counter of the next hidden name
+  pub counter : ℕ
+  -- the last handle that was given, or 0
+  pub last_handle : ℕ
+
+-- what the case of a want may look at
+abbrev pub seen_in : World → Seen
+seen_in w = record { at = w.at; files = w.files; counter = w.counter }
+
+-- the same look-up, but that the key leads to x, or to none
+abbrev pub with_entry : {X : Type 0} → (ℕ → Option X) → ℕ → Option X → ℕ → Option X
+with_entry at key x = λ k. if key == k then x else at k
+
+abbrev pub no_flights : RequestsInFlight
+no_flights id = None
+
+-- ---- what keeps a node alive besides the tree
+
+-- a request pins the number
+pub record IsPinned (flights : RequestsInFlight) (n : ℕ) : Type 0 where
+  pub id : ℕ
+  pub flight : RequestInFlight
+  pub here : flights id ≡ Some flight
+  pub pin : Contains flight.pins n
+
+-- the numbers that are pinned or have an open file
+abbrev pub AreKept : RequestsInFlight → Files → (ℕ → Bool) → Type 0
+AreKept flights files kept = (n : ℕ) → (kept n ≡ true) ↔ (IsPinned flights n ⊎ IsOpen files n)
+
+-- ---- what stands, added up
+
+abbrev pub no_promise : Promise
+no_promise = record { nodes = 0; postings = 0; files = 0 }
+
+-- what is promised to a request that is worked on
+abbrev pub promised_to : Stage → Promise
+promised_to (Working work) = promise_of work.footprint
+promised_to Answered = no_promise
+
+pub record Tally : Type 0 where
+  -- living nodes with the root, and their lookup counts
+  pub living : ℕ
+  pub counts : ℕ
+  -- requests in flight, and what is promised to them
+  pub flights : ℕ
+  pub promised : Promise
+  -- open files
+  pub files : ℕ
+
+pub record IsTally (w : World) (t : Tally) : Type 0 where
+  pub living : IsSum w.at (λ x. 1) t.living
+  pub counts : IsSum w.at (λ x. x.count) t.counts
+  pub flights : IsSum w.flights (λ f. 1) t.flights
+  pub nodes : IsSum w.flights (λ f. (promised_to f.stage).nodes) t.promised.nodes
+  pub postings : IsSum w.flights (λ f. (promised_to f.stage).postings) t.promised.postings
+  pub opening : IsSum w.flights (λ f. (promised_to f.stage).files) t.promised.files
+  pub files : IsSum w.files (λ f. 1) t.files
+
+-- beside what stands and what is promised there is room for this: each lookup count may be forgotten one by one, and a handle is
+-- a number of 64 bits that is never given again
+pub record HasRoom (w : World) (t : Tally) (p : Promise) : Type 0 where
+  pub nodes : t.living + t.promised.nodes + p.nodes ≤ w.limits.nodes
+  pub postings : length w.postings + t.counts + t.promised.postings + p.postings ≤ w.limits.postings
+  pub files : t.files + t.promised.files + p.files ≤ w.limits.files
+  pub handles : w.last_handle + t.promised.files + p.files < 2 ^ 64
+
+-- what stands and what is promised keeps within the limits
+pub record IsWithin (w : World) : Type 0 where
+  pub tally : Tally
+  pub tallied : IsTally w tally
+  pub room : HasRoom w tally no_promise
+  pub flights : tally.flights ≤ w.limits.flights
+
+-- ---- what a request that is worked on may rely on
+
+-- the request is worked on under the id
+pub record IsAtWork (flights : RequestsInFlight) (id : ℕ) (f : RequestInFlight) (work : Work) : Type 0 where
+  pub here : flights id ≡ Some f
+  pub working : f.stage ≡ Working work
+
+-- the node that stands at the name is pinned
+pub record IsStanding (at : Lookup) (f : RequestInFlight) (key : Key) : Type 0 where
+  pub number : ℕ
+  pub named : IsNamed at number key.parent key.name
+  pub pin : Contains f.pins number
+
+pub record IsReady (at : Lookup) (f : RequestInFlight) (work : Work) : Type 0 where
+  -- its footprint is one of its want
+  pub case : Case
+  pub footprint : work.footprint ≡ footprint_of work.want case
+  -- what it holds is what its footprint says, as the nodes stand
+  pub holds : Holds at work.footprint work.held
+  pub pinned : (n : ℕ) → Contains work.footprint.given n → Contains f.pins n
+  -- a birth was promised for each of its names, or a node stands there
+  pub names : (work.footprint.births ≡ length work.footprint.entries) ⊎ All (IsStanding at f) work.footprint.entries
+  pub placed : (e : ℤ) → IsMisplaced at work.footprint.done e → ⊥
+  -- it holds not the root alone
+  pub below : Contains work.footprint.exclusive (AtNode 1) → ⊥
+
+-- ---- the law
+
+-- the node of each open file lives, with the generation that it had then
+abbrev pub HaveNodes : Lookup → Files → Type 0
+HaveNodes at files = (handle : ℕ) (file : OpenFile) → files handle ≡ Some file → HasNode at file
+
+-- besides, each handle was given, and they rise from 1
+pub record AreFilesKnown (at : Lookup) (files : Files) (last : ℕ) : Type 0 where
+  pub nodes : HaveNodes at files
+  pub given : (handle : ℕ) (file : OpenFile) → files handle ≡ Some file → (0 < handle) × (handle ≤ last)
+
+pub record AreHeld (at : Lookup) (flights : RequestsInFlight) : Type 0 where
+  -- no two that are worked on conflict
+  pub apart : (j k : ℕ) (f g : RequestInFlight) (v work : Work) → IsAtWork flights j f v → IsAtWork flights k g work → j ≢ k → Conflict v.held work.held → ⊥
+  -- the paths given still lead to their nodes, and each nonempty prefix of them is held
+  pub known : (id : ℕ) (f : RequestInFlight) (work : Work) → IsAtWork flights id f work → All (IsGivenPath at work.held) work.held.given
+
+-- each request that is worked on has what it relies on, by its want
+abbrev pub AreReady : Lookup → RequestsInFlight → Type 0
+AreReady at flights = (id : ℕ) (f : RequestInFlight) (work : Work) → IsAtWork flights id f work → IsReady at f work
+
+pub record IsLawfulWorld (w : World) : Type 0 where
+  pub kept : ℕ → Bool
+  pub keeps : AreKept w.flights w.files kept
+  pub law : IsLawful w.at w.postings kept
+  pub held : AreHeld w.at w.flights
+  pub ready : AreReady w.at w.flights
+  pub within : IsWithin w
+  pub files : AreFilesKnown w.at w.files w.last_handle
+
+-- ---- a table of the root alone
+
+abbrev pub opened_world : Limits → World
+opened_world limits = record {
+  at = with_node no_nodes 1 root_node;
+  postings = [];
+  flights = no_flights;
+  limits = limits;
+  files = no_files;
+  counter = 0;
+  last_handle = 0;
+}

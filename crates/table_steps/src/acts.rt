@@ -1,0 +1,159 @@
+//! What the end of a request's work may do: the names of its footprint, taken out of its want.
+
+ghost use Rattle.std.specs.Prelude.{◌≡◌};
+ghost use Rattle.table_steps.specs.Ending.{exclusive_in, candidates_in, change_in, folders_in, folders_of, is_page, keys_in, with_in};
+ghost use Rattle.table_steps.specs.Steps.{opened_alone, opened_with};
+ghost use Rattle.table_footprints.specs.NewRequests.{copied, copied_page};
+ghost use Rattle.table_footprints.specs.Footprints.{closed_change, hidden_in, footprint_of};
+
+use crate::keys::{FolderKeys, Keys};
+use paths::Name;
+use table_files::Access;
+use table_requests::{Case, Names, Want};
+use tree::Key;
+
+/// The names for which entries may be given.
+#[derive(Drop)]
+pub(crate) enum Entries {
+    Nothing,
+    One(Keys),
+    Page(FolderKeys),
+}
+
+/// What becomes of names once the work is done.
+#[derive(Drop)]
+pub(crate) enum Change {
+    Stays,
+    /// What stands there is cut.
+    Cuts(Key),
+    /// The node is cut.
+    CutsNode(u64),
+    /// What stands at the first is moved to the second, where what stood is cut.
+    Moves(Key, Keys),
+    /// What stands at the first is moved to the second, where what stood is cut, and marked.
+    Hides(Key, Keys),
+    /// What stands at the second is hidden at the third, and then, if so told, what stood at the first is moved to the second.
+    Replaces(Key, Keys, Keys, bool),
+}
+
+/// Which file may be opened.
+#[derive(Clone, Copy)]
+pub(crate) enum Opens {
+    Nothing,
+    /// That of the node.
+    Node(u64, Access),
+    /// That of the name for which an entry is given.
+    Entry(Access),
+}
+
+/// What the outcomes of a request may do.
+#[derive(Drop)]
+pub(crate) struct Acts {
+    pub(crate) entries: Entries,
+    pub(crate) change: Change,
+    /// The names that an open file may be hidden under.
+    pub(crate) candidates: Option<FolderKeys>,
+    pub(crate) opens: Opens,
+}
+
+/// What becomes of the node whose file was closed when the request began: it goes with its last opening, if it is hidden.
+fn closing_change(number: u64, case: Case) -> Change
+    ensures { change_in result ≡ closed_change number case }
+{
+    match case {
+        Case::Last => Change::CutsNode(number),
+        Case::Plain | Case::Absent | Case::Pathless | Case::Hiding { .. } => Change::Stays,
+    }
+}
+
+/// What the footprint of the want says in that case.
+pub(crate) fn acts_of(
+    want: Want,
+    case: Case,
+    copy: Option<Name>,
+    beside: Names,
+    copies: Names,
+) -> Acts
+    requires copy { copy ≡ copied want }
+    requires beside { beside ≡ hidden_in case }
+    requires copies { copies ≡ copied_page want case }
+    ensures entries { keys_in result.entries ≡ (footprint_of want case).entries }
+    ensures page { is_page result.entries ≡ (footprint_of want case).page }
+    ensures folders { folders_in result.entries ≡ folders_of (footprint_of want case) }
+    ensures change { change_in result.change ≡ (footprint_of want case).done }
+    ensures candidates { candidates_in result.candidates ≡ (footprint_of want case).candidates }
+    ensures exclusive { exclusive_in result.opens ≡ opened_alone (footprint_of want case) }
+    ensures entered { with_in result.opens result.entries ≡ opened_with (footprint_of want case) }
+{
+    match want {
+        Want::Node { .. } => Acts {
+            entries: Entries::Nothing,
+            change: Change::Stays,
+            candidates: None,
+            opens: Opens::Nothing,
+        },
+        Want::Name { parent, name } => Acts {
+            entries: Entries::One(Keys::new(parent, name, copy)),
+            change: Change::Stays,
+            candidates: None,
+            opens: Opens::Nothing,
+        },
+        Want::Remove { parent, name, .. } => Acts {
+            entries: Entries::Nothing,
+            change: Change::Cuts(Key { parent, name }),
+            candidates: Some(FolderKeys {
+                folder: parent,
+                names: beside,
+                copies,
+            }),
+            opens: Opens::Nothing,
+        },
+        Want::Move {
+            parent,
+            name,
+            new_parent,
+            new_name,
+        } => Acts {
+            entries: Entries::Nothing,
+            change: Change::Moves(Key { parent, name }, Keys::new(new_parent, new_name, copy)),
+            candidates: Some(FolderKeys {
+                folder: new_parent,
+                names: beside,
+                copies,
+            }),
+            opens: Opens::Nothing,
+        },
+        Want::Page { folder, names } => Acts {
+            entries: Entries::Page(FolderKeys {
+                folder,
+                names,
+                copies,
+            }),
+            change: Change::Stays,
+            candidates: None,
+            opens: Opens::Nothing,
+        },
+        Want::Open { number, access } => Acts {
+            entries: Entries::Nothing,
+            change: Change::Stays,
+            candidates: None,
+            opens: Opens::Node(number, access),
+        },
+        Want::Create {
+            parent,
+            name,
+            access,
+        } => Acts {
+            entries: Entries::One(Keys::new(parent, name, copy)),
+            change: Change::Stays,
+            candidates: None,
+            opens: Opens::Entry(access),
+        },
+        Want::Release { number, .. } => Acts {
+            entries: Entries::Nothing,
+            change: closing_change(number, case),
+            candidates: None,
+            opens: Opens::Nothing,
+        },
+    }
+}

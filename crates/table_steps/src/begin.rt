@@ -1,0 +1,278 @@
+//! The beginning of a request.
+
+ghost use Rattle.std.specs.Prelude.{ℕ, ◌≡◌, ◌≤◌, ◌<◌, ◌+◌, ◌%◌, ◌^◌, if◌then◌else◌, ◌==◌, not, length, ◌↔◌, true, IfErr, IsTrue, OnOk};
+ghost use Rattle.table_files.specs.OpenEntry.{files_of};
+ghost use Rattle.table_steps.specs.Beginning.{Allows, Forbids, HasHandles, IsHandleUsable, IsRefusedHandle, IsRoomForOne, IsSameButRoom, used_in};
+ghost use Rattle.table_steps.specs.Kept.{IsKept, tally_of, world_of};
+ghost use Rattle.table_steps.specs.Steps.{Begins, IsUsable, is_cut, is_last};
+ghost use Rattle.table_steps.specs.World.{IsTally};
+ghost use Rattle.table_footprints.specs.NewRequests.{IsNewRequest};
+ghost use Rattle.table_footprints.specs.Cases.{seen_of};
+ghost use Rattle.table_footprints.specs.Footprints.{closed_change, is_same, footprint_of};
+
+use crate::data::{Begin, Ticket};
+use crate::state::State;
+use errno::{EAGAIN, EBADF, ENFILE, ENOMEM};
+use std::alloc::AllocError;
+use table_files::{Files, Need};
+use table_footprints::{NewRequest, new_request};
+use table_requests::{Case, Handle, Promise, RequestInFlight, Stage, Want, Work};
+
+/// Whether a name is moved to itself.
+fn is_same(want: &Want) -> bool
+    ensures { result ≡ is_same (footprint_of want.now Case.Plain).done }
+{
+    match want {
+        Want::Move {
+            parent,
+            name,
+            new_parent,
+            new_name,
+        } => parent == new_parent && name.is(new_name),
+        Want::Node { .. }
+        | Want::Name { .. }
+        | Want::Remove { .. }
+        | Want::Page { .. }
+        | Want::Open { .. }
+        | Want::Create { .. }
+        | Want::Release { .. } => false,
+    }
+}
+
+/// The handle that the want uses, with the node that it is to be open on.
+fn used_by(want: &Want) -> Option<(u64, Handle)>
+    ensures { used_in result ≡ (footprint_of want.now Case.Plain).used }
+{
+    match want {
+        Want::Node { number, handle } => match handle {
+            Some(handle) => Some((*number, *handle)),
+            None => None,
+        },
+        Want::Release { number, fh } => Some((
+            *number,
+            Handle {
+                fh: *fh,
+                need: Need::Any,
+            },
+        )),
+        Want::Name { .. }
+        | Want::Remove { .. }
+        | Want::Move { .. }
+        | Want::Page { .. }
+        | Want::Open { .. }
+        | Want::Create { .. } => None,
+    }
+}
+
+/// The handle that is closed when a request with that want begins.
+fn closed_by(want: &Want) -> Option<u64>
+    ensures { result ≡ (footprint_of want.now Case.Plain).closes }
+{
+    match want {
+        Want::Release { number: _, fh } => Some(*fh),
+        Want::Node { .. }
+        | Want::Name { .. }
+        | Want::Remove { .. }
+        | Want::Move { .. }
+        | Want::Page { .. }
+        | Want::Open { .. }
+        | Want::Create { .. } => None,
+    }
+}
+
+/// Whether the handle is that of an open file of the node, and may be used so.
+fn is_usable(files: &Files, number: u64, handle: &Handle) -> bool
+    ensures { IsTrue result ↔ IsUsable (files_of files.now).at (record { number = number; handle = handle.now }) }
+{
+    match files.get(handle.fh) {
+        Some(file) => file.number == number && file.access.allows(handle.need),
+        None => false,
+    }
+}
+
+/// Whether an open file may have to be hidden, under names that are kept for it.
+fn may_hide(work: &Work) -> bool
+    ensures { result ≡ not (length work.now.candidates == 0) }
+{
+    !work.candidates.as_slice().is_empty()
+}
+
+/// Whether the end of the work removes the node whose file is closed.
+fn removes_closed(case: Case) -> bool
+    ensures { (number : ℕ) → result ≡ is_cut (closed_change number case) }
+{
+    match case {
+        Case::Last => true,
+        Case::Plain | Case::Absent | Case::Pathless | Case::Hiding { .. } => false,
+    }
+}
+
+/// Whether a hidden file is closed for the last time, which the end of the work removes.
+fn is_last(want: &Want, case: Case) -> bool
+    ensures { result ≡ is_last (footprint_of want.now case) }
+{
+    match want {
+        Want::Release { .. } => removes_closed(case),
+        Want::Node { .. }
+        | Want::Name { .. }
+        | Want::Remove { .. }
+        | Want::Move { .. }
+        | Want::Page { .. }
+        | Want::Open { .. }
+        | Want::Create { .. } => false,
+    }
+}
+
+/// How many names are taken where a file may have to be hidden.
+const CANDIDATES: u32 = 10;
+
+/// The counter of the next hidden name, once a request was taken up.
+fn next_counter(counter: u32, hide: bool) -> u32
+    ensures { result ≡ (if hide then (counter + 10) % 2 ^ 32 else counter) }
+{
+    if hide {
+        counter.wrapping_add(CANDIDATES)
+    } else {
+        counter
+    }
+}
+
+impl State {
+    /// Takes up a request, if its tests allow it, and keeps free what its end may need. A handle that it closes is closed at once.
+    /// Busy and a refusal change nothing.
+    pub fn begin(&mut self, unique: u64, want: Want) -> Begin
+        requires { IsKept self.old }
+        ensures begins { Begins (world_of self.old) unique want result (world_of self.new) }
+        ensures kept { IsKept self.new }
+    {
+        match self.expect_handle(&want) {
+            Ok(()) => {}
+            Err(errno) => return Begin::Refused(errno),
+        }
+        match new_request(self.alloc, &self.tree, &self.files, self.counter, want) {
+            Ok(new_request) => self.admit(unique, new_request),
+            Err(errno) => Begin::Refused(errno),
+        }
+    }
+
+    /// Tests that the handle which the want uses is that of an open file of its node, and may be used so.
+    fn expect_handle(&self, want: &Want) -> Result<(), i32>
+        requires { IsKept self.now }
+        ensures ok { OnOk result (IsHandleUsable (world_of self.now) want.now) }
+        ensures err { IfErr result (IsRefusedHandle (world_of self.now) want.now) }
+    {
+        let _nodes = self.tree.len();
+        let Some((number, handle)) = used_by(want) else {
+            return Ok(());
+        };
+        if is_usable(&self.files, number, &handle) {
+            Ok(())
+        } else {
+            Err(EBADF)
+        }
+    }
+
+    /// Records a request that passed the tests of its paths, if none is in its way and the limits allow it.
+    fn admit(&mut self, unique: u64, new_request: NewRequest) -> Begin
+        requires kept { IsKept self.old }
+        requires new_request { IsNewRequest (seen_of self.old.tree self.old.files self.old.counter) new_request.work.want new_request }
+        requires handle { IsHandleUsable (world_of self.old) new_request.work.want }
+        ensures begins { Begins (world_of self.old) unique new_request.work.want result (world_of self.new) }
+        ensures kept { IsKept self.new }
+    {
+        let NewRequest { work, pins, paths } = new_request;
+        if self.flights.holds_up(&work.held) {
+            return Begin::Busy;
+        }
+        let promise = work.promise;
+        match self.expect_within(&promise) {
+            Ok(()) => {}
+            Err(errno) => return Begin::Refused(errno),
+        }
+        match self.reserve(&promise) {
+            Ok(()) => {}
+            Err(_) => return Begin::Refused(ENOMEM),
+        }
+        let same = is_same(&work.want);
+        let hide = may_hide(&work);
+        let last = is_last(&work.want, work.case);
+        let closes = closed_by(&work.want);
+        let id = self.flights.free_id();
+        self.flights.add(RequestInFlight {
+            id,
+            unique,
+            stage: Stage::Working(work),
+            pins,
+        });
+        self.counter = next_counter(self.counter, hide);
+        self.close_file(closes);
+        Begin::Go(Ticket {
+            id,
+            paths,
+            same,
+            hide,
+            last,
+        })
+    }
+
+    /// Tests that the limits allow one request more that is promised so much.
+    fn expect_within(&self, promise: &Promise) -> Result<(), i32>
+        requires { IsKept self.now }
+        ensures ok { OnOk result (Allows self.now promise.now) }
+        ensures err { IfErr result (Forbids self.now promise.now) }
+        ensures tally { IsTally (world_of self.now) (tally_of self.now) }
+    {
+        let promised = self.flights.promised();
+        let made = self.ledger.postings().len() as u64;
+        let free_nodes = self.limits.nodes - self.tree.len() - promised.nodes;
+        let free_postings = self.limits.postings - made - self.counts - promised.postings;
+        if free_nodes < promise.nodes {
+            return Err(ENFILE);
+        }
+        if free_postings < promise.postings {
+            return Err(ENFILE);
+        }
+        if !self.has_handles(promise) {
+            return Err(ENFILE);
+        }
+        if self.limits.flights <= self.flights.len() as u64 {
+            return Err(EAGAIN);
+        }
+        Ok(())
+    }
+
+    /// Whether the files that it may open keep within the limit, and handles are left for them.
+    fn has_handles(&self, promise: &Promise) -> bool
+        requires { IsKept self.now }
+        ensures { IsTrue result ↔ HasHandles self.now promise.now }
+    {
+        let promised = self.flights.promised();
+        let free_files = self.limits.files - self.files.len() as u64 - promised.files;
+        let free_handles = self.files.handles_left() - promised.files;
+        promise.files <= free_files && promise.files <= free_handles
+    }
+
+    /// Makes room for one request more that is promised so much.
+    fn reserve(&mut self, promise: &Promise) -> Result<(), AllocError>
+        requires kept { IsKept self.old }
+        requires allowed { Allows self.old promise.now }
+        ensures ok { OnOk result (IsRoomForOne self.new promise.now) }
+        ensures same { IsSameButRoom self.old self.new }
+        ensures kept { IsKept self.new }
+    {
+        let promised = self.flights.promised();
+        let nodes = promised.nodes + promise.nodes;
+        let postings = self.counts + promised.postings + promise.postings;
+        let files = promised.files + promise.files;
+        if self.tree.reserve(nodes as usize).is_err() {
+            return Err(AllocError);
+        }
+        if self.ledger.reserve(postings as usize).is_err() {
+            return Err(AllocError);
+        }
+        if self.files.reserve(files as usize).is_err() {
+            return Err(AllocError);
+        }
+        self.flights.reserve()
+    }
+}

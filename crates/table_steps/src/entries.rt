@@ -1,0 +1,90 @@
+//! Entries of names that are given to the client.
+
+ghost use Rattle.std.specs.Prelude.{◌≡◌, ◌≤◌, ◌<◌, ◌+◌, ◌^◌, ℕ, length};
+ghost use Rattle.table_image.specs.Law.{IsLawful};
+ghost use Rattle.table_steps.specs.Entries.{Bears, Enters, EntersAgain};
+ghost use Rattle.table_steps.specs.Keeping.{kept_by};
+ghost use Rattle.table_steps.specs.Sweeping.{IsEntered, IsOneMore};
+ghost use Rattle.tree.specs.Places.{at_in, IsFree, IsNamed, IsTree, Leads};
+
+use crate::keys::Keys;
+use ledger::{Ledger, Posting};
+use table_files::Files;
+use table_requests::{Given, RequestsInFlight};
+use tree::{Key, Tree};
+
+/// Counts one more entry of the node that is named so, and posts it.
+fn enter_again(
+    tree: &mut Tree,
+    ledger: &mut Ledger,
+    _flights: &RequestsInFlight,
+    _files: &Files,
+    number: u64,
+    _key: &Key,
+) -> Given
+    requires law { IsLawful (at_in tree.old) ledger.old.made (kept_by _flights.now _files.now) }
+    requires named { IsNamed (at_in tree.old) number _key.now.parent _key.now.name }
+    requires room { 0 < ledger.old.room }
+    requires short { length ledger.old.made + 1 < 2 ^ 64 }
+    ensures enters { EntersAgain (at_in tree.old) ledger.old.made _key.now.parent _key.now.name result (at_in tree.new) ledger.new.made }
+    ensures law { IsLawful (at_in tree.new) ledger.new.made (kept_by _flights.now _files.now) }
+    ensures more { IsOneMore 0 tree.old ledger.old tree.new ledger.new }
+{
+    let Some(node) = tree.at(number) else {
+        unreachable!();
+    };
+    let (generation, count) = (node.generation, node.count + 1);
+    tree.set_count(number, count);
+    ledger.post(Posting::Entry { number, generation });
+    Given { number, generation }
+}
+
+/// Bears a node at the name, and counts its first entry.
+fn bear(
+    tree: &mut Tree,
+    ledger: &mut Ledger,
+    _flights: &RequestsInFlight,
+    _files: &Files,
+    keys: Keys,
+) -> Given
+    requires law { IsLawful (at_in tree.old) ledger.old.made (kept_by _flights.now _files.now) }
+    requires free { IsFree (at_in tree.old) keys.key.parent keys.key.name }
+    requires above { Leads (at_in tree.old) keys.key.parent }
+    requires node_room { 0 < tree.old.room }
+    requires room { 2 ≤ ledger.old.room }
+    ensures bears { Bears (at_in tree.old) ledger.old.made keys.key.parent keys.key.name result (at_in tree.new) ledger.new.made }
+    ensures law { IsLawful (at_in tree.new) ledger.new.made (kept_by _flights.now _files.now) }
+    ensures more { IsOneMore 1 tree.old ledger.old tree.new ledger.new }
+{
+    let Keys { key, copy } = keys;
+    let next = tree.next_free();
+    let generation = ledger.births(next);
+    let number = tree.birth(generation, key, copy);
+    ledger.post(Posting::Born { number, generation });
+    tree.set_count(number, 1);
+    ledger.post(Posting::Entry { number, generation });
+    Given { number, generation }
+}
+
+/// Gives an entry of the name: of the node that stands there, or of one that is born.
+pub(crate) fn enter(
+    tree: &mut Tree,
+    ledger: &mut Ledger,
+    flights: &RequestsInFlight,
+    files: &Files,
+    keys: Keys,
+) -> Given
+    requires law { IsLawful (at_in tree.old) ledger.old.made (kept_by flights.now files.now) }
+    requires above { Leads (at_in tree.old) keys.key.parent }
+    requires node_room { IsFree (at_in tree.old) keys.key.parent keys.key.name → 0 < tree.old.room }
+    requires room { 2 ≤ ledger.old.room }
+    requires short { length ledger.old.made + 1 < 2 ^ 64 }
+    ensures enters { Enters (at_in tree.old) ledger.old.made keys.key.parent keys.key.name result (at_in tree.new) ledger.new.made }
+    ensures law { IsLawful (at_in tree.new) ledger.new.made (kept_by flights.now files.now) }
+    ensures more { IsEntered tree.old ledger.old keys.key.parent keys.key.name tree.new ledger.new }
+{
+    match tree.find(&keys.key) {
+        Some(number) => enter_again(tree, ledger, flights, files, number, &keys.key),
+        None => bear(tree, ledger, flights, files, keys),
+    }
+}

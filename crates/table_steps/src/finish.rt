@@ -1,0 +1,123 @@
+//! The end of the work on a request.
+
+ghost use Rattle.std.specs.Prelude.{◌≡◌};
+ghost use Rattle.table_steps.specs.Ending.{ChangesNames, IsEnding, MayAlter, change_in};
+ghost use Rattle.table_steps.specs.Kept.{IsKept, flight_of, world_of};
+ghost use Rattle.table_steps.specs.Steps.{Ends, Finishes, act_of};
+ghost use Rattle.table_footprints.specs.NewRequests.{footprint_in};
+
+use crate::acts::{Acts, Change, acts_of};
+use crate::data::{Answered, Outcome, Ticket};
+use crate::give::give_none;
+use crate::hiding::{hide, replace};
+use crate::places::{alter, losing};
+use crate::state::State;
+use crate::sweep::sweep_change;
+use table_requests::{Givens, Work};
+
+/// The same answer with the handle of the file that was opened.
+fn with_file(answered: Answered, opened: Option<u64>) -> Answered
+    ensures { result ≡ record answered { opened = opened } }
+{
+    let Answered {
+        id,
+        given,
+        lost,
+        opened: _,
+    } = answered;
+    Answered {
+        id,
+        given,
+        lost,
+        opened,
+    }
+}
+
+impl State {
+    /// Cuts, moves or hides names, with all below them, and drops what nothing keeps any more.
+    fn change(&mut self, change: Change)
+        requires kept { IsKept self.old }
+        requires may { MayAlter self.old (change_in change) }
+        ensures changes { ChangesNames (world_of self.old) (change_in change) (world_of self.new) }
+        ensures rest { self.new ≡ record self.old { tree = self.new.tree } }
+        ensures kept { IsKept self.new }
+    {
+        if matches!(change, Change::Stays) {
+            return;
+        }
+        let losing = losing(&self.tree, &change);
+        alter(&mut self.tree, change);
+        sweep_change(&mut self.tree, &self.flights, &self.files, losing);
+    }
+
+    /// What the outcome of a request does, whose work has ended. One that does not fit its want does nothing.
+    fn end(&mut self, id: u64, work: Work, outcome: Outcome) -> Answered
+        requires kept { IsKept self.old }
+        requires ending { IsEnding self.old id work }
+        ensures ends { (e : IsEnding self.old id work) → Ends (world_of self.old) id (flight_of e.flight) (act_of (footprint_in work) outcome) (footprint_in work).entries result (world_of self.new) }
+        ensures kept { IsKept self.new }
+    {
+        let Work {
+            want,
+            case,
+            copy,
+            candidates: beside,
+            copies,
+            held,
+            promise: _,
+            answer,
+        } = work;
+        let Acts {
+            entries,
+            change,
+            candidates,
+            opens,
+        } = acts_of(want, case, copy, beside, copies);
+        match outcome {
+            Outcome::Failed => give_none(id, &entries, answer, None),
+            Outcome::Done => {
+                self.change(change);
+                let opened = self.open_node(opens);
+                give_none(id, &entries, answer, opened)
+            }
+            Outcome::Entry => {
+                let (answered, entered) = self.give_entry(id, entries, answer);
+                let opened = self.open_given(opens, entered);
+                with_file(answered, opened)
+            }
+            Outcome::Entries(found) => self.give_entries(id, &held, entries, &found, answer),
+            Outcome::Hidden(index) => {
+                self.change(hide(change, candidates, index));
+                give_none(id, &entries, answer, None)
+            }
+            Outcome::HiddenMove { candidate, moved } => {
+                self.change(replace(change, candidates, candidate, moved));
+                give_none(id, &entries, answer, None)
+            }
+        }
+    }
+
+    /// Ends the work on a request: the client is given entries of its names, or its names change, or nothing is done.
+    pub fn finish(&mut self, ticket: Ticket, outcome: Outcome) -> Answered
+        requires { IsKept self.old }
+        ensures finishes { Finishes (world_of self.old) ticket.id outcome result (world_of self.new) }
+        ensures kept { IsKept self.new }
+    {
+        let Ticket {
+            id,
+            paths: _,
+            same: _,
+            hide: _,
+            last: _,
+        } = ticket;
+        let Some(work) = self.flights.answer(id) else {
+            return Answered {
+                id,
+                given: Givens::new(self.alloc),
+                lost: true,
+                opened: None,
+            };
+        };
+        self.end(id, work, outcome)
+    }
+}

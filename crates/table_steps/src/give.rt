@@ -1,0 +1,217 @@
+//! Entries that the end of a request's work gives.
+
+ghost use Rattle.std.specs.Prelude.{ℕ, ◌≡◌, ◌≤◌, true, false, List, [], ◌∷◌, None, Some, Contains, length, map};
+ghost use Rattle.table_requests.specs.declared.data.RequestInFlight.{RequestInFlight as Recorded};
+ghost use Rattle.table_requests.specs.Listed.{requests_of};
+ghost use Rattle.holds.specs.declared.held.GivenPath.{GivenPath as Lead};
+ghost use Rattle.table_steps.specs.Ending.{AreUnowned, EntersName, GivesAll, IsGivenFor, LeadsTo, MayEnter, MayFill, folders_in, is_page, keys_in};
+ghost use Rattle.table_steps.specs.Kept.{IsKept, flight_of, world_of};
+ghost use Rattle.table_steps.specs.Steps.{one_found, page_found};
+ghost use Rattle.tree.specs.declared.nodes.Key.{Key as Under};
+ghost use Rattle.tree.specs.Places.{IsAlive, IsPathOf, at_in};
+ghost use Rattle.table_footprints.specs.Footprints.{page_keys};
+
+use crate::acts::Entries;
+use crate::data::Answered;
+use crate::entries::enter;
+use crate::found::FoundNames;
+use crate::keys::{FolderKeys, Keys};
+use crate::state::State;
+use holds::Held;
+use paths::Path;
+use table_requests::{Given, Givens};
+
+impl Entries {
+    /// How many names they are.
+    fn len(&self) -> usize
+        ensures { result ≡ length (keys_in self.now) }
+    {
+        match self {
+            Entries::Nothing => 0,
+            Entries::One(_) => 1,
+            Entries::Page(page) => page.names.as_slice().len(),
+        }
+    }
+}
+
+/// The answer of a request that gives nothing for its names.
+pub(crate) fn give_none(id: u64, entries: &Entries, answer: Givens, opened: Option<u64>) -> Answered
+    requires room { length (keys_in entries.now) ≤ answer.room }
+    requires unanswered { answer.items ≡ [] }
+    ensures { result ≡ record { id = id; given = map (λ _. None) (keys_in entries.now); lost = false; opened = opened } }
+{
+    let mut given = answer;
+    for next in 0..entries.len() {
+        given.add(None);
+    }
+    Answered {
+        id,
+        given,
+        lost: false,
+        opened,
+    }
+}
+
+/// The path of the one node that a request names.
+fn path_of(held: &Held) -> &Path
+    requires { length held.now.given ≡ 1 }
+    ensures { (lead : Lead) → held.now.given ≡ lead ∷ [] → result.now ≡ lead.path }
+{
+    &held.given.as_slice()[0].path
+}
+
+impl State {
+    /// Gives an entry of the name, and lets the request pin its node.
+    fn give(&mut self, id: u64, keys: Keys) -> Given
+        requires kept { IsKept self.old }
+        requires may { MayEnter self.old id (keys.key ∷ []) }
+        ensures enters { (f : Recorded) → (requests_of self.old.flights).at id ≡ Some f → EntersName (world_of self.old) id (flight_of f) keys.key result (world_of self.new) }
+        ensures more { (rest : List Under) → MayFill self.old id (keys.key ∷ rest) → MayFill self.new id rest }
+        ensures alive { IsAlive (at_in self.new.tree) result.number }
+        ensures files { self.new.files ≡ self.old.files }
+        ensures limits { self.new.limits ≡ self.old.limits }
+        ensures promised { (requests_of self.new.flights).files ≡ (requests_of self.old.flights).files }
+        ensures kept { IsKept self.new }
+    {
+        let entered = enter(
+            &mut self.tree,
+            &mut self.ledger,
+            &self.flights,
+            &self.files,
+            keys,
+        );
+        self.counts += 1;
+        self.flights.pin(id, entered.number);
+        entered
+    }
+
+    /// Gives an entry of a name of a page, if it was found and no request that is worked on holds it exclusively.
+    fn give_found(&mut self, id: u64, folder: &Path, keys: Keys, found: bool) -> Option<Given>
+        requires kept { IsKept self.old }
+        requires may { MayEnter self.old id (keys.key ∷ []) }
+        requires leads { IsPathOf (at_in self.old.tree) keys.key.parent folder.now }
+        ensures gives { (f : Recorded) → (requests_of self.old.flights).at id ≡ Some f → GivesAll (world_of self.old) id (flight_of f) (keys.key ∷ []) (found ∷ []) (result ∷ []) (world_of self.new) }
+        ensures more { (rest : List Under) → MayFill self.old id (keys.key ∷ rest) → MayFill self.new id rest }
+        ensures leads { IsPathOf (at_in self.new.tree) keys.key.parent folder.now }
+        ensures kept { IsKept self.new }
+    {
+        if !found {
+            return None;
+        }
+        if self.flights.holds_exclusively(folder, &keys.key.name) {
+            return None;
+        }
+        Some(self.give(id, keys))
+    }
+
+    /// Gives an entry of each name of the page that was found and that no request that is worked on holds exclusively.
+    fn give_page(
+        &mut self,
+        id: u64,
+        folder: &Path,
+        page: FolderKeys,
+        found: &[bool],
+        answer: Givens,
+    ) -> Answered
+        requires kept { IsKept self.old }
+        requires may { MayFill self.old id (page_keys page.folder page.names) }
+        requires leads { IsPathOf (at_in self.old.tree) page.folder folder.now }
+        requires fits { length found.now ≡ length page.names }
+        requires room { length page.names ≤ answer.room }
+        requires unanswered { answer.items ≡ [] }
+        ensures told { result ≡ record { id = id; given = result.given; lost = false; opened = None } }
+        ensures gives { (f : Recorded) → (requests_of self.old.flights).at id ≡ Some f → GivesAll (world_of self.old) id (flight_of f) (page_keys page.folder page.names) found.now result.given (world_of self.new) }
+        ensures kept { IsKept self.new }
+    {
+        let FolderKeys {
+            folder: parent,
+            names,
+            copies,
+        } = page;
+        let mut given = answer;
+        let mut copies = copies.into_vec().into_iter();
+        let mut i = 0;
+        for name in names.into_vec() {
+            let copy = copies.next();
+            let keys = Keys::new(parent, name, copy);
+            given.add(self.give_found(id, folder, keys, found[i]));
+            i += 1;
+        }
+        Answered {
+            id,
+            given,
+            lost: false,
+            opened: None,
+        }
+    }
+
+    /// Gives an entry of the one name of a request that is no page.
+    pub(crate) fn give_entry(
+        &mut self,
+        id: u64,
+        entries: Entries,
+        answer: Givens,
+    ) -> (Answered, Option<Given>)
+        requires kept { IsKept self.old }
+        requires may { MayEnter self.old id (keys_in entries) }
+        requires unowned { is_page entries ≡ false → AreUnowned self.old (keys_in entries) }
+        requires room { length (keys_in entries) ≤ answer.room }
+        requires unanswered { answer.items ≡ [] }
+        ensures told { result.0 ≡ record { id = id; given = result.0.given; lost = false; opened = None } }
+        ensures gives { (f : Recorded) → (requests_of self.old.flights).at id ≡ Some f → GivesAll (world_of self.old) id (flight_of f) (keys_in entries) (one_found (is_page entries) (keys_in entries)) result.0.given (world_of self.new) }
+        ensures given { IsGivenFor self.new entries result.0.given result.1 }
+        ensures files { self.new.files ≡ self.old.files }
+        ensures limits { self.new.limits ≡ self.old.limits }
+        ensures promised { (requests_of self.new.flights).files ≡ (requests_of self.old.flights).files }
+        ensures kept { IsKept self.new }
+    {
+        match entries {
+            Entries::One(keys) => {
+                let mut given = answer;
+                let entered = self.give(id, keys);
+                given.add(Some(entered));
+                let answered = Answered {
+                    id,
+                    given,
+                    lost: false,
+                    opened: None,
+                };
+                (answered, Some(entered))
+            }
+            Entries::Nothing => (give_none(id, &Entries::Nothing, answer, None), None),
+            Entries::Page(page) => (give_none(id, &Entries::Page(page), answer, None), None),
+        }
+    }
+
+    /// Gives an entry of each name of a page that was found and that no request that is worked on holds exclusively.
+    pub(crate) fn give_entries(
+        &mut self,
+        id: u64,
+        held: &Held,
+        entries: Entries,
+        found: &FoundNames,
+        answer: Givens,
+    ) -> Answered
+        requires kept { IsKept self.old }
+        requires may { MayEnter self.old id (keys_in entries) }
+        requires fill { is_page entries ≡ true → MayFill self.old id (keys_in entries) }
+        requires leads { (n : ℕ) → Contains (folders_in entries) n → LeadsTo (at_in self.old.tree) held.now.given n }
+        requires room { length (keys_in entries) ≤ answer.room }
+        requires unanswered { answer.items ≡ [] }
+        ensures told { result ≡ record { id = id; given = result.given; lost = false; opened = None } }
+        ensures gives { (f : Recorded) → (requests_of self.old.flights).at id ≡ Some f → GivesAll (world_of self.old) id (flight_of f) (keys_in entries) (page_found (is_page entries) (keys_in entries) found.now) result.given (world_of self.new) }
+        ensures kept { IsKept self.new }
+    {
+        match entries {
+            Entries::Page(page) => {
+                let found = found.as_slice();
+                if found.len() != page.names.as_slice().len() {
+                    return give_none(id, &Entries::Page(page), answer, None);
+                }
+                self.give_page(id, path_of(held), page, found, answer)
+            }
+            Entries::Nothing => give_none(id, &Entries::Nothing, answer, None),
+            Entries::One(keys) => give_none(id, &Entries::One(keys), answer, None),
+        }
+    }
+}

@@ -1,0 +1,71 @@
+//! What was to be cut or replaced, and is hidden in its place.
+
+ghost use Rattle.std.specs.Prelude.{◌≡◌, option_map};
+ghost use Rattle.std.specs.List.{slice_get};
+ghost use Rattle.table_steps.specs.Ending.{candidates_in, change_in, keyed_name, names_in};
+ghost use Rattle.table_steps.specs.Steps.{hiding_at, replacing_at};
+
+use crate::acts::Change;
+use crate::keys::{FolderKeys, Keys};
+
+/// The key of the name of that index, counted from 0, if there is one.
+fn key_at(keys: FolderKeys, index: u8) -> Option<Keys>
+    ensures { option_map keyed_name result ≡ slice_get (names_in keys) index }
+{
+    let FolderKeys {
+        folder,
+        names,
+        copies,
+    } = keys;
+    let mut names = names.into_vec();
+    let mut copies = copies.into_vec();
+    let i = index as usize;
+    if i >= names.len() {
+        return None;
+    }
+    let name = names.swap_remove(i);
+    let copy = copies.swap_remove(i);
+    Some(Keys::new(folder, name, Some(copy)))
+}
+
+/// The candidate of that index, counted from 0, if there is one.
+fn candidate_at(candidates: Option<FolderKeys>, index: u8) -> Option<Keys>
+    ensures { option_map keyed_name result ≡ slice_get (candidates_in candidates) index }
+{
+    match candidates {
+        Some(keys) => key_at(keys, index),
+        None => None,
+    }
+}
+
+/// What was to be cut is hidden under the candidate of that index. Where there is none, nothing changes.
+pub(crate) fn hide(change: Change, candidates: Option<FolderKeys>, index: u8) -> Change
+    ensures { change_in result ≡ hiding_at (change_in change) (slice_get (candidates_in candidates) index) }
+{
+    let Some(candidate) = candidate_at(candidates, index) else {
+        return Change::Stays;
+    };
+    match change {
+        Change::Cuts(key) => Change::Hides(key, candidate),
+        _ => Change::Stays,
+    }
+}
+
+/// What was to be replaced is hidden under the candidate of that index, and then the move is made, if `moved`. Where there is
+/// no such candidate, nothing changes.
+pub(crate) fn replace(
+    change: Change,
+    candidates: Option<FolderKeys>,
+    index: u8,
+    moved: bool,
+) -> Change
+    ensures { change_in result ≡ replacing_at (change_in change) (slice_get (candidates_in candidates) index) moved }
+{
+    let Some(candidate) = candidate_at(candidates, index) else {
+        return Change::Stays;
+    };
+    match change {
+        Change::Moves(key, target) => Change::Replaces(key, target, candidate, moved),
+        _ => Change::Stays,
+    }
+}

@@ -1,0 +1,30 @@
+//! The steps of a node table: nodes with lookup counts, their ledger, and the requests in flight.
+//!
+//! Each call on the parts is one atomic step, and keeps what holds of them.
+#![tactic(auto)]
+
+mod acts;
+mod begin;
+mod closing;
+mod data;
+mod entries;
+mod finish;
+mod forget;
+mod found;
+mod give;
+mod hiding;
+mod keys;
+mod laws;
+mod opening;
+mod places;
+mod settle;
+mod state;
+mod sweep;
+
+pub use data::{Answered, Begin, Limits, Outcome, Seeds, Settled, Ticket};
+pub use found::FoundNames;
+pub use laws::{
+    acts_are_own, begun_are_ready, ends_are_harmless, entries_are_harmless, ledgers_are_grown,
+    others_are_left, sweeps_are_harmless, tallies_are_fixed,
+};
+pub use state::State;

@@ -1,0 +1,65 @@
+//! Files that are opened.
+
+ghost use Rattle.std.specs.Prelude.{◌≡◌, ◌+◌};
+ghost use Rattle.table_files.specs.OpenEntry.{files_of};
+ghost use Rattle.table_steps.specs.Ending.{HasFileRoom, MayOpen, MayOpenGiven, OpensAt, OpensGiven, OpensNode};
+ghost use Rattle.table_steps.specs.Kept.{IsKept};
+ghost use Rattle.tree.specs.Places.{at_in, IsAlive};
+
+use crate::acts::Opens;
+use crate::state::State;
+use table_files::{Access, OpenFile};
+use table_requests::Given;
+
+impl State {
+    /// Opens a file of the node under the next handle, and gives the handle.
+    pub(crate) fn open_file(&mut self, number: u64, access: Access) -> u64
+        requires kept { IsKept self.old }
+        requires alive { IsAlive (at_in self.old.tree) number }
+        requires room { HasFileRoom self.old }
+        ensures handle { result ≡ (files_of self.old.files).last + 1 }
+        ensures opens { OpensAt self.old number access self.new }
+        ensures kept { IsKept self.new }
+    {
+        let Some(node) = self.tree.at(number) else {
+            unreachable!();
+        };
+        let generation = node.generation;
+        self.files.open(OpenFile {
+            number,
+            generation,
+            access,
+        })
+    }
+
+    /// Opens the file of the node, if one may be opened.
+    pub(crate) fn open_node(&mut self, opens: Opens) -> Option<u64>
+        requires kept { IsKept self.old }
+        requires may { MayOpen self.old opens }
+        ensures opens { OpensNode self.old opens result self.new }
+        ensures kept { IsKept self.new }
+    {
+        match opens {
+            Opens::Node(number, access) => Some(self.open_file(number, access)),
+            Opens::Nothing | Opens::Entry(_) => None,
+        }
+    }
+
+    /// Opens the file of the node that was given, if one may be opened.
+    pub(crate) fn open_given(&mut self, opens: Opens, entered: Option<Given>) -> Option<u64>
+        requires kept { IsKept self.old }
+        requires may { MayOpenGiven self.old opens entered }
+        ensures opens { OpensGiven self.old opens entered result self.new }
+        ensures kept { IsKept self.new }
+    {
+        match opens {
+            Opens::Entry(access) => {
+                let Some(entry) = entered else {
+                    return None;
+                };
+                Some(self.open_file(entry.number, access))
+            }
+            Opens::Nothing | Opens::Node(..) => None,
+        }
+    }
+}

@@ -1,0 +1,218 @@
+//! Calls written as words, and answers as text.
+
+use backing::{Answer, Call, Calls, Child, Kind};
+use paths::{Name, Path};
+use std::alloc::{AllocError, Global};
+use std::test::Fail;
+
+/// The path that the text spells: names with `/` between them, and `.` for the root.
+pub fn path_of(alloc: Global, text: &str) -> Result<Path, AllocError> {
+    let mut path = Path::new(alloc);
+    if text == "." {
+        return Ok(path);
+    }
+    for name in text.split('/') {
+        path.push(Name::copy_of(alloc, name)?)?;
+    }
+    Ok(path)
+}
+
+fn number(text: &str) -> u64 {
+    text.parse::<u64>().unwrap_or(0)
+}
+
+/// The call of that name on the path. A rename is to the other path, and `first` and `second` are its numbers or bytes.
+fn call_of<'a>(
+    name: &str,
+    path: &'a Path,
+    other: &'a Path,
+    first: &str,
+    second: &'a str,
+) -> Option<Call<'a>> {
+    Some(match name {
+        "stat" => Call::Stat(path),
+        "list" => Call::List(path),
+        "make" => Call::Make(path),
+        "mkdir" => Call::MakeDir(path),
+        "remove" => Call::Remove(path),
+        "rmdir" => Call::RemoveDir(path),
+        "sync" => Call::Sync(path),
+        "rename" => Call::Rename {
+            from: path,
+            to: other,
+        },
+        "read" => Call::Read {
+            path,
+            offset: number(first),
+            size: u32::try_from(number(second)).unwrap_or(0),
+        },
+        "write" => Call::Write {
+            path,
+            offset: number(first),
+            data: second.as_bytes(),
+        },
+        "setlen" => Call::SetLen {
+            path,
+            size: number(first),
+        },
+        _ => return None,
+    })
+}
+
+/// The byte that a file is filled with at that place. It is not the same 4,096 or 65,536 bytes later.
+fn filling(place: u64) -> u8 {
+    (place % 251) as u8
+}
+
+/// The answer to one call that fills so many bytes of the file.
+fn fill<C: Calls>(
+    alloc: Global,
+    calls: &mut C,
+    path: &Path,
+    offset: u64,
+    count: u64,
+) -> Result<String, AllocError> {
+    let mut piece = Vec::new(alloc);
+    for place in offset..offset.saturating_add(count) {
+        piece.push(filling(place))?;
+    }
+    let data = piece.as_slice();
+    shown(alloc, calls.call(Call::Write { path, offset, data }))
+}
+
+/// How many of the bytes are what a file is filled with from that place on.
+fn count_filled(bytes: &[u8], offset: u64) -> u64 {
+    let mut place = offset;
+    let mut right = 0u64;
+    for byte in bytes {
+        if *byte == filling(place) {
+            right = right.saturating_add(1);
+        }
+        place = place.saturating_add(1);
+    }
+    right
+}
+
+/// How many bytes one call reads, and how many of them are what the file was filled with.
+fn check<C: Calls>(
+    alloc: Global,
+    calls: &mut C,
+    path: &Path,
+    offset: u64,
+    size: u64,
+) -> Result<String, AllocError> {
+    let size = u32::try_from(size).unwrap_or(0);
+    match calls.call(Call::Read { path, offset, size }) {
+        Answer::Bytes(bytes) => {
+            let right = count_filled(bytes.as_slice(), offset);
+            format!(in alloc; "{right} of {}", bytes.as_slice().len())
+        }
+        other => shown(alloc, other),
+    }
+}
+
+/// The answer to a call that is written as its name, its paths and its numbers or bytes, with a space between them. Of many bytes,
+/// `fill` writes them in one call, and `check` reads them in one.
+pub fn ask<C: Calls>(alloc: Global, calls: &mut C, words: &str) -> Result<String, AllocError> {
+    let mut parts = words.split(' ');
+    let name = parts.next().unwrap_or("");
+    let path = path_of(alloc, parts.next().unwrap_or("."))?;
+    let first = parts.next().unwrap_or("");
+    let second = parts.next().unwrap_or("");
+    match name {
+        "fill" => return fill(alloc, calls, &path, number(first), number(second)),
+        "check" => return check(alloc, calls, &path, number(first), number(second)),
+        _ => {}
+    }
+    let other = path_of(alloc, first)?;
+    match call_of(name, &path, &other, first, second) {
+        Some(call) => shown(alloc, calls.call(call)),
+        None => String::from_str(alloc, "no call"),
+    }
+}
+
+/// The answer as text; the names of a listing in the order of their bytes.
+fn shown(alloc: Global, answer: Answer) -> Result<String, AllocError> {
+    match answer {
+        Answer::Done => String::from_str(alloc, "done"),
+        Answer::Stat { kind, size } => format!(in alloc; "{} {size}", word(kind)),
+        Answer::Names(children) => listed(alloc, children.into_vec()),
+        Answer::Bytes(bytes) => hexadecimal(alloc, bytes.as_slice()),
+        Answer::Wrote(count) => format!(in alloc; "wrote {count}"),
+        Answer::Fault(errno) => format!(in alloc; "fault {errno}"),
+    }
+}
+
+fn word(kind: Kind) -> &'static str {
+    match kind {
+        Kind::Folder => "folder",
+        Kind::File => "file",
+    }
+}
+
+/// A name, with a `/` after that of a folder.
+fn marked(alloc: Global, child: &Child) -> Result<String, AllocError> {
+    let mut text = String::from_str(alloc, child.name.as_str())?;
+    match child.kind {
+        Kind::Folder => text.push_str("/")?,
+        Kind::File => {}
+    }
+    Ok(text)
+}
+
+fn listed(alloc: Global, children: Vec<Child>) -> Result<String, AllocError> {
+    let mut names = Vec::new(alloc);
+    for child in &children {
+        names.push(marked(alloc, child)?)?;
+    }
+    names.sort()?;
+    let mut text = String::from_str(alloc, "names")?;
+    for name in &names {
+        text.push_str(" ")?;
+        text.push_str(name.as_str())?;
+    }
+    Ok(text)
+}
+
+fn hexadecimal(alloc: Global, bytes: &[u8]) -> Result<String, AllocError> {
+    let mut text = String::from_str(alloc, "bytes ")?;
+    for byte in bytes {
+        let digits = format!(in alloc; "{byte:02x}")?;
+        text.push_str(digits.as_str())?;
+    }
+    Ok(text)
+}
+
+/// The call has its answer.
+pub fn expect<C: Calls>(
+    alloc: Global,
+    calls: &mut C,
+    words: &str,
+    wanted: &str,
+) -> Result<(), Fail> {
+    let told = ask(alloc, calls, words)?;
+    if told.as_str() == wanted {
+        return Ok(());
+    }
+    Err(Fail::from((words, told)))
+}
+
+/// So many failures were counted.
+pub fn expect_count(told: u64, wanted: u64) -> Result<(), Fail> {
+    if told == wanted {
+        return Ok(());
+    }
+    Err(Fail::from(("counted", told)))
+}
+
+/// Each call has its answer.
+pub fn expect_rows<C: Calls>(
+    alloc: Global,
+    calls: &mut C,
+    rows: &[(&str, &str)],
+) -> Result<(), Fail> {
+    for (words, wanted) in rows {
+        expect(alloc, calls, words, wanted)?;
+    }
+    Ok(())
+}

@@ -1,0 +1,186 @@
+//! A real folder whose system fails, or changes between two of its calls.
+
+use crate::asking::{expect_count, expect_rows};
+use crate::places::{place_of, sample_folder};
+use backing_folder::Folder;
+use std::alloc::{Allocator, Global};
+use std::fs::{File, Metadata, OpenOptions};
+use std::io::ErrorKind;
+use std::os::unix::fs::symlink;
+use std::path::PathBuf;
+use std::rt::Files;
+use std::test::Fail;
+use std::{fs, io};
+
+/// What goes wrong.
+#[derive(Clone, Copy)]
+enum Trick {
+    /// Each `lstat` fails so.
+    Look(ErrorKind),
+    /// The file `a` becomes a link to another file before it is opened.
+    Replace,
+    /// A file comes into a folder right before the folder is removed.
+    Enter,
+}
+
+/// The system, but for the trick.
+#[derive(Clone, Copy)]
+struct Tricked {
+    rt: HostRuntime,
+    trick: Trick,
+}
+
+impl Tricked {
+    /// Puts the file into the folder, if that is the trick.
+    fn enter(&self, folder: &str) -> io::Result<()> {
+        match self.trick {
+            Trick::Enter => {
+                let place = place_of(self.rt.alloc(), folder, "late")?;
+                fs::write(&self.rt, place.as_str(), "late")
+            }
+            Trick::Look(_) | Trick::Replace => Ok(()),
+        }
+    }
+}
+
+impl Alloc for Tricked {
+    type A = Global;
+
+    fn alloc(&self) -> Global {
+        self.rt.alloc()
+    }
+}
+
+impl Files for Tricked {
+    type File = File;
+
+    type Dir = <HostRuntime as Files>::Dir;
+
+    fn open_file(&self, how: &OpenOptions, path: &str) -> io::Result<File> {
+        match self.trick {
+            Trick::Replace => {
+                fs::remove_file(&self.rt, path)?;
+                symlink(&self.rt, "e", path)?;
+            }
+            Trick::Look(_) | Trick::Enter => {}
+        }
+        self.rt.open_file(how, path)
+    }
+
+    fn open_dir(&self, path: &str) -> io::Result<Self::Dir> {
+        self.rt.open_dir(path)
+    }
+
+    fn metadata(&self, path: &str) -> io::Result<Metadata> {
+        self.rt.metadata(path)
+    }
+
+    fn symlink_metadata(&self, path: &str) -> io::Result<Metadata> {
+        match self.trick {
+            Trick::Look(kind) => Err(io::Error::from(kind)),
+            Trick::Replace | Trick::Enter => self.rt.symlink_metadata(path),
+        }
+    }
+
+    fn copy(&self, from: &str, to: &str) -> io::Result<u64> {
+        self.rt.copy(from, to)
+    }
+
+    fn rename(&self, from: &str, to: &str) -> io::Result<()> {
+        self.rt.rename(from, to)
+    }
+
+    fn remove_file(&self, path: &str) -> io::Result<()> {
+        self.rt.remove_file(path)
+    }
+
+    fn create_dir(&self, path: &str) -> io::Result<()> {
+        self.rt.create_dir(path)
+    }
+
+    fn remove_dir(&self, path: &str) -> io::Result<()> {
+        self.enter(path)?;
+        self.rt.remove_dir(path)
+    }
+
+    fn remove_dir_all<B: Allocator>(&self, alloc: B, path: &str) -> io::Result<()> {
+        self.enter(path)?;
+        self.rt.remove_dir_all(alloc, path)
+    }
+
+    fn canonicalize<B: Allocator>(&self, alloc: B, path: &str) -> io::Result<PathBuf<B>> {
+        self.rt.canonicalize(alloc, path)
+    }
+}
+
+/// The calls have these answers, and so many of them are counted as failures.
+fn ask_all(
+    alloc: Global,
+    folder: &mut Folder<Tricked>,
+    rows: &[(&str, &str)],
+    count: u64,
+) -> Result<(), Fail> {
+    expect_rows(alloc, folder, rows)?;
+    expect_count(folder.failures(), count)
+}
+
+/// The same of the folder there, whose system plays the trick.
+fn tell_at(
+    rt: HostRuntime,
+    root: &str,
+    trick: Trick,
+    rows: &[(&str, &str)],
+    count: u64,
+) -> Result<(), Fail> {
+    let mut folder = Folder::open(Tricked { rt, trick }, root)?;
+    ask_all(rt.alloc(), &mut folder, rows, count)
+}
+
+/// The same of a new sample folder.
+fn tell(
+    rt: HostRuntime,
+    name: &str,
+    trick: Trick,
+    rows: &[(&str, &str)],
+    count: u64,
+) -> Result<(), Fail> {
+    let root = sample_folder(&rt, name)?;
+    tell_at(rt, root.as_str(), trick, rows, count)?;
+    fs::remove_dir_all(&rt, root.as_str())?;
+    Ok(())
+}
+
+#[test]
+fn a_failure_has_its_number(rt: HostRuntime) -> Result<(), Fail> {
+    let failures = [
+        (ErrorKind::NotFound, "fault 2", 0),
+        (ErrorKind::PermissionDenied, "fault 13", 1),
+        (ErrorKind::AlreadyExists, "fault 17", 1),
+        (ErrorKind::OutOfMemory, "fault 12", 1),
+        (ErrorKind::FilesystemLoop, "fault 5", 1),
+    ];
+    for (kind, fault, count) in failures {
+        tell(rt, "looks", Trick::Look(kind), &[("stat a", fault)], count)?;
+    }
+    Ok(())
+}
+
+// What stands at `e` is as it was.
+#[test]
+fn a_file_replaced_before_it_is_opened_is_not_touched(rt: HostRuntime) -> Result<(), Fail> {
+    for words in ["read a 0 9", "write a 0 xyz", "setlen a 7", "sync a"] {
+        let rows = [(words, "fault 5"), ("stat e", "file 0")];
+        tell(rt, "replaced", Trick::Replace, rows.as_slice(), 1)?;
+    }
+    Ok(())
+}
+
+#[test]
+fn a_folder_is_not_removed_with_what_came_into_it(rt: HostRuntime) -> Result<(), Fail> {
+    let rows = [
+        ("rmdir d", "fault 5"),
+        ("list d", "names late"),
+        ("read d/late 0 9", "bytes 6c617465"),
+    ];
+    tell(rt, "late", Trick::Enter, rows.as_slice(), 1)
+}

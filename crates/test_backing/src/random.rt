@@ -1,0 +1,102 @@
+//! Random calls on a memory tree and on a real folder, side by side.
+
+use crate::asking::{ask, expect, expect_count};
+use crate::places::new_folder;
+use backing::MemTree;
+use backing_folder::Folder;
+use std::alloc::{AllocError, Global};
+use std::fs;
+use std::test::Fail;
+
+/// Random numbers, the same in each run.
+#[derive(Drop)]
+struct Dice {
+    state: u64,
+}
+
+impl Dice {
+    /// A number below `faces`, which is not 0.
+    fn below(&mut self, faces: u64) -> u64 {
+        self.state = self
+            .state
+            .wrapping_mul(6_364_136_223_846_793_005)
+            .wrapping_add(1_442_695_040_888_963_407);
+        (self.state >> 33) % faces.max(1)
+    }
+}
+
+/// A path of one to three names out of three.
+fn path(alloc: Global, dice: &mut Dice) -> Result<String, AllocError> {
+    let mut text = String::new(alloc);
+    if dice.below(40) == 0 {
+        text.push_str(".")?;
+        return Ok(text);
+    }
+    let names = ["a", "b", "c"];
+    for depth in 0..3 {
+        if depth > 0 {
+            if dice.below(2) == 0 {
+                break;
+            }
+            text.push_str("/")?;
+        }
+        text.push_str(names[dice.below(3) as usize % 3])?;
+    }
+    Ok(text)
+}
+
+/// More often a call that makes something than one that removes it.
+const NAMES: [&str; 20] = [
+    "stat", "stat", "list", "list", "make", "make", "mkdir", "mkdir", "mkdir", "remove", "rmdir",
+    "rename", "rename", "rename", "read", "read", "write", "write", "write", "setlen",
+];
+
+fn call(alloc: Global, dice: &mut Dice) -> Result<String, AllocError> {
+    let one = path(alloc, dice)?;
+    let offset = dice.below(12);
+    let size = dice.below(9);
+    let kind = dice.below(20) as usize % 20;
+    let name = NAMES[kind];
+    let rest = match kind {
+        11 | 12 | 13 => path(alloc, dice)?,
+        14 | 15 => format!(in alloc; "{offset} {size}")?,
+        17 | 18 => format!(in alloc; "{offset} xyz{size}")?,
+        _ => format!(in alloc; "{offset} ")?,
+    };
+    format!(in alloc; "{name} {one} {rest}")
+}
+
+/// The folder answers the call as the tree does, and counts no failure.
+fn ask_both(
+    alloc: Global,
+    tree: &mut MemTree,
+    folder: &mut Folder<HostRuntime>,
+    words: &str,
+) -> Result<(), Fail> {
+    let wanted = ask(alloc, tree, words)?;
+    expect(alloc, folder, words, wanted.as_str())?;
+    expect_count(folder.failures(), 0)
+}
+
+fn ask_many(alloc: Global, folder: &mut Folder<HostRuntime>) -> Result<(), Fail> {
+    let mut tree = MemTree::new(alloc);
+    let mut dice = Dice { state: 20_251_122 };
+    for _ in 0..6000 {
+        let words = call(alloc, &mut dice)?;
+        ask_both(alloc, &mut tree, folder, words.as_str())?;
+    }
+    expect_count(tree.failures(), 0)
+}
+
+fn ask_at(rt: HostRuntime, root: &str) -> Result<(), Fail> {
+    let mut folder = Folder::open(rt, root)?;
+    ask_many(rt.alloc(), &mut folder)
+}
+
+#[test]
+fn both_answer_alike(rt: HostRuntime) -> Result<(), Fail> {
+    let root = new_folder(&rt, "random")?;
+    ask_at(rt, root.as_str())?;
+    fs::remove_dir_all(&rt, root.as_str())?;
+    Ok(())
+}

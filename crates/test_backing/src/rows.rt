@@ -1,0 +1,308 @@
+//! The rows of the calls' definition.
+
+use crate::asking::{expect, expect_count, expect_rows, path_of};
+use crate::places::{sample_folder, sample_tree};
+use backing::{Fault, MemTree, Shared};
+use backing_folder::Folder;
+use std::alloc::Global;
+use std::fs;
+use std::sync::{Arc, Mutex, Wait};
+use std::test::Fail;
+
+/// Rows without planned failures and limits, each group from the sample.
+const GROUPS: [&[(&str, &str)]; 10] = [
+    &[
+        ("write a 5 xy", "wrote 2"),
+        ("read a 0 100", "bytes 61626300007879"),
+    ],
+    &[("write e 2000000 ", "wrote 0"), ("stat e", "file 0")],
+    &[
+        ("rename d d/x", "fault 22"),
+        ("rename a d", "fault 21"),
+        ("rename d a", "fault 20"),
+    ],
+    &[
+        ("rename zz zz", "fault 2"),
+        ("stat a/x", "fault 20"),
+        ("rmdir .", "fault 16"),
+    ],
+    &[
+        ("list .", "names a d/ e"),
+        ("list a", "fault 20"),
+        ("list zz", "fault 2"),
+        ("stat .", "folder 0"),
+        ("make .", "fault 17"),
+        ("mkdir d", "fault 17"),
+        ("make zz/x", "fault 2"),
+        ("mkdir d/x", "done"),
+        ("mkdir d/x/y", "done"),
+        ("make d/x/z", "done"),
+        ("rmdir d", "fault 39"),
+        ("rename d/x/z d/x", "fault 39"),
+        ("rename d q", "done"),
+        ("list q/x", "names y/ z"),
+        ("stat d", "fault 2"),
+        ("remove q/x/y", "fault 21"),
+        ("rmdir q/x/z", "fault 20"),
+        ("remove q/x/z", "done"),
+        ("rename a q/x/y", "fault 21"),
+        ("rename a q/x/z", "done"),
+        ("read q/x/z 1 1", "bytes 62"),
+        ("rename q/x/z e", "done"),
+        ("read e 0 100", "bytes 616263"),
+        ("rmdir q/x/y", "done"),
+        ("rmdir q/x", "done"),
+    ],
+    &[
+        ("setlen a 1", "done"),
+        ("setlen a 4", "done"),
+        ("read a 0 9", "bytes 61000000"),
+        ("read a 4 9", "bytes "),
+        ("read a 99 9", "bytes "),
+        ("setlen d 1", "fault 21"),
+        ("write d 0 x", "fault 21"),
+        ("read d 0 1", "fault 21"),
+        ("sync a", "done"),
+        ("sync d", "done"),
+        ("sync .", "done"),
+        ("sync zz", "fault 2"),
+        ("remove a", "done"),
+        ("stat a", "fault 2"),
+        ("rename d .", "fault 16"),
+        ("rename . d", "fault 16"),
+    ],
+    // Names that begin with a dot are names like others.
+    &[
+        ("make .a", "done"),
+        ("make ...", "done"),
+        ("mkdir .d", "done"),
+        ("make .d/.b", "done"),
+        ("list .", "names ... .a .d/ a d/ e"),
+        ("list .d", "names .b"),
+        ("rmdir .d", "fault 39"),
+        ("rename d .d", "fault 39"),
+        ("remove .d/.b", "done"),
+        ("list .d", "names"),
+        ("rmdir .d", "done"),
+        ("remove .a", "done"),
+        ("rename ... .z", "done"),
+        ("list .", "names .z a d/ e"),
+    ],
+    // What is absent is not made, and what is below a folder keeps it.
+    &[
+        ("write zz 0 x", "fault 2"),
+        ("setlen zz 3", "fault 2"),
+        ("read zz 0 1", "fault 2"),
+        ("write d/zz 0 x", "fault 2"),
+        ("stat zz", "fault 2"),
+        ("list .", "names a d/ e"),
+        ("mkdir d/x", "done"),
+        ("make d/x/y", "done"),
+        ("rmdir d", "fault 39"),
+        ("rmdir d/x", "fault 39"),
+        ("stat d/x/y", "file 0"),
+        ("list d", "names x/"),
+    ],
+    // 128 KiB in one call.
+    &[
+        ("fill e 0 131072", "wrote 131072"),
+        ("stat e", "file 131072"),
+        ("check e 0 131072", "131072 of 131072"),
+        ("check e 0 200000", "131072 of 131072"),
+        ("check e 4095 4098", "4098 of 4098"),
+        ("check e 65535 65538", "65537 of 65537"),
+        ("check e 131071 9", "1 of 1"),
+        ("check e 131072 9", "0 of 0"),
+    ],
+    // From within a page, with a gap before it.
+    &[
+        ("fill a 4094 4", "wrote 4"),
+        ("read a 0 5", "bytes 6162630000"),
+        ("read a 4091 8", "bytes 0000004e4f5051"),
+        ("fill a 3000 70000", "wrote 70000"),
+        ("stat a", "file 73000"),
+        ("check a 3000 80000", "70000 of 70000"),
+        ("setlen a 65537", "done"),
+        ("check a 4000 70000", "61537 of 61537"),
+        ("read a 0 5", "bytes 6162630000"),
+    ],
+];
+
+/// The rows on a memory tree, from the sample. No call fails.
+fn tell_tree(alloc: Global, rows: &[(&str, &str)]) -> Result<(), Fail> {
+    let mut tree = sample_tree(alloc)?;
+    expect_rows(alloc, &mut tree, rows)?;
+    expect_count(tree.failures(), 0)
+}
+
+#[test]
+fn rows_on_a_memory_tree(rt: HostRuntime) -> Result<(), Fail> {
+    for rows in GROUPS {
+        tell_tree(rt.alloc(), rows)?;
+    }
+    Ok(())
+}
+
+/// The rows on the real folder there. No call is counted as a failure.
+fn tell_folder(rt: HostRuntime, root: &str, rows: &[(&str, &str)]) -> Result<(), Fail> {
+    let mut folder = Folder::open(rt, root)?;
+    expect_rows(rt.alloc(), &mut folder, rows)?;
+    expect_count(folder.failures(), 0)
+}
+
+#[test]
+fn rows_on_a_real_folder(rt: HostRuntime) -> Result<(), Fail> {
+    for rows in GROUPS {
+        let root = sample_folder(&rt, "rows")?;
+        tell_folder(rt, root.as_str(), rows)?;
+        fs::remove_dir_all(&rt, root.as_str())?;
+    }
+    Ok(())
+}
+
+/// The rows through a hold on a memory tree, from the sample. No call fails.
+fn tell_hold<H: Wait + Drop>(alloc: Global, rt: H, rows: &[(&str, &str)]) -> Result<(), Fail> {
+    let tree = Arc::new(alloc, Mutex::new(sample_tree(alloc)?))?;
+    let mut hold = Shared::new(rt, tree);
+    expect_rows(alloc, &mut hold, rows)?;
+    expect_count(hold.failures(), 0)
+}
+
+#[test]
+fn rows_through_a_hold(rt: HostRuntime) -> Result<(), Fail> {
+    for rows in GROUPS {
+        tell_hold(rt.alloc(), rt, rows)?;
+    }
+    Ok(())
+}
+
+/// What is done with a memory tree that starts as the sample.
+#[derive(Clone, Copy)]
+enum Step<'a> {
+    /// That call is to fail so.
+    Plan(u64, Fault),
+    /// A call, and its answer.
+    Ask(&'a str, &'a str),
+    /// So many of the calls so far have failed.
+    Failed(u64),
+}
+
+fn take(alloc: Global, tree: &mut MemTree, step: Step) -> Result<(), Fail> {
+    match step {
+        Step::Plan(call, fault) => {
+            tree.fail_at(call, fault)?;
+            Ok(())
+        }
+        Step::Ask(words, wanted) => expect(alloc, tree, words, wanted),
+        Step::Failed(count) => expect_count(tree.failures(), count),
+    }
+}
+
+/// Takes each step, from the sample.
+fn tell(alloc: Global, steps: &[Step]) -> Result<(), Fail> {
+    let mut tree = sample_tree(alloc)?;
+    for step in steps {
+        take(alloc, &mut tree, *step)?;
+    }
+    Ok(())
+}
+
+#[test]
+fn a_call_fails_after_its_work(rt: HostRuntime) -> Result<(), Fail> {
+    const STEPS: &[Step] = &[
+        Step::Plan(2, Fault::After(5)),
+        Step::Ask("mkdir m", "done"),
+        Step::Ask("mkdir n", "fault 5"),
+        Step::Ask("stat n", "folder 0"),
+        Step::Failed(1),
+    ];
+    tell(rt.alloc(), STEPS)
+}
+
+#[test]
+fn a_call_fails_before_its_work(rt: HostRuntime) -> Result<(), Fail> {
+    const STEPS: &[Step] = &[
+        Step::Plan(0, Fault::Before(1)),
+        Step::Plan(1, Fault::After(30)),
+        Step::Plan(1, Fault::Before(28)),
+        Step::Plan(3, Fault::After(28)),
+        Step::Ask("mkdir n", "fault 28"),
+        Step::Ask("stat n", "fault 2"),
+        Step::Ask("mkdir a", "fault 28"),
+        Step::Ask("stat a", "file 3"),
+        Step::Plan(4, Fault::Before(1)),
+        Step::Ask("stat a", "file 3"),
+        Step::Failed(2),
+    ];
+    tell(rt.alloc(), STEPS)
+}
+
+#[test]
+fn a_file_ends_at_its_limit(rt: HostRuntime) -> Result<(), Fail> {
+    const STEPS: &[Step] = &[
+        Step::Ask("write a 1048575 x", "wrote 1"),
+        Step::Ask("write a 1048576 x", "fault 27"),
+        Step::Ask("stat a", "file 1048576"),
+        Step::Ask("write a 18446744073709551615 x", "fault 27"),
+        Step::Ask("setlen a 1048577", "fault 27"),
+        Step::Ask("setlen a 1048576", "done"),
+        Step::Ask("setlen a 0", "done"),
+        Step::Ask("stat a", "file 0"),
+    ];
+    tell(rt.alloc(), STEPS)
+}
+
+/// Puts a file there, or a folder where no bytes are given, which is refused so.
+fn expect_refused(
+    alloc: Global,
+    tree: &mut MemTree,
+    path: &str,
+    bytes: Option<&[u8]>,
+    errno: i32,
+) -> Result<(), Fail> {
+    let place = path_of(alloc, path)?;
+    let put = match bytes {
+        Some(bytes) => tree.put_file(&place, bytes),
+        None => tree.put_dir(&place),
+    };
+    if put == Err(errno) {
+        return Ok(());
+    }
+    Err(Fail::from((path, put)))
+}
+
+fn put_all(alloc: Global, tree: &mut MemTree, long: &[u8]) -> Result<(), Fail> {
+    expect_refused(alloc, tree, "big", Some(long), 27)?;
+    expect_refused(alloc, tree, "a", Some(b"x"), 17)?;
+    expect_refused(alloc, tree, "a/b", Some(b"x"), 20)?;
+    expect_refused(alloc, tree, "zz/b", None, 2)?;
+    expect_refused(alloc, tree, ".", None, 17)
+}
+
+#[test]
+fn a_file_is_put_as_calls_would(rt: HostRuntime) -> Result<(), Fail> {
+    let alloc = rt.alloc();
+    let mut tree = sample_tree(alloc)?;
+    let long = vec![in alloc; 7u8; 1_048_577]?;
+    put_all(alloc, &mut tree, long.as_slice())?;
+    let rows: &[(&str, &str)] = &[("stat big", "file 0"), ("read a 0 9", "bytes 616263")];
+    expect_rows(alloc, &mut tree, rows)
+}
+
+#[test]
+fn two_holds_see_one_tree(rt: HostRuntime) -> Result<(), Fail> {
+    let alloc = rt.alloc();
+    let mut tree = sample_tree(alloc)?;
+    tree.fail_at(3, Fault::Before(5))?;
+    let tree = Arc::new(alloc, Mutex::new(tree))?;
+    let mut one = Shared::new(rt, Arc::try_clone(&tree)?);
+    let mut two = Shared::new(rt, tree);
+    expect_rows(alloc, &mut one, &[("mkdir m", "done")])?;
+    expect_rows(
+        alloc,
+        &mut two,
+        &[("stat m", "folder 0"), ("stat m", "fault 5")],
+    )?;
+    expect_count(one.failures(), 0)?;
+    expect_count(two.failures(), 1)
+}

@@ -1,0 +1,141 @@
+//! What a script asks and comes to, by the places of its ticket's paths.
+
+use backing::Call;
+use ops::{Found, ScriptResult};
+use paths::Path;
+use table::Ticket;
+
+/// What a ticket says of its request, beside its paths.
+#[derive(Clone, Copy, Debug, PartialEq, Eq)]
+pub struct Form {
+    /// A name is moved to itself.
+    pub same: bool,
+    /// An open file is hidden, under one of the last ten paths.
+    pub hide: bool,
+    /// The last handle of a hidden file is closed.
+    pub last: bool,
+}
+
+/// What the ticket says.
+pub fn form_of(ticket: &Ticket) -> Form {
+    Form {
+        same: ticket.same(),
+        hide: ticket.hide(),
+        last: ticket.last(),
+    }
+}
+
+/// What is asked of a directory at the paths of a request.
+#[derive(Clone, Copy, Debug, PartialEq, Eq)]
+pub enum Ask {
+    /// Of the path at that place in the ticket.
+    Stat(usize),
+    List,
+    Make,
+    MakeDir,
+    Remove,
+    RemoveDir,
+    /// From the path at one place to that at another.
+    Rename(usize, usize),
+    /// To so many bytes.
+    SetLen(u64),
+    /// From that byte on, so many.
+    Read(u64, u32),
+    /// From that byte on, so many.
+    Write(u64, usize),
+    Sync,
+    /// No script asks this.
+    Other,
+}
+
+/// Where a script stands after some answers.
+#[derive(Clone, Copy, Debug, PartialEq, Eq)]
+pub enum Stands {
+    Asks(Ask),
+    Over(Ends),
+}
+
+/// What a script has come to.
+#[derive(Clone, Copy, Debug, PartialEq, Eq)]
+pub enum Ends {
+    Error(i32),
+    Nothing,
+    NewEntry(Found),
+    NewFile(Found),
+    Attributes(Found),
+    Opening,
+    /// So many bytes are told.
+    Bytes(usize),
+    Written(u32),
+    /// So many names are listed.
+    Listed(usize),
+    /// A file was hidden under the candidate of that index.
+    Hid(usize),
+    /// It was, and another was moved to its place.
+    Replaced(usize),
+    /// It was, and then the move of another to its place failed.
+    Unmoved(usize, i32),
+    /// A closed file was not removed.
+    Kept,
+    /// What stands at the two names of a page, and whether something does.
+    Looked([Option<Found>; 2], [bool; 2]),
+}
+
+/// What a finding is.
+pub fn ends_of(finding: ScriptResult) -> Ends {
+    match finding {
+        ScriptResult::Error { errno } => Ends::Error(errno),
+        ScriptResult::Nothing => Ends::Nothing,
+        ScriptResult::NewEntry(found) => Ends::NewEntry(found),
+        ScriptResult::NewFile(found) => Ends::NewFile(found),
+        ScriptResult::Attributes(found) => Ends::Attributes(found),
+        ScriptResult::Opening => Ends::Opening,
+        ScriptResult::Bytes(bytes) => Ends::Bytes(bytes.len()),
+        ScriptResult::Written { size } => Ends::Written(size),
+        ScriptResult::Listed(names) => Ends::Listed(names.as_slice().len()),
+        ScriptResult::Hid { candidate } => Ends::Hid(candidate as usize),
+        ScriptResult::Replaced { candidate } => Ends::Replaced(candidate as usize),
+        ScriptResult::Unmoved { candidate, errno } => Ends::Unmoved(candidate as usize, errno),
+        ScriptResult::Kept => Ends::Kept,
+        ScriptResult::Looked(looked) => {
+            let (there, founds) = looked.into_parts();
+            match (founds.as_slice(), there.as_slice()) {
+                ([a, b], [at_a, at_b]) => Ends::Looked([*a, *b], [*at_a, *at_b]),
+                _ => Ends::Nothing,
+            }
+        }
+    }
+}
+
+/// The first place of the path among the others. One that is absent has the place after the last.
+fn place_of(path: &Path, paths: &[Path]) -> usize {
+    let mut place = 0usize;
+    for other in paths {
+        if other.is(path) {
+            return place;
+        }
+        place = place.saturating_add(1);
+    }
+    place
+}
+
+/// What a call of a script is, where it is about the request's paths.
+pub fn ask_of(call: Call<'_>, paths: &[Path]) -> Ask {
+    let Some(first) = paths.first() else {
+        return Ask::Other;
+    };
+    match call {
+        Call::Stat(path) => Ask::Stat(place_of(path, paths)),
+        Call::List(path) if path.is(first) => Ask::List,
+        Call::Make(path) if path.is(first) => Ask::Make,
+        Call::MakeDir(path) if path.is(first) => Ask::MakeDir,
+        Call::Remove(path) if path.is(first) => Ask::Remove,
+        Call::RemoveDir(path) if path.is(first) => Ask::RemoveDir,
+        Call::SetLen { path, size } if path.is(first) => Ask::SetLen(size),
+        Call::Read { path, offset, size } if path.is(first) => Ask::Read(offset, size),
+        Call::Write { path, offset, data } if path.is(first) => Ask::Write(offset, data.len()),
+        Call::Sync(path) if path.is(first) => Ask::Sync,
+        Call::Rename { from, to } => Ask::Rename(place_of(from, paths), place_of(to, paths)),
+        _ => Ask::Other,
+    }
+}

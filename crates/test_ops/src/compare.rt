@@ -1,0 +1,246 @@
+//! A script beside the slow program, after all short lists of answers.
+
+ghost use Rattle.std.specs.Prelude.{◌≡◌};
+
+use crate::asks::{Form, Stands, ask_of, ends_of, form_of};
+use crate::slow::stands_after;
+use backing::{Answer, Bytes, Child, Children, Kind};
+use handles::Page;
+use ledger::{Blanks, Ledgers, Share};
+use ops::{FolderUse, Intent, Paged, Script, intent_of};
+use paths::Name;
+use std::alloc::{AllocError, Global};
+use std::test::Fail;
+use table::{Begin, Limits, Outcome, Seeds, Table, Ticket, Want};
+use table_files::Access;
+use wire::{Operation, Request};
+
+/// How many answers are tried for each call.
+const ANSWERS: u32 = 14;
+
+/// How many lists of at most three answers there are.
+const LISTS: u32 = 1 + ANSWERS + ANSWERS * ANSWERS + ANSWERS * ANSWERS * ANSWERS;
+
+/// An answer of each kind, of each shape, and of each sort of error number.
+fn answer_of(alloc: Global, number: u32) -> Result<Answer, AllocError> {
+    Ok(match number {
+        0 => Answer::Done,
+        1 => Answer::Stat {
+            kind: Kind::File,
+            size: 5,
+        },
+        2 => Answer::Stat {
+            kind: Kind::Folder,
+            size: 0,
+        },
+        3 => Answer::Stat {
+            kind: Kind::Folder,
+            size: 5,
+        },
+        4 => Answer::Names(Children::from_vec(Vec::new(alloc))),
+        5 => Answer::Bytes(Bytes::from_vec(Vec::from_slice(alloc, b"abcd")?)),
+        6 => Answer::Bytes(Bytes::from_vec(Vec::from_slice(alloc, b"abcde")?)),
+        7 => Answer::Wrote(2),
+        8 => Answer::Wrote(3),
+        9 => Answer::Fault(2),
+        10 => Answer::Fault(0),
+        11 => Answer::Fault(-2),
+        12 => Answer::Fault(4095),
+        _ => Answer::Fault(4096),
+    })
+}
+
+/// What was done before a request is begun. The root is open as file 1.
+#[derive(Clone, Copy, Debug, PartialEq, Eq)]
+pub enum Before {
+    Nothing,
+    /// `a` is node 2, and open as file 2.
+    Opened,
+    /// The same, and it was hidden under its first candidate.
+    Hidden,
+}
+
+/// A request, and how it is tried.
+#[derive(Clone, Copy)]
+pub struct Row<'a> {
+    pub before: Before,
+    pub node: u64,
+    pub operation: Operation<'a>,
+    /// What its ticket says.
+    pub form: Form,
+    /// So many answers that a file stands there come before each list.
+    pub files: u32,
+}
+
+/// The list of answers under that number, after so many files: none is the first, then those of one answer, and so on.
+fn answers_of(alloc: Global, files: u32, number: u32) -> Result<Vec<Answer>, AllocError> {
+    let mut answers = Vec::new(alloc);
+    for _ in 0..files {
+        answers.push(answer_of(alloc, 1)?)?;
+    }
+    let mut left = number;
+    for _ in 0..3 {
+        if left > 0 {
+            let last = left - 1;
+            answers.push(answer_of(alloc, last % ANSWERS)?)?;
+            left = last / ANSWERS;
+        }
+    }
+    Ok(answers)
+}
+
+/// Where the script stands after these answers.
+fn script_after(
+    alloc: Global,
+    operation: Operation<'_>,
+    ticket: &Ticket,
+    answers: Vec<Answer>,
+) -> Result<Stands, AllocError> {
+    let mut script = Script::start(alloc, operation, ticket)?;
+    for answer in answers {
+        script.feed(answer);
+    }
+    let next = script.next().map(|call| ask_of(call, ticket.paths()));
+    Ok(match next {
+        Some(ask) => Stands::Asks(ask),
+        None => Stands::Over(ends_of(script.into_result())),
+    })
+}
+
+/// The first list of answers after which the script stands elsewhere than the slow program.
+fn first_other(alloc: Global, row: &Row<'_>, ticket: &Ticket) -> Result<Option<u32>, AllocError> {
+    for number in 0..LISTS {
+        let answers = answers_of(alloc, row.files, number)?;
+        let slow = stands_after(row.operation, row.form, &answers);
+        if script_after(alloc, row.operation, ticket, answers)? != slow {
+            return Ok(Some(number));
+        }
+    }
+    Ok(None)
+}
+
+/// Takes a request to its end, where it is begun. Tells the handle of the file that it opened.
+fn carry<T: Ledgers>(
+    table: &mut Table<T>,
+    share: &mut Share<T>,
+    want: Want,
+    outcome: Outcome,
+) -> Option<u64> {
+    match table.begin(1, want) {
+        Begin::Go(ticket) => {
+            let answered = table.finish(share, ticket, outcome);
+            let opened = answered.opened();
+            table.settle(share, answered, true);
+            opened
+        }
+        Begin::Busy | Begin::Refused(_) => None,
+    }
+}
+
+/// Opens a node for reading and writing. True says that it was, under that handle.
+fn open_node<T: Ledgers>(table: &mut Table<T>, share: &mut Share<T>, number: u64, fh: u64) -> bool {
+    let want = Want::Open {
+        number,
+        access: Access::Both,
+    };
+    carry(table, share, want, Outcome::Done) == Some(fh)
+}
+
+/// Does what is done before a request. True says that the files are open.
+fn prepare<T: Ledgers>(
+    alloc: Global,
+    table: &mut Table<T>,
+    share: &mut Share<T>,
+    before: Before,
+) -> Result<bool, AllocError> {
+    let is_open = open_node(table, share, 1, 1);
+    if before == Before::Nothing {
+        return Ok(is_open);
+    }
+    let parent = 1;
+    let name = Name::copy_of(alloc, "a")?;
+    carry(table, share, Want::Name { parent, name }, Outcome::Entry);
+    let are_open = is_open && open_node(table, share, 2, 2);
+    if before == Before::Hidden {
+        let want = Want::Remove {
+            parent,
+            name: Name::copy_of(alloc, "a")?,
+            may_hide: true,
+        };
+        carry(table, share, want, Outcome::Hidden(0));
+    }
+    Ok(are_open)
+}
+
+/// A page of the root, with `.` and two names.
+fn page_of(alloc: Global) -> Result<Paged, AllocError> {
+    let mut entries = Vec::new(alloc);
+    for name in [".", "a", "b"] {
+        let name = Name::copy_of(alloc, name)?;
+        entries.push(Child {
+            name,
+            kind: Kind::File,
+        })?;
+    }
+    let page = Page {
+        from: 0,
+        entries: &entries,
+    };
+    Paged::copy_of(alloc, page)
+}
+
+/// What the request is begun with, if it is begun. Of an open folder that page is told.
+fn want_of(alloc: Global, request: &Request<'_>) -> Result<Option<Want>, AllocError> {
+    match intent_of(request) {
+        Intent::Want(wanted) => Ok(Some(wanted.own(alloc)?)),
+        Intent::Folder {
+            usage: FolderUse::ReadEntries { .. },
+            ..
+        } => Ok(Some(page_of(alloc)?.want(alloc, request.node)?)),
+        _ => Ok(None),
+    }
+}
+
+/// Compares the script of a request with the slow program's, on a table of its own. Fails with the number of the first list of answers after
+/// which they differ, or with how many there are where it does not begin in its form.
+pub fn compare<T: Ledgers>(
+    alloc: Global,
+    seeds: Seeds,
+    blanks: Blanks,
+    row: &Row<'_>,
+) -> Result<(), Fail>
+    requires names { blanks ≡ T.names }
+    requires shares { T.names.parts ≡ 1 }
+{
+    let request = Request {
+        unique: 1,
+        node: row.node,
+        operation: row.operation,
+    };
+    let Some(want) = want_of(alloc, &request)? else {
+        return Err(Fail::from(("no want", request.unique)));
+    };
+    let (mut table, mut shares) = Table::<T>::open(alloc, Limits::default(), seeds, blanks, 1)?;
+    let mut share = shares.pop().unwrap();
+    shares.destroy_empty();
+    let are_open = prepare(alloc, &mut table, &mut share, row.before);
+    let other = match table.begin(request.unique, want) {
+        Begin::Go(ticket) => {
+            let other = if form_of(&ticket) == row.form {
+                first_other(alloc, row, &ticket)
+            } else {
+                Ok(Some(LISTS))
+            };
+            let answered = table.finish(&mut share, ticket, Outcome::Failed);
+            table.settle(&mut share, answered, true);
+            other
+        }
+        Begin::Busy | Begin::Refused(_) => Ok(Some(LISTS)),
+    };
+    share.leave();
+    match other? {
+        None if are_open? => Ok(()),
+        None => Err(Fail::from(("a file is not open", request.unique))),
+        Some(number) => Err(Fail::from(("differs after list", number))),
+    }
+}

@@ -1,0 +1,195 @@
+//! Each request that has a script.
+
+use crate::asks::Form;
+use crate::compare::{Before, Row, compare};
+use ledger::Blanks;
+use std::marker::Brand;
+use std::test::Fail;
+use table::Seeds;
+use wire::Operation::{
+    self, Create, GetAttr, Lookup, MakeDir, Open, OpenDir, Read, ReadDirPlus, Release, RemoveDir,
+    Rename, SetAttr, Sync, Unlink, Write,
+};
+
+/// About the root, which is open as file 1, or a name in it. Some have several scripts.
+const OPERATIONS: &[Operation] = &[
+    Lookup { name: "a" },
+    GetAttr,
+    // The size, the owner of a lock, both, and nothing.
+    SetAttr {
+        valid: 8,
+        fh: 0,
+        size: 7,
+    },
+    SetAttr {
+        valid: 512,
+        fh: 0,
+        size: 7,
+    },
+    SetAttr {
+        valid: 520,
+        fh: 0,
+        size: 7,
+    },
+    SetAttr {
+        valid: 0,
+        fh: 0,
+        size: 7,
+    },
+    // By a handle.
+    SetAttr {
+        valid: 0x48,
+        fh: 1,
+        size: 7,
+    },
+    Open { flags: 0 },
+    Create {
+        name: "a",
+        flags: 2,
+    },
+    Read {
+        fh: 1,
+        offset: 6,
+        size: 4,
+    },
+    Write {
+        fh: 1,
+        offset: 6,
+        data: b"de",
+    },
+    Sync { fh: 1 },
+    OpenDir,
+    ReadDirPlus {
+        fh: 1,
+        offset: 0,
+        size: 4096,
+    },
+    MakeDir { name: "a" },
+    Unlink { name: "a" },
+    RemoveDir { name: "a" },
+    Rename {
+        name: "a",
+        new_parent: 1,
+        new_name: "b",
+    },
+    Release { fh: 1 },
+];
+
+/// A ticket that says nothing of its request.
+const PLAIN: Form = Form {
+    same: false,
+    hide: false,
+    last: false,
+};
+
+const SAME: Form = Form {
+    same: true,
+    ..PLAIN
+};
+
+const HIDES: Form = Form {
+    hide: true,
+    ..PLAIN
+};
+
+const LAST: Form = Form {
+    last: true,
+    ..PLAIN
+};
+
+/// A file that is open is removed.
+const REMOVED: Row = Row {
+    before: Before::Opened,
+    node: 1,
+    operation: Unlink { name: "a" },
+    form: HIDES,
+    files: 0,
+};
+
+/// Another is moved to its place.
+const REPLACED: Row = Row {
+    operation: Rename {
+        name: "e",
+        new_parent: 1,
+        new_name: "a",
+    },
+    ..REMOVED
+};
+
+/// It is closed.
+const CLOSED: Row = Row {
+    node: 2,
+    operation: Release { fh: 2 },
+    form: PLAIN,
+    ..REMOVED
+};
+
+/// Where a file is open, or hidden.
+const ROWS: &[Row] = &[
+    REMOVED,
+    // Eight of its ten candidates are taken.
+    Row {
+        files: 8,
+        ..REMOVED
+    },
+    REPLACED,
+    // The source is a file.
+    Row {
+        files: 1,
+        ..REPLACED
+    },
+    // And eight candidates are taken.
+    Row {
+        files: 9,
+        ..REPLACED
+    },
+    // Onto itself.
+    Row {
+        operation: Rename {
+            name: "a",
+            new_parent: 1,
+            new_name: "a",
+        },
+        form: SAME,
+        ..REMOVED
+    },
+    // Away from its name.
+    Row {
+        operation: Rename {
+            name: "a",
+            new_parent: 1,
+            new_name: "e",
+        },
+        form: PLAIN,
+        ..REMOVED
+    },
+    CLOSED,
+    Row {
+        before: Before::Hidden,
+        form: LAST,
+        ..CLOSED
+    },
+];
+
+#[test]
+fn scripts_are_those_of_the_slow_program(rt: HostRuntime) -> Result<(), Fail> {
+    for operation in OPERATIONS {
+        let row = Row {
+            before: Before::Nothing,
+            node: 1,
+            operation: *operation,
+            form: PLAIN,
+            files: 0,
+        };
+        compare::<Brand>(rt.alloc(), Seeds::new(&rt)?, Blanks::new(1), &row)?;
+    }
+    Ok(())
+}
+
+#[test]
+fn scripts_of_open_files_are_those_of_the_slow_program(rt: HostRuntime) -> Result<(), Fail> {
+    for row in ROWS {
+        compare::<Brand>(rt.alloc(), Seeds::new(&rt)?, Blanks::new(1), row)?;
+    }
+    Ok(())
+}

@@ -1,0 +1,100 @@
+//! Each call once where memory is ample, with the values that the rules of the ledger give.
+ghost use Rattle.std.specs.Prelude.{◌≡◌};
+
+use ledger::{Blanks, Book, Gather, Ledger, LedgerFault, Ledgers, Posting, Totals};
+use std::alloc::{AllocError, Global};
+use std::marker::Brand;
+use std::test::Fail;
+
+const BORN: Posting = Posting::Born {
+    number: 2,
+    generation: 0,
+};
+
+const ENTRY: Posting = Posting::Entry {
+    number: 2,
+    generation: 0,
+};
+
+const BACK: Posting = Posting::Back {
+    number: 2,
+    generation: 0,
+};
+
+const FORGET: Posting = Posting::Forget {
+    number: 2,
+    generation: 0,
+    amount: 1,
+};
+
+/// A ledger of a birth, two entries and a forget, for which it has just room.
+fn posted(alloc: Global) -> Result<Ledger, LedgerFault> {
+    let mut ledger = Ledger::new(alloc, 4);
+    ledger.reserve(4)?;
+    ledger.post(BORN);
+    ledger.post(ENTRY);
+    ledger.post(ENTRY);
+    ledger.post(FORGET);
+    Ok(ledger)
+}
+
+#[test]
+fn one_of_two_entries_is_left(rt: HostRuntime) -> Result<(), Fail> {
+    let mut empty = Ledger::new(rt.alloc(), 4);
+    let reserved = [empty.reserve(5), empty.reserve(4)];
+    assert_eq!(rt; reserved, [Err(LedgerFault::Full), Ok(())]);
+    let ledger = posted(rt.alloc())?;
+    let counts = [
+        ledger.births(2),
+        ledger.entries(2, 0),
+        ledger.given(2, 0),
+        ledger.count(2, 0),
+        ledger.count(2, 1),
+    ];
+    assert_eq!(rt; counts, [1, 2, 1, 1, 0]);
+    assert_eq!(rt; ledger.postings(), [BORN, ENTRY, ENTRY, FORGET].as_slice());
+    Ok(())
+}
+
+// The first share posts a birth, two entries and a give-back, and the second, unless it is left, a forget.
+fn gathered<T: Ledgers>(
+    alloc: Global,
+    blanks: Blanks,
+    leave: bool,
+) -> Result<Result<Totals, Gather>, AllocError>
+    requires names { blanks ≡ T.names }
+    requires shares { T.names.parts ≡ 2 }
+{
+    let (mut book, mut shares) = Book::<T>::open(alloc, blanks, 2)?;
+    book.post(&mut shares[0], &BORN);
+    book.post(&mut shares[0], &ENTRY);
+    book.post(&mut shares[0], &ENTRY);
+    book.post(&mut shares[0], &BACK);
+    book.post(&mut shares[1], &FORGET);
+    if leave {
+        if let Some(share) = shares.pop() {
+            share.leave();
+        }
+    }
+    Ok(book.gather(shares))
+}
+
+#[test]
+fn two_shares_add_up(rt: HostRuntime) -> Result<(), Fail> {
+    let totals = Totals {
+        born: 1,
+        entries: 2,
+        backs: 1,
+        forgotten: 1,
+    };
+    let both = gathered::<Brand>(rt.alloc(), Blanks::new(2), false)?;
+    assert_eq!(rt; both, Ok(totals));
+    Ok(())
+}
+
+#[test]
+fn a_share_that_was_left_is_missing(rt: HostRuntime) -> Result<(), Fail> {
+    let one = gathered::<Brand>(rt.alloc(), Blanks::new(2), true)?;
+    assert_eq!(rt; one, Err(Gather::ShareMissing));
+    Ok(())
+}

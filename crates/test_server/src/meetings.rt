@@ -1,0 +1,305 @@
+//! The program `serve` with a client of its own, in one process: two threads and a socket between them.
+
+use crate::frames::{
+    AGREED, ARE_FIVE, ARE_OF_A, ATTRIBUTES, ATTRIBUTES_OF_THREE, CREATE_N, CREATED_N, DESTROY,
+    DESTROYED, ENTRY_A, ENTRY_M, ENTRY_OF_K, ENTRY_OF_M_ALONE, ENTRY_OF_THREE, FORGET_A,
+    FORGET_THREE, FSYNC, INIT, LAST_ENTRY, LOOKUP_A, MAKE_M, NO_ENTRY, ONE_ENTRY, OPEN_ROOT,
+    OPENED, READ_MORE, READ_ON, READ_ONE, READ_TEN, RELEASE, RENAME_A, RENAME_N, RENAMED, STALE,
+    UNLINK_K, UNLINK_N, WRITE_DE, WROTE_DE, bytes_of,
+};
+use crate::host::Host;
+use crate::places::{Shown, expect, new_folder, place_of, shown_at};
+use mirrord_programs::run;
+use std::io::{Read, Write};
+use std::os::unix::net::UnixStream;
+use std::test::Fail;
+use std::time::Duration;
+use std::{io, thread};
+
+/// What a client does next.
+#[derive(Clone, Copy)]
+enum Turn<'a> {
+    /// It writes this, and then waits for that.
+    Asks(&'a str, &'a str),
+    /// It looks into the folder that is served: what stands at a name.
+    Sees(&'a str, Shown),
+}
+
+use Turn::{Asks, Sees};
+
+/// A client: what it does in turn, and what must come of it.
+#[derive(Clone, Copy)]
+struct Meeting<'a> {
+    says: &'a str,
+    /// What it does, one after another. It leaves after the last of them.
+    turns: &'a [Turn<'a>],
+    status: u8,
+    fault: &'a str,
+    after: &'a [(&'a str, Shown)],
+}
+
+/// Connects to a socket that is made in a moment.
+fn connect(rt: &impl Host, path: &str) -> io::Result<UnixStream> {
+    for _try in 0..2000 {
+        match UnixStream::connect(rt, path) {
+            Ok(stream) => return Ok(stream),
+            Err(_) => thread::sleep(rt, Duration::from_millis(5)),
+        }
+    }
+    UnixStream::connect(rt, path)
+}
+
+/// Writes what is asked, and reads as many bytes as are waited for. True says that they came.
+fn ask(rt: &impl Host, stream: &mut UnixStream, asked: &str, told: &str) -> io::Result<bool> {
+    let asked = bytes_of(rt.alloc(), &[asked])?;
+    let told = bytes_of(rt.alloc(), &[told])?;
+    stream.write_all(&asked)?;
+    let mut came = Vec::new(rt.alloc());
+    came.resize(told.len(), 0)?;
+    stream.read_exact(came.as_mut_slice())?;
+    Ok(came.as_slice() == told.as_slice())
+}
+
+/// Whether a turn came out as it should.
+fn is_right(rt: &impl Host, root: &str, stream: &mut UnixStream, turn: Turn) -> bool {
+    match turn {
+        Asks(asked, told) => matches!(ask(rt, stream, asked, told), Ok(true)),
+        Sees(name, shown) => matches!(shown_at(rt, root, name), Ok(found) if found == shown),
+    }
+}
+
+/// How many of its turns came out as they should.
+fn be_client(rt: &impl Host, root: &str, path: &str, turns: &[Turn]) -> u64 {
+    let mut right = 0u64;
+    let Ok(mut stream) = connect(rt, path) else {
+        return right;
+    };
+    for turn in turns {
+        if !is_right(rt, root, &mut stream, *turn) {
+            return right;
+        }
+        right = right.saturating_add(1);
+    }
+    right
+}
+
+/// Runs `serve`: its status, and whether it wrote just that line.
+fn be_server(rt: &impl Host, root: &str, path: &str, fault: &str) -> (u8, bool) {
+    let words = [
+        "mirrord",
+        "serve",
+        "--workers",
+        "4",
+        "--socket",
+        path,
+        "--root",
+        root,
+        "--uid",
+        "1000",
+        "--gid",
+        "100",
+    ];
+    let mut faults = Vec::new(rt.alloc());
+    let ended = run(
+        rt,
+        &words,
+        b"".as_slice(),
+        Vec::new(rt.alloc()),
+        &mut faults,
+    );
+    let is_told = faults.as_slice() == fault.as_bytes();
+    (ended.status, is_told && ended.output.is_empty())
+}
+
+/// What came of it is what the row says.
+fn judge(
+    rt: &impl Host,
+    root: &str,
+    row: &Meeting,
+    served: (u8, bool),
+    right: u64,
+) -> Result<(), Fail> {
+    if served != (row.status, true) || right != row.turns.len() as u64 {
+        return Err(Fail::from((row.says, served, right)));
+    }
+    // The file of the socket is gone.
+    expect(rt, root, &[("socket", Shown::Nothing)])?;
+    expect(rt, root, row.after)
+}
+
+const UNTOUCHED: &[(&str, Shown)] = &[("a", Shown::File(3))];
+
+/// Each client leaves otherwise.
+const MEETINGS: &[Meeting] = &[
+    Meeting {
+        says: "a whole session",
+        turns: &[
+            Asks(INIT, AGREED),
+            Asks(LOOKUP_A, ENTRY_A),
+            Asks(MAKE_M, ENTRY_M),
+            Asks(RENAME_A, RENAMED),
+            Asks(ATTRIBUTES, ARE_OF_A),
+            Asks(FORGET_A, ""),
+            Asks(DESTROY, DESTROYED),
+        ],
+        status: 0,
+        fault: "",
+        after: &[
+            ("a", Shown::Nothing),
+            ("b", Shown::File(3)),
+            ("m", Shown::Folder),
+        ],
+    },
+    Meeting {
+        says: "a file is made, written, moved and read",
+        turns: &[
+            Asks(INIT, AGREED),
+            Asks(CREATE_N, CREATED_N),
+            Asks(WRITE_DE, WROTE_DE),
+            Asks(RENAME_N, RENAMED),
+            Asks(READ_TEN, ARE_FIVE),
+            Asks(FSYNC, RENAMED),
+        ],
+        status: 0,
+        fault: "",
+        after: &[
+            ("a", Shown::File(3)),
+            ("n", Shown::Nothing),
+            ("k", Shown::File(5)),
+        ],
+    },
+    Meeting {
+        says: "a file that is removed while it is open is read still, and is gone at the end",
+        turns: &[
+            Asks(INIT, AGREED),
+            Asks(CREATE_N, CREATED_N),
+            Asks(WRITE_DE, WROTE_DE),
+            Asks(UNLINK_N, RENAMED),
+            Asks(READ_TEN, ARE_FIVE),
+            Asks(DESTROY, DESTROYED),
+        ],
+        status: 0,
+        fault: "",
+        after: &[
+            ("a", Shown::File(3)),
+            ("n", Shown::Nothing),
+            (".fuse_hidden0000000200000000", Shown::Nothing),
+        ],
+    },
+    Meeting {
+        says: "it reads a folder by pages, with the nodes of its names",
+        turns: &[
+            Asks(INIT, AGREED),
+            Asks(MAKE_M, ENTRY_OF_M_ALONE),
+            Asks(OPEN_ROOT, OPENED),
+            Asks(READ_ONE, ONE_ENTRY),
+            Asks(READ_MORE, LAST_ENTRY),
+            Asks(READ_ON, NO_ENTRY),
+            Asks(DESTROY, DESTROYED),
+        ],
+        status: 0,
+        fault: "",
+        after: &[("a", Shown::File(3)), ("m", Shown::Folder)],
+    },
+    Meeting {
+        says: "it leaves at once",
+        turns: &[],
+        status: 0,
+        fault: "",
+        after: UNTOUCHED,
+    },
+    Meeting {
+        says: "it leaves in the middle of a frame",
+        turns: &[Asks(INIT, AGREED), Asks("2a000000 01000000 07", "")],
+        status: 0,
+        fault: "",
+        after: UNTOUCHED,
+    },
+    Meeting {
+        says: "it leaves in the middle of a reply",
+        turns: &[Asks(INIT, "50000000 00000000")],
+        status: 4,
+        fault: "mirrord: the link failed\n",
+        after: UNTOUCHED,
+    },
+    Meeting {
+        says: "it leaves before its reply comes",
+        turns: &[Asks(INIT, AGREED), Asks(MAKE_M, "")],
+        status: 4,
+        fault: "mirrord: the link failed\n",
+        after: &[("m", Shown::Folder)],
+    },
+    Meeting {
+        says: "a frame length of 39",
+        turns: &[Asks(INIT, AGREED), Asks("27000000", "")],
+        status: 3,
+        fault: "mirrord: frame length 39 is not between 40 and 69632\n",
+        after: UNTOUCHED,
+    },
+];
+
+/// All that a client of files asks, with looks into the folder between. It stands alone, since a test over more of them is too large to check.
+const WHOLE: &[Meeting] = &[Meeting {
+    says: "files are made, moved, listed, forgotten and removed while they are open",
+    turns: &[
+        Asks(INIT, AGREED),
+        Asks(CREATE_N, CREATED_N),
+        Asks(WRITE_DE, WROTE_DE),
+        Asks(RENAME_N, RENAMED),
+        Asks(READ_TEN, ARE_FIVE),
+        Asks(OPEN_ROOT, OPENED),
+        Asks(READ_ONE, ONE_ENTRY),
+        Asks(READ_MORE, ENTRY_OF_K),
+        Asks(READ_ON, NO_ENTRY),
+        Asks(LOOKUP_A, ENTRY_OF_THREE),
+        Asks(FORGET_THREE, ""),
+        Asks(ATTRIBUTES_OF_THREE, STALE),
+        Asks(UNLINK_K, RENAMED),
+        Sees("k", Shown::Nothing),
+        Sees(".fuse_hidden0000000200000000", Shown::File(5)),
+        Asks(READ_TEN, ARE_FIVE),
+        Asks(RELEASE, RENAMED),
+        Sees(".fuse_hidden0000000200000000", Shown::Nothing),
+        Asks(DESTROY, DESTROYED),
+    ],
+    status: 0,
+    fault: "",
+    after: &[
+        ("a", Shown::File(3)),
+        ("n", Shown::Nothing),
+        ("k", Shown::Nothing),
+        (".fuse_hidden0000000200000000", Shown::Nothing),
+    ],
+}];
+
+#[test]
+fn clients_over_a_socket(rt: HostRuntime) -> Result<(), Fail> {
+    for row in MEETINGS {
+        let root = new_folder(&rt, "meeting")?;
+        let path = place_of(rt.alloc(), root.as_str(), "socket")?;
+        let (there, place) = (root.as_str(), path.as_str());
+        let (served, right) = thread::join(
+            &rt,
+            || be_server(&rt, there, place, row.fault),
+            || be_client(&rt, there, place, row.turns),
+        );
+        judge(&rt, there, row, served, right)?;
+    }
+    Ok(())
+}
+
+#[test]
+fn whole_session_over_a_socket(rt: HostRuntime) -> Result<(), Fail> {
+    for row in WHOLE {
+        let root = new_folder(&rt, "whole")?;
+        let path = place_of(rt.alloc(), root.as_str(), "socket")?;
+        let (there, place) = (root.as_str(), path.as_str());
+        let (served, right) = thread::join(
+            &rt,
+            || be_server(&rt, there, place, row.fault),
+            || be_client(&rt, there, place, row.turns),
+        );
+        judge(&rt, there, row, served, right)?;
+    }
+    Ok(())
+}

@@ -1,0 +1,160 @@
+//! A client that is scripted, and sessions with it.
+
+ghost use Rattle.std.specs.Prelude.{◌≡◌};
+
+use backing::MemTree;
+use engine::{Link, LinkIn, LinkOut, Received, Sent, SessionEnd, serve};
+use handles::Dirs;
+use ledger::{Blanks, Ledgers, Totals};
+use log::info;
+use log::sink::{Lines, Memory};
+use ops::Settings;
+use std::alloc::{AllocError, Global};
+use std::random::RandomSource;
+use std::sync::Wait;
+use table::{Limits, Seeds, Table};
+
+/// Gives its frames one after another, and takes all replies but one. It records what passes.
+#[derive(Drop)]
+pub struct Client {
+    frames: Vec<Vec<u8>>,
+    given: usize,
+    sends: u32,
+    /// The reply that is not taken, counted from 1.
+    declined: u32,
+    /// Whether the link breaks at it.
+    breaks: bool,
+    /// The replies that were taken, one after another.
+    pub taken: Vec<u8>,
+    failures: u64,
+    log: Memory,
+}
+
+impl Client {
+    /// A client that sends these frames, and does not take that reply, counted from 1.
+    pub fn new(alloc: Global, frames: Vec<Vec<u8>>, declined: u32) -> Client {
+        Client {
+            frames,
+            given: 0,
+            sends: 0,
+            declined,
+            breaks: false,
+            taken: Vec::new(alloc),
+            failures: 0,
+            log: Memory::new(alloc),
+        }
+    }
+
+    /// The same client, whose link breaks at the reply that it does not take.
+    pub fn breaking(self) -> Client {
+        Client {
+            breaks: true,
+            ..self
+        }
+    }
+
+    /// What passed, a line each.
+    pub fn into_record(self) -> Lines {
+        self.log.into_lines()
+    }
+}
+
+impl LinkIn for Client {
+    ghost use Rattle.engine.specs.Links.{counted, lost};
+
+    ghost receives = { λ old brought new. new.failures ≡ counted old.failures (lost brought) };
+
+    ghost failed_receives = { λ link. link.failures };
+
+    ghost counts_receives = { λ _ _ _ counts. counts };
+
+    fn receive(&mut self, room: &mut [u8]) -> Received {
+        let Some(frame) = self.frames.get(self.given) else {
+            info!(self.log; target: "link", "the end is heard");
+            return Received::End;
+        };
+        self.given = self.given.saturating_add(1);
+        if frame.len() > room.len() {
+            self.failures = self.failures.saturating_add(1);
+            return Received::Broken;
+        }
+        room[..frame.len()].copy_from_slice(frame);
+        info!(self.log; target: "link", "{} bytes are heard", frame.len());
+        Received::Bytes(frame.len())
+    }
+}
+
+impl LinkOut for Client {
+    ghost use Rattle.engine.specs.Links.{counted, missed};
+
+    ghost sends = { λ old _ sent new. new.failures ≡ counted old.failures (missed sent) };
+
+    ghost failed_sends = { λ link. link.failures };
+
+    ghost counts_sends = { λ _ _ _ _ counts. counts };
+
+    fn send(&mut self, frame: &[u8]) -> Sent {
+        self.sends = self.sends.saturating_add(1);
+        info!(self.log; target: "link", "{} bytes are offered", frame.len());
+        if self.sends == self.declined {
+            self.failures = self.failures.saturating_add(1);
+            return if self.breaks {
+                Sent::Broken
+            } else {
+                Sent::Untaken
+            };
+        }
+        match self.taken.extend_from_slice(frame) {
+            Ok(()) => Sent::Taken,
+            Err(_) => {
+                self.failures = self.failures.saturating_add(1);
+                Sent::Broken
+            }
+        }
+    }
+}
+
+impl Link for Client {
+    ghost use Rattle.std.specs.Prelude.{refl};
+
+    ghost one_count = { λ _. refl };
+}
+
+/// How a session ended, and what its share counts.
+#[derive(Clone, Copy, Debug, PartialEq, Eq)]
+pub struct Over {
+    pub end: SessionEnd,
+    pub totals: Totals,
+}
+
+/// Serves a tree to a client with a table of these limits.
+pub fn serve_client<H: Wait + RandomSource, T: Ledgers>(
+    rt: &H,
+    alloc: Global,
+    blanks: Blanks,
+    limits: Limits,
+    tree: &mut MemTree,
+    client: &mut Client,
+) -> Result<Over, AllocError>
+    requires names { blanks ≡ T.names }
+    requires shares { T.names.parts ≡ 1 }
+{
+    // The root is a node.
+    if limits.nodes == 0 {
+        return Err(AllocError);
+    }
+    let Ok(seeds) = Seeds::new(rt) else {
+        return Err(AllocError);
+    };
+    let (mut table, mut shares) = Table::<T>::open(alloc, limits, seeds, blanks, 1)?;
+    let mut share = shares.pop().unwrap();
+    shares.destroy_empty();
+    let settings = Settings { uid: 0, gid: 0 };
+    let dirs = Dirs::new(alloc);
+    let end = serve(
+        rt, alloc, client, tree, &mut table, &mut share, &dirs, settings,
+    );
+    let totals = share.totals();
+    share.leave();
+    Ok(Over { end, totals })
+}

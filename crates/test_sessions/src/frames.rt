@@ -1,0 +1,155 @@
+//! The frames that the tests send and the replies that they wait for, in hexadecimal digits. Spaces are for reading.
+
+use mirrord_programs::{hex_run, run};
+use std::alloc::{AllocError, Global};
+use std::fs::File;
+use std::io;
+use std::net::Net;
+use std::random::RandomSource;
+use std::rt::Files;
+use std::sync::Wait;
+use table::Seeds;
+
+/// INIT 7.31 with 131,072 bytes read ahead and no flags, unique 1.
+pub const INIT: &str =
+    "38000000 1a000000 0100000000000000 0000000000000000 00000000 00000000 00000000 00000000 \
+    07000000 1f000000 00000200 00000000";
+
+/// What is agreed on with it.
+pub const AGREED: &str = "50000000 00000000 0100000000000000 07000000 1f000000 00000100 00000000 \
+    0c00 0900 00000100 01000000 0000 0000 \
+    00000000 00000000 00000000 00000000 00000000 00000000 00000000 00000000";
+
+/// LOOKUP `a` in the root, unique 7.
+pub const LOOKUP_A: &str =
+    "2a000000 01000000 0700000000000000 0100000000000000 00000000 00000000 00000000 00000000 6100";
+
+/// The entry of `a`: node 2, generation 0, a file of three bytes.
+pub const ENTRY_A: &str = "90000000 00000000 0700000000000000 \
+    0200000000000000 0000000000000000 0100000000000000 0100000000000000 00000000 00000000 \
+    0200000000000000 0300000000000000 0100000000000000 \
+    0000000000000000 0000000000000000 0000000000000000 00000000 00000000 00000000 \
+    a4810000 01000000 00000000 00000000 00000000 00100000 00000000";
+
+/// LOOKUP `e` in the root, unique 8.
+pub const LOOKUP_E: &str =
+    "2a000000 01000000 0800000000000000 0100000000000000 00000000 00000000 00000000 00000000 6500";
+
+/// The entry of `e` where number 2 was born before: node 2, generation 1, an empty file.
+pub const ENTRY_E_REBORN: &str = "90000000 00000000 0800000000000000 \
+    0200000000000000 0100000000000000 0100000000000000 0100000000000000 00000000 00000000 \
+    0200000000000000 0000000000000000 0000000000000000 \
+    0000000000000000 0000000000000000 0000000000000000 00000000 00000000 00000000 \
+    a4810000 01000000 00000000 00000000 00000000 00100000 00000000";
+
+/// LOOKUP `d` in the root, unique 10.
+pub const LOOKUP_D: &str =
+    "2a000000 01000000 0a00000000000000 0100000000000000 00000000 00000000 00000000 00000000 6400";
+
+/// The entry of `d`: node 2, generation 0, a folder.
+pub const ENTRY_D: &str = "90000000 00000000 0a00000000000000 \
+    0200000000000000 0000000000000000 0100000000000000 0100000000000000 00000000 00000000 \
+    0200000000000000 0000000000000000 0000000000000000 \
+    0000000000000000 0000000000000000 0000000000000000 00000000 00000000 00000000 \
+    ed410000 02000000 00000000 00000000 00000000 00100000 00000000";
+
+/// LOOKUP `zz` in the root, unique 7.
+pub const LOOKUP_ZZ: &str =
+    "2b000000 01000000 0700000000000000 0100000000000000 00000000 00000000 00000000 00000000 7a7a00";
+
+/// ENOENT for unique 7.
+pub const ABSENT: &str = "10000000 feffffff 0700000000000000";
+
+/// FORGET of node 2, unique 9, nlookup 5.
+pub const FORGET_FIVE: &str =
+    "30000000 02000000 0900000000000000 0200000000000000 00000000 00000000 00000000 00000000 0500000000000000";
+
+/// DESTROY, unique 2.
+pub const DESTROY: &str =
+    "28000000 26000000 0200000000000000 0000000000000000 00000000 00000000 00000000 00000000";
+
+/// What a run of the program `hex` left behind.
+#[derive(Drop)]
+pub struct Run {
+    pub status: u8,
+    pub output: Vec<u8>,
+    pub faults: Vec<u8>,
+}
+
+/// The lines without their spaces, each with a line break.
+pub fn lines_of(alloc: Global, lines: &[&str]) -> Result<Vec<u8>, AllocError> {
+    let mut digits = Vec::new(alloc);
+    for line in lines {
+        for byte in line.as_bytes() {
+            if *byte != b' ' {
+                digits.push(*byte)?;
+            }
+        }
+        digits.push(b'\n')?;
+    }
+    Ok(digits)
+}
+
+/// Runs `hex` on these bytes, with or without the sample names.
+pub fn run_from(
+    rt: &(impl Wait + RandomSource),
+    alloc: Global,
+    sample: bool,
+    input: &[u8],
+) -> io::Result<Run> {
+    let mut faults = Vec::new(alloc);
+    let seeds = Seeds::new(rt)?;
+    let ended = hex_run(
+        rt,
+        alloc,
+        sample,
+        seeds,
+        input,
+        Vec::new(alloc),
+        &mut faults,
+    );
+    Ok(Run {
+        status: ended.status,
+        output: ended.output,
+        faults,
+    })
+}
+
+/// Runs `hex` with the sample names on these bytes.
+pub fn run_on(rt: &(impl Wait + RandomSource), alloc: Global, input: &[u8]) -> io::Result<Run> {
+    run_from(rt, alloc, true, input)
+}
+
+/// Runs `hex` with the sample names on these bytes, with so much room for what it writes.
+pub fn run_into(
+    rt: &(impl Wait + RandomSource),
+    alloc: Global,
+    input: &[u8],
+    room: &mut [u8],
+) -> io::Result<Run> {
+    let mut faults = Vec::new(alloc);
+    let seeds = Seeds::new(rt)?;
+    let ended = hex_run(rt, alloc, true, seeds, input, room, &mut faults);
+    Ok(Run {
+        status: ended.status,
+        output: Vec::new(alloc),
+        faults,
+    })
+}
+
+/// Runs the program with these words on these lines.
+pub fn run_words<H: Wait + Net + RandomSource + Files<File = File> + AllocGlobal + Clone + Drop>(
+    rt: &H,
+    words: &[&str],
+    lines: &[&str],
+) -> Result<Run, AllocError> {
+    let alloc = rt.alloc();
+    let input = lines_of(alloc, lines)?;
+    let mut faults = Vec::new(alloc);
+    let ended = run(rt, words, input.as_slice(), Vec::new(alloc), &mut faults);
+    Ok(Run {
+        status: ended.status,
+        output: ended.output,
+        faults,
+    })
+}

@@ -1,0 +1,200 @@
+//! Sessions as data: what a client asks, which calls of the tree fail, what it is answered, and what stands in the end.
+
+ghost use Rattle.std.specs.Prelude.{◌≡◌};
+
+use crate::answers::replies_of;
+use crate::client::{Client, serve_client};
+use backing::{Answer, Call, Calls, Fault, Kind, MemTree};
+use ledger::{Blanks, Ledgers};
+use mirrord_programs::new_tree;
+use paths::{Name, Path};
+use std::alloc::{AllocError, Global};
+use std::random::RandomSource;
+use std::sync::Wait;
+use std::test::Fail;
+use table::Limits;
+use wire::{Operation, Request, encode_request};
+
+/// A session over the sample names.
+#[derive(Clone, Copy)]
+pub struct Story<'a> {
+    pub says: &'a str,
+    /// How many nodes may live, the root among them.
+    pub nodes: u64,
+    /// How many files may be open.
+    pub open_files: u64,
+    /// Empty files that stand in the tree beside the samples.
+    pub files: &'a [&'a [&'a str]],
+    /// What is asked of which node, one after another. The requests are numbered from 1.
+    pub asks: &'a [(u64, Operation<'a>)],
+    /// Calls of the tree that fail, counted from 1.
+    pub faults: &'a [(u64, Fault)],
+    /// What each request is answered.
+    pub replies: &'a [Says<'a>],
+    /// Paths, and what stands there in the end.
+    pub after: &'a [(&'a [&'a str], Stands)],
+}
+
+/// What stands at a path.
+#[derive(Clone, Copy, Debug, PartialEq, Eq)]
+pub enum Stands {
+    Folder,
+    /// A file of so many bytes.
+    File(u64),
+    Nothing,
+}
+
+/// Nothing is asked, and nothing fails.
+pub const NOTHING: Story = Story {
+    says: "nothing",
+    nodes: 65536,
+    open_files: 4096,
+    files: &[],
+    asks: &[],
+    faults: &[],
+    replies: &[],
+    after: &[],
+};
+
+/// The story came otherwise: whether its replies were as it says, and at how many of its paths it was so.
+#[derive(Debug, Drop)]
+struct Otherwise<'a> {
+    says: &'a str,
+    are_replies: bool,
+    stand: usize,
+}
+
+/// What a request is answered.
+#[derive(Clone, Copy)]
+pub enum Says<'a> {
+    Failed(i32),
+    Done,
+    /// The entry of a node that was born once, and what stands there.
+    Entry(u64, Stands),
+    /// A node, and what stands there.
+    Attributes(u64, Stands),
+    /// The sizes of the file system.
+    Sizes,
+    /// The handle of an open file or folder.
+    Opened(u64),
+    /// The entry of an empty file that was made and of a node that was born once, and its handle.
+    Created(u64, u64),
+    /// Bytes of a file.
+    Bytes(&'a [u8]),
+    /// How many bytes were written.
+    Wrote(u32),
+    /// Names of a folder from that index on, and what they are.
+    Names(u64, &'a [(&'a str, Stands)]),
+    /// The same, each with the node that was given for it, which was born once, or 0.
+    Entries(u64, &'a [(&'a str, Stands, u64)]),
+    /// It gets no reply.
+    NoReply,
+}
+
+/// INIT 7.31, unique 0.
+fn init_reply_of(alloc: Global) -> Result<Vec<u8>, AllocError> {
+    let request = Request {
+        unique: 0,
+        node: 0,
+        operation: Operation::Init {
+            major: 7,
+            minor: 31,
+            max_readahead: 131072,
+            flags: 0,
+        },
+    };
+    let mut frame = Vec::new(alloc);
+    encode_request(&request, &mut frame)?;
+    Ok(frame)
+}
+
+fn frames_of(alloc: Global, asks: &[(u64, Operation<'_>)]) -> Result<Vec<Vec<u8>>, AllocError> {
+    let mut frames = Vec::new(alloc);
+    frames.push(init_reply_of(alloc)?)?;
+    let mut unique = 0u64;
+    for (node, operation) in asks {
+        unique = unique.saturating_add(1);
+        let request = Request {
+            unique,
+            node: *node,
+            operation: *operation,
+        };
+        let mut frame = Vec::new(alloc);
+        encode_request(&request, &mut frame)?;
+        frames.push(frame)?;
+    }
+    Ok(frames)
+}
+
+fn path_of(alloc: Global, names: &[&str]) -> Result<Path, AllocError> {
+    let mut path = Path::new(alloc);
+    for name in names {
+        path.push(Name::copy_of(alloc, name)?)?;
+    }
+    Ok(path)
+}
+
+fn what_stands(alloc: Global, tree: &mut MemTree, names: &[&str]) -> Result<Stands, AllocError> {
+    let path = path_of(alloc, names)?;
+    Ok(match tree.call(Call::Stat(&path)) {
+        Answer::Stat {
+            kind: Kind::File,
+            size,
+        } => Stands::File(size),
+        Answer::Stat {
+            kind: Kind::Folder,
+            size: _,
+        } => Stands::Folder,
+        _ => Stands::Nothing,
+    })
+}
+
+fn fail_of(story: &Story, are_replies: bool, stand: usize) -> Fail {
+    Otherwise {
+        says: story.says,
+        are_replies,
+        stand,
+    }
+    .into()
+}
+
+/// Tells a story. Fails where it comes otherwise.
+pub fn tell<H: Wait + RandomSource, T: Ledgers>(
+    rt: &H,
+    alloc: Global,
+    blanks: Blanks,
+    story: &Story,
+) -> Result<(), Fail>
+    requires names { blanks ≡ T.names }
+    requires shares { T.names.parts ≡ 1 }
+{
+    let mut tree = new_tree(alloc, true)?;
+    for names in story.files {
+        let path = path_of(alloc, names)?;
+        if tree.put_file(&path, b"").is_err() {
+            return Err(fail_of(story, false, 0));
+        }
+    }
+    for (call, fault) in story.faults {
+        tree.fail_at(*call, *fault)?;
+    }
+    let mut client = Client::new(alloc, frames_of(alloc, story.asks)?, 0);
+    let limits = Limits {
+        nodes: story.nodes,
+        files: story.open_files,
+        ..Limits::default()
+    };
+    serve_client::<H, T>(rt, alloc, blanks, limits, &mut tree, &mut client)?;
+    let replies = replies_of(alloc, story.replies)?;
+    let are_replies = client.taken.as_slice() == replies.as_slice();
+    let mut stand = 0usize;
+    for (names, stands) in story.after {
+        if what_stands(alloc, &mut tree, names)? == *stands {
+            stand = stand.saturating_add(1);
+        }
+    }
+    if are_replies && stand == story.after.len() {
+        return Ok(());
+    }
+    Err(fail_of(story, are_replies, stand))
+}

@@ -1,0 +1,281 @@
+//! Clients that do not take a reply, or begin too early, directories that answer strangely, and what is left of the input at the end.
+
+ghost use Rattle.std.specs.Prelude.{◌≡◌};
+
+use crate::client::{Client, Over, serve_client};
+use crate::file_frames::{CREATE_N, FLUSH, FLUSH_REFUSED, OPEN_A};
+use crate::frames::{
+    ABSENT, AGREED, DESTROY, ENTRY_A, ENTRY_E_REBORN, INIT, LOOKUP_A, LOOKUP_E, LOOKUP_ZZ, lines_of,
+};
+use backing::Fault;
+use engine::SessionEnd;
+use errno::EACCES;
+use ledger::{Blanks, Ledgers, Totals};
+use mirrord_programs::new_tree;
+use std::alloc::{AllocError, Global};
+use std::marker::Brand;
+use std::random::RandomSource;
+use std::sync::Wait;
+use std::test::Fail;
+use table::Limits;
+
+// Serves the sample names. The first call of their tree fails, if a fault is planned.
+pub fn serve_samples<H: Wait + RandomSource, T: Ledgers>(
+    rt: &H,
+    alloc: Global,
+    blanks: Blanks,
+    planned: Option<Fault>,
+    client: &mut Client,
+) -> Result<Over, AllocError>
+    requires names { blanks ≡ T.names }
+    requires shares { T.names.parts ≡ 1 }
+{
+    let mut tree = new_tree(alloc, true)?;
+    if let Some(fault) = planned {
+        tree.fail_at(1, fault)?;
+    }
+    serve_client::<H, T>(rt, alloc, blanks, Limits::default(), &mut tree, client)
+}
+
+pub fn bytes_of(alloc: Global, line: &str) -> Result<Vec<u8>, Fail> {
+    let digits = lines_of(alloc, &[line])?;
+    let end = digits.len().saturating_sub(1);
+    Ok(hex::decode(alloc, &digits[..end])?)
+}
+
+// A client that sends these frames after another one.
+fn client_from(alloc: Global, first: &str, lines: &[&str], declined: u32) -> Result<Client, Fail> {
+    let mut frames = Vec::new(alloc);
+    frames.push(bytes_of(alloc, first)?)?;
+    for line in lines {
+        frames.push(bytes_of(alloc, line)?)?;
+    }
+    Ok(Client::new(alloc, frames, declined))
+}
+
+// A client that sends INIT and these frames.
+fn client_of(alloc: Global, lines: &[&str], declined: u32) -> Result<Client, Fail> {
+    client_from(alloc, INIT, lines, declined)
+}
+
+// Whether these replies were taken, after INIT's.
+fn are_taken(alloc: Global, taken: &[u8], replies: &[&str]) -> Result<bool, Fail> {
+    let mut bytes = bytes_of(alloc, AGREED)?;
+    for reply in replies {
+        bytes.extend_from_slice(&bytes_of(alloc, reply)?)?;
+    }
+    Ok(taken == bytes.as_slice())
+}
+
+/// LOOKUP `n` in the root, unique 8.
+const LOOKUP_N: &str =
+    "2a000000 01000000 0800000000000000 0100000000000000 00000000 00000000 00000000 00000000 6e00";
+
+// The entry of `a` comes back, so its node is gone; the session goes on, and its number is born again for `e`.
+#[test]
+fn untaken_lookup(rt: HostRuntime) -> Result<(), Fail> {
+    let alloc = rt.alloc();
+    let mut client = client_of(alloc, &[LOOKUP_A, LOOKUP_E], 2)?;
+    let over = serve_samples::<HostRuntime, Brand>(&rt, alloc, Blanks::new(1), None, &mut client)?;
+    let totals = Totals {
+        born: 2,
+        entries: 2,
+        backs: 1,
+        forgotten: 0,
+    };
+    assert_eq!(rt; over.end, SessionEnd::Closed { rest: 0 });
+    assert!(rt; are_taken(alloc, &client.taken, &[ENTRY_E_REBORN])?);
+    assert_eq!(rt; over.totals, totals);
+    Ok(())
+}
+
+// The listing of an OPENDIR whose reply is not taken is given up, so its handle is none.
+#[test]
+fn untaken_opendir(rt: HostRuntime) -> Result<(), Fail> {
+    let alloc = rt.alloc();
+    let open =
+        "30000000 1b000000 0300000000000000 0100000000000000 00000000 00000000 00000000 00000000 00000000 00000000";
+    let sync =
+        "38000000 1e000000 0400000000000000 0100000000000000 00000000 00000000 00000000 00000000 0100000000000000 00000000 00000000";
+    let replies = [
+        "10000000 f7ffffff 0400000000000000",
+        "20000000 00000000 0300000000000000 0200000000000000 00000000 00000000",
+    ];
+    let mut client = client_of(alloc, &[open, sync, open], 2)?;
+    let over = serve_samples::<HostRuntime, Brand>(&rt, alloc, Blanks::new(1), None, &mut client)?;
+    assert_eq!(rt; over.end, SessionEnd::Closed { rest: 0 });
+    assert!(rt; are_taken(alloc, &client.taken, &replies)?);
+    Ok(())
+}
+
+// The handle of a file whose reply is not taken is closed, and its entry given back. The file stays.
+#[test]
+fn untaken_create(rt: HostRuntime) -> Result<(), Fail> {
+    let alloc = rt.alloc();
+    let mut client = client_of(alloc, &[CREATE_N, FLUSH, LOOKUP_N], 2)?;
+    let over = serve_samples::<HostRuntime, Brand>(&rt, alloc, Blanks::new(1), None, &mut client)?;
+    let totals = Totals {
+        born: 2,
+        entries: 2,
+        backs: 1,
+        forgotten: 0,
+    };
+    assert_eq!(rt; over.end, SessionEnd::Closed { rest: 0 });
+    assert!(rt; are_taken(alloc, &client.taken, &[FLUSH_REFUSED, ENTRY_E_REBORN])?);
+    assert_eq!(rt; over.totals, totals);
+    Ok(())
+}
+
+// The same of a file that is opened. Its handle is given to no other.
+#[test]
+fn untaken_open(rt: HostRuntime) -> Result<(), Fail> {
+    let alloc = rt.alloc();
+    let lines = [LOOKUP_A, OPEN_A, FLUSH, OPEN_A];
+    let opened = "20000000 00000000 0800000000000000 0200000000000000 00000000 00000000";
+    let mut client = client_of(alloc, &lines, 3)?;
+    let over = serve_samples::<HostRuntime, Brand>(&rt, alloc, Blanks::new(1), None, &mut client)?;
+    assert_eq!(rt; over.end, SessionEnd::Closed { rest: 0 });
+    assert!(rt; are_taken(alloc, &client.taken, &[ENTRY_A, FLUSH_REFUSED, opened])?);
+    Ok(())
+}
+
+// The entries of a READDIRPLUS whose reply is not taken come back, each once, and their nodes are gone.
+#[test]
+fn untaken_entries(rt: HostRuntime) -> Result<(), Fail> {
+    let alloc = rt.alloc();
+    let open =
+        "30000000 1b000000 0300000000000000 0100000000000000 00000000 00000000 00000000 00000000 00000000 00000000";
+    let entries =
+        "50000000 2c000000 0400000000000000 0100000000000000 00000000 00000000 00000000 00000000 \
+        0100000000000000 0000000000000000 00100000 00000000 0000000000000000 00000000 00000000";
+    let mut client = client_of(alloc, &[open, entries, LOOKUP_E], 3)?;
+    let over = serve_samples::<HostRuntime, Brand>(&rt, alloc, Blanks::new(1), None, &mut client)?;
+    let totals = Totals {
+        born: 4,
+        entries: 4,
+        backs: 3,
+        forgotten: 0,
+    };
+    assert_eq!(rt; over.end, SessionEnd::Closed { rest: 0 });
+    // The replies to INIT, OPENDIR and LOOKUP. Which number the next entry bears is the table's to choose.
+    assert_eq!(rt; client.taken.len(), 80 + 32 + 144);
+    assert_eq!(rt; over.totals, totals);
+    Ok(())
+}
+
+// The directory names no error number, so the reply is EIO.
+#[test]
+fn strange_errors(rt: HostRuntime) -> Result<(), Fail> {
+    let alloc = rt.alloc();
+    let reply = "10000000 fbffffff 0700000000000000";
+    for errno in [0, -5, 4096] {
+        let mut client = client_of(alloc, &[LOOKUP_A], 0)?;
+        let planned = Some(Fault::Before(errno));
+        let over = serve_samples::<HostRuntime, Brand>(
+            &rt,
+            alloc,
+            Blanks::new(1),
+            planned,
+            &mut client,
+        )?;
+        assert!(rt; are_taken(alloc, &client.taken, &[reply])?, "errno {errno}");
+        assert_eq!(rt; over.totals.entries, 0);
+    }
+    Ok(())
+}
+
+/// LOOKUP `a` without the last byte of its frame.
+const TRUNCATED: &str =
+    "2a000000 01000000 0700000000000000 0100000000000000 00000000 00000000 00000000 00000000 61";
+
+// What is no whole frame at the end of the input is told, and nothing is replied to it.
+#[test]
+fn rest_of_the_input(rt: HostRuntime) -> Result<(), Fail> {
+    let alloc = rt.alloc();
+    let ends: [(&[&str], usize); 2] = [(&[], 0), (&[TRUNCATED], 41)];
+    for (lines, rest) in ends {
+        let mut client = client_of(alloc, lines, 0)?;
+        let over = serve_samples::<HostRuntime, Brand>(
+            &rt,
+            alloc,
+            Blanks::new(1),
+            None,
+            &mut client,
+        )?;
+        assert_eq!(rt; over.end, SessionEnd::Closed { rest });
+        assert!(rt; are_taken(alloc, &client.taken, &[])?);
+    }
+    Ok(())
+}
+
+// An INIT whose reply is not taken has agreed on a version all the same.
+#[test]
+fn untaken_init(rt: HostRuntime) -> Result<(), Fail> {
+    let alloc = rt.alloc();
+    let mut client = client_of(alloc, &[LOOKUP_ZZ], 1)?;
+    let over = serve_samples::<HostRuntime, Brand>(&rt, alloc, Blanks::new(1), None, &mut client)?;
+    assert_eq!(rt; over.end, SessionEnd::Closed { rest: 0 });
+    assert!(rt; client.taken.as_slice() == bytes_of(alloc, ABSENT)?.as_slice());
+    Ok(())
+}
+
+// A LOOKUP before INIT is EIO and makes no call: the first call is that of the LOOKUP after it, and fails with EACCES.
+#[test]
+fn no_call_before_init(rt: HostRuntime) -> Result<(), Fail> {
+    let alloc = rt.alloc();
+    let planned = Some(Fault::Before(EACCES));
+    let mut client = client_from(alloc, LOOKUP_A, &[INIT, LOOKUP_A], 0)?;
+    let over = serve_samples::<HostRuntime, Brand>(
+        &rt,
+        alloc,
+        Blanks::new(1),
+        planned,
+        &mut client,
+    )?;
+    let mut replies = bytes_of(alloc, "10000000 fbffffff 0700000000000000")?;
+    replies.extend_from_slice(&bytes_of(alloc, AGREED)?)?;
+    replies.extend_from_slice(&bytes_of(alloc, "10000000 f3ffffff 0700000000000000")?)?;
+    assert_eq!(rt; over.end, SessionEnd::Closed { rest: 0 });
+    assert!(rt; client.taken.as_slice() == replies.as_slice());
+    Ok(())
+}
+
+// The client ends the session, whether or not it takes the reply; what follows is dropped.
+#[test]
+fn destroyed_session(rt: HostRuntime) -> Result<(), Fail> {
+    let alloc = rt.alloc();
+    let mut client = client_of(alloc, &[DESTROY, LOOKUP_ZZ], 2)?;
+    let over = serve_samples::<HostRuntime, Brand>(&rt, alloc, Blanks::new(1), None, &mut client)?;
+    assert_eq!(rt; over.end, SessionEnd::Destroyed);
+    assert!(rt; are_taken(alloc, &client.taken, &[])?);
+    Ok(())
+}
+
+// A link that breaks at the reply to a DESTROY is what ends the session.
+#[test]
+fn broken_farewell(rt: HostRuntime) -> Result<(), Fail> {
+    let alloc = rt.alloc();
+    let mut client = client_of(alloc, &[DESTROY, LOOKUP_ZZ], 2)?.breaking();
+    let over = serve_samples::<HostRuntime, Brand>(&rt, alloc, Blanks::new(1), None, &mut client)?;
+    assert_eq!(rt; over.end, SessionEnd::LinkBroken);
+    assert!(rt; are_taken(alloc, &client.taken, &[])?);
+    Ok(())
+}
+
+// Nothing is served after the link broke, and the entry whose reply was lost comes back.
+#[test]
+fn broken_lookup(rt: HostRuntime) -> Result<(), Fail> {
+    let alloc = rt.alloc();
+    let mut client = client_of(alloc, &[LOOKUP_A, LOOKUP_E], 2)?.breaking();
+    let over = serve_samples::<HostRuntime, Brand>(&rt, alloc, Blanks::new(1), None, &mut client)?;
+    let totals = Totals {
+        born: 1,
+        entries: 1,
+        backs: 1,
+        forgotten: 0,
+    };
+    assert_eq!(rt; over.end, SessionEnd::LinkBroken);
+    assert!(rt; are_taken(alloc, &client.taken, &[])?);
+    assert_eq!(rt; over.totals, totals);
+    Ok(())
+}

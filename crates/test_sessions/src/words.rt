@@ -1,0 +1,125 @@
+//! Command lines.
+
+use clap::error::ErrorKind;
+use mirrord_programs::{Options, read_options};
+use std::test::Fail;
+
+#[test]
+fn hex_with_and_without_samples(rt: HostRuntime) -> Result<(), Fail> {
+    let bare = read_options(rt.alloc(), &["mirrord", "hex"])?;
+    assert_eq!(rt; bare, Options::Hex { sample: false });
+    let sample = read_options(rt.alloc(), &["mirrord", "hex", "--sample"])?;
+    assert_eq!(rt; sample, Options::Hex { sample: true });
+    Ok(())
+}
+
+#[test]
+fn serve_and_pipe(rt: HostRuntime) -> Result<(), Fail> {
+    let words = [
+        "mirrord",
+        "serve",
+        "--root",
+        "/srv",
+        "--socket",
+        "/tmp/s",
+        "--workers",
+        "4",
+        "--uid",
+        "4294967295",
+        "--gid=7",
+    ];
+    let given = Options::Serve {
+        root: "/srv",
+        socket: "/tmp/s",
+        workers: 4,
+        uid: 4_294_967_295,
+        gid: 7,
+    };
+    assert_eq!(rt; read_options(rt.alloc(), &words)?, given);
+    let words = ["mirrord", "serve", "--socket=/tmp/s", "--root=/srv"];
+    let left_out = Options::Serve {
+        root: "/srv",
+        socket: "/tmp/s",
+        workers: 2,
+        uid: 0,
+        gid: 0,
+    };
+    assert_eq!(rt; read_options(rt.alloc(), &words)?, left_out);
+    let words = ["mirrord", "pipe", "--gid", "1", "--root", "/srv"];
+    let pipe = Options::Pipe {
+        root: "/srv",
+        uid: 0,
+        gid: 1,
+    };
+    assert_eq!(rt; read_options(rt.alloc(), &words)?, pipe);
+    Ok(())
+}
+
+// Help and the version end well, and go to standard output.
+#[test]
+fn help_and_version(rt: HostRuntime) {
+    for word in ["--help", "-h", "help"] {
+        match read_options(rt.alloc(), &["mirrord", word]) {
+            Ok(_) => panic!(rt; "{word} is served"),
+            Err(error) => {
+                assert!(rt; error.kind() == ErrorKind::DisplayHelp);
+                assert!(rt; !error.use_stderr());
+            }
+        }
+    }
+    for word in ["--version", "-V"] {
+        match read_options(rt.alloc(), &["mirrord", word]) {
+            Ok(_) => panic!(rt; "{word} is served"),
+            Err(error) => {
+                assert!(rt; error.kind() == ErrorKind::DisplayVersion);
+                assert!(rt; !error.use_stderr());
+            }
+        }
+    }
+}
+
+// A command line that is not understood ends with status 2, on standard error.
+#[test]
+fn bad_command_lines(rt: HostRuntime) {
+    let bad: [&[&str]; 12] = [
+        &["mirrord"],
+        &["mirrord", "mount"],
+        &["mirrord", "hex", "--smaple"],
+        &["mirrord", "hex", "a"],
+        &["mirrord", "pipe"],
+        &["mirrord", "pipe", "--root"],
+        &["mirrord", "pipe", "--root", "/", "--uid", "4294967296"],
+        &["mirrord", "pipe", "--root", "/", "--gid", "-1"],
+        &["mirrord", "serve", "--root", "/"],
+        &["mirrord", "serve", "--socket", "/s"],
+        &[
+            "mirrord",
+            "serve",
+            "--root",
+            "/",
+            "--socket",
+            "/s",
+            "--workers",
+            "0",
+        ],
+        &[
+            "mirrord",
+            "serve",
+            "--root",
+            "/",
+            "--socket",
+            "/s",
+            "--workers",
+            "5",
+        ],
+    ];
+    for words in bad {
+        match read_options(rt.alloc(), words) {
+            Ok(_) => panic!(rt; "it is served"),
+            Err(error) => {
+                assert!(rt; error.use_stderr());
+                assert_eq!(rt; error.exit_code(), 2);
+            }
+        }
+    }
+}

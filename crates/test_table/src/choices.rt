@@ -1,0 +1,245 @@
+//! What a long run does next, by numbers at random and by what the table shows.
+
+use crate::draws::Draws;
+use crate::looks::{node_of, place_of};
+use crate::story::{Asks, Outcome, ROOT, Reply, Step, Told};
+use crate::task::Task;
+use table_image::Image;
+use tree::Node;
+
+/// So many numbers are drawn from where a node need not live.
+const NUMBERS: u64 = 8;
+
+/// So many handles are drawn from where no file need be open.
+const HANDLES: u64 = 20;
+
+/// The name of a node that has no mark.
+fn plain_name(node: &Node) -> Option<(u64, &str)> {
+    if node.hidden { None } else { place_of(node) }
+}
+
+/// The name of a node that has an open file and no mark: that of the open file at that place, or of one after it.
+fn open_name(image: &Image, place: usize) -> Option<(u64, &str)> {
+    let files = image.files.as_slice();
+    for filed in files.iter().skip(place).chain(files.iter()) {
+        let node = node_of(image, filed.file.number)?;
+        if let Some(name) = plain_name(node) {
+            return Some(name);
+        }
+    }
+    None
+}
+
+/// The name of a hidden file.
+pub fn hidden_name(image: &Image) -> Option<(u64, &str)> {
+    let node = image.nodes.as_slice().iter().find(|node| node.hidden)?;
+    place_of(node)
+}
+
+impl Draws {
+    /// The number of a living node three times out of four, or any.
+    fn living(&mut self, image: &Image) -> u64 {
+        let place = self.place(image.nodes.as_slice().len());
+        match (image.nodes.as_slice().get(place), self.among(4)) {
+            (Some(node), 1..) => node.number,
+            _ => self.among(NUMBERS),
+        }
+    }
+
+    /// The number of a named node two times out of three, or any.
+    fn number(&mut self, image: &Image) -> u64 {
+        let place = self.place(image.nodes.as_slice().len());
+        match (image.nodes.as_slice().get(place), self.among(3)) {
+            (Some(node), 1..) if place_of(node).is_some() => node.number,
+            _ => self.living(image),
+        }
+    }
+
+    /// The number of a named node that has no mark half the time, or any.
+    fn plain(&mut self, image: &Image) -> u64 {
+        let place = self.place(image.nodes.as_slice().len());
+        match (image.nodes.as_slice().get(place), self.among(2)) {
+            (Some(node), 1..) if plain_name(node).is_some() => node.number,
+            _ => self.number(image),
+        }
+    }
+
+    /// The root, or as often a number.
+    fn parent(&mut self, image: &Image) -> u64 {
+        match self.among(2) {
+            0 => ROOT,
+            _ => self.number(image),
+        }
+    }
+
+    /// The name of a node that has no mark half the time, or any.
+    fn source<'a>(&mut self, image: &'a Image) -> (u64, &'a str) {
+        let place = self.place(image.nodes.as_slice().len());
+        match (image.nodes.as_slice().get(place), self.among(2)) {
+            (Some(node), 1..) => match plain_name(node) {
+                Some(source) => source,
+                None => (self.parent(image), self.name()),
+            },
+            _ => (self.parent(image), self.name()),
+        }
+    }
+
+    /// The name of an open file three times out of four, or any.
+    fn target<'a>(&mut self, image: &'a Image) -> (u64, &'a str) {
+        let place = self.place(image.files.as_slice().len());
+        match (open_name(image, place), self.among(4)) {
+            (Some(target), 1..) => target,
+            _ => (self.parent(image), self.name()),
+        }
+    }
+
+    fn removal<'a>(&mut self, image: &'a Image) -> Asks<'a> {
+        let (parent, name) = self.target(image);
+        match self.among(6) {
+            0 => Asks::Remove(parent, name),
+            _ => Asks::Unlink(parent, name),
+        }
+    }
+
+    fn move_onto<'a>(&mut self, image: &'a Image) -> Asks<'a> {
+        let (parent, name) = self.source(image);
+        let (new_parent, new_name) = match self.among(4) {
+            0 => (self.parent(image), self.name()),
+            _ => self.target(image),
+        };
+        Asks::Move(parent, name, new_parent, new_name)
+    }
+
+    /// A node and the handle of an open file, three times out of four, or any.
+    fn handle(&mut self, image: &Image) -> (u64, u64) {
+        let place = self.place(image.files.as_slice().len());
+        match (image.files.as_slice().get(place), self.among(4)) {
+            (Some(filed), 1..) => (filed.file.number, filed.handle),
+            _ => (self.number(image), self.among(HANDLES)),
+        }
+    }
+
+    /// The removal of a hidden file, which makes room for others, or of any name.
+    fn unhiding<'a>(&mut self, image: &'a Image) -> Asks<'a> {
+        match hidden_name(image) {
+            Some((parent, name)) => Asks::Remove(parent, name),
+            None => Asks::Remove(self.parent(image), self.name()),
+        }
+    }
+
+    /// What changes names, by a choice of 8 to 20.
+    fn change<'a>(&mut self, choice: u64, image: &'a Image) -> Asks<'a> {
+        match choice {
+            8..=13 => self.removal(image),
+            14..=15 => self.unhiding(image),
+            _ => self.move_onto(image),
+        }
+    }
+
+    fn release(&mut self, image: &Image) -> Asks<'static> {
+        let (number, handle) = self.handle(image);
+        Asks::Release(number, handle)
+    }
+
+    fn reading(&mut self, image: &Image) -> Asks<'static> {
+        let (number, handle) = self.handle(image);
+        Asks::Read(number, handle)
+    }
+
+    /// What leaves names as they are, by another choice.
+    fn use_of<'a>(&mut self, choice: u64, image: &'a Image) -> Asks<'a> {
+        match choice {
+            0..=2 => Asks::Node(self.number(image)),
+            3..=7 => Asks::Page(self.parent(image), self.page()),
+            21..=25 => Asks::Open(self.plain(image)),
+            26..=27 => Asks::Create(self.parent(image), self.name()),
+            28..=31 => self.release(image),
+            32 => self.reading(image),
+            _ => Asks::Name(self.parent(image), self.name()),
+        }
+    }
+
+    /// What a request asks for.
+    pub fn asks<'a>(&mut self, image: &'a Image) -> Asks<'a> {
+        let choice = self.among(38);
+        match choice {
+            8..=20 => self.change(choice, image),
+            _ => self.use_of(choice, image),
+        }
+    }
+
+    /// A candidate that a file is hidden under, or, one time in five, an index that is none.
+    fn candidate(&mut self) -> u8 {
+        let index = match self.among(5) {
+            0 => 10,
+            _ => self.among(10),
+        };
+        u8::try_from(index).unwrap_or(0)
+    }
+
+    /// What the names of a page come to.
+    fn page_end(&mut self, draw: u64, names: usize) -> Outcome<'static> {
+        match draw {
+            1 => Outcome::Entry,
+            _ => Outcome::Entries(self.found(names, draw)),
+        }
+    }
+
+    /// What a removal comes to, which may hide or may not.
+    fn removal_end(&mut self, draw: u64, hides: bool) -> Outcome<'static> {
+        match draw {
+            1 => Outcome::Entry,
+            2 if !hides => Outcome::Hidden(self.candidate()),
+            4.. if hides => Outcome::Hidden(self.candidate()),
+            _ => Outcome::Done,
+        }
+    }
+
+    /// What a move comes to, which may hide or may not.
+    fn move_end(&mut self, draw: u64, hides: bool) -> Outcome<'static> {
+        match draw {
+            1 => Outcome::Entry,
+            2 if !hides => Outcome::HiddenMove(self.candidate(), true),
+            4.. if hides => Outcome::HiddenMove(self.candidate(), self.among(2) == 0),
+            _ => Outcome::Done,
+        }
+    }
+
+    /// What a request comes to that is done, or may be given an entry: mostly to the first, and once to the other.
+    fn plain_end(draw: u64, mostly: Outcome<'static>, once: Outcome<'static>) -> Outcome<'static> {
+        match draw {
+            1 => once,
+            _ => mostly,
+        }
+    }
+
+    /// What a request comes to: mostly to what fits it.
+    pub fn outcome(&mut self, task: Task) -> Outcome<'static> {
+        let draw = self.among(8);
+        if draw == 0 {
+            return Outcome::Failed;
+        }
+        match task {
+            Task::Page(names) => self.page_end(draw, names),
+            Task::Removal { hides } => self.removal_end(draw, hides),
+            Task::Move { hides, .. } => self.move_end(draw, hides),
+            Task::Name | Task::Create => Draws::plain_end(draw, Outcome::Entry, Outcome::Done),
+            Task::Node | Task::Open | Task::Release { .. } => {
+                Draws::plain_end(draw, Outcome::Done, Outcome::Entry)
+            }
+        }
+    }
+
+    pub fn reply(&mut self) -> Reply {
+        match self.among(4) {
+            0 => Reply::Untaken,
+            _ => Reply::Taken,
+        }
+    }
+
+    /// Lookups of a node that are given back.
+    pub fn forget(&mut self, image: &Image) -> Step<'static> {
+        let number = self.living(image);
+        Step::Forget(number, self.among(6), Told::Shown)
+    }
+}

@@ -1,0 +1,75 @@
+//! Runs of the table that its rules foretell, step by step. The crate is of tests alone.
+#![tactic(auto)]
+
+#[cfg(test)]
+mod beginnings;
+#[cfg(test)]
+mod change;
+#[cfg(test)]
+mod choices;
+#[cfg(test)]
+mod draws;
+#[cfg(test)]
+mod endings;
+#[cfg(test)]
+mod event;
+#[cfg(test)]
+mod givings_back;
+#[cfg(test)]
+mod handle_rows;
+#[cfg(test)]
+mod hidden_rows;
+#[cfg(test)]
+mod hiding_rows;
+#[cfg(test)]
+mod holding_rows;
+#[cfg(test)]
+mod image_rows;
+#[cfg(test)]
+mod law_rows;
+#[cfg(test)]
+mod least;
+#[cfg(test)]
+mod limit_rows;
+#[cfg(test)]
+mod long_rows;
+#[cfg(test)]
+mod long_run;
+#[cfg(test)]
+mod looks;
+#[cfg(test)]
+mod lookup_rows;
+#[cfg(test)]
+mod moving_rows;
+#[cfg(test)]
+mod opening_rows;
+#[cfg(test)]
+mod order_rows;
+#[cfg(test)]
+mod page_rows;
+#[cfg(test)]
+mod release_rows;
+#[cfg(test)]
+mod removal_rows;
+#[cfg(test)]
+mod replacing_rows;
+#[cfg(test)]
+mod run_rows;
+#[cfg(test)]
+mod share_rows;
+#[cfg(test)]
+mod shows;
+#[cfg(test)]
+mod story;
+#[cfg(test)]
+mod stranger_rows;
+#[cfg(test)]
+mod tallies;
+#[cfg(test)]
+mod task;
+#[cfg(test)]
+mod teller;
+#[cfg(test)]
+mod thread_rows;
+#[cfg(test)]
+mod under_test;

@@ -1,0 +1,298 @@
+//! Ten thousand calls drawn at random, of which three in four are about what is there. Each must come to what it may come
+//! to, each kind must come often, and the table keeps its law.
+
+use crate::beginnings::begun;
+use crate::change::Change;
+use crate::choices::hidden_name;
+use crate::draws::Draws;
+use crate::endings::{entries_of, finished};
+use crate::event::Event;
+use crate::givings_back::{Gains, forgotten, settled};
+use crate::looks::count_of;
+use crate::story::{Asks, DEFAULT, Outcome, Reply, Step, Sum, TOP, Told};
+use crate::tallies::Tallies;
+use crate::task::Task;
+use crate::teller::{Play, expect_lawful, misgathered, mistold, play_new};
+use crate::under_test::TestTable;
+use ledger::{Ledgers, Posting};
+use std::alloc::{AllocError, Global};
+use std::random::RandomSource;
+use std::test::Fail;
+use table::Limits;
+use table_image::Image;
+
+const STEPS: usize = 10_000;
+
+/// Few nodes, requests and open files, so that they run out.
+const LIMITS: Limits = Limits {
+    nodes: 8,
+    flights: 6,
+    files: 5,
+    ..DEFAULT
+};
+
+/// What the table shows when all requests have ended, all files are closed, all lookups were given back, and what was hidden is removed.
+const NOTHING_LEFT: &[Step] = &[Step::Nodes(&[TOP]), Step::Requests(&[]), Step::Holds(&[])];
+
+/// A run, with the requests that are worked on, and those that have ended, by what their answers give, each by its unique number.
+#[derive(Drop)]
+struct LongRun {
+    draws: Draws,
+    working: Vec<(u64, Task)>,
+    ended: Vec<(u64, Gains)>,
+    tallies: Tallies,
+    sum: Sum,
+}
+
+/// Takes out what stands under a unique number.
+fn take_out<T: Copy>(values: &mut Vec<(u64, T)>, unique: u64) -> Option<T> {
+    let place = values.iter().position(|(other, _)| *other == unique)?;
+    let (_, value) = values.remove(place);
+    Some(value)
+}
+
+/// What the postings add up to.
+fn sum_of(image: &Image) -> Sum {
+    let (mut born, mut entries, mut backs, mut forgotten) = (0u64, 0u64, 0u64, 0u64);
+    for posting in image.postings.as_slice() {
+        match *posting {
+            Posting::Born { .. } => born = born.saturating_add(1),
+            Posting::Entry { .. } => entries = entries.saturating_add(1),
+            Posting::Back { .. } => backs = backs.saturating_add(1),
+            Posting::Forget { amount, .. } => forgotten = forgotten.saturating_add(amount),
+        }
+    }
+    Sum::All(born, entries, backs, forgotten)
+}
+
+/// What an answer gives to the client that told this, after its file was opened, if one was.
+fn gains_of(told: Told, change: Change, after: &Image) -> Gains {
+    let handle = match change.opened {
+        0 => None,
+        _ => Some(after.last_handle),
+    };
+    Gains {
+        entries: entries_of(told),
+        handle,
+    }
+}
+
+/// A request that is done, from its begin to its settle.
+fn done(unique: u64, asks: Asks) -> [Step; 3] {
+    [
+        Step::Begin(unique, asks, Told::Shown),
+        Step::Finish(unique, Outcome::Done, Told::Shown),
+        Step::Settle(unique, Reply::Taken, Told::Shown),
+    ]
+}
+
+impl LongRun {
+    fn new(alloc: Global, seed: u64) -> Result<LongRun, AllocError> {
+        let tallies = Tallies::new(alloc)?;
+        Ok(LongRun {
+            draws: Draws { x: seed },
+            working: Vec::new(alloc),
+            ended: Vec::new(alloc),
+            tallies,
+            sum: Sum::ShareMissing,
+        })
+    }
+
+    /// A call, or none where it would be about a request and there is none.
+    fn draw<'a>(&mut self, unique: u64, image: &'a Image) -> Option<Step<'a>> {
+        match self.draws.among(11) {
+            0..=3 => Some(Step::Begin(unique, self.draws.asks(image), Told::Shown)),
+            4..=6 => {
+                let place = self.draws.place(self.working.len());
+                let (unique, task) = *self.working.get(place)?;
+                Some(Step::Finish(unique, self.draws.outcome(task), Told::Shown))
+            }
+            7..=9 => {
+                let place = self.draws.place(self.ended.len());
+                let (unique, _) = *self.ended.get(place)?;
+                Some(Step::Settle(unique, self.draws.reply(), Told::Shown))
+            }
+            _ => Some(self.draws.forget(image)),
+        }
+    }
+
+    /// What a call came to that told this, whose ticket says whether it may hide, or none where it may not come to that.
+    fn judge(
+        &mut self,
+        step: &Step,
+        told: Told,
+        hides: bool,
+        before: &Image,
+        after: &Image,
+    ) -> Result<Option<Event>, AllocError> {
+        let change = Change::between(before, after);
+        match *step {
+            Step::Begin(unique, asks, _) => {
+                if told == Told::Go {
+                    self.working.push((unique, Task::of(asks, hides, before)))?;
+                }
+                Ok(begun(asks, told, hides, before, change))
+            }
+            Step::Finish(unique, outcome, _) => {
+                let Some(task) = take_out(&mut self.working, unique) else {
+                    return Ok(None);
+                };
+                self.ended.push((unique, gains_of(told, change, after)))?;
+                Ok(finished(task, outcome, told, change))
+            }
+            Step::Settle(unique, reply, _) => match take_out(&mut self.ended, unique) {
+                Some(gains) => Ok(settled(reply, gains, told, before, change)),
+                None => Ok(None),
+            },
+            Step::Forget(number, n, _) => Ok(forgotten(n, count_of(before, number), told, change)),
+            _ => Ok(None),
+        }
+    }
+
+    /// What a call told, what it came to, and the table after it.
+    fn make<T: Ledgers>(
+        &mut self,
+        under_test: &mut TestTable<T>,
+        step: &Step,
+        before: &Image,
+    ) -> Result<(Told, Option<Event>, Image), AllocError> {
+        let told = under_test.take(step)?;
+        let hides = match *step {
+            Step::Begin(unique, _, _) => under_test.hides(unique),
+            _ => false,
+        };
+        let after = under_test.image()?;
+        let event = self.judge(step, told, hides, before, &after)?;
+        Ok((told, event, after))
+    }
+
+    /// Makes one call, the one at that place, from the table as it was before it. Gives the table after it.
+    fn go<T: Ledgers>(
+        &mut self,
+        under_test: &mut TestTable<T>,
+        place: usize,
+        step: &Step,
+        before: &Image,
+    ) -> Result<Image, Fail> {
+        match self.make(under_test, step, before)? {
+            (_, Some(event), after) => {
+                self.tallies.note(event);
+                Ok(after)
+            }
+            (told, None, _) => Err(mistold(place, told)),
+        }
+    }
+
+    /// Draws a call, the one at that place, and makes it. The image follows the table.
+    fn turn<T: Ledgers>(
+        &mut self,
+        under_test: &mut TestTable<T>,
+        place: usize,
+        image: &mut Image,
+    ) -> Result<(), Fail> {
+        let _passed = under_test.pass(self.draws.place(2));
+        let Some(step) = self.draw(place as u64, image) else {
+            return Ok(());
+        };
+        let after = self.go(under_test, place, &step, image)?;
+        *image = after;
+        Ok(())
+    }
+
+    /// Makes the calls that are drawn. The table is lawful after each of the first, and then now and then.
+    fn turns<T: Ledgers>(&mut self, under_test: &mut TestTable<T>) -> Result<(), Fail> {
+        let mut image = under_test.image()?;
+        for place in 0..STEPS {
+            self.turn(under_test, place, &mut image)?;
+            if place < 500 || place % 50 == 0 {
+                expect_lawful(&image, place)?;
+            }
+        }
+        Ok(())
+    }
+
+    /// Makes these calls after the last.
+    fn go_all<T: Ledgers>(
+        &mut self,
+        under_test: &mut TestTable<T>,
+        steps: &[Step],
+    ) -> Result<(), Fail> {
+        let mut image = under_test.image()?;
+        for step in steps {
+            image = self.go(under_test, STEPS, step, &image)?;
+        }
+        Ok(())
+    }
+
+    /// Ends all requests, gives every lookup back, and releases each file that is open.
+    fn last_steps(&self, alloc: Global, image: &Image) -> Result<Vec<Step<'static>>, AllocError> {
+        let mut steps = Vec::new(alloc);
+        for (unique, _) in &self.working {
+            steps.push(Step::Finish(*unique, Outcome::Failed, Told::Shown))?;
+            steps.push(Step::Settle(*unique, Reply::Taken, Told::Shown))?;
+        }
+        for (unique, _) in &self.ended {
+            steps.push(Step::Settle(*unique, Reply::Taken, Told::Shown))?;
+        }
+        for number in 0..LIMITS.nodes + 2 {
+            steps.push(Step::Forget(number, u64::MAX, Told::Shown))?;
+        }
+        for filed in image.files.as_slice() {
+            let asks = Asks::Release(filed.file.number, filed.handle);
+            steps.extend_from_slice(&done(filed.handle, asks))?;
+        }
+        Ok(steps)
+    }
+
+    /// Ends all that was begun, and closes all files.
+    fn end_all<T: Ledgers>(&mut self, under_test: &mut TestTable<T>) -> Result<(), Fail> {
+        let steps = self.last_steps(under_test.alloc, &under_test.image()?)?;
+        self.go_all(under_test, steps.as_slice())
+    }
+
+    /// Removes a hidden file, if there is one.
+    fn remove_hidden<T: Ledgers>(&mut self, under_test: &mut TestTable<T>) -> Result<(), Fail> {
+        let image = under_test.image()?;
+        match hidden_name(&image) {
+            Some((parent, name)) => self.go_all(under_test, &done(0, Asks::Remove(parent, name))),
+            None => Ok(()),
+        }
+    }
+}
+
+impl Play for LongRun {
+    fn play<T: Ledgers>(&mut self, under_test: &mut TestTable<T>) -> Result<(), Fail> {
+        self.turns(under_test)?;
+        self.end_all(under_test)?;
+        for _node in 0..LIMITS.nodes {
+            self.remove_hidden(under_test)?;
+        }
+        under_test.tell(NOTHING_LEFT)?;
+        self.sum = sum_of(&under_test.image()?);
+        Ok(())
+    }
+}
+
+/// A run from that seed. The shares add up to the postings, and all entries came back.
+fn run_from<R: RandomSource + AllocGlobal>(rt: &R, seed: u64) -> Result<(), Fail> {
+    let mut run = LongRun::new(rt.alloc(), seed)?;
+    let sum = play_new(rt, LIMITS, &mut run)?;
+    if let Some(place) = run.tallies.too_few() {
+        return Err(Fail::from(("too few", place)));
+    }
+    match sum {
+        Sum::All(_, entries, backs, forgotten)
+            if sum == run.sum && entries == backs.saturating_add(forgotten) => { Ok(()) }
+        _ => Err(misgathered(sum)),
+    }
+}
+
+#[test]
+fn long_run(rt: HostRuntime) -> Result<(), Fail> {
+    run_from(&rt, 1)
+}
+
+#[test]
+fn another_long_run(rt: HostRuntime) -> Result<(), Fail> {
+    run_from(&rt, 2)
+}

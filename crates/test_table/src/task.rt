@@ -1,0 +1,52 @@
+//! What a long run keeps of a request until its end.
+
+use crate::looks::{is_hidden, node_at, openings};
+use crate::story::Asks;
+use table_image::Image;
+
+/// What the end of a request is judged by.
+#[derive(Clone, Copy)]
+pub enum Task {
+    Node,
+    Name,
+    Create,
+    /// So many names.
+    Page(usize),
+    Open,
+    /// Whether its ticket says that it may hide.
+    Removal {
+        hides: bool,
+    },
+    /// Whether it says so, whether both names are the same, and whether a node stands at the old one.
+    Move {
+        hides: bool,
+        same: bool,
+        known: bool,
+    },
+    /// Whether it closes the last handle of a hidden file.
+    Release {
+        last: bool,
+    },
+}
+
+impl Task {
+    /// That of a request that goes on, from the table before it.
+    pub fn of(asks: Asks, hides: bool, before: &Image) -> Task {
+        match asks {
+            Asks::Node(_) | Asks::Read(..) => Task::Node,
+            Asks::Name(..) => Task::Name,
+            Asks::Create(..) => Task::Create,
+            Asks::Page(_, names) => Task::Page(names.len()),
+            Asks::Open(_) => Task::Open,
+            Asks::Remove(..) | Asks::Unlink(..) => Task::Removal { hides },
+            Asks::Move(parent, name, new_parent, new_name) => Task::Move {
+                hides,
+                same: parent == new_parent && name == new_name,
+                known: node_at(before, parent, name).is_some(),
+            },
+            Asks::Release(number, _) => Task::Release {
+                last: is_hidden(before, number) && openings(before, number) == 1,
+            },
+        }
+    }
+}

@@ -1,7 +1,0 @@
-use Rattle.std.proofs.Common.{ℕ, ◌≡◌, ◌<◌, get_or}
-use Rattle.tree.specs.declared.nodes.Node.{Node}
-use Rattle.tree.specs.declared.nodes.Place.TheVariants.{Named}
-use Rattle.tree.proofs.lookups.find_in.Given as goal
-
-abbrev pub invariant-loop-node : goal.invariant-loop-node
-invariant-loop-node l = (k : ℕ) (d : Node) → k < l.node-index → (get_or l.nodes k d).place ≡ Named l.key → ⊥

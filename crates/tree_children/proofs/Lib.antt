@@ -1,0 +1,3 @@
+pub mod Dense
+pub mod Counted
+pub mod Same

@@ -1,0 +1,15 @@
+-- What stands next on a stream.
+use Rattle.std.specs.Prelude.{◌≡◌, ℕ, ◌≤◌, List, length}
+use Rattle.wire.specs.declared.standing.NextFrame.{NextFrame}
+use Rattle.wire.specs.declared.standing.NextFrame.TheVariants.{Partial, Bad, Whole}
+use Rattle.wire.specs.Stream.{len_in, IsLawfulName, BeginsBadly, IsPartial}
+
+pub record IsWhole (kept : List ℕ) (len : ℕ) : Type 0 where
+  pub is : len ≡ len_in kept
+  pub lawful : IsLawfulName len
+  pub there : len ≤ length kept
+
+abbrev pub Stands : List ℕ → NextFrame → Type 0
+Stands kept Partial = IsPartial kept
+Stands kept (Bad len) = BeginsBadly kept len
+Stands kept (Whole len) = IsWhole kept len
