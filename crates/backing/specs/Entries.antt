@@ -21,7 +21,7 @@ IsDistinct [] = Unit {0}
 IsDistinct (entry ∷ entries) = (look entries entry.path ≡ None) × IsDistinct entries
 
 -- each path is there once, and its parent is a folder
-pub record IsLawfulName (entries : List Entry) : Type 0 where
+pub record IsEntryTree (entries : List Entry) : Type 0 where
   pub distinct : IsDistinct entries
   pub tree : IsTree (tree_of entries)
 

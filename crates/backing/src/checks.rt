@@ -5,7 +5,7 @@ ghost use Rattle.std.specs.Option.{option_map};
 ghost use Rattle.backing.specs.Tree.{kind_of, Resolves, Stops};
 ghost use Rattle.backing.specs.Calls.{PassesAll, Refuses, Bare, Fits};
 ghost use Rattle.backing.specs.Checks.{present_tests, free_tests, file_tests, folder_tests};
-ghost use Rattle.backing.specs.Entries.{tree_of, IsFoundAt, IsLawfulName};
+ghost use Rattle.backing.specs.Entries.{tree_of, IsFoundAt, IsEntryTree};
 
 use crate::call::{Kind, MAX_FILE_LEN};
 use crate::entries::Entry;
@@ -90,7 +90,7 @@ pub fn expect_folder(entries: &[Entry], path: &Path) -> Result<(), i32>
 
 /// The folder has no names.
 pub fn expect_bare(entries: &[Entry], path: &Path) -> Result<(), i32>
-    requires { IsLawfulName entries.now }
+    requires { IsEntryTree entries.now }
     ensures ok { OnOk result (PassesAll (tree_of entries.now) (Bare path.now ∷ [])) }
     ensures err { IfErr result (Refuses (tree_of entries.now) (Bare path.now ∷ [])) }
 {

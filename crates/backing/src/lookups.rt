@@ -3,7 +3,7 @@
 ghost use Rattle.std.specs.Prelude.{true, false, ◌≡◌, ◌<◌, ◌+◌, ℕ, List, [], ◌∷◌, ◌++◌, None, Some, IfSome, IfNone};
 ghost use Rattle.std.specs.Option.{option_map};
 ghost use Rattle.backing.specs.Tree.{is_path, kind_of, HasNames, IsBare};
-ghost use Rattle.backing.specs.Entries.{look, tree_of, IsFoundAt, IsLawfulName};
+ghost use Rattle.backing.specs.Entries.{look, tree_of, IsFoundAt, IsEntryTree};
 
 use crate::call::Kind;
 use crate::entries::Entry;
@@ -64,7 +64,7 @@ pub fn child_of<'a>(path: &'a Path, folder: &[Name]) -> Option<&'a Name>
 
 /// Whether a name stands in the folder.
 pub fn has_names(entries: &[Entry], folder: &[Name]) -> bool
-    requires { IsLawfulName entries.now }
+    requires { IsEntryTree entries.now }
     ensures yes { result ≡ true → HasNames (tree_of entries.now) folder.now }
     ensures no { result ≡ false → IsBare (tree_of entries.now) folder.now }
 {

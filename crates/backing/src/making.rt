@@ -4,7 +4,7 @@ ghost use Rattle.std.specs.Prelude.{◌≡◌, OnOk, OnErr, IfErr};
 ghost use Rattle.backing.specs.Tree.{with_item};
 ghost use Rattle.backing.specs.Calls.{AskMake, AskMakeDir, PassesAll};
 ghost use Rattle.backing.specs.Checks.{free_tests};
-ghost use Rattle.backing.specs.Entries.{tree_of, IsLawfulName};
+ghost use Rattle.backing.specs.Entries.{tree_of, IsEntryTree};
 ghost use Rattle.backing.specs.Refusals.{Ends, Refusing};
 
 use crate::bytes::Bytes;
@@ -17,9 +17,9 @@ use std::alloc::Global;
 
 /// Makes an empty file.
 pub fn make(alloc: Global, entries: &mut Vec<Entry>, path: &Path) -> Result<Answer, Refusal>
-    requires { IsLawfulName entries.old.items }
+    requires { IsEntryTree entries.old.items }
     ensures ends { Ends (tree_of entries.old.items) (AskMake path.now) result (tree_of entries.new.items) }
-    ensures lawful { IsLawfulName entries.new.items }
+    ensures lawful { IsEntryTree entries.new.items }
 {
     put(entries, path, Item::File(Bytes::new(alloc)))?;
     Ok(Answer::Done)
@@ -27,9 +27,9 @@ pub fn make(alloc: Global, entries: &mut Vec<Entry>, path: &Path) -> Result<Answ
 
 /// Makes an empty folder.
 pub fn make_dir(entries: &mut Vec<Entry>, path: &Path) -> Result<Answer, Refusal>
-    requires { IsLawfulName entries.old.items }
+    requires { IsEntryTree entries.old.items }
     ensures ends { Ends (tree_of entries.old.items) (AskMakeDir path.now) result (tree_of entries.new.items) }
-    ensures lawful { IsLawfulName entries.new.items }
+    ensures lawful { IsEntryTree entries.new.items }
 {
     put(entries, path, Item::Folder)?;
     Ok(Answer::Done)
@@ -37,12 +37,12 @@ pub fn make_dir(entries: &mut Vec<Entry>, path: &Path) -> Result<Answer, Refusal
 
 /// Puts the item where nothing stands.
 fn put(entries: &mut Vec<Entry>, path: &Path, item: Item) -> Result<(), Refusal>
-    requires { IsLawfulName entries.old.items }
+    requires { IsEntryTree entries.old.items }
     ensures passes { OnOk result (PassesAll (tree_of entries.old.items) (free_tests path.now)) }
     ensures ok { OnOk result (tree_of entries.new.items ≡ with_item (tree_of entries.old.items) path.now item) }
     ensures refuses { IfErr result (Refusing (tree_of entries.old.items) (free_tests path.now)) }
     ensures err { OnErr result (entries.new.items ≡ entries.old.items) }
-    ensures lawful { IsLawfulName entries.new.items }
+    ensures lawful { IsEntryTree entries.new.items }
 {
     expect_free(entries, path)?;
     let path = path.copy()?;

@@ -31,11 +31,11 @@ impl Model for MemTree {
 
     ghost Value = { Memory };
 
-    ghost use Rattle.backing.specs.Entries.{IsLawfulName};
+    ghost use Rattle.backing.specs.Entries.{IsEntryTree};
 
     ghost view = { λ m. record { entries = m.standing.items; made = m.calls; plans = m.planned.items; failed = m.failures } };
 
-    ghost invariant = { λ m. IsLawfulName m.standing.items };
+    ghost invariant = { λ m. IsEntryTree m.standing.items };
 }
 
 impl MemTree {

@@ -7,7 +7,7 @@ ghost use Rattle.backing.specs.declared.entries.Entry.{Entry};
 ghost use Rattle.backing.specs.Tree.{IsBare, Resolves, moved};
 ghost use Rattle.backing.specs.Calls.{AskRename, PassesAll, Refuses};
 ghost use Rattle.backing.specs.Checks.{source_tests, kind_tests, room_tests};
-ghost use Rattle.backing.specs.Entries.{tree_of, IsLawfulName};
+ghost use Rattle.backing.specs.Entries.{tree_of, IsEntryTree};
 ghost use Rattle.backing.specs.Moves.{moved_path, with_path, with_paths, Clears};
 ghost use Rattle.backing.specs.Refusals.{Ends};
 
@@ -27,9 +27,9 @@ pub fn rename(
     from: &Path,
     to: &Path,
 ) -> Result<Answer, Refusal>
-    requires { IsLawfulName entries.old.items }
+    requires { IsEntryTree entries.old.items }
     ensures ends { Ends (tree_of entries.old.items) (AskRename from.now to.now) result (tree_of entries.new.items) }
-    ensures lawful { IsLawfulName entries.new.items }
+    ensures lawful { IsEntryTree entries.new.items }
 {
     expect_source(entries, from, to)?;
     if from.is(to) {
@@ -53,7 +53,7 @@ fn expect_source(entries: &[Entry], from: &Path, to: &Path) -> Result<(), i32>
 
 /// It may go there.
 fn expect_room(entries: &[Entry], from: &Path, to: &Path) -> Result<(), i32>
-    requires { IsLawfulName entries.now }
+    requires { IsEntryTree entries.now }
     ensures ok { OnOk result (PassesAll (tree_of entries.now) (room_tests from.now to.now)) }
     ensures err { IfErr result (Refuses (tree_of entries.now) (room_tests from.now to.now)) }
 {
@@ -94,14 +94,14 @@ fn move_all(
     from: &Path,
     to: &Path,
 ) -> Result<(), AllocError>
-    requires lawful { IsLawfulName entries.old.items }
+    requires lawful { IsEntryTree entries.old.items }
     requires below_root { (from.now ≢ []) × (to.now ≢ []) }
     requires apart { (is_prefix from.now to.now ≡ false) × (is_prefix to.now from.now ≡ false) }
     requires leads { Resolves (tree_of entries.old.items) to.now }
     requires bare { IsBare (tree_of entries.old.items) to.now }
     ensures ok { OnOk result (tree_of entries.new.items ≡ moved (tree_of entries.old.items) from.now to.now) }
     ensures err { OnErr result (entries.new.items ≡ entries.old.items) }
-    ensures lawful { IsLawfulName entries.new.items }
+    ensures lawful { IsEntryTree entries.new.items }
 {
     let mut paths = new_paths(alloc, entries, from, to)?;
     clear_place(entries, &mut paths, to);

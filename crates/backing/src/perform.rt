@@ -2,7 +2,7 @@
 
 ghost use Rattle.std.specs.Prelude.{◌≡◌, List};
 ghost use Rattle.backing.specs.Calls.{asked};
-ghost use Rattle.backing.specs.Entries.{tree_of, IsLawfulName};
+ghost use Rattle.backing.specs.Entries.{tree_of, IsEntryTree};
 ghost use Rattle.backing.specs.Refusals.{Ends, answered, errno_after, settled};
 ghost use Rattle.backing.specs.Device.{Sound, After};
 ghost use Rattle.backing.specs.Memory.{Treated, PutsDir, PutsFile, device_of, treated_as};
@@ -23,9 +23,9 @@ use std::alloc::Global;
 
 /// What the tree itself answers and does.
 pub fn perform(alloc: Global, entries: &mut Vec<Entry>, call: Call<'_>) -> Result<Answer, Refusal>
-    requires { IsLawfulName entries.old.items }
+    requires { IsEntryTree entries.old.items }
     ensures ends { Ends (tree_of entries.old.items) (asked call.entry) result (tree_of entries.new.items) }
-    ensures lawful { IsLawfulName entries.new.items }
+    ensures lawful { IsEntryTree entries.new.items }
 {
     match call {
         Call::Stat(path) => stat(entries, path),
@@ -44,9 +44,9 @@ pub fn perform(alloc: Global, entries: &mut Vec<Entry>, call: Call<'_>) -> Resul
 
 /// A call as the device treats it, for which this failure is planned.
 pub fn treat(alloc: Global, entries: &mut Vec<Entry>, fault: Option<Fault>, call: Call<'_>) -> Told
-    requires { IsLawfulName entries.old.items }
+    requires { IsEntryTree entries.old.items }
     ensures treated { Treated (tree_of entries.old.items) (treated_as fault) (asked call.entry) result (tree_of entries.new.items) }
-    ensures lawful { IsLawfulName entries.new.items }
+    ensures lawful { IsEntryTree entries.new.items }
 {
     match fault {
         None => treat_soundly(alloc, entries, call),
@@ -56,9 +56,9 @@ pub fn treat(alloc: Global, entries: &mut Vec<Entry>, fault: Option<Fault>, call
 
 /// A call that fails by plan.
 fn treat_as_planned(alloc: Global, entries: &mut Vec<Entry>, fault: Fault, call: Call<'_>) -> Told
-    requires { IsLawfulName entries.old.items }
+    requires { IsEntryTree entries.old.items }
     ensures treated { Treated (tree_of entries.old.items) (device_of fault) (asked call.entry) result (tree_of entries.new.items) }
-    ensures lawful { IsLawfulName entries.new.items }
+    ensures lawful { IsEntryTree entries.new.items }
 {
     match fault {
         Fault::Before(errno) => Told::failure(errno),
@@ -68,9 +68,9 @@ fn treat_as_planned(alloc: Global, entries: &mut Vec<Entry>, fault: Fault, call:
 
 /// A call that fails only where there is no memory.
 fn treat_soundly(alloc: Global, entries: &mut Vec<Entry>, call: Call<'_>) -> Told
-    requires { IsLawfulName entries.old.items }
+    requires { IsEntryTree entries.old.items }
     ensures treated { Treated (tree_of entries.old.items) Sound (asked call.entry) result (tree_of entries.new.items) }
-    ensures lawful { IsLawfulName entries.new.items }
+    ensures lawful { IsEntryTree entries.new.items }
 {
     let ended = perform(alloc, entries, call);
     match answered(ended) {
@@ -95,9 +95,9 @@ fn answered(ended: Result<Answer, Refusal>) -> Option<Answer>
 
 /// A call that does its work and fails.
 fn treat_and_fail(alloc: Global, entries: &mut Vec<Entry>, errno: i32, call: Call<'_>) -> Told
-    requires { IsLawfulName entries.old.items }
+    requires { IsEntryTree entries.old.items }
     ensures treated { Treated (tree_of entries.old.items) (After errno) (asked call.entry) result (tree_of entries.new.items) }
-    ensures lawful { IsLawfulName entries.new.items }
+    ensures lawful { IsEntryTree entries.new.items }
 {
     let ended = perform(alloc, entries, call);
     Told::failure(errno_after(ended, errno))
@@ -116,9 +116,9 @@ fn errno_after(ended: Result<Answer, Refusal>, errno: i32) -> i32
 
 /// Puts a folder, as no call does.
 pub fn put_dir_in(entries: &mut Vec<Entry>, path: &Path) -> Result<(), i32>
-    requires { IsLawfulName entries.old.items }
+    requires { IsEntryTree entries.old.items }
     ensures puts { PutsDir (tree_of entries.old.items) path.now result (tree_of entries.new.items) }
-    ensures lawful { IsLawfulName entries.new.items }
+    ensures lawful { IsEntryTree entries.new.items }
 {
     settle(make_dir(entries, path))
 }
@@ -130,9 +130,9 @@ pub fn put_file_in(
     path: &Path,
     bytes: &[u8],
 ) -> Result<(), i32>
-    requires { IsLawfulName entries.old.items }
+    requires { IsEntryTree entries.old.items }
     ensures puts { PutsFile (tree_of entries.old.items) path.now bytes.now result (tree_of entries.new.items) }
-    ensures lawful { IsLawfulName entries.new.items }
+    ensures lawful { IsEntryTree entries.new.items }
 {
     match settle(make(alloc, entries, path)) {
         Ok(()) => {}

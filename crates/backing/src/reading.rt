@@ -3,7 +3,7 @@
 ghost use Rattle.std.specs.Prelude.{◌≡◌, ◌<◌, ◌+◌, [], ◌∷◌, ◌++◌, None, Some, IfOk, IfSome, OnOk, length};
 ghost use Rattle.backing.specs.Tree.{IsFile, size_of};
 ghost use Rattle.backing.specs.Calls.{AskStat, AskList, AskRead, AskSync, Lists};
-ghost use Rattle.backing.specs.Entries.{tree_of, IsLawfulName};
+ghost use Rattle.backing.specs.Entries.{tree_of, IsEntryTree};
 ghost use Rattle.backing.specs.Refusals.{Ends};
 
 use crate::call::{Answer, Child, Children, Kind};
@@ -58,7 +58,7 @@ pub fn sync(entries: &[Entry], path: &Path) -> Result<Answer, Refusal>
 
 /// The names in the folder, with their kinds.
 pub fn list(alloc: Global, entries: &[Entry], path: &Path) -> Result<Answer, Refusal>
-    requires { IsLawfulName entries.now }
+    requires { IsEntryTree entries.now }
     ensures { Ends (tree_of entries.now) (AskList path.now) result (tree_of entries.now) }
 {
     expect_folder(entries, path)?;
@@ -67,7 +67,7 @@ pub fn list(alloc: Global, entries: &[Entry], path: &Path) -> Result<Answer, Ref
 
 /// The names that stand in the folder.
 fn children_of(alloc: Global, entries: &[Entry], folder: &Path) -> Result<Children, AllocError>
-    requires { IsLawfulName entries.now }
+    requires { IsEntryTree entries.now }
     ensures { IfOk result (Lists (tree_of entries.now) folder.now) }
 {
     let mut list = Vec::new(alloc);

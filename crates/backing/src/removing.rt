@@ -4,7 +4,7 @@ ghost use Rattle.std.specs.Prelude.{◌≡◌, ◌≢◌, [], IsSome};
 ghost use Rattle.std.specs.List.{remove};
 ghost use Rattle.backing.specs.Tree.{IsBare, without};
 ghost use Rattle.backing.specs.Calls.{AskRemove, AskRemoveDir};
-ghost use Rattle.backing.specs.Entries.{tree_of, IsLawfulName};
+ghost use Rattle.backing.specs.Entries.{tree_of, IsEntryTree};
 ghost use Rattle.backing.specs.Refusals.{Ends};
 
 use crate::call::Answer;
@@ -16,9 +16,9 @@ use paths::Path;
 
 /// Removes the file.
 pub fn remove(entries: &mut Vec<Entry>, path: &Path) -> Result<Answer, Refusal>
-    requires { IsLawfulName entries.old.items }
+    requires { IsEntryTree entries.old.items }
     ensures ends { Ends (tree_of entries.old.items) (AskRemove path.now) result (tree_of entries.new.items) }
-    ensures lawful { IsLawfulName entries.new.items }
+    ensures lawful { IsEntryTree entries.new.items }
 {
     expect_file(entries, path)?;
     take_out(entries, path);
@@ -27,9 +27,9 @@ pub fn remove(entries: &mut Vec<Entry>, path: &Path) -> Result<Answer, Refusal>
 
 /// Removes the folder, which has no names.
 pub fn remove_dir(entries: &mut Vec<Entry>, path: &Path) -> Result<Answer, Refusal>
-    requires { IsLawfulName entries.old.items }
+    requires { IsEntryTree entries.old.items }
     ensures ends { Ends (tree_of entries.old.items) (AskRemoveDir path.now) result (tree_of entries.new.items) }
-    ensures lawful { IsLawfulName entries.new.items }
+    ensures lawful { IsEntryTree entries.new.items }
 {
     expect_below_root(path)?;
     expect_folder(entries, path)?;
@@ -40,12 +40,12 @@ pub fn remove_dir(entries: &mut Vec<Entry>, path: &Path) -> Result<Answer, Refus
 
 /// Takes out what stands at the path, and has no names below it.
 pub fn take_out(entries: &mut Vec<Entry>, path: &Path)
-    requires lawful { IsLawfulName entries.old.items }
+    requires lawful { IsEntryTree entries.old.items }
     requires below_root { path.now ≢ [] }
     requires stands { IsSome (tree_of entries.old.items path.now) }
     requires bare { IsBare (tree_of entries.old.items) path.now }
     ensures taken { tree_of entries.new.items ≡ without (tree_of entries.old.items) path.now }
-    ensures lawful { IsLawfulName entries.new.items }
+    ensures lawful { IsEntryTree entries.new.items }
 {
     match index_of(entries, path.names()) {
         Some(i) => {

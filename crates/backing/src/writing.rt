@@ -2,7 +2,7 @@
 
 ghost use Rattle.std.specs.Prelude.{◌≡◌, ◌<◌, ◌+◌, ◌^◌, OnOk, OnErr, length, slice_set, slice_index_or};
 ghost use Rattle.backing.specs.Calls.{AskWrite, AskSetLen};
-ghost use Rattle.backing.specs.Entries.{tree_of, IsLawfulName};
+ghost use Rattle.backing.specs.Entries.{tree_of, IsEntryTree};
 ghost use Rattle.backing.specs.Refusals.{Ends};
 ghost use Rattle.backing.specs.declared.entries.Entry.{Entry};
 ghost use Rattle.backing.specs.Items.{item_written, item_resized, entry_written, entry_resized};
@@ -21,9 +21,9 @@ pub fn write(
     offset: u64,
     piece: &[u8],
 ) -> Result<Answer, Refusal>
-    requires { IsLawfulName entries.old.items }
+    requires { IsEntryTree entries.old.items }
     ensures ends { Ends (tree_of entries.old.items) (AskWrite path.now offset piece.now) result (tree_of entries.new.items) }
-    ensures lawful { IsLawfulName entries.new.items }
+    ensures lawful { IsEntryTree entries.new.items }
 {
     let i = expect_file(entries, path)?;
     if piece.is_empty() {
@@ -36,9 +36,9 @@ pub fn write(
 
 /// Cuts the file, or fills it with zeros.
 pub fn set_len(entries: &mut Vec<Entry>, path: &Path, size: u64) -> Result<Answer, Refusal>
-    requires { IsLawfulName entries.old.items }
+    requires { IsEntryTree entries.old.items }
     ensures ends { Ends (tree_of entries.old.items) (AskSetLen path.now size) result (tree_of entries.new.items) }
-    ensures lawful { IsLawfulName entries.new.items }
+    ensures lawful { IsEntryTree entries.new.items }
 {
     let i = expect_file(entries, path)?;
     expect_fits(entries, size)?;

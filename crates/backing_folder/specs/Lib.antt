@@ -1,6 +1,6 @@
 pub mod Explained
 pub mod Contents
 pub mod Parts
-pub mod Troubles
+pub mod HostErrors
 pub mod Routes
 pub mod Counting

@@ -1,7 +1,7 @@
 //! Why a call on a real folder did not do its work.
 
 ghost use Rattle.std.specs.Prelude.{◌≡◌};
-ghost use Rattle.backing_folder.specs.Troubles.{number_of};
+ghost use Rattle.backing_folder.specs.HostErrors.{number_of};
 
 use errno::{EACCES, EBUSY, EEXIST, EINVAL, EIO, EISDIR, ENOENT, ENOMEM, ENOTDIR, ENOTEMPTY};
 use std::alloc::{AllocError, AllocFailed};
@@ -57,7 +57,7 @@ pub enum HostError {
 
 impl From<io::Error> for HostError {
     ghost use Rattle.std.specs.IoError.{error_kind};
-    ghost use Rattle.backing_folder.specs.Troubles.{number_of};
+    ghost use Rattle.backing_folder.specs.HostErrors.{number_of};
     ghost use Rattle.backing_folder.specs.declared.host_error.HostError.TheVariants as HostError;
 
     ghost from_gives = { λ error host_error. host_error ≡ HostError.Failed (number_of (error_kind error)) };

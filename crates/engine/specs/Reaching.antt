@@ -20,9 +20,9 @@ waits old new unique want b = b.0.begins.2
 pub refuses : (old new : World) (unique : ℕ) (want : Want) (errno : ℤ) → worlds.begins old unique want (Refused errno) new → (worlds.begins old unique want (Refused (to_z w32 (of_z w32 errno))) new) × (new ≡ old)
 refuses old new unique want errno b = ((refused_bits old new unique want errno b.0, b.1), b.0.begins.1)
 
-pub carries : (old mid fin new : World) (unique : ℕ) (want : Want) (claim : Claim) (outcome : Outcome) (answer : Answer) (put : Option ℕ) (taken : Bool) → IsIdle old
+pub completes : (old mid fin new : World) (unique : ℕ) (want : Want) (claim : Claim) (outcome : Outcome) (answer : Answer) (put : Option ℕ) (taken : Bool) → IsIdle old
     → worlds.begins old unique want (Go claim) mid → worlds.finishes mid claim.id outcome answer fin → worlds.settles fin answer put taken new → worlds.knows answer × IsIdle new
-carries old mid fin new unique want claim outcome answer put taken idle begins finishes settles =
+completes old mid fin new unique want claim outcome answer put taken idle begins finishes settles =
     let alone = finishes_one old mid fin unique want claim outcome answer idle begins.0 finishes.0 in
     (alone.not_lost, settles_one fin new claim.id answer taken settles.0 alone settles.1)
 

@@ -5,7 +5,7 @@ ghost use Rattle.engine.specs.Classes.{class};
 
 use wire::{DESTROY, INIT, has_reply};
 
-/// How a frame is met.
+/// How a frame is handled.
 #[derive(Clone, Copy, Debug, PartialEq, Eq)]
 pub enum Class {
     /// It does nothing and gets no reply.
@@ -20,7 +20,7 @@ pub enum Class {
     Asking,
 }
 
-/// How a frame of that opcode is met, by whether a version is agreed on.
+/// How a frame of that opcode is handled, by whether a version is agreed on.
 pub fn class_of(agreed: bool, opcode: u32) -> Class
     ensures { result ≡ class agreed opcode }
 {

@@ -70,7 +70,7 @@ pub trait Reach<T: Ledgers> {
     ghost begins_free: { (old new : World) (unique : ℕ) (want : Want) (claim : Claim) → steps.is_free old → steps.begins old unique want (Go claim) new → steps.is_free new };
 
     /// A request that is carried from its begin to its settle.
-    ghost carries: { (old mid fin new : World) (unique : ℕ) (want : Want) (claim : Claim) (outcome : Outcome) (answer : Answer) (put : Option ℕ) (taken : Bool) → steps.is_idle old
+    ghost completes: { (old mid fin new : World) (unique : ℕ) (want : Want) (claim : Claim) (outcome : Outcome) (answer : Answer) (put : Option ℕ) (taken : Bool) → steps.is_idle old
         → steps.begins old unique want (Go claim) mid → steps.finishes mid claim.id outcome answer fin → steps.settles fin answer put taken new → steps.knows answer × steps.is_idle new };
 
     /// Lookups that are given back leave it idle.
@@ -121,7 +121,7 @@ impl<T: Ledgers> Reach<T> for Table<T> {
 
     ghost begins_free = { λ old new unique want claim free begins. tt };
 
-    ghost carries = { laws.carries };
+    ghost completes = { laws.completes };
 
     ghost forgets_idle = { laws.forgets };
 }

@@ -143,7 +143,7 @@ impl Session {
         page: &Paged,
     ) -> Sent
         requires free { R.steps.is_free (R.world table.old) }
-        ensures performs { RunsScript R.steps self.old.settings L.sends C.gives request.entry page.now ticket
+        ensures runs { RunsScript R.steps self.old.settings L.sends C.gives request.entry page.now ticket
             link.old calls.old (R.world table.old) result link.new calls.new (R.world table.new) }
         ensures gains { R.steps.gains (R.world table.old) share.old (R.world table.new) share.new }
         ensures settings { self.new.settings ≡ self.old.settings }
@@ -215,7 +215,7 @@ impl Session {
     ) -> Sent
         requires free { R.steps.is_free (R.world table.old) }
         requires idle { R.steps.is_idle (R.world table.old) }
-        ensures carries { RunsOut R.steps self.old.settings L.sends C.gives request.entry (want_of wanted.entry) [] no_page
+        ensures runs_out { RunsOut R.steps self.old.settings L.sends C.gives request.entry (want_of wanted.entry) [] no_page
             link.old calls.old (R.world table.old) result link.new calls.new (R.world table.new) }
         ensures gains { R.steps.gains (R.world table.old) share.old (R.world table.new) share.new }
         ensures idle { R.steps.is_idle (R.world table.new) }

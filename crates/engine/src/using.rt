@@ -58,7 +58,7 @@ impl Session {
     ) -> Sent
         requires free { R.steps.is_free (R.world table.old) }
         requires idle { R.steps.is_idle (R.world table.old) }
-        ensures carries { (lends : List FolderCall) → RunsOut R.steps self.old.settings L.sends C.gives request.entry (page_want request.entry.node page.now.entries) lends page.now
+        ensures runs_out { (lends : List FolderCall) → RunsOut R.steps self.old.settings L.sends C.gives request.entry (page_want request.entry.node page.now.entries) lends page.now
             link.old calls.old (R.world table.old) result link.new calls.new (R.world table.new) }
         ensures gains { R.steps.gains (R.world table.old) share.old (R.world table.new) share.new }
         ensures idle { R.steps.is_idle (R.world table.new) }

@@ -44,9 +44,9 @@ module _ (L : Type 0) (start : World) where
   pub begins_free : (old new : Turned) (unique : ℕ) (want : Want) (claim : Claim) → (visits L start).is_free old → (visits L start).begins old unique want (Go claim) new → (visits L start).is_free new
   begins_free old new unique want claim free b = b.1 ∙ free
 
-  pub carries : (old mid fin new : Turned) (unique : ℕ) (want : Want) (claim : Claim) (outcome : Outcome) (answer : Answer) (put : Option ℕ) (taken : Bool) → (visits L start).is_idle old
+  pub completes : (old mid fin new : Turned) (unique : ℕ) (want : Want) (claim : Claim) (outcome : Outcome) (answer : Answer) (put : Option ℕ) (taken : Bool) → (visits L start).is_idle old
       → (visits L start).begins old unique want (Go claim) mid → (visits L start).finishes mid claim.id outcome answer fin → (visits L start).settles fin answer put taken new → (visits L start).knows answer × (visits L start).is_idle new
-  carries old mid fin new unique want claim outcome answer put taken idle b f s = (tt, tt)
+  completes old mid fin new unique want claim outcome answer put taken idle b f s = (tt, tt)
 
   pub forgets_idle : (old new : Turned) (number n : ℕ) → (visits L start).is_idle old → (visits L start).forgets old number n new → (visits L start).is_idle new
   forgets_idle old new number n idle f = tt

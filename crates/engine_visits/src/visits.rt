@@ -92,7 +92,7 @@ impl<'a, H: Wait, T: Ledgers, O: Opening> Reach<T> for Visit<'a, H, T, O> {
 
     ghost begins_free = { laws.begins_free T (worlds.opened_world O.limits) };
 
-    ghost carries = { laws.carries T (worlds.opened_world O.limits) };
+    ghost completes = { laws.completes T (worlds.opened_world O.limits) };
 
     ghost forgets_idle = { laws.forgets_idle T (worlds.opened_world O.limits) };
 }

@@ -1,4 +1,4 @@
--- A job that was met, and its reply.
+-- A job that was handled, and its reply.
 use Rattle.std.proofs.Common.{◌≡◌, ℕ, Bool, false, List, [], Option, Some, None, refl, sym, ap, ◌∙◌, subst, arith}
 use Rattle.std.proofs.lemmas.Option.{none-some}
 use Rattle.backing.specs.Calls.{Asked}
@@ -31,7 +31,7 @@ right_of {C} gives settings job calls calls' before after said visited bytes m i
   by_offer (Some offer) e w = record {
     turn = m.turn;
     visited = visited;
-    met = m.met;
+    handled = m.handled;
     offer = offer;
     offered = e;
     written = record { bytes_are = ap (bytes_or []) (sym (ap bytes_in is) ∙ w.0); sent = w.1 };
@@ -43,7 +43,7 @@ pub met_on : {C : Type 0} (gives : C → Asked → Told → C → Type 0) (setti
     → MeetsJob gives settings job calls before said visited calls' mid → after.totals.entries ≡ mid.totals.entries → after.index ≡ mid.index → MeetsJob gives settings job calls before said visited calls' after
 met_on {C} gives settings job calls calls' before mid after said visited m e i = record {
   turn = m.turn;
-  met = m.met;
+  handled = m.handled;
   makes = m.makes;
   writes = m.writes;
   gains = record { entries = (let g = m.gains.entries in omega arith); index = i ∙ m.gains.index };

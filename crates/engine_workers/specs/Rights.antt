@@ -11,7 +11,7 @@ use Rattle.engine_workers.specs.declared.jobs.Job.{Job}
 use Rattle.engine_workers.specs.declared.left.Left.{Left}
 
 -- what the rules say to a job, with the calls that were made for it and their answers
-pub record IsMet (settings : Settings) (job : Job) (turn : Turn) (visited : Visited) : Type 0 where
+pub record IsJobHandled (settings : Settings) (job : Job) (turn : Turn) (visited : Visited) : Type 0 where
   pub frame_is : turn.frame ≡ job.frame.items
   pub now : Bool
   pub meets : HandlesFrame halls settings job.agreed (class job.agreed (opcode_in turn.frame)) Fresh turn visited now
@@ -24,7 +24,7 @@ pub record IsWritten (offer : Offer) (bytes : List ℕ) : Type 0 where
 pub record IsRight (settings : Settings) (job : Job) (bytes : List ℕ) (left : Option Left) : Type 0 where
   pub turn : Turn
   pub visited : Visited
-  pub met : IsMet settings job turn visited
+  pub handled : IsJobHandled settings job turn visited
   pub offer : Offer
   pub offered : turn.offer ≡ Some offer
   pub written : IsWritten offer bytes

@@ -16,7 +16,7 @@ use Rattle.engine_queues.specs.declared.jobs.Hand.{Hand}
 use Rattle.engine_queues.specs.declared.letters.ReplyLane.{ReplyLane}
 use Rattle.engine_queues.specs.declared.letters.Letter.{Letter}
 use Rattle.engine_workers.specs.Halls.{Fresh, GainsListed, Visited, left_in, settled_in}
-use Rattle.engine_workers.specs.Rights.{IsMet, IsWritten}
+use Rattle.engine_workers.specs.Rights.{IsJobHandled, IsWritten}
 use Rattle.engine_workers.specs.Slips.{bytes_of}
 use Rattle.engine_workers.specs.declared.jobs.Job.{Job}
 use Rattle.engine_workers.specs.declared.left.Left.{Left}
@@ -29,11 +29,11 @@ abbrev pub Writes : Option Offer → Option (List ℕ) → Type 0
 Writes None bytes = bytes ≡ None
 Writes (Some offer) bytes = (bytes ≡ Some (reply_bytes offer.reply)) × (offer.sent ≡ Taken)
 
--- A job is met by the rules of a session: by these calls of the directory, each once and in order. The share gains the entries of the answer
+-- A job is handled by the rules of a session: by these calls of the directory, each once and in order. The share gains the entries of the answer
 -- that is left or settled.
 pub record MeetsJob {C : Type 0} (gives : C → Asked → Told → C → Type 0) (settings : Settings) (job : Job) (calls : C) (before : Part) (bytes : Option (List ℕ)) (visited : Visited) (calls' : C) (after : Part) : Type 0 where
   pub turn : Turn
-  pub met : IsMet settings job turn visited
+  pub handled : IsJobHandled settings job turn visited
   pub makes : Makes gives calls turn.made calls'
   pub writes : Writes turn.offer bytes
   pub gains : GainsListed Fresh before visited after
@@ -60,7 +60,7 @@ pub data PutsReply (settings : Settings) (from : ℕ) (job : Job) (visited : Vis
   handed_back : (bytes : List ℕ) → said ≡ Some bytes → new ≡ old → settled ≡ untaken_in visited → PutsReply settings from job visited old said new settled
   none : said ≡ None → new ≡ old → settled ≡ settled_in visited → PutsReply settings from job visited old said new settled
 
--- one job was taken, met and answered
+-- one job was taken, handled and answered
 pub record Worked {C : Type 0} (gives : C → Asked → Told → C → Type 0) (settings : Settings) (from : ℕ) (hand' : Hand Job) (lane : ReplyLane Reply) (calls : C) (before : Part) (settled : Option Settlement) (hand'' : Hand Job) (lane' : ReplyLane Reply) (calls' : C) (after : Part) : Type 0 where
   pub job : Job
   pub taken : hand'' ≡ hand hand'.parts hand'.put (hand'.taken ++ job ∷ [])

@@ -23,9 +23,9 @@ refuses old new unique want errno (s, same) = ((record { old = s.old; new = s.ne
 pub begins_free : (old new : Visited) (unique : ℕ) (want : Want) (claim : Claim) → halls.is_free old → halls.begins old unique want (Go claim) new → halls.is_free new
 begins_free old new unique want claim free b = b.1 ∙ free
 
-pub carries : (old mid fin new : Visited) (unique : ℕ) (want : Want) (claim : Claim) (outcome : Outcome) (answer : Answer) (put : Option ℕ) (taken : Bool) → halls.is_idle old
+pub completes : (old mid fin new : Visited) (unique : ℕ) (want : Want) (claim : Claim) (outcome : Outcome) (answer : Answer) (put : Option ℕ) (taken : Bool) → halls.is_idle old
     → halls.begins old unique want (Go claim) mid → halls.finishes mid claim.id outcome answer fin → halls.settles fin answer put taken new → halls.knows answer × halls.is_idle new
-carries old mid fin new unique want claim outcome answer put taken idle b f s = (tt, tt)
+completes old mid fin new unique want claim outcome answer put taken idle b f s = (tt, tt)
 
 pub forgets_idle : (old new : Visited) (number n : ℕ) → halls.is_idle old → halls.forgets old number n new → halls.is_idle new
 forgets_idle old new number n idle f = tt

@@ -104,7 +104,7 @@ impl<'a, H: Wait, T: Ledgers> Reach<T> for Visit<'a, H, T> {
 
     ghost begins_free = { laws.begins_free };
 
-    ghost carries = { laws.carries };
+    ghost completes = { laws.completes };
 
     ghost forgets_idle = { laws.forgets_idle };
 }

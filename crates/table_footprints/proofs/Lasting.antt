@@ -17,7 +17,7 @@ use Rattle.table_footprints.specs.Asked.{HasPath, Holds, IsAboveAt, IsLong, IsPi
 use Rattle.table_footprints.specs.Gatherings.{IsClosingPath, IsHeldExclusively, IsReservation}
 use Rattle.table_footprints.specs.Footprints.{Footprint, AtNode, closed_footprint}
 use Rattle.table_footprints.proofs.Agreeing.{prefix_above}
-use Rattle.table_footprints.proofs.Drafting.{prefixes_are}
+use Rattle.table_footprints.proofs.Gathering.{prefixes_are}
 use Rattle.table_footprints.proofs.Finding.{location_once}
 use Rattle.table_footprints.proofs.Members.{any_first, any_none, any_only, first_in, only_in}
 

@@ -1,10 +1,10 @@
 pub mod Pathless
 mod Lasting
 pub mod Members
-pub mod RowLemmas
+pub mod FootprintLemmas
 pub mod Deciding
 mod Finding
-mod Drafting
+mod Gathering
 mod Agreeing
 pub mod Wanting
 mod Paging

@@ -22,7 +22,7 @@ use Rattle.table_footprints.specs.Gatherings.{Adds, IsBadFootprint, IsGathering,
 use Rattle.table_footprints.specs.Pages.{AddsName, IsPage}
 use Rattle.table_footprints.specs.Footprints.{Location, AtName, AtNode, page_keys, page_names, page_footprint}
 use Rattle.table_footprints.proofs.Agreeing.{paths_for}
-use Rattle.table_footprints.proofs.Drafting.{draft_more, draft_none}
+use Rattle.table_footprints.proofs.Gathering.{draft_more, draft_none}
 use Rattle.table_footprints.proofs.Finding.{location_once}
 use Rattle.table_footprints.proofs.Members.{any_cases, any_first, any_none, any_push, first_in, in_any, later_in, map_in, none_in, only_in, zip_in, zip_push}
 

@@ -8,7 +8,7 @@ use mathlib.Core.Path.{fun_ext}
 use Rattle.sums.specs.Sum.{IsSum}
 use Rattle.std.specs.declared.alloc.Global.{Global}
 use Rattle.table_requests.specs.declared.data.RequestInFlight.{RequestInFlight}
-use Rattle.table_requests.specs.RequestMaps.{files_promised, pins_number, pinning, nodes_promised, postings_promised, IsFlying, IsTallied}
+use Rattle.table_requests.specs.RequestMaps.{files_promised, pins_number, pinning, nodes_promised, postings_promised, AreLawfulRequests, IsTallied}
 use Rattle.table_requests.specs.Listed.{flight_in, pinned_in, InFlight, in_flight, requests_of, HaveOwnIds}
 use Rattle.table_requests.proofs.ById.{or_none, pins_number-pinning}
 use Rattle.table_requests.proofs.Summing.{sum_of_flights}
@@ -55,7 +55,7 @@ pub pinned_in-remove : (fs : List RequestInFlight) (i : ℕ) (d : RequestInFligh
 pinned_in-remove fs i d n within = list_any-remove (λ (f : RequestInFlight). pins_number f n) fs i d within
 
 -- the law of a list in which no id stands twice
-listed : (fs : List RequestInFlight) (room : ℕ) → HaveOwnIds fs → IsFlying (requests_of (record { flights = fs; room = room }))
+listed : (fs : List RequestInFlight) (room : ℕ) → HaveOwnIds fs → AreLawfulRequests (requests_of (record { flights = fs; room = room }))
 unfolding requests_of
 listed fs room apart = record {
   numbered = flight_in_id fs;
@@ -67,11 +67,11 @@ listed fs room apart = record {
   );
 }
 
-pub IsFlying_kept : (v : Vec RequestInFlight Global) → HaveOwnIds v.items → IsFlying (requests_of (in_flight v))
+pub IsFlying_kept : (v : Vec RequestInFlight Global) → HaveOwnIds v.items → AreLawfulRequests (requests_of (in_flight v))
 IsFlying_kept v apart = listed v.items (vec_capacity v - vec_len v) apart
 
-pub IsFlying_listed : (v : Vec RequestInFlight Global) (all : InFlight) → HaveOwnIds v.items → in_flight v ≡ all → IsFlying (requests_of all)
-IsFlying_listed v all apart is = subst (λ (a : InFlight). IsFlying (requests_of a)) is (IsFlying_kept v apart)
+pub IsFlying_listed : (v : Vec RequestInFlight Global) (all : InFlight) → HaveOwnIds v.items → in_flight v ≡ all → AreLawfulRequests (requests_of all)
+IsFlying_listed v all apart is = subst (λ (a : InFlight). AreLawfulRequests (requests_of a)) is (IsFlying_kept v apart)
 
 one_each : (fs : List RequestInFlight) → sum_by (λ (f : RequestInFlight). 1) fs ≡ length fs
 one_each [] = refl

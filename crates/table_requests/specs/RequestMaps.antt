@@ -70,7 +70,7 @@ HoldsExclusively (Working work) path = Contains work.held.exclusive path
 HoldsExclusively Answered path = ⊥
 
 -- some request that is worked on holds the path for itself
-pub record IsHeldByOne (at : RequestsInFlight) (path : Names) : Type 0 where
+pub record HasExclusiveHolder (at : RequestsInFlight) (path : Names) : Type 0 where
   pub id : ℕ
   pub flight : RequestInFlight
   pub here : at id ≡ Some flight
@@ -92,7 +92,7 @@ pub record RequestMaps : Type 0 where
   pub room : ℕ
 
 -- what always holds of them
-pub record IsFlying (all : RequestMaps) : Type 0 where
+pub record AreLawfulRequests (all : RequestMaps) : Type 0 where
   -- each is found under its own id
   pub numbered : (id : ℕ) (f : RequestInFlight) → all.at id ≡ Some f → f.id ≡ id
   -- a number is pinned exactly if one of them pins it

@@ -1,7 +1,7 @@
 //! Who holds a name for itself.
 
 ghost use Rattle.std.specs.Prelude.{◌≡◌, ◌↔◌, ◌++◌, ◌∷◌, [], Contains, IsTrue};
-ghost use Rattle.table_requests.specs.RequestMaps.{IsHeldByOne, HoldsExclusively};
+ghost use Rattle.table_requests.specs.RequestMaps.{HasExclusiveHolder, HoldsExclusively};
 ghost use Rattle.table_requests.specs.Listed.{flight_in, HaveOwnIds};
 
 use crate::data::{RequestInFlight, Stage};
@@ -50,7 +50,7 @@ fn holds_name_exclusively(stage: &Stage, parent: &Path, name: &Name) -> bool
 /// Whether one of the requests that are worked on holds the name under the parent's path for itself.
 pub fn is_held_exclusively(flights: &[RequestInFlight], parent: &Path, name: &Name) -> bool
     requires { HaveOwnIds flights.now }
-    ensures { IsTrue result ↔ IsHeldByOne (flight_in flights.now) (parent.now ++ name.now ∷ []) }
+    ensures { IsTrue result ↔ HasExclusiveHolder (flight_in flights.now) (parent.now ++ name.now ∷ []) }
 {
     for flight in flights {
         if holds_name_exclusively(&flight.stage, parent, name) {

@@ -2,7 +2,7 @@
 
 ghost use Rattle.std.specs.Prelude.{true, false, ◌≡◌, ◌≢◌, ◌<◌, ◌≤◌, ◌+◌, ◌^◌, ◌++◌, ◌∷◌, [], ℕ, None, Some, IfNone, IfSome, IsOk, OnOk, IsTrue, AllPairs, ◌↔◌, option_copied, count_by, length};
 ghost use Rattle.table_requests.specs.declared.data.RequestInFlight.{RequestInFlight};
-ghost use Rattle.table_requests.specs.RequestMaps.{files_promised, no_requests, nodes_promised, postings_promised, IsFlying, IsTallied, HasNoneWorking, HasNoneAnswered, Adds, Answers, PinsMore, Goes, HoldsUp, IsHeldByOne, has_exclusive, has_shared};
+ghost use Rattle.table_requests.specs.RequestMaps.{files_promised, no_requests, nodes_promised, postings_promised, AreLawfulRequests, IsTallied, HasNoneWorking, HasNoneAnswered, Adds, Answers, PinsMore, Goes, HoldsUp, HasExclusiveHolder, has_exclusive, has_shared};
 ghost use Rattle.table_requests.specs.Listed.{requests_of, flight_in, pinned_in};
 
 use crate::data::{Pins, Promise, RequestInFlight, Work};
@@ -46,7 +46,7 @@ impl RequestsInFlight {
         ensures nodes { (requests_of result).nodes ≡ 0 }
         ensures postings { (requests_of result).postings ≡ 0 }
         ensures files { (requests_of result).files ≡ 0 }
-        ensures law { IsFlying (requests_of result) }
+        ensures law { AreLawfulRequests (requests_of result) }
     {
         RequestsInFlight {
             flights: Vec::new(alloc),
@@ -59,7 +59,7 @@ impl RequestsInFlight {
     /// How many are in flight.
     pub fn len(&self) -> usize
         ensures many { result ≡ (requests_of self.now).many }
-        ensures law { IsFlying (requests_of self.now) }
+        ensures law { AreLawfulRequests (requests_of self.now) }
     {
         self.flights.len()
     }
@@ -70,7 +70,7 @@ impl RequestsInFlight {
         ensures postings { result.postings ≡ (requests_of self.now).postings }
         ensures files { result.files ≡ (requests_of self.now).files }
         ensures tallied { IsTallied (requests_of self.now) }
-        ensures law { IsFlying (requests_of self.now) }
+        ensures law { AreLawfulRequests (requests_of self.now) }
     {
         self.promised
     }
@@ -78,7 +78,7 @@ impl RequestsInFlight {
     /// A number that is the id of none.
     pub fn free_id(&self) -> u64
         ensures free { (requests_of self.now).at result ≡ None }
-        ensures law { IsFlying (requests_of self.now) }
+        ensures law { AreLawfulRequests (requests_of self.now) }
     {
         if self.next < u64::MAX {
             self.next
@@ -90,7 +90,7 @@ impl RequestsInFlight {
     /// Whether one of them pins the number.
     pub fn pins(&self, number: u64) -> bool
         ensures pinned { result ≡ (requests_of self.now).pinned number }
-        ensures law { IsFlying (requests_of self.now) }
+        ensures law { AreLawfulRequests (requests_of self.now) }
     {
         if count_of(&self.pinned, number) > 0 {
             return true;
@@ -104,15 +104,15 @@ impl RequestsInFlight {
     /// Whether one that is worked on holds a name that is in the way of these.
     pub fn holds_up(&self, wanted: &Held) -> bool
         ensures held { IsTrue result ↔ HoldsUp (requests_of self.now).at wanted.now }
-        ensures law { IsFlying (requests_of self.now) }
+        ensures law { AreLawfulRequests (requests_of self.now) }
     {
         holds_up(&self.flights, wanted)
     }
 
     /// Whether one that is worked on holds the name under the parent's path for itself.
     pub fn holds_exclusively(&self, parent: &Path, name: &Name) -> bool
-        ensures owned { IsTrue result ↔ IsHeldByOne (requests_of self.now).at (parent.now ++ name.now ∷ []) }
-        ensures law { IsFlying (requests_of self.now) }
+        ensures owned { IsTrue result ↔ HasExclusiveHolder (requests_of self.now).at (parent.now ++ name.now ∷ []) }
+        ensures law { AreLawfulRequests (requests_of self.now) }
     {
         is_held_exclusively(&self.flights, parent, name)
     }
@@ -137,7 +137,7 @@ impl RequestsInFlight {
         ensures had_room { 0 < (requests_of self.old).room → IsOk result }
         ensures same { requests_of self.new ≡ record (requests_of self.old) { room = (requests_of self.new).room } }
         ensures room { (requests_of self.old).room ≤ (requests_of self.new).room }
-        ensures law { IsFlying (requests_of self.new) }
+        ensures law { AreLawfulRequests (requests_of self.new) }
     {
         make_room(&mut self.pinned);
         self.flights.reserve(1)
@@ -152,7 +152,7 @@ impl RequestsInFlight {
         requires files { (requests_of self.old).files + files_promised flight.stage < 2 ^ 64 }
         ensures adds { Adds (requests_of self.old) flight (requests_of self.new) }
         ensures room { (requests_of self.old).room ≤ (requests_of self.new).room + 1 }
-        ensures law { IsFlying (requests_of self.new) }
+        ensures law { AreLawfulRequests (requests_of self.new) }
     {
         let promise = flight.stage.promise();
         self.promised.nodes += promise.nodes;
@@ -170,7 +170,7 @@ impl RequestsInFlight {
         ensures same { IfNone result (self.new ≡ self.old) }
         ensures some { IfSome result (λ work. Answers (requests_of self.old) id work (requests_of self.new)) }
         ensures room { (requests_of self.new).room ≡ (requests_of self.old).room }
-        ensures law { IsFlying (requests_of self.new) }
+        ensures law { AreLawfulRequests (requests_of self.new) }
     {
         let work = end_work(&mut self.flights, id)?;
         self.promised.nodes -= work.promise.nodes;
@@ -184,7 +184,7 @@ impl RequestsInFlight {
         requires { (f : RequestInFlight) × ((requests_of self.old).at id ≡ Some f) × (0 < f.pins.room) }
         ensures pins { (f : RequestInFlight) → (requests_of self.old).at id ≡ Some f → PinsMore (requests_of self.old) id f number (requests_of self.new) }
         ensures room { (requests_of self.new).room ≡ (requests_of self.old).room }
-        ensures law { IsFlying (requests_of self.new) }
+        ensures law { AreLawfulRequests (requests_of self.new) }
     {
         pin_for(&mut self.flights, id, number);
         count(&mut self.pinned, number);
@@ -196,7 +196,7 @@ impl RequestsInFlight {
         ensures same { IfNone result (self.new ≡ self.old) }
         ensures some { IfSome result (λ pins. Goes (requests_of self.old) id pins.numbers (requests_of self.new)) }
         ensures room { (requests_of self.old).room ≤ (requests_of self.new).room }
-        ensures law { IsFlying (requests_of self.new) }
+        ensures law { AreLawfulRequests (requests_of self.new) }
     {
         let pins = take_answered(&mut self.flights, id)?;
         uncount_all(&mut self.pinned, pins.as_slice());
@@ -209,7 +209,7 @@ impl RequestsInFlight {
         ensures pinned { pinned_in result.now ≡ (requests_of self.now).pinned }
         ensures many { length result.now ≡ (requests_of self.now).many }
         ensures apart { AllPairs (λ (f g : RequestInFlight). f.id ≢ g.id) result.now }
-        ensures law { IsFlying (requests_of self.now) }
+        ensures law { AreLawfulRequests (requests_of self.now) }
     {
         self.flights.as_slice()
     }

@@ -19,7 +19,7 @@ use Rattle.table_footprints.specs.Asked.{ArePaths, HasPath, Holds}
 use Rattle.table_footprints.specs.Laws.{IsGrounded, base_of}
 use Rattle.table_footprints.specs.Footprints.{AtName, AtNode, Footprint, Location}
 use Rattle.table_footprints.proofs.Members.{first_in, in_map, later_in}
-use Rattle.table_footprints.proofs.RowLemmas.{are_grounded}
+use Rattle.table_footprints.proofs.FootprintLemmas.{are_grounded}
 use Rattle.table_steps.specs.declared.data.Outcome.{Outcome}
 use Rattle.table_steps.specs.Answers.{Answer, Claim, Settlement}
 use Rattle.table_steps.specs.Steps.{Finishes, Forgets, IsTicket, Settles}

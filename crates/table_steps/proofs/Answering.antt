@@ -6,7 +6,7 @@ use Rattle.tree.specs.Places.{at_in}
 use Rattle.table_requests.specs.declared.data.RequestInFlight.{RequestInFlight as Recorded}
 use Rattle.table_requests.specs.declared.data.Stage.TheVariants as recorded
 use Rattle.table_requests.specs.declared.data.Work.{Work as RecordedWork}
-use Rattle.table_requests.specs.RequestMaps.{RequestsInFlight as Recordeds, RequestMaps, IsFlying, Answers, HasNoneWorking, is_working, with_flight}
+use Rattle.table_requests.specs.RequestMaps.{RequestsInFlight as Recordeds, RequestMaps, AreLawfulRequests, Answers, HasNoneWorking, is_working, with_flight}
 use Rattle.table_requests.specs.RequestMaps as flying
 use Rattle.table_requests.specs.Listed.{InFlight, requests_of}
 use Rattle.table_image.specs.Law.{IsLawful}
@@ -39,7 +39,7 @@ finishes_none s flights id o answer is none same = record {
 
 -- ---- one is
 
-module _ (s : State) (kept : IsKept s) (flights : InFlight) (id : ℕ) (work : RecordedWork) (a : Answers (requests_of s.flights) id work (requests_of flights)) (law : IsFlying (requests_of flights)) where
+module _ (s : State) (kept : IsKept s) (flights : InFlight) (id : ℕ) (work : RecordedWork) (a : Answers (requests_of s.flights) id work (requests_of flights)) (law : AreLawfulRequests (requests_of flights)) where
   fewer : IsFewer (requests_of s.flights) (requests_of flights)
   fewer = fewer_idle (requests_of s.flights) (requests_of flights) id (flying.answered a.flight) a.at refl
 

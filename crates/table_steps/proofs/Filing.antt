@@ -20,7 +20,7 @@ use Rattle.table_steps.specs.Steps.{files_without}
 use Rattle.table_steps.specs.Sweeping.{IsAmong, IsClosed, IsPruned}
 use Rattle.table_steps.proofs.Ends.{entry_same}
 use Rattle.table_steps.proofs.Reasons.{HaveReasons-unpin}
-use Rattle.table_steps.proofs.Standing.{stays_pinned}
+use Rattle.table_steps.proofs.Remaining.{stays_pinned}
 
 -- ---- what is kept
 

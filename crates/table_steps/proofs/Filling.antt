@@ -24,7 +24,7 @@ use Rattle.table_footprints.specs.Footprints.{page_keys, stays}
 use Rattle.table_steps.specs.declared.state.State.{State}
 use Rattle.table_steps.specs.Ending.{EntersName, GivesAll, MayEnter, MayFill}
 use Rattle.table_steps.specs.Kept.{flight_of, flights_in, stage_of, work_of, world_of}
-use Rattle.table_steps.specs.Steps.{Ends, EntersAll, IsHeldByOne, answered, none_found, numbers_of}
+use Rattle.table_steps.specs.Steps.{Ends, EntersAll, HasExclusiveHolder, answered, none_found, numbers_of}
 use Rattle.table_steps.specs.World.{AreKept, Answered, RequestInFlight, RequestsInFlight, IsAtWork, Work, Working, World, with_entry}
 use Rattle.table_footprints.proofs.Members.{first_in, later_in, only_in}
 use Rattle.table_steps.proofs.Ends.{answered_same, entry_same, entry_twice, none_entered, none_numbered, nothing_for, working_else}
@@ -46,7 +46,7 @@ entries_push flights at mid at' ps qs ps' [] [] [] key b g same one =
 entries_push flights at mid at' ps qs ps' keys found given key b g bad one = absurd bad
 
 -- where the same names are held exclusively, the same entries are given
-entries_owners : (f g : RequestsInFlight) → ((at : Lookup) (key : Key) → IsHeldByOne at f key ↔ IsHeldByOne at g key) → (at at' : Lookup) (ps ps' : List Posting) (keys : List Key) (found : List Bool) (given : List (Option Given))
+entries_owners : (f g : RequestsInFlight) → ((at : Lookup) (key : Key) → HasExclusiveHolder at f key ↔ HasExclusiveHolder at g key) → (at at' : Lookup) (ps ps' : List Posting) (keys : List Key) (found : List Bool) (given : List (Option Given))
     → EntersAll f at ps keys found given at' ps' → EntersAll g at ps keys found given at' ps'
 entries_owners f g same at at' ps ps' (key ∷ keys) (true ∷ found) (Some h ∷ given) (free, (mid, qs, enters, more)) =
     (λ o. free ((same at key).1 o), (mid, qs, enters, entries_owners f g same mid at' qs ps' keys found given more))
@@ -65,7 +65,7 @@ still_working flights id f x here idle k g work at = elim (cases_eq id k) [
   | inr ne ↦ record { here = cond-false (id == k) x (flights k) (ne_eqb id k ne) ∙ at.here; working = at.working }
 ]
 
-owned_same : (flights : RequestsInFlight) (id : ℕ) (f : RequestInFlight) (given : List (Option Given)) → flights id ≡ Some f → f.stage ≡ Answered → (at : Lookup) (key : Key) → IsHeldByOne at (with_entry flights id (Some (answered f given))) key ↔ IsHeldByOne at flights key
+owned_same : (flights : RequestsInFlight) (id : ℕ) (f : RequestInFlight) (given : List (Option Given)) → flights id ≡ Some f → f.stage ≡ Answered → (at : Lookup) (key : Key) → HasExclusiveHolder at (with_entry flights id (Some (answered f given))) key ↔ HasExclusiveHolder at flights key
 owned_same flights id f given here idle at key = (
   λ o. record { path = o.path; leads = o.leads; id = o.id; flight = o.flight; work = o.work; here = working_else flights id f given o.id o.flight o.work o.here; exclusive = o.exclusive },
   λ o. record { path = o.path; leads = o.leads; id = o.id; flight = o.flight; work = o.work; here = still_working flights id f (Some (answered f given)) here idle o.id o.flight o.work o.here; exclusive = o.exclusive },
@@ -86,7 +86,7 @@ gives_push old mid new id f h keys found given key b g here idle there before on
     let now : mid.flights ≡ with_entry old.flights id (Some (answered f given)) = ap (λ (w : World). w.flights) before.new_is in
     let at_id : with_entry old.flights id (Some (answered f given)) id ≡ Some (answered f given) = cond-true (id == id) (Some (answered f given)) (old.flights id) (eq-eqb id id refl) in
     let same : h ≡ answered f given = same_Some h (answered f given) (sym there ∙ (ap (λ (fs : RequestsInFlight). fs id) now ∙ at_id)) in
-    let owners : (at : Lookup) (k : Key) → IsHeldByOne at mid.flights k ↔ IsHeldByOne at old.flights k = subst (λ (fs : RequestsInFlight). (at : Lookup) (k : Key) → IsHeldByOne at fs k ↔ IsHeldByOne at old.flights k) (sym now) (owned_same old.flights id f given here idle) in
+    let owners : (at : Lookup) (k : Key) → HasExclusiveHolder at mid.flights k ↔ HasExclusiveHolder at old.flights k = subst (λ (fs : RequestsInFlight). (at : Lookup) (k : Key) → HasExclusiveHolder at fs k ↔ HasExclusiveHolder at old.flights k) (sym now) (owned_same old.flights id f given here idle) in
     let last : with_entry mid.flights id (Some (answered h (g ∷ []))) ≡ with_entry old.flights id (Some (answered f (given ++ g ∷ []))) =
     ap (λ (r : RequestInFlight). with_entry mid.flights id (Some (answered r (g ∷ [])))) same
     ∙ (ap (λ (fs : RequestsInFlight). with_entry fs id (Some (answered (answered f given) (g ∷ [])))) now
@@ -102,7 +102,7 @@ gives_push old mid new id f h keys found given key b g here idle there before on
 
 -- ---- one name, and none
 
-pub gives_one : (old new : World) (id : ℕ) (f : RequestInFlight) (key : Key) (g : Given) → (IsHeldByOne old.at old.flights key → ⊥) → EntersName old id f key g new → GivesAll old id f (key ∷ []) (true ∷ []) (Some g ∷ []) new
+pub gives_one : (old new : World) (id : ℕ) (f : RequestInFlight) (key : Key) (g : Given) → (HasExclusiveHolder old.at old.flights key → ⊥) → EntersName old id f key g new → GivesAll old id f (key ∷ []) (true ∷ []) (Some g ∷ []) new
 gives_one old new id f key g free one = record { enters = (free, (new.at, new.postings, one.enters, (refl, refl))); new_is = one.new_is }
 
 -- the same world, where nothing is given
@@ -115,7 +115,7 @@ same_world w id f given here idle none =
 pub gives_none : (w : World) (id : ℕ) (f : RequestInFlight) (keys : List Key) → w.flights id ≡ Some f → f.stage ≡ Answered → GivesAll w id f keys (none_found keys) (nothing_for keys) w
 gives_none w id f keys here idle = record { enters = none_entered w.flights w.at w.postings keys; new_is = same_world w id f (nothing_for keys) here idle (none_numbered keys) }
 
-pub gives_owned : (w : World) (id : ℕ) (f : RequestInFlight) (key : Key) → w.flights id ≡ Some f → f.stage ≡ Answered → IsHeldByOne w.at w.flights key → GivesAll w id f (key ∷ []) (true ∷ []) (None ∷ []) w
+pub gives_owned : (w : World) (id : ℕ) (f : RequestInFlight) (key : Key) → w.flights id ≡ Some f → f.stage ≡ Answered → HasExclusiveHolder w.at w.flights key → GivesAll w id f (key ∷ []) (true ∷ []) (None ∷ []) w
 gives_owned w id f key here idle owned = record { enters = (owned, (refl, refl)); new_is = same_world w id f (None ∷ []) here idle refl }
 
 -- entries alone are the end of a request
@@ -147,7 +147,7 @@ owner_in : (st : Recording) (path : Names) → flying.HoldsExclusively st path �
 owner_in (recorded.Working v) path exclusive = (v, refl, exclusive)
 owner_in recorded.Answered path bad = absurd bad
 
-pub owned_seen : (at : Lookup) (all : flying.RequestMaps) (parent : ℕ) (name : Name) (folder : Names) → IsPathOf at parent folder → flying.IsHeldByOne all.at (folder ++ name ∷ []) → IsHeldByOne at (flights_in all) (record { parent = parent; name = name })
+pub owned_seen : (at : Lookup) (all : flying.RequestMaps) (parent : ℕ) (name : Name) (folder : Names) → IsPathOf at parent folder → flying.HasExclusiveHolder all.at (folder ++ name ∷ []) → HasExclusiveHolder at (flights_in all) (record { parent = parent; name = name })
 owned_seen at all parent name folder leads o =
     let v = owner_in o.flight.stage (folder ++ name ∷ []) o.exclusive in
     record {
@@ -160,7 +160,7 @@ owned_seen at all parent name folder leads o =
       exclusive = v.2;
     }
 
-pub owned_recorded : (at : Lookup) → IsTree at → (all : flying.RequestMaps) (key : Key) (folder : Names) → IsPathOf at key.parent folder → IsHeldByOne at (flights_in all) key → flying.IsHeldByOne all.at (folder ++ key.name ∷ [])
+pub owned_recorded : (at : Lookup) → IsTree at → (all : flying.RequestMaps) (key : Key) (folder : Names) → IsPathOf at key.parent folder → HasExclusiveHolder at (flights_in all) key → flying.HasExclusiveHolder all.at (folder ++ key.name ∷ [])
 owned_recorded at tree all key folder leads o =
     let it = recorded_at all o.id o.flight o.work o.here in
     let path : o.path ≡ folder ++ key.name ∷ [] = o.leads.whole ∙ ap (λ (up : Names). up ++ key.name ∷ []) (path_same at tree.rooted o.leads.above folder key.parent o.leads.leads leads) in

@@ -4,7 +4,7 @@ use Rattle.std.proofs.lemmas.Bool.{cases_eq, cond-false, cond-true, eq-eqb, ne_e
 use Rattle.std.proofs.lemmas.Option.{none-some}
 use Rattle.paths.specs.Prefixes.{Names}
 use Rattle.tree.specs.Places.{IsPathOf, IsTree}
-use Rattle.table_steps.proofs.Standing.{stays_pinned}
+use Rattle.table_steps.proofs.Remaining.{stays_pinned}
 use Rattle.table_steps.specs.declared.data.Outcome.{Outcome}
 use Rattle.table_steps.specs.Answers.{Answer}
 use Rattle.table_footprints.specs.Asked.{Holds}

@@ -8,7 +8,7 @@ use Rattle.tree.specs.Places.{Nodes, at_in, IsAlive, IsFree}
 use Rattle.table_files.specs.OpenEntry.{files_of}
 use Rattle.table_requests.specs.declared.data.RequestInFlight.{RequestInFlight as Recorded}
 use Rattle.table_requests.specs.declared.data.Given.{Given}
-use Rattle.table_requests.specs.RequestMaps.{RequestsInFlight as Recordeds, IsFlying, PinsMore, pinning}
+use Rattle.table_requests.specs.RequestMaps.{RequestsInFlight as Recordeds, AreLawfulRequests, PinsMore, pinning}
 use Rattle.table_requests.specs.Listed.{InFlight, requests_of}
 use Rattle.table_image.specs.Law.{IsLawful}
 use Rattle.table_steps.specs.Keeping.{kept_by}
@@ -40,7 +40,7 @@ module _ (s : State) (id : ℕ) (key : Key) (may : MayEnter s id (key ∷ [])) w
 
   module _ (kept : IsKept s) (g : Given) (tree : Nodes) (ledger : Postings) (flights : InFlight) (law : IsLawful (at_in tree) ledger.made (kept_by s.flights s.files))
       (enters : Enters (at_in s.tree) s.ledger.made key.parent key.name g (at_in tree) ledger.made) (entered : IsEntered s.tree s.ledger key.parent key.name tree ledger)
-      (pins : PinsMore (requests_of s.flights) id may.flight g.number (requests_of flights)) (flying : IsFlying (requests_of flights)) where
+      (pins : PinsMore (requests_of s.flights) id may.flight g.number (requests_of flights)) (flying : AreLawfulRequests (requests_of flights)) where
     pub alive : IsAlive (at_in tree) g.number
     alive = elim enters [
       | inl again ↦ alive_written (at_in s.tree) (at_in tree) g.number (record again.node { count = again.node.count + 1 }) again.nodes

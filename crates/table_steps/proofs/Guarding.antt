@@ -14,7 +14,7 @@ use Rattle.tree.specs.declared.nodes.Key.{Key}
 use Rattle.tree.proofs.LookupLemmas.{cases_option}
 use Rattle.table_steps.specs.Entries.{Enters, newborn}
 use Rattle.table_steps.specs.Swept.{IsSwept}
-use Rattle.table_steps.proofs.Standing.{HoldsPrefixes, named_born, named_written, stays_pinned}
+use Rattle.table_steps.proofs.Remaining.{HoldsPrefixes, named_born, named_written, stays_pinned}
 use Rattle.std.proofs.lemmas.Option.{none-some, same_Some}
 use Rattle.table_requests.specs.declared.data.Case.{Case}
 use Rattle.table_requests.specs.declared.data.Want.{Want}
@@ -27,7 +27,7 @@ use Rattle.table_footprints.specs.Footprints.{AtName, AtNode, Change, Footprint,
 use Rattle.table_steps.specs.Steps.{Alters, EntersAll, Hides, HoldsUp, Marks, Moves, act_of, hiding_at, none_there, one_there, replacing_at}
 use Rattle.table_steps.specs.World.{RequestInFlight, RequestsInFlight, IsAtWork, Work}
 use Rattle.table_footprints.proofs.Members.{any_in, first_in, later_in}
-use Rattle.table_footprints.proofs.RowLemmas.{are_grounded}
+use Rattle.table_footprints.proofs.FootprintLemmas.{are_grounded}
 use Rattle.table_steps.proofs.Following.{path_follows}
 use Rattle.table_steps.proofs.Staying.{KeepsPaths, paths_kept, ready_kept}
 

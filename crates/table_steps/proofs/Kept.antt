@@ -11,7 +11,7 @@ use Rattle.tree.specs.Moves.{Writes}
 use Rattle.tree.proofs.Writing.{reaches_now}
 use Rattle.table_files.specs.OpenEntry.{Filing, files_of}
 use Rattle.table_files.specs.Handles.{AreOpenEntries}
-use Rattle.table_requests.specs.RequestMaps.{IsFlying}
+use Rattle.table_requests.specs.RequestMaps.{AreLawfulRequests}
 use Rattle.table_requests.specs.Listed.{InFlight, requests_of}
 use Rattle.table_image.specs.Law.{HaveReasons, IsLawful}
 use Rattle.table_steps.specs.Keeping.{kept_by}
@@ -54,7 +54,7 @@ pub ready_where : (old new : Lookup) (flights : RequestsInFlight) → IsTree new
 ready_where old new flights tree keeps ready id f work here =
     (left_where old new flights tree (λ _ _ _ _ n pin q prefixes h. keeps n q h)).ready id f work here (ready id f work here)
 
-pub ready_swept : (old new : Lookup) (flights : InFlight) (files : Filing) → IsFlying (requests_of flights) → AreOpenEntries (files_of files) → IsTree new → IsSwept (kept_by flights files) old new
+pub ready_swept : (old new : Lookup) (flights : InFlight) (files : Filing) → AreLawfulRequests (requests_of flights) → AreOpenEntries (files_of files) → IsTree new → IsSwept (kept_by flights files) old new
     → AreReady old (flights_in (requests_of flights)) → AreReady new (flights_in (requests_of flights))
 ready_swept old new flights files flying filed tree swept ready id f work here =
     (sweeps_harmless (flights_in (requests_of flights)) (files_of files).at old new (kept_by flights files) tree (are_kept flights files flying filed) swept).ready id f work here (ready id f work here)

@@ -1,4 +1,4 @@
-pub mod Standing
+pub mod Remaining
 mod Filing
 pub mod Staying
 mod Following

@@ -2,7 +2,7 @@
 use Rattle.std.proofs.Common.{ℕ, ◌≤◌, ◌≡◌, Bool, List, length, sym, ap, ◌∙◌, subst, arith}
 use Rattle.table_files.specs.OpenEntry.{Filing, files_of}
 use Rattle.table_files.specs.Handles.{Files, AreOpenEntries, Opened}
-use Rattle.table_requests.specs.RequestMaps.{RequestMaps, IsFlying}
+use Rattle.table_requests.specs.RequestMaps.{RequestMaps, AreLawfulRequests}
 use Rattle.table_requests.specs.Listed.{InFlight, requests_of}
 use Rattle.table_image.specs.Law.{IsLawful}
 use Rattle.ledger.specs.declared.postings.Posting.{Posting}
@@ -17,7 +17,7 @@ use Rattle.table_steps.proofs.Filing.{kept_same}
 module _ (s : State) (kept : IsKept s) (tree : Nodes) (ledger : Postings) (flights : InFlight)
     (tree_is : tree ≡ record s.tree { room = tree.room }) (tree_room : s.tree.room ≤ tree.room)
     (made : ledger.made ≡ s.ledger.made) (limit : ledger.limit ≡ s.ledger.limit) (ledger_room : s.ledger.room ≤ ledger.room)
-    (all_is : requests_of flights ≡ record (requests_of s.flights) { room = (requests_of flights).room }) (flying : IsFlying (requests_of flights))
+    (all_is : requests_of flights ≡ record (requests_of s.flights) { room = (requests_of flights).room }) (flying : AreLawfulRequests (requests_of flights))
     (files : Filing) (files_is : files_of files ≡ record (files_of s.files) { room = (files_of files).room }) (files_room : (files_of s.files).room ≤ (files_of files).room) (filed : AreOpenEntries (files_of files)) where
   at_same : at_in s.tree ≡ at_in tree
   at_same = sym (ap at_in tree_is)

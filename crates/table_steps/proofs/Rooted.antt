@@ -27,12 +27,12 @@ use Rattle.table_footprints.specs.Laws.{AreOwn, IsGrounded, base_of}
 use Rattle.table_footprints.specs.NewRequests.{footprint_in}
 use Rattle.table_footprints.specs.Footprints.{AtName, AtNode, Change, Footprint, Opening, closed_exclusive, cuts, hidden_in, hides, moves, names_under, page_keys, replaces, footprint_of, stays}
 use Rattle.table_footprints.proofs.Members.{any_in, cases_in, first_in, in_map, none_in, only_in}
-use Rattle.table_footprints.proofs.RowLemmas.{are_grounded}
+use Rattle.table_footprints.proofs.FootprintLemmas.{are_grounded}
 use Rattle.table_steps.specs.declared.state.State.{State}
 use Rattle.table_steps.specs.Ending.{AreUnder, AreUnowned, IsEnding, LeadsTo, MayAlter, MayEnter, MayFill, folders_of, name_at}
 use Rattle.table_steps.specs.Kept.{IsKept, flight_of, flights_in}
 use Rattle.table_steps.specs.Laws.{IsPlaced}
-use Rattle.table_steps.specs.Steps.{HoldsUp, IsHeldByOne, opened_alone}
+use Rattle.table_steps.specs.Steps.{HoldsUp, HasExclusiveHolder, opened_alone}
 use Rattle.table_steps.specs.World.{RequestsInFlight, IsStanding}
 use Rattle.table_steps.proofs.Guarding.{not_empty}
 use Rattle.table_steps.proofs.Viewed.{are_kept}
@@ -148,7 +148,7 @@ own_leads at d held grounded holds (replaces s t c moved) own =
 
 -- ---- who shares a path, none holds it exclusively
 
-pub unowned : (at : Lookup) (flights : RequestsInFlight) (d : Footprint) (held : Held) (key : Key) → Holds at d held → (HoldsUp flights held → ⊥) → Contains d.shared (name_at key) → IsHeldByOne at flights key → ⊥
+pub unowned : (at : Lookup) (flights : RequestsInFlight) (d : Footprint) (held : Held) (key : Key) → Holds at d held → (HoldsUp flights held → ⊥) → Contains d.shared (name_at key) → HasExclusiveHolder at flights key → ⊥
 unowned at flights d held key holds clear shared o =
     let some : o.path ≡ [] → ⊥ = λ e. not_empty o.leads.above key.name (sym o.leads.whole ∙ e) in
     let prefix : IsPrefixAt at o.path (name_at key) = record { path = o.path; leads = o.leads; begins = record { some = some; begins = is_prefix-same o.path } } in

@@ -10,7 +10,7 @@ use Rattle.table_requests.specs.declared.data.RequestInFlight.{RequestInFlight a
 use Rattle.table_files.specs.OpenEntry.{Filing, files_of}
 use Rattle.table_files.specs.Handles.{Files}
 use Rattle.table_requests.specs.declared.data.Given.{Given}
-use Rattle.table_requests.specs.RequestMaps.{RequestMaps, IsFlying, Goes, HasNoneAnswered, is_working}
+use Rattle.table_requests.specs.RequestMaps.{RequestMaps, AreLawfulRequests, Goes, HasNoneAnswered, is_working}
 use Rattle.table_requests.specs.Listed.{InFlight, requests_of}
 use Rattle.table_steps.specs.Keeping.{kept_by}
 use Rattle.table_steps.specs.declared.state.State.{State}
@@ -48,7 +48,7 @@ paths_back (Some g ∷ gs) at new ps qs (mid, ms, inl back, rest) n q leads =
     paths_back gs mid new ms qs rest n q (subst (λ a. IsPathOf a n q) (sym back.nodes) (paths_written at g.number back.node (back.node.count - 1) back.here n q leads))
 paths_back (Some g ∷ gs) at new ps qs (mid, ms, inr none, rest) n q leads = paths_back gs mid new ms qs rest n q (subst (λ a. IsPathOf a n q) (sym none.nodes) leads)
 
-module _ (s : State) (kept : IsKept s) (flights : InFlight) (id : ℕ) (pins : List ℕ) (goes : Goes (requests_of s.flights) id pins (requests_of flights)) (law : IsFlying (requests_of flights)) where
+module _ (s : State) (kept : IsKept s) (flights : InFlight) (id : ℕ) (pins : List ℕ) (goes : Goes (requests_of s.flights) id pins (requests_of flights)) (law : AreLawfulRequests (requests_of flights)) where
   -- the pins that went may have been the last reasons of their nodes
   pub taken_nearly : (numbers : List ℕ) → IsNearly (at_in s.tree) s.ledger.made (kept_by flights s.files) (numbers ++ pins)
   taken_nearly numbers =

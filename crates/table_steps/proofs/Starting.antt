@@ -15,7 +15,7 @@ use Rattle.table_requests.specs.declared.data.Want.{Want}
 use Rattle.table_requests.specs.declared.data.Want.TheVariants as wants
 use Rattle.table_requests.specs.declared.data.Work.{Work as RecordedWork}
 use Rattle.table_requests.specs.RequestMaps as flying
-use Rattle.table_requests.specs.RequestMaps.{Adds, RequestMaps, IsFlying, nodes_promised, postings_promised, pins_number}
+use Rattle.table_requests.specs.RequestMaps.{Adds, RequestMaps, AreLawfulRequests, nodes_promised, postings_promised, pins_number}
 use Rattle.table_requests.specs.Listed.{InFlight, requests_of}
 use Rattle.table_requests.proofs.ById.{Adds_found}
 use Rattle.table_image.specs.Law.{AreAlive, IsLawful, IsGivenPath}
@@ -29,7 +29,7 @@ use Rattle.table_footprints.specs.Laws.{IsGrounded}
 use Rattle.table_footprints.specs.NewRequests.{IsNewRequest, IsProvided, footprint_in}
 use Rattle.table_footprints.specs.Footprints.{AtName, AtNode, Footprint, Location, closed_change, hidden_in, is_same, names_under, footprint_of}
 use Rattle.table_footprints.proofs.Members.{in_any}
-use Rattle.table_footprints.proofs.RowLemmas.{are_grounded}
+use Rattle.table_footprints.proofs.FootprintLemmas.{are_grounded}
 use Rattle.table_steps.specs.declared.data.Limits.{Limits}
 use Rattle.table_steps.specs.declared.state.State.{State}
 use Rattle.table_steps.specs.Beginning.{Allows, ClosesFile, IsRoomForOne, IsSameButRoom}
@@ -178,7 +178,7 @@ module _ (s mid : State) (unique id : ℕ) (new_request : NewRequest) (is : IsNe
             (counter_is ∙ ap (λ (b : Bool). if b then (s.counter + 10) % 2 ^ 32 else s.counter) hide_is)));
       }
 
-  module _ (counter : ℕ) (fresh : (requests_of mid.flights).at id ≡ None) (kept : IsKept mid) (all_flying : IsFlying (requests_of flights))
+  module _ (counter : ℕ) (fresh : (requests_of mid.flights).at id ≡ None) (kept : IsKept mid) (all_flying : AreLawfulRequests (requests_of flights))
       (free : flying.HoldsUp (requests_of s.flights).at new_request.work.held → ⊥) (may : MayBegin (world_of s) (footprint_in new_request.work)) (allows : Allows s new_request.work.promise) (room : IsRoomForOne mid new_request.work.promise) where
     at_same : at_in mid.tree ≡ at_in s.tree
     at_same = ap (λ (w : World). w.at) same.world

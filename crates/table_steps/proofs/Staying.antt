@@ -11,13 +11,13 @@ use Rattle.holds.specs.Conflicts.{IsSomePrefix}
 use Rattle.tree.specs.declared.nodes.Key.{Key}
 use Rattle.tree.specs.Places.{Lookup, IsPathOf, IsTree}
 use Rattle.tree.proofs.Climbing.{named_at, path_same, path_under}
-use Rattle.table_steps.proofs.Standing.{HoldsPrefixes}
+use Rattle.table_steps.proofs.Remaining.{HoldsPrefixes}
 use Rattle.table_footprints.specs.Asked.{ArePaths, HasPath, Holds, IsAboveAt, IsExclusive, IsMisplaced, IsRefusedAt, IsPrefixAt, IsShared}
 use Rattle.table_footprints.specs.Laws.{AreOwn, IsGrounded, base_of}
 use Rattle.table_footprints.specs.Footprints.{AtName, AtNode, Change, Footprint, Location, cuts, hides, moves, replaces, stays}
 use Rattle.table_steps.specs.World.{RequestInFlight, IsReady, IsStanding, Work}
 use Rattle.table_footprints.proofs.Members.{any_in, in_any, in_map, later_in, cases_in, first_in, none_in}
-use Rattle.table_footprints.proofs.RowLemmas.{are_grounded}
+use Rattle.table_footprints.proofs.FootprintLemmas.{are_grounded}
 
 pub map_in : {X Y : Type 0} → (f : X → Y) (xs : List X) (x : X) → Contains xs x → Contains (map f xs) (f x)
 map_in f [] x h = absurd (none_in x h)

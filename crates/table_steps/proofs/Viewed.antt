@@ -12,7 +12,7 @@ use Rattle.table_requests.specs.declared.data.RequestInFlight.{RequestInFlight a
 use Rattle.table_requests.specs.declared.data.Stage.{Stage as Recording}
 use Rattle.table_requests.specs.declared.data.Stage.TheVariants as recorded
 use Rattle.table_requests.specs.declared.data.Work.{Work as RecordedWork}
-use Rattle.table_requests.specs.RequestMaps.{RequestsInFlight as Recordeds, RequestMaps, IsFlying, with_flight, without_flight}
+use Rattle.table_requests.specs.RequestMaps.{RequestsInFlight as Recordeds, RequestMaps, AreLawfulRequests, with_flight, without_flight}
 use Rattle.tree.specs.Places.{Lookup}
 use Rattle.table_steps.specs.Kept.{AreProvided, flight_of, flights_in, stage_of, work_of}
 use Rattle.table_steps.specs.World.{AreHeld, AreKept, AreReady, RequestInFlight, IsAtWork, IsPinned, Work, Working, with_entry}
@@ -69,7 +69,7 @@ pub at_work : (all : RequestMaps) (id : ℕ) (f : Recorded) (work : RecordedWork
 at_work all id f work here working = record { here = ap (λ o. option_map flight_of o) here; working = ap stage_of working }
 
 -- the numbers that are pinned are those that a request pins
-are_pinned : (all : RequestMaps) → IsFlying all → (n : ℕ) → (all.pinned n ≡ true) ↔ IsPinned (flights_in all) n
+are_pinned : (all : RequestMaps) → AreLawfulRequests all → (n : ℕ) → (all.pinned n ≡ true) ↔ IsPinned (flights_in all) n
 are_pinned all flying n = (
   λ h. let it = (flying.pins n).0 h in record { id = it.0; flight = flight_of it.1; here = ap (λ o. option_map flight_of o) it.2; pin = in_any_of it.1.pins.numbers n it.3 },
   λ h. let found = found_in (all.at h.id) h.flight h.here in
@@ -77,7 +77,7 @@ are_pinned all flying n = (
 )
 
 -- the numbers that are kept are those that a request pins or a file is open of
-pub are_kept : (flights : InFlight) (files : Filing) → IsFlying (requests_of flights) → AreOpenEntries (files_of files) → AreKept (flights_in (requests_of flights)) (files_of files).at (kept_by flights files)
+pub are_kept : (flights : InFlight) (files : Filing) → AreLawfulRequests (requests_of flights) → AreOpenEntries (files_of files) → AreKept (flights_in (requests_of flights)) (files_of files).at (kept_by flights files)
 are_kept flights files flying filed n = (
   λ h. elim (cases_kept flights files n h) [
     | inl pin ↦ inl ((are_pinned (requests_of flights) flying n).0 pin)

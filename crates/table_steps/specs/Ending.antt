@@ -33,7 +33,7 @@ use Rattle.table_steps.specs.Kept.{IsRoomFor, flight_of, flights_in, work_of}
 use Rattle.table_steps.specs.Laws.{IsPlaced}
 use Rattle.paths.specs.Prefixes.{Name}
 use Rattle.table_steps.specs.Sweeping.{parent_at}
-use Rattle.table_steps.specs.Steps.{Alters, EntersAll, HoldsUp, IsHeldByOne, Sweeps, answered}
+use Rattle.table_steps.specs.Steps.{Alters, EntersAll, HoldsUp, HasExclusiveHolder, Sweeps, answered}
 use Rattle.table_steps.specs.World.{RequestInFlight, IsReady, World, with_entry}
 
 -- ---- the acts of a footprint
@@ -164,7 +164,7 @@ pub record MayEnter (s : State) (id : ℕ) (keys : List Key) : Type 0 where
 
 -- no request that is worked on holds one of the names alone
 abbrev pub AreUnowned : State → List Key → Type 0
-AreUnowned s keys = (key : Key) → Contains keys key → IsHeldByOne (at_in s.tree) (flights_in (requests_of s.flights)) key → ⊥
+AreUnowned s keys = (key : Key) → Contains keys key → HasExclusiveHolder (at_in s.tree) (flights_in (requests_of s.flights)) key → ⊥
 
 -- a node and an entry may be given for each name: both were promised for each of them
 pub record MayFill (s : State) (id : ℕ) (keys : List Key) : Type 0 where

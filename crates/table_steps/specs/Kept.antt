@@ -7,7 +7,7 @@ use Rattle.table_requests.specs.declared.data.Promise.{Promise}
 use Rattle.table_requests.specs.declared.data.Stage.{Stage as Recording}
 use Rattle.table_requests.specs.declared.data.Stage.TheVariants as recorded
 use Rattle.table_requests.specs.declared.data.Work.{Work as RecordedWork}
-use Rattle.table_requests.specs.RequestMaps.{RequestMaps, IsFlying}
+use Rattle.table_requests.specs.RequestMaps.{RequestMaps, AreLawfulRequests}
 use Rattle.table_requests.specs.Listed.{requests_of}
 use Rattle.table_image.specs.Law.{IsLawful}
 use Rattle.ledger.specs.Postings.{Postings}
@@ -80,7 +80,7 @@ pub record IsLimited (s : State) : Type 0 where
 -- the parts fit each other
 pub record IsKept (s : State) : Type 0 where
   pub law : IsLawful (at_in s.tree) s.ledger.made (kept_by s.flights s.files)
-  pub flying : IsFlying (requests_of s.flights)
+  pub flying : AreLawfulRequests (requests_of s.flights)
   pub held : AreHeld (at_in s.tree) (flights_in (requests_of s.flights))
   pub ready : AreReady (at_in s.tree) (flights_in (requests_of s.flights))
   pub provided : AreProvided (requests_of s.flights)

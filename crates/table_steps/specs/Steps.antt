@@ -238,7 +238,7 @@ act_of d (HiddenMove candidate moved) = record (failure d) { change = replacing_
 -- ---- finish: entries
 
 -- a request that is worked on holds the path of the name alone
-pub record IsHeldByOne (at : Lookup) (flights : RequestsInFlight) (key : Key) : Type 0 where
+pub record HasExclusiveHolder (at : Lookup) (flights : RequestsInFlight) (key : Key) : Type 0 where
   pub path : Names
   pub leads : IsPathOfName at key.parent key.name path
   pub id : ℕ
@@ -250,8 +250,8 @@ pub record IsHeldByOne (at : Lookup) (flights : RequestsInFlight) (key : Key) : 
 -- each name in turn: an entry of it is given, with a birth where no node stands, if it was found and no request holds it exclusively
 abbrev pub EntersAll : RequestsInFlight → Lookup → List Posting → List Key → List Bool → List (Option Given) → Lookup → List Posting → Type 0
 EntersAll flights at ps (key ∷ keys) (true ∷ found) (Some g ∷ given) at' ps' =
-    (IsHeldByOne at flights key → ⊥) × ((mid : Lookup) × (qs : List Posting) × Enters at ps key.parent key.name g mid qs × EntersAll flights mid qs keys found given at' ps')
-EntersAll flights at ps (key ∷ keys) (true ∷ found) (None ∷ given) at' ps' = IsHeldByOne at flights key × EntersAll flights at ps keys found given at' ps'
+    (HasExclusiveHolder at flights key → ⊥) × ((mid : Lookup) × (qs : List Posting) × Enters at ps key.parent key.name g mid qs × EntersAll flights mid qs keys found given at' ps')
+EntersAll flights at ps (key ∷ keys) (true ∷ found) (None ∷ given) at' ps' = HasExclusiveHolder at flights key × EntersAll flights at ps keys found given at' ps'
 EntersAll flights at ps (key ∷ keys) (false ∷ found) (None ∷ given) at' ps' = EntersAll flights at ps keys found given at' ps'
 EntersAll flights at ps [] [] [] at' ps' = (at' ≡ at) × (ps' ≡ ps)
 EntersAll flights at ps keys found given at' ps' = ⊥

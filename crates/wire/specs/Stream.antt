@@ -15,7 +15,7 @@ abbrev pub len_in : List ℕ → ℕ
 len_in kept = little_number 4 kept
 
 -- a length that a frame may have
-pub record IsLawfulName (len : ℕ) : Type 0 where
+pub record IsLawfulLength (len : ℕ) : Type 0 where
   pub long : HEADER_LEN ≤ len
   pub short : len ≤ MAX_FRAME_LEN
 
@@ -33,7 +33,7 @@ pub record HandsOut (old : Cutting) (frame : List ℕ) (new : Cutting) : Type 0 
 
 -- neither a whole frame stands next, nor a length that no frame has
 abbrev pub IsPartial : List ℕ → Type 0
-IsPartial kept = (length kept < 4) ⊎ (IsLawfulName (len_in kept) × (length kept < len_in kept))
+IsPartial kept = (length kept < 4) ⊎ (IsLawfulLength (len_in kept) × (length kept < len_in kept))
 
 -- what stopped the cutter, if anything, stands next
 abbrev pub StoppedBy : List ℕ → Option ℕ → Type 0

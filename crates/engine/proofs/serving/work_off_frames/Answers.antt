@@ -26,7 +26,7 @@ returns-in-Some-clause-drains g c =
           (side c.args.link.now c.args.calls.now (stand (world_of c.args.table.now) c.args.session.now.agreed) c.args.cutter.now.kept)
           c.loop-frame.link c.handle_frame.new.link c.loop-frame.calls c.handle_frame.new.calls (stand (world_of c.loop-frame.table) c.loop-frame.session.agreed) (stand (world_of c.handle_frame.new.table) c.handle_frame.new.self.agreed)
           c.loop-frame.cutter.kept c.in-Ok-Some.frame.items c.deref.result.now c.next.new.self.kept c.handle_frame.result (Some c.in-Some.end)
-          c.loop-frame.session.settings inv.settings inv.walks frame.front frame.framed (sym c.deref.ensures.value) c.handle_frame.ensures.idle c.handle_frame.ensures.met c.in-Some.is;
+          c.loop-frame.session.settings inv.settings inv.walks frame.front frame.framed (sym c.deref.ensures.value) c.handle_frame.ensures.idle c.handle_frame.ensures.handled c.in-Some.is;
       stops = refl;
     }
 
@@ -46,7 +46,7 @@ loop-frame-preserved g c =
           (side c.args.link.now c.args.calls.now (stand (world_of c.args.table.now) c.args.session.now.agreed) c.args.cutter.now.kept)
           c.loop-frame.link c.handle_frame.new.link c.loop-frame.calls c.handle_frame.new.calls (stand (world_of c.loop-frame.table) c.loop-frame.session.agreed) (stand (world_of c.handle_frame.new.table) c.handle_frame.new.self.agreed)
           c.loop-frame.cutter.kept c.in-Ok-Some.frame.items c.deref.result.now c.next.new.self.kept c.handle_frame.result None
-          c.loop-frame.session.settings inv.settings inv.walks frame.front frame.framed (sym c.deref.ensures.value) c.handle_frame.ensures.idle c.handle_frame.ensures.met c.in-None.is;
+          c.loop-frame.session.settings inv.settings inv.walks frame.front frame.framed (sym c.deref.ensures.value) c.handle_frame.ensures.idle c.handle_frame.ensures.handled c.in-None.is;
     }
 
 pub returns-in-Err-BadLength-clause-drains : goal.returns-in-Err-BadLength-clause-drains

@@ -3,7 +3,7 @@ use Rattle.std.proofs.lemmas.List.{take_all}
 use Rattle.std.proofs.lemmas.List.Elements.{All-push}
 use Rattle.tree.specs.Places.{Leads, at_in}
 use Rattle.table_footprints.specs.Gatherings.{AreRooted, IsRootedAt, location_of, told}
-use Rattle.table_footprints.proofs.Drafting.{told_more}
+use Rattle.table_footprints.proofs.Gathering.{told_more}
 use Rattle.table_footprints.proofs.found.expect_rooted.Goals as goal
 
 pub loop-location-preserved : goal.loop-location-preserved

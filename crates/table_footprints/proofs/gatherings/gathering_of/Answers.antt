@@ -2,7 +2,7 @@ use Rattle.std.proofs.Common.{take, arith, sym, subst}
 use Rattle.std.proofs.lemmas.Result.{err_from_is_err_and}
 use Rattle.tree.specs.Places.{at_in}
 use Rattle.table_footprints.specs.Gatherings.{Adds, IsGathering, IsRootedAt, location_of, told}
-use Rattle.table_footprints.proofs.Drafting.{bad_row, draft_more, told_in, told_more}
+use Rattle.table_footprints.proofs.Gathering.{bad_row, draft_more, told_in, told_more}
 use Rattle.table_footprints.proofs.Members.{all_in}
 use Rattle.table_footprints.proofs.gatherings.gathering_of.Goals as goal
 

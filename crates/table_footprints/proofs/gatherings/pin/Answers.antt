@@ -1,6 +1,6 @@
 use Rattle.std.proofs.Common.{Some, sym, ap, ◌∙◌}
 use Rattle.std.proofs.lemmas.Option.{none-some, same_Some}
-use Rattle.table_footprints.proofs.Drafting.{pin_one, pin_two}
+use Rattle.table_footprints.proofs.Gathering.{pin_one, pin_two}
 use Rattle.table_footprints.proofs.gatherings.pin.Goals as goal
 
 pub returns-then-node-number-clause-pins : goal.returns-then-node-number-clause-pins

@@ -4,7 +4,7 @@ use Rattle.holds.proofs.Among.{contains_read}
 use Rattle.tree.specs.Places.{at_in}
 use Rattle.table_footprints.specs.Pages.{IsPage}
 use Rattle.table_footprints.specs.Footprints.{AtName, AtNode, page_names}
-use Rattle.table_footprints.proofs.Drafting.{bad_row}
+use Rattle.table_footprints.proofs.Gathering.{bad_row}
 use Rattle.table_footprints.proofs.Paging.{name_in, names_more, page_more}
 use Rattle.table_footprints.proofs.pages.page_draft.Goals as goal
 

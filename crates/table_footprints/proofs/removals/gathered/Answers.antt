@@ -6,7 +6,7 @@ use Rattle.table_footprints.specs.declared.footprints.Hold.{Hold}
 use Rattle.table_footprints.specs.Gatherings.{IsGathering, locations_of}
 use Rattle.table_footprints.specs.Removals.{IsGathered}
 use Rattle.table_footprints.specs.Footprints.{AtName, names_under}
-use Rattle.table_footprints.proofs.Drafting.{bad_row}
+use Rattle.table_footprints.proofs.Gathering.{bad_row}
 use Rattle.table_footprints.proofs.Removing.{bad_more, beside_in, beside_more, beside_none, folder_leads, gathered_more, gathered_start}
 use Rattle.table_footprints.proofs.removals.gathered.Goals as goal
 

@@ -22,4 +22,4 @@ pub returns-clause-used : goal.returns-clause-used
 returns-clause-used g c =
     let lent = subst (λ (what : Lends). IsLentPage c.args.request.node c.args.fh c.args.offset c.args.size what) c.in-Ok-Page.field-0-is c.in-Ok-Page.ensures.ok in
     let page = c.in-Ok-Page.page in
-    inr (lent.0, page, lent.1, c.run_page.ensures.carries lent.0)
+    inr (lent.0, page, lent.1, c.run_page.ensures.runs_out lent.0)

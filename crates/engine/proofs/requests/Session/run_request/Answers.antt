@@ -4,19 +4,19 @@ use Rattle.engine.proofs.requests.Session.run_request.Goals as goal
 
 pub returns-in-Go-clause-some : goal.returns-in-Go-clause-some
 returns-in-Go-clause-some g c lends =
-    let p = c.run_script.ensures.performs in
+    let p = c.run_script.ensures.runs in
     let w = g.R.Reach.world c.args.table.now in
     let begun = g.R.Reach.world c.begin.new.self in
-    let kept = g.met.R.Reach.carries w begun p.concludes.finished (g.R.Reach.world c.run_script.new.table) c.args.request.unique c.args.want c.in-Go.ticket p.end.outcome p.concludes.answer p.concludes.put _ c.requires.idle c.in-Go.ensures.begins p.concludes.finishes p.concludes.settles in
+    let kept = g.met.R.Reach.completes w begun p.concludes.finished (g.R.Reach.world c.run_script.new.table) c.args.request.unique c.args.want c.in-Go.ticket p.end.outcome p.concludes.answer p.concludes.put _ c.requires.idle c.in-Go.ensures.begins p.concludes.finishes p.concludes.settles in
     goes_on g.R.Reach.steps c.args.self.now.settings g.L.Outlet.sends g.C.Calls.gives c.args.request c.args.want lends c.args.page.now c.in-Go.ticket c.args.link.now c.run_script.new.link c.args.calls.now c.run_script.new.calls
     w begun (g.R.Reach.world c.run_script.new.table) c.run_script.result c.in-Go.ensures.begins p kept.0
 
 pub returns-in-Go-clause-idle : goal.returns-in-Go-clause-idle
 returns-in-Go-clause-idle g c =
-    let p = c.run_script.ensures.performs in
+    let p = c.run_script.ensures.runs in
     let w = g.R.Reach.world c.args.table.now in
     let begun = g.R.Reach.world c.begin.new.self in
-    let kept = g.met.R.Reach.carries w begun p.concludes.finished (g.R.Reach.world c.run_script.new.table) c.args.request.unique c.args.want c.in-Go.ticket p.end.outcome p.concludes.answer p.concludes.put _ c.requires.idle c.in-Go.ensures.begins p.concludes.finishes p.concludes.settles in
+    let kept = g.met.R.Reach.completes w begun p.concludes.finished (g.R.Reach.world c.run_script.new.table) c.args.request.unique c.args.want c.in-Go.ticket p.end.outcome p.concludes.answer p.concludes.put _ c.requires.idle c.in-Go.ensures.begins p.concludes.finishes p.concludes.settles in
     kept.1
 
 pub returns-in-Refused-clause-some : goal.returns-in-Refused-clause-some

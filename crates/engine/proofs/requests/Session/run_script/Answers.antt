@@ -5,16 +5,16 @@ use Rattle.ops.specs.declared.findings.ScriptResult.{ScriptResult}
 use Rattle.engine.specs.Walks.{no_memory}
 use Rattle.engine.proofs.requests.Session.run_script.Goals as goal
 
-pub returns-in-Err-clause-performs : goal.returns-in-Err-clause-performs
-returns-in-Err-clause-performs g c = record {
+pub returns-in-Err-clause-runs : goal.returns-in-Err-clause-runs
+returns-in-Err-clause-runs g c = record {
   made = [];
   end = no_memory;
   makes = refl;
   concludes = c.end_without_script.ensures.concludes c.args.page.now c.in-Err.ensures.err;
 }
 
-pub returns-in-Listed-clause-performs : goal.returns-in-Listed-clause-performs
-returns-in-Listed-clause-performs g c =
+pub returns-in-Listed-clause-runs : goal.returns-in-Listed-clause-runs
+returns-in-Listed-clause-runs g c =
     let played = c.play.ensures in
     let plan = plan_of c.args.request.operation c.args.ticket in
     let follows = subst (λ (p : Plan). Follows p played.made (end_of c.play.result)) c.in-Ok.ensures.ok played.follows in
@@ -31,7 +31,7 @@ returns-in_default g c =
     let played = c.play.ensures in
     let follows = subst (λ (p : Plan). Follows p played.made (end_of c.play.result)) c.in-Ok.ensures.ok played.follows in
     record {
-      performs = record {
+      runs = record {
         made = played.made;
         end = end_of c.play.result;
         makes = played.makes;

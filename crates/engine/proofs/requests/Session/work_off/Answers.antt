@@ -66,4 +66,4 @@ returns-in-File-clause-gains g c = rw c.find.ensures.world (c.attest.ensures c.a
 pub returns-in-Want-clause-worked : goal.returns-in-Want-clause-worked
 returns-in-Want-clause-worked g c =
     carried g.R.Reach.steps c.args.self.now.settings g.L.Outlet.sends g.C.Calls.gives c.args.frame.now c.in-Ok.request (want_of c.in-Want.wanted) c.args.link.now c.run_wanted.new.link c.args.calls.now c.run_wanted.new.calls (g.R.Reach.world c.args.table.now) (g.R.Reach.world c.run_wanted.new.table) c.run_wanted.result
-    c.in-Ok.ensures.found c.in-Want.ensures c.run_wanted.ensures.carries
+    c.in-Ok.ensures.found c.in-Want.ensures c.run_wanted.ensures.runs_out

@@ -1,7 +1,7 @@
 use Rattle.std.proofs.Common.{sym, ap, ◌∙◌}
 use Rattle.table_footprints.specs.Gatherings.{location_of}
 use Rattle.table_footprints.specs.Footprints.{AtName, are_same}
-use Rattle.table_footprints.proofs.RowLemmas.{name_same}
+use Rattle.table_footprints.proofs.FootprintLemmas.{name_same}
 use Rattle.table_footprints.proofs.footprints.Location.is.Goals as goal
 
 pub returns-then-parent-other_parent : goal.returns-then-parent-other_parent

@@ -4,7 +4,7 @@ use Rattle.table_requests.specs.Listed.{requests_of}
 use Rattle.tree.specs.Places.{at_in}
 use Rattle.table_steps.specs.Ending.{GivesAll}
 use Rattle.table_steps.specs.Kept.{flight_of, flights_in, world_of}
-use Rattle.table_steps.specs.Steps.{IsHeldByOne}
+use Rattle.table_steps.specs.Steps.{HasExclusiveHolder}
 use Rattle.table_steps.proofs.Filling.{fill_less, gives_one, gives_owned, none_given, owned_recorded, owned_seen, seen_here, seen_idle}
 use Rattle.table_steps.proofs.Guarding.{entered_path}
 use Rattle.table_steps.proofs.state.State.give_found.Goals as goal
@@ -25,7 +25,7 @@ returns-then-holds_exclusively-clause-gives c f here =
     let s = c.args.self.now in
     let may = c.requires.may in
     let key = c.args.keys.key in
-    let owned : IsHeldByOne (at_in s.tree) (flights_in (requests_of s.flights)) key = owned_seen (at_in s.tree) (requests_of s.flights) key.parent key.name c.args.folder.now c.requires.leads (c.holds_exclusively.ensures.owned.0 c.if-holds_exclusively.true) in
+    let owned : HasExclusiveHolder (at_in s.tree) (flights_in (requests_of s.flights)) key = owned_seen (at_in s.tree) (requests_of s.flights) key.parent key.name c.args.folder.now c.requires.leads (c.holds_exclusively.ensures.owned.0 c.if-holds_exclusively.true) in
     subst (λ (b : Bool). GivesAll (world_of s) c.args.id (flight_of f) (key ∷ []) (b ∷ []) (None ∷ []) (world_of s)) (sym c.if-not-found.false)
     (gives_owned (world_of s) c.args.id (flight_of f) key (seen_here s c.args.id may.flight may.here may.answered f here) (seen_idle s c.args.id may.flight may.here may.answered f here) owned)
 
@@ -37,7 +37,7 @@ returns-clause-gives c f here =
     let s = c.args.self.now in
     let key = c.args.keys.key in
     let new = world_of c.give.new.self in
-    let free : IsHeldByOne (at_in s.tree) (flights_in (requests_of s.flights)) key → ⊥ = λ o.
+    let free : HasExclusiveHolder (at_in s.tree) (flights_in (requests_of s.flights)) key → ⊥ = λ o.
     false≢true (sym c.if-holds_exclusively.false ∙ c.holds_exclusively.ensures.owned.1 (owned_recorded (at_in s.tree) c.requires.kept.law.tree (requests_of s.flights) key c.args.folder.now c.requires.leads o)) in
     subst (λ (b : Bool). GivesAll (world_of s) c.args.id (flight_of f) (key ∷ []) (b ∷ []) (Some c.give.result ∷ []) new) (sym c.if-not-found.false)
     (gives_one (world_of s) new c.args.id (flight_of f) key c.give.result free (c.give.ensures.enters f here))

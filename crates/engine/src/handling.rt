@@ -82,7 +82,7 @@ fn handle_destroy<L: Outlet>(link: &mut L, frame: &[u8], unique: u64) -> (Sent, 
 impl Session {
     /// Answers an INIT by what it comes to.
     fn reply_init<L: Outlet>(&mut self, link: &mut L, unique: u64, answer: Negotiated) -> Sent
-        ensures welcomes { RepliesInit L.sends unique answer self.old.agreed link.old result link.new self.new.agreed }
+        ensures replies { RepliesInit L.sends unique answer self.old.agreed link.old result link.new self.new.agreed }
         ensures settings { self.new.settings ≡ self.old.settings }
     {
         let body = init_reply_of(answer);
@@ -99,7 +99,7 @@ impl Session {
     fn handle_init<L: Outlet>(&mut self, link: &mut L, frame: &[u8], unique: u64) -> Sent
         requires unique { unique ≡ unique_in frame.now }
         requires init { opcode_in frame.now ≡ INIT }
-        ensures greets { HandlesInitFrame L.sends frame.now self.old.agreed link.old result link.new self.new.agreed }
+        ensures handles { HandlesInitFrame L.sends frame.now self.old.agreed link.old result link.new self.new.agreed }
         ensures settings { self.new.settings ≡ self.old.settings }
     {
         match decode(frame) {
@@ -125,7 +125,7 @@ impl Session {
         requires free { R.steps.is_free (R.world table.old) }
         requires framed { IsFramed frame.now }
         requires idle { R.steps.is_idle (R.world table.old) }
-        ensures met { IsHandled R.steps self.old.settings L.sends C.gives frame.now
+        ensures handled { IsHandled R.steps self.old.settings L.sends C.gives frame.now
             link.old calls.old (stand (R.world table.old) self.old.agreed) result link.new calls.new (stand (R.world table.new) self.new.agreed) }
         ensures gains { R.steps.gains (R.world table.old) share.old (R.world table.new) share.new }
         ensures idle { R.steps.is_idle (R.world table.new) }
