@@ -131,7 +131,7 @@ impl Session {
         ensures idle { R.steps.is_idle (R.world table.new) }
         ensures settings { self.new.settings ≡ self.old.settings }
     {
-        table.attest();
+        table.attest(); // proof: its law
         let Some(header) = header_of(frame) else {
             unreachable!()
         };

@@ -88,7 +88,7 @@ fn forget_all<T: Ledgers, R: Reach<T>>(table: &mut R, share: &mut Share<T>, pair
     ensures gains { R.steps.gains (R.world table.old) share.old (R.world table.new) share.new }
     ensures idle { R.steps.is_idle (R.world table.new) }
 {
-    table.attest();
+    table.attest(); // proof: its law
     let mut rest = pairs;
     while let Some((lookups, more)) = split_pair(rest) {
         table.forget(share, lookups.node, lookups.nlookup);
@@ -222,7 +222,7 @@ impl Session {
         ensures settings { self.new.settings ≡ self.old.settings }
         ensures agreed { self.new.agreed ≡ self.old.agreed }
     {
-        table.attest();
+        table.attest(); // proof: its law
         let none = Paged::none(self.alloc);
         for _ in rt.forever() {
             let want = match wanted.own(self.alloc) {
@@ -258,7 +258,7 @@ impl Session {
         ensures settings { self.new.settings ≡ self.old.settings }
         ensures agreed { self.new.agreed ≡ self.old.agreed }
     {
-        table.attest();
+        table.attest(); // proof: its law
         let request = match decode(frame) {
             Ok(request) => request,
             Err(fault) => return refuse_frame(link, frame, fault),

@@ -47,7 +47,7 @@ fn work_off_frames<H: Wait, T: Ledgers, L: Link, C: Calls>(
     ensures idle { IsIdle (world_of table.new) }
     ensures settings { session.new.settings ≡ session.old.settings }
 {
-    table.attest();
+    table.attest(); // proof: its law
     loop {
         match cutter.next() {
             Ok(None) => return None,
@@ -81,7 +81,7 @@ fn serve_client<H: Wait, T: Ledgers, L: Link, C: Calls>(
     ensures grows { (world_of table.new).postings ≡ (world_of table.old).postings ++ gained (world_of table.old) (world_of table.new) }
     ensures share { share.new ≡ record share.old { totals = plus share.old.totals (totals_of (gained (world_of table.old) (world_of table.new))) } }
 {
-    table.attest();
+    table.attest(); // proof: its law
     let mut session = Session {
         alloc,
         settings,

@@ -65,7 +65,7 @@ impl Session {
         ensures settings { self.new.settings ≡ self.old.settings }
         ensures agreed { self.new.agreed ≡ self.old.agreed }
     {
-        table.attest();
+        table.attest(); // proof: its law
         for _ in rt.forever() {
             let want = match page.want(self.alloc, request.node) {
                 Ok(want) => want,
@@ -102,7 +102,7 @@ impl Session {
         ensures settings { self.new.settings ≡ self.old.settings }
         ensures agreed { self.new.agreed ≡ self.old.agreed }
     {
-        table.attest();
+        table.attest(); // proof: its law
         let (unique, node) = (request.unique, request.node);
         let page = match lend_page(rt, self.alloc, dirs, node, fh, offset, size) {
             Ok(Lends::Page(page)) => page,
@@ -134,7 +134,7 @@ impl Session {
         ensures settings { self.new.settings ≡ self.old.settings }
         ensures agreed { self.new.agreed ≡ self.old.agreed }
     {
-        table.attest();
+        table.attest(); // proof: its law
         match usage {
             FolderUse::ReadEntries { offset, size } => self.read_entries(
                 rt, dirs, link, calls, table, share, request, fh, offset, size,

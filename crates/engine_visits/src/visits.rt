@@ -48,7 +48,7 @@ impl<'a, H: Wait, T: Ledgers, O: Opening> Reach<T> for Visit<'a, H, T, O> {
 
     fn begin(&mut self, unique: u64, want: Want) -> Begin {
         let begin = self.hall.begin(self.rt, &mut self.front, unique, want);
-        self.front.attest();
+        self.front.attest(); // proof: its law
         begin
     }
 
@@ -56,7 +56,7 @@ impl<'a, H: Wait, T: Ledgers, O: Opening> Reach<T> for Visit<'a, H, T, O> {
         let answered = self
             .hall
             .finish(self.rt, &mut self.front, share, ticket, outcome);
-        self.front.attest();
+        self.front.attest(); // proof: its law
         self.come_to = ComeTo::Answer(Snapshot::of(&answered));
         answered
     }
@@ -68,19 +68,19 @@ impl<'a, H: Wait, T: Ledgers, O: Opening> Reach<T> for Visit<'a, H, T, O> {
             let settled = self
                 .hall
                 .settle(self.rt, &mut self.front, share, answered, false);
-            self.front.attest();
+            self.front.attest(); // proof: its law
             self.come_to = ComeTo::Settled(settled);
         }
     }
 
     fn forget(&mut self, share: &mut Share<T>, number: u64, n: u64) {
         let _ = self.hall.forget(self.rt, &mut self.front, share, number, n);
-        self.front.attest();
+        self.front.attest(); // proof: its law
     }
 
     fn find(&mut self, fh: u64) -> Option<OpenFile> {
         let found = self.hall.find(self.rt, &mut self.front, fh);
-        self.front.attest();
+        self.front.attest(); // proof: its law
         found
     }
 

@@ -37,7 +37,7 @@ impl<T: Ledgers> Hall<T> {
         ensures { Somewhere (λ w v. Begins w unique want result v) }
     {
         let mut table = self.table.lock(rt);
-        table.attest();
+        table.attest(); // proof: its law
         let begin = table.begin(unique, want);
         if is_busy(&begin) {
             // No finish falls between: it takes the lock.
@@ -60,7 +60,7 @@ impl<T: Ledgers> Hall<T> {
         ensures index { share.new.index ≡ share.old.index }
     {
         let mut table = self.table.lock(rt);
-        table.attest();
+        table.attest(); // proof: its law
         let answered = table.finish(share, ticket, outcome);
         drop(table);
         self.finished.notify_all();
@@ -80,7 +80,7 @@ impl<T: Ledgers> Hall<T> {
         ensures index { share.new.index ≡ share.old.index }
     {
         let mut table = self.table.lock(rt);
-        table.attest();
+        table.attest(); // proof: its law
         table.settle(share, answered, taken)
     }
 
@@ -91,7 +91,7 @@ impl<T: Ledgers> Hall<T> {
         ensures index { share.new.index ≡ share.old.index }
     {
         let mut table = self.table.lock(rt);
-        table.attest();
+        table.attest(); // proof: its law
         table.forget(share, number, n)
     }
 
@@ -100,7 +100,7 @@ impl<T: Ledgers> Hall<T> {
         ensures { Somewhere (λ w v. (v ≡ w) × (result ≡ w.files fh)) }
     {
         let table = self.table.lock(rt);
-        table.attest();
+        table.attest(); // proof: its law
         table.file(fh)
     }
 }

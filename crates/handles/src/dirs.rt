@@ -71,7 +71,7 @@ impl Dirs {
         ensures { IfSome result (IsLent fh) }
     {
         let listing = self.open_folders.lock(rt).lend(fh)?;
-        listing.attest();
+        listing.attest(); // proof: its law
         Some(Lent {
             listing,
             lender: PhantomData,

@@ -79,7 +79,7 @@ impl<T: Ledgers> Table<T> {
         ensures shares { IfOk result (λ (_, shares). shares.items ≡ map (λ index. record { index = index; totals = nothing }) (range_with_len 0 workers)) }
     {
         let state = State::open(alloc, limits, seeds)?;
-        state.attest();
+        state.attest(); // proof: its law
         let (book, shares) = Book::open(alloc, blanks, workers)?;
         Ok((Table { state, book }, shares))
     }
@@ -88,7 +88,7 @@ impl<T: Ledgers> Table<T> {
     pub fn attest(&self)
         ensures { IsLawfulWorld (world_of self.now) }
     {
-        self.state.attest();
+        self.state.attest(); // proof: its law
     }
 
     /// Takes up a request. Busy and a refusal change nothing.
@@ -97,7 +97,7 @@ impl<T: Ledgers> Table<T> {
         ensures lawful { IsLawfulWorld (world_of self.new) }
     {
         let begin = self.state.begin(unique, want);
-        self.state.attest();
+        self.state.attest(); // proof: its law
         begin
     }
 
@@ -111,7 +111,7 @@ impl<T: Ledgers> Table<T> {
     {
         let made = self.state.ledger.postings().len();
         let answered = self.state.finish(ticket, outcome);
-        self.state.attest();
+        self.state.attest(); // proof: its law
         post_since(&self.state.ledger, &mut self.book, share, made);
         answered
     }
@@ -125,7 +125,7 @@ impl<T: Ledgers> Table<T> {
     {
         let made = self.state.ledger.postings().len();
         let settled = self.state.settle(answered, taken);
-        self.state.attest();
+        self.state.attest(); // proof: its law
         post_since(&self.state.ledger, &mut self.book, share, made);
         settled
     }
@@ -139,7 +139,7 @@ impl<T: Ledgers> Table<T> {
     {
         let made = self.state.ledger.postings().len();
         let amount = self.state.forget(number, n);
-        self.state.attest();
+        self.state.attest(); // proof: its law
         post_since(&self.state.ledger, &mut self.book, share, made);
         amount
     }

@@ -155,8 +155,8 @@ pub(crate) fn closing_reservation(
     ensures tree { IsTree (at_in tree.now) }
     ensures files { AreOpenEntries (files_of files.now) }
 {
-    let _nodes = tree.len();
-    let _files = files.len();
+    let _nodes = tree.len(); // proof: its law
+    let _files = files.len(); // proof: its law
     let last = is_last(tree, files, number);
     let refusal = match path_reservation(alloc, tree, number, last) {
         Ok(reservation) => return Ok(reservation),

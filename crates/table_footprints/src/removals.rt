@@ -134,7 +134,7 @@ pub(crate) fn going_reservation(
     ensures ok { IfOk result (AreGoingTerms (seen_of tree.now files.now counter) footprint.now gone.now) }
     ensures err { IfErr result (λ refusal. IsRefusedGoing (seen_of tree.now files.now counter) footprint.now gone.now (refusal_errno refusal)) }
 {
-    let _files = files.len();
+    let _files = files.len(); // proof: its law
     expect_rooted(tree, footprint.locations)?;
     let found = standing(tree, gone)?;
     let case = hiding_case(files, counter, gone.may_hide, found);

@@ -58,7 +58,7 @@ impl<T: Ledgers, O: Opening> Recorded<T, O> {
         requires table { world_of table ≡ opened_world O.limits }
         ensures log { (result.1.log ≡ []) × (result.1.given ≡ 0) }
     {
-        table.attest();
+        table.attest(); // proof: its law
         let (history, keeper) = opened.named::<Runs<O>>();
         (history, Recorded { table, keeper })
     }
@@ -188,7 +188,7 @@ impl<T: Ledgers, O: Opening> Recorded<T, O> {
         ensures looks { Looks (opened_world O.limits) (λ w. Unit {0}) me.old me.new }
         ensures log { (self.new ≡ self.old) × (self.new.log ≡ me.new.seen) }
     {
-        self.keeper.attest();
+        self.keeper.attest(); // proof: its law
         history.observe(&mut self.keeper, me);
     }
 
@@ -202,7 +202,7 @@ impl<T: Ledgers, O: Opening> Recorded<T, O> {
         ensures whole { me.new.seen ≡ self.log }
     {
         let Recorded { table, mut keeper } = self;
-        keeper.attest();
+        keeper.attest(); // proof: its law
         history.observe(&mut keeper, me);
         table
     }
@@ -221,8 +221,8 @@ fn enter<T: Ledgers, O: Opening>(
     ensures log { keeper.new.log ≡ me.new.seen }
     ensures end { world_of table.now ≡ end_of (opened_world O.limits) keeper.new.log }
 {
-    keeper.attest();
-    table.attest();
+    keeper.attest(); // proof: its law
+    table.attest(); // proof: its law
     let entry = Entry {
         event,
         after: Snapshot::of(table),

@@ -59,7 +59,7 @@ fn begin<T: Ledgers>(
     ensures lawful { IsLawfulWorld (world_of table.new) }
     ensures postings { (world_of table.new).postings ≡ (world_of table.old).postings }
 {
-    table.attest();
+    table.attest(); // proof: its law
     tickets.reserve(1)?;
     let copy = copy_of(&want)?;
     match table.begin(unique, want) {
@@ -86,7 +86,7 @@ fn finish<T: Ledgers>(
     ensures grows { (world_of table.new).postings ≡ (world_of table.old).postings ++ gained (world_of table.old) (world_of table.new) }
     ensures share { share.new ≡ record share.old { totals = plus share.old.totals (totals_of (gained (world_of table.old) (world_of table.new))) } }
 {
-    table.attest();
+    table.attest(); // proof: its law
     if pending.tickets.len() <= place {
         return Ok(Told::Nothing);
     }
@@ -110,7 +110,7 @@ fn settle<T: Ledgers>(
     ensures grows { (world_of table.new).postings ≡ (world_of table.old).postings ++ gained (world_of table.old) (world_of table.new) }
     ensures share { share.new ≡ record share.old { totals = plus share.old.totals (totals_of (gained (world_of table.old) (world_of table.new))) } }
 {
-    table.attest();
+    table.attest(); // proof: its law
     if pending.answers.len() <= place {
         return Told::Nothing;
     }
@@ -153,7 +153,7 @@ pub fn make<T: Ledgers>(
     ensures grows { (world_of table.new).postings ≡ (world_of table.old).postings ++ gained (world_of table.old) (world_of table.new) }
     ensures share { share.new ≡ record share.old { totals = plus share.old.totals (totals_of (gained (world_of table.old) (world_of table.new))) } }
 {
-    table.attest();
+    table.attest(); // proof: its law
     let told = step(table, share, pending, call)?;
     Ok(told)
 }
@@ -174,7 +174,7 @@ pub fn run<T: Ledgers>(
     ensures grows { (world_of table.new).postings ≡ (world_of table.old).postings ++ gained (world_of table.old) (world_of table.new) }
     ensures share { share.new ≡ record share.old { totals = plus share.old.totals (totals_of (gained (world_of table.old) (world_of table.new))) } }
 {
-    table.attest();
+    table.attest(); // proof: its law
     told.reserve(calls.len())?;
     for next in calls {
         told.push_reserved(make(table, share, pending, next)?);

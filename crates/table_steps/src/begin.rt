@@ -161,7 +161,7 @@ impl State {
         ensures ok { OnOk result (IsHandleUsable (world_of self.now) want.now) }
         ensures err { IfErr result (IsRefusedHandle (world_of self.now) want.now) }
     {
-        let _nodes = self.tree.len();
+        let _nodes = self.tree.len(); // proof: its law
         let Some((number, handle)) = used_by(want) else {
             return Ok(());
         };

@@ -31,7 +31,7 @@ pub(crate) fn close(
     ensures rest { IsSameRest tree.old tree.new }
     ensures closed { IsClosed (files_of files.old) handle (files_of files.new) }
 {
-    let _law = files.len();
+    let _law = files.len(); // proof: its law
     let Some(handle) = handle else {
         return;
     };

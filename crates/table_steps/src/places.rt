@@ -37,7 +37,7 @@ fn cut_node(tree: &mut Tree, number: u64)
     ensures rest { tree.new ≡ record tree.old { nodes = tree.new.nodes; next = tree.new.next } }
     ensures tree { IsTree (at_in tree.new) }
 {
-    let _nodes = tree.len();
+    let _nodes = tree.len(); // proof: its law
     let Ok(()) = tree.cut(number) else {
         unreachable!();
     };

@@ -52,7 +52,7 @@ impl State {
         requires { IsKept self.now }
         ensures { IsLawfulWorld (world_of self.now) }
     {
-        let _nodes = self.tree.len();
+        let _nodes = self.tree.len(); // proof: its law
         let _promised = self.flights.promised();
     }
 }
