@@ -1,6 +1,17 @@
+use Rattle.std.proofs.Common.{inl, ap, ◌∙◌}
 use Rattle.engine.specs.Alone.{opened_idle}
 use Rattle.table_steps.specs.Kept.{world_of}
+use Rattle.table_steps.specs.World.{opened_world}
 use Rattle.mirrord_server.proofs.hosting.serve_link.Goals as goal
 
 pub serve-end-requires : goal.serve-end-requires
 serve-end-requires g c = record { fresh = opened_idle _ (world_of c.in-Ok.table) c.in-Ok.ensures.opened }
+
+pub returns : goal.returns
+returns g c = inl (record {
+  world = world_of c.in-Ok.table;
+  opened = c.in-Ok.ensures.opened ∙ ap opened_world c.default.ensures;
+  last = world_of c.serve-end.new.table;
+  left = c.serve-end.new.calls;
+  run = c.serve-end.ensures.serves;
+})
