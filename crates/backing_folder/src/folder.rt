@@ -21,10 +21,11 @@ use std::io;
 /// A folder of the file system, and all that is below it.
 ///
 /// It shows files and folders alone: a symbolic link, a pipe, a socket or a device is absent to it, wherever it stands in a
-/// path, and is neither followed nor opened. Each call first walks down the path, with one `lstat` for each name. What is then
+/// path, and is neither followed nor opened. Each call first walks down the path, with one look for each name. What is then
 /// opened to be read, written, cut or synced is compared with what was found, by device and inode number, before a byte
-/// moves. What the other calls do is safe as long as nobody else puts a link in the place of a folder between two calls of
-/// the system: the standard library can neither open a folder without following a link nor work below an open one.
+/// moves: a file that was replaced after its look is not touched. A folder above it that another user swaps for a link
+/// between two calls is not noticed, and the standard library has no call that works below an open folder: serve no folder
+/// in which another user can write.
 #[derive(Drop)]
 pub struct Folder<D: Disk + Drop> {
     disk: D,
