@@ -4,52 +4,52 @@ ghost use Rattle.std.specs.Prelude.{◌≡◌, IfOk, OnOk};
 ghost use Rattle.backing.specs.Calls.{AskMake, AskMakeDir, AskRemove, AskRemoveDir, AskRename};
 ghost use Rattle.backing_folder.specs.Contents.{takenness};
 ghost use Rattle.backing_folder.specs.Explained.{Suits};
-ghost use Rattle.backing_folder.specs.Routes.{ResolvesDown};
+ghost use Rattle.backing_folder.specs.Routes.{IsBelow, IsWalked};
 
+use crate::disk::Disk;
 use crate::files::{find_file, find_folder};
 use crate::host_error::{HostError, Reason};
-use crate::listing::expect_bare;
-use crate::walk::{Found, Walk, look};
+use crate::walk::{Found, Walk};
 use backing::Answer;
 use errno::EEXIST;
 use paths::Path;
-use std::fs::File;
+use std::io;
 use std::io::ErrorKind;
-use std::rt::Files;
-use std::{fs, io};
 
 /// Makes an empty file: `open` with `O_EXCL`, `close`, or one `lstat` where something stands there.
-pub fn make<H: Files<File = File>>(
-    rt: &H,
+pub fn make<D: Disk>(
+    disk: &D,
     walk: &mut Walk,
     path: &Path,
 ) -> Result<Answer, HostError>
     ensures { IfOk result (Suits (AskMake path.now)) }
 {
-    find_place(rt, walk, path)?;
-    match File::create_new(rt, walk.path()) {
-        Ok(_made) => Ok(Answer::Done),
-        Err(error) => Err(why_not_made(rt, walk.path(), error)),
+    find_place(disk, walk, path)?;
+    match disk.create_new(walk.path()) {
+        Ok(()) => Ok(Answer::Done),
+        Err(error) => Err(why_not_made(disk, walk.path(), error)),
     }
 }
 
 /// Makes an empty folder: `mkdir`, or one `lstat` more where something stands there.
-pub fn make_dir<H: Files>(rt: &H, walk: &mut Walk, path: &Path) -> Result<Answer, HostError>
+pub fn make_dir<D: Disk>(disk: &D, walk: &mut Walk, path: &Path) -> Result<Answer, HostError>
     ensures { IfOk result (Suits (AskMakeDir path.now)) }
 {
-    find_place(rt, walk, path)?;
-    match fs::create_dir(rt, walk.path()) {
+    find_place(disk, walk, path)?;
+    match disk.create_dir(walk.path()) {
         Ok(()) => Ok(Answer::Done),
-        Err(error) => Err(why_not_made(rt, walk.path(), error)),
+        Err(error) => Err(why_not_made(disk, walk.path(), error)),
     }
 }
 
 /// Why nothing could be made there. If something stands there, one `lstat` says what.
-fn why_not_made<H: Files>(rt: &H, path: &str, error: io::Error) -> HostError {
+fn why_not_made<D: Disk>(disk: &D, path: &str, error: io::Error) -> HostError
+    requires { IsBelow (D.root disk.now) (D.folders disk.now) path.now }
+{
     if error.kind() != ErrorKind::AlreadyExists {
         return HostError::from(error);
     }
-    match look(rt, path) {
+    match disk.look(path) {
         Ok(found) => taken_by(found),
         Err(host_error) => host_error,
     }
@@ -66,17 +66,17 @@ fn taken_by(found: Found) -> HostError
 }
 
 /// Removes the file: `unlink`.
-pub fn remove<H: Files>(rt: &H, walk: &mut Walk, path: &Path) -> Result<Answer, HostError>
+pub fn remove<D: Disk>(disk: &D, walk: &mut Walk, path: &Path) -> Result<Answer, HostError>
     ensures { IfOk result (Suits (AskRemove path.now)) }
 {
-    find_file(rt, walk, path)?;
-    fs::remove_file(rt, walk.path())?;
+    find_file(disk, walk, path)?;
+    disk.remove_file(walk.path())?;
     Ok(Answer::Done)
 }
 
 /// Removes the folder: `open`, `getdents`, `close`, one `lstat` for each name, `rmdir`.
-pub fn remove_dir<H: Files + AllocGlobal + Clone + Drop>(
-    rt: &H,
+pub fn remove_dir<D: Disk>(
+    disk: &D,
     walk: &mut Walk,
     path: &Path,
 ) -> Result<Answer, HostError>
@@ -85,15 +85,15 @@ pub fn remove_dir<H: Files + AllocGlobal + Clone + Drop>(
     if path.len() == 0 {
         return Err(HostError::Refused(Reason::Root));
     }
-    find_folder(rt, walk, path)?;
-    expect_bare(rt, walk.path())?;
-    fs::remove_dir(rt, walk.path())?;
+    find_folder(disk, walk, path)?;
+    disk.expect_bare(walk.path())?;
+    disk.remove_dir(walk.path())?;
     Ok(Answer::Done)
 }
 
 /// Renames: `rename`; if a folder is replaced, `open`, `getdents`, `close` and one `lstat` for each name before it.
-pub fn rename<H: Files + AllocGlobal + Clone + Drop>(
-    rt: &H,
+pub fn rename<D: Disk>(
+    disk: &D,
     walk: &mut Walk,
     target: &mut Walk,
     from: &Path,
@@ -104,7 +104,7 @@ pub fn rename<H: Files + AllocGlobal + Clone + Drop>(
     if from.len() == 0 || to.len() == 0 {
         return Err(HostError::Refused(Reason::Root));
     }
-    let source = walk.find(rt, from.names())?;
+    let source = walk.find(disk, from.names())?;
     if is_gone(source) {
         return Err(HostError::Refused(Reason::Nothing));
     }
@@ -112,9 +112,9 @@ pub fn rename<H: Files + AllocGlobal + Clone + Drop>(
         return Ok(Answer::Done);
     }
     expect_apart(from, to)?;
-    let found = target.find(rt, to.names())?;
-    expect_fitting(rt, target.path(), source, found)?;
-    fs::rename(rt, walk.path(), target.path())?;
+    let found = target.find(disk, to.names())?;
+    expect_fitting(disk, target.path(), source, found)?;
+    disk.rename(walk.path(), target.path())?;
     Ok(Answer::Done)
 }
 
@@ -137,12 +137,14 @@ fn expect_apart(from: &Path, to: &Path) -> Result<(), HostError> {
 }
 
 /// The one may replace the other. What is hidden is not replaced.
-fn expect_fitting<H: Files + AllocGlobal + Clone + Drop>(
-    rt: &H,
+fn expect_fitting<D: Disk>(
+    disk: &D,
     target: &str,
     source: Found,
     found: Found,
-) -> Result<(), HostError> {
+) -> Result<(), HostError>
+    requires { IsBelow (D.root disk.now) (D.folders disk.now) target.now }
+{
     match found {
         Found::Nothing => Ok(()),
         Found::Hidden => Err(taken_by(found)),
@@ -151,20 +153,20 @@ fn expect_fitting<H: Files + AllocGlobal + Clone + Drop>(
             _ => Ok(()),
         },
         Found::Folder(_) => match source {
-            Found::Folder(_) => expect_bare(rt, target),
+            Found::Folder(_) => disk.expect_bare(target),
             _ => Err(HostError::Refused(Reason::Folder)),
         },
     }
 }
 
 /// A folder stands at the path's parent, where something is to be made.
-fn find_place<H: Files>(rt: &H, walk: &mut Walk, path: &Path) -> Result<(), HostError>
-    ensures { OnOk result (ResolvesDown walk.old.root walk.new.path path.now) }
+fn find_place<D: Disk>(disk: &D, walk: &mut Walk, path: &Path) -> Result<(), HostError>
+    ensures { OnOk result (IsWalked (D.root disk.now) (D.folders disk.now) walk.new path.now) }
 {
     let Some((name, parent)) = path.names().split_last() else {
         return Err(HostError::Refused(Reason::Taken));
     };
-    match walk.find(rt, parent)? {
+    match walk.find(disk, parent)? {
         Found::Folder(_) => walk.enter(name),
         Found::File(_) => Err(HostError::Refused(Reason::NoFolder)),
         Found::Nothing | Found::Hidden => Err(HostError::Refused(Reason::Nothing)),

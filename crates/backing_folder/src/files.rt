@@ -3,22 +3,22 @@
 ghost use Rattle.std.specs.Prelude.{IfOk, OnOk};
 ghost use Rattle.backing.specs.Calls.{AskStat, AskRead, AskWrite, AskSetLen, AskSync};
 ghost use Rattle.backing_folder.specs.Explained.{Suits};
-ghost use Rattle.backing_folder.specs.Routes.{ResolvesDown};
+ghost use Rattle.backing_folder.specs.Routes.{IsWalked};
 
+use crate::disk::Disk;
 use crate::host_error::{HostError, Reason};
 use crate::parts::{read_all, write_all};
 use crate::walk::{Found, Identity, Walk};
 use backing::{Answer, Bytes, Kind};
 use errno::EIO;
 use paths::Path;
-use std::fs::{File, OpenOptions};
-use std::rt::Files;
+use std::fs::File;
 
 /// What stands at the path.
-pub fn stat<H: Files>(rt: &H, walk: &mut Walk, path: &Path) -> Result<Answer, HostError>
+pub fn stat<D: Disk>(disk: &D, walk: &mut Walk, path: &Path) -> Result<Answer, HostError>
     ensures { IfOk result (Suits (AskStat path.now)) }
 {
-    match walk.find(rt, path.names())? {
+    match walk.find(disk, path.names())? {
         Found::Folder(_) => Ok(Answer::Stat {
             kind: Kind::Folder,
             size: 0,
@@ -32,8 +32,8 @@ pub fn stat<H: Files>(rt: &H, walk: &mut Walk, path: &Path) -> Result<Answer, Ho
 }
 
 /// Reads at most `size` bytes from `offset` on: `open`, `fstat`, `pread` until the end, `close`.
-pub fn read<H: Files<File = File> + AllocGlobal>(
-    rt: &H,
+pub fn read<D: Disk>(
+    disk: &D,
     walk: &mut Walk,
     path: &Path,
     offset: u64,
@@ -41,19 +41,19 @@ pub fn read<H: Files<File = File> + AllocGlobal>(
 ) -> Result<Answer, HostError>
     ensures { IfOk result (Suits (AskRead path.now offset size)) }
 {
-    let identity = find_file(rt, walk, path)?;
-    let file = File::open(rt, walk.path())?;
+    let identity = find_file(disk, walk, path)?;
+    let file = disk.open(walk.path())?;
     let len = expect_same(&file, &identity)?;
     let size = u64::from(size).min(len.saturating_sub(offset)) as usize;
-    let mut buffer = vec![in rt.alloc(); 0u8; size]?;
+    let mut buffer = vec![in disk.alloc(); 0u8; size]?;
     let count = read_all(&file, buffer.as_mut_slice(), offset)?;
     buffer.truncate(count);
     Ok(Answer::Bytes(Bytes::from_vec(buffer)))
 }
 
 /// Writes the piece at `offset`: `open`, `fstat`, `pwrite` until all is written, `close`. No bytes need none of these.
-pub fn write<H: Files<File = File>>(
-    rt: &H,
+pub fn write<D: Disk>(
+    disk: &D,
     walk: &mut Walk,
     path: &Path,
     offset: u64,
@@ -61,11 +61,11 @@ pub fn write<H: Files<File = File>>(
 ) -> Result<Answer, HostError>
     ensures { IfOk result (Suits (AskWrite path.now offset piece.now)) }
 {
-    let identity = find_file(rt, walk, path)?;
+    let identity = find_file(disk, walk, path)?;
     if piece.is_empty() {
         return Ok(Answer::Wrote(0));
     }
-    let file = open_to_write(rt, walk.path())?;
+    let file = disk.open_to_write(walk.path())?;
     expect_same(&file, &identity)?;
     let Some(_end) = offset.checked_add(piece.len() as u64) else {
         return Err(HostError::Failed(EIO));
@@ -75,45 +75,45 @@ pub fn write<H: Files<File = File>>(
 }
 
 /// Gives the file that length: `open`, `fstat`, `ftruncate`, `close`.
-pub fn set_len<H: Files<File = File>>(
-    rt: &H,
+pub fn set_len<D: Disk>(
+    disk: &D,
     walk: &mut Walk,
     path: &Path,
     size: u64,
 ) -> Result<Answer, HostError>
     ensures { IfOk result (Suits (AskSetLen path.now size)) }
 {
-    let identity = find_file(rt, walk, path)?;
-    let file = open_to_write(rt, walk.path())?;
+    let identity = find_file(disk, walk, path)?;
+    let file = disk.open_to_write(walk.path())?;
     expect_same(&file, &identity)?;
     file.set_len(size)?;
     Ok(Answer::Done)
 }
 
 /// Brings the file or the folder to the disk: `open`, `fstat`, `fsync`, `close`.
-pub fn sync<H: Files<File = File>>(
-    rt: &H,
+pub fn sync<D: Disk>(
+    disk: &D,
     walk: &mut Walk,
     path: &Path,
 ) -> Result<Answer, HostError>
     ensures { IfOk result (Suits (AskSync path.now)) }
 {
-    let identity = match walk.find(rt, path.names())? {
+    let identity = match walk.find(disk, path.names())? {
         Found::Folder(identity) => identity,
         Found::File(identity) => identity,
         Found::Nothing | Found::Hidden => return Err(HostError::Refused(Reason::Nothing)),
     };
-    let file = File::open(rt, walk.path())?;
+    let file = disk.open(walk.path())?;
     expect_same(&file, &identity)?;
     file.sync_all()?;
     Ok(Answer::Done)
 }
 
 /// A file stands there: which one it is.
-pub fn find_file<H: Files>(rt: &H, walk: &mut Walk, path: &Path) -> Result<Identity, HostError>
-    ensures { OnOk result (ResolvesDown walk.old.root walk.new.path path.now) }
+pub fn find_file<D: Disk>(disk: &D, walk: &mut Walk, path: &Path) -> Result<Identity, HostError>
+    ensures { OnOk result (IsWalked (D.root disk.now) (D.folders disk.now) walk.new path.now) }
 {
-    match walk.find(rt, path.names())? {
+    match walk.find(disk, path.names())? {
         Found::File(identity) => Ok(identity),
         Found::Folder(_) => Err(HostError::Refused(Reason::Folder)),
         Found::Nothing | Found::Hidden => Err(HostError::Refused(Reason::Nothing)),
@@ -121,19 +121,14 @@ pub fn find_file<H: Files>(rt: &H, walk: &mut Walk, path: &Path) -> Result<Ident
 }
 
 /// A folder stands there.
-pub fn find_folder<H: Files>(rt: &H, walk: &mut Walk, path: &Path) -> Result<(), HostError>
-    ensures { OnOk result (ResolvesDown walk.old.root walk.new.path path.now) }
+pub fn find_folder<D: Disk>(disk: &D, walk: &mut Walk, path: &Path) -> Result<(), HostError>
+    ensures { OnOk result (IsWalked (D.root disk.now) (D.folders disk.now) walk.new path.now) }
 {
-    match walk.find(rt, path.names())? {
+    match walk.find(disk, path.names())? {
         Found::Folder(_) => Ok(()),
         Found::File(_) => Err(HostError::Refused(Reason::NoFolder)),
         Found::Nothing | Found::Hidden => Err(HostError::Refused(Reason::Nothing)),
     }
-}
-
-fn open_to_write<H: Files<File = File>>(rt: &H, path: &str) -> Result<File, HostError> {
-    let file = OpenOptions::new().write(true).open(rt, path)?;
-    Ok(file)
 }
 
 /// The open file is the one that was found: how long it is.

@@ -4,59 +4,64 @@ ghost use Rattle.std.specs.Prelude.{◌≡◌, ℕ, IfOk};
 ghost use Rattle.backing.specs.Calls.{asked};
 ghost use Rattle.backing_folder.specs.Explained.{Suits, Follows, Tells};
 
+use crate::disk::Disk;
 use crate::entries::{make, make_dir, remove, remove_dir, rename};
 use crate::explained::is_explained;
 use crate::files::{read, set_len, stat, sync, write};
 use crate::host_error::{HostError, Reason};
 use crate::listing::list;
-use crate::walk::{Identity, Walk};
+use crate::system::System;
+use crate::walk::Walk;
 use backing::{Answer, Call, Calls, Told};
 use std::fs::File;
 use std::marker::Model;
 use std::rt::Files;
-use std::{fs, io};
+use std::io;
 
 /// A folder of the file system, and all that is below it.
 ///
 /// It shows files and folders alone: a symbolic link, a pipe, a socket or a device is absent to it, wherever it stands in a
-/// path, and is neither followed nor opened. Each call first walks down the path, with one `lstat` for each name. What is then
+/// path, and is neither followed nor opened. Each call first walks down the path, with one look for each name. What is then
 /// opened to be read, written, cut or synced is compared with what was found, by device and inode number, before a byte
-/// moves. What the other calls do is safe as long as nobody else puts a link in the place of a folder between two calls of
-/// the system: the standard library can neither open a folder without following a link nor work below an open one.
+/// moves: a file that was replaced after its look is not touched. A folder above it that another user swaps for a link
+/// between two calls is not noticed, and the standard library has no call that works below an open folder: serve no folder
+/// in which another user can write.
 #[derive(Drop)]
-pub struct Folder<H: Files<File = File> + AllocGlobal + Clone + Drop> {
-    rt: H,
+pub struct Folder<D: Disk + Drop> {
+    disk: D,
     walk: Walk,
     target: Walk,
     failures: u64,
 }
 
-impl<H: Files<File = File> + AllocGlobal + Clone + Drop> Model for Folder<H> {
+impl<D: Disk + Drop> Model for Folder<D> {
     ghost Value = { ℕ };
 
     ghost view = { λ f. f.failures };
 }
 
-impl<H: Files<File = File> + AllocGlobal + Clone + Drop> Folder<H> {
+impl<H: Files<File = File> + AllocGlobal + Clone + Drop> Folder<System<H>> {
     /// Opens the folder at `root`, whose own links are resolved once (`realpath`, `stat`).
-    pub fn open(rt: H, root: &str) -> io::Result<Folder<H>>
+    pub fn open(rt: H, root: &str) -> io::Result<Folder<System<H>>>
         ensures { IfOk result (λ f. f ≡ 0) }
     {
-        let root = fs::canonicalize(&rt, root)?.into_string();
-        let metadata = fs::metadata(&rt, root.as_str())?;
-        if !metadata.is_dir() {
-            return Err(io::Error::from(io::ErrorKind::NotADirectory));
-        }
-        let top = Identity::of(&metadata);
-        let again = root.clone()?;
-        let target = Walk::new(rt.alloc(), again, top);
-        let walk = Walk::new(rt.alloc(), root, top);
-        Ok(Folder {
-            rt,
+        Ok(Folder::new(System::open(rt, root)?))
+    }
+}
+
+impl<D: Disk + Drop> Folder<D> {
+    /// The folder that the disk serves.
+    pub fn new(disk: D) -> Folder<D>
+        ensures { result ≡ 0 }
+    {
+        let walk = Walk::new(disk.alloc());
+        let target = Walk::new(disk.alloc());
+        Folder {
+            disk,
             walk,
             target,
             failures: 0,
-        })
+        }
     }
 
     /// How many of its calls have failed.
@@ -67,7 +72,7 @@ impl<H: Files<File = File> + AllocGlobal + Clone + Drop> Folder<H> {
     }
 }
 
-impl<H: Files<File = File> + AllocGlobal + Clone + Drop> Calls for Folder<H> {
+impl<D: Disk + Drop> Calls for Folder<D> {
     ghost use Rattle.backing_folder.specs.Counting.{folder_counts};
 
     ghost gives = { Tells };
@@ -77,15 +82,15 @@ impl<H: Files<File = File> + AllocGlobal + Clone + Drop> Calls for Folder<H> {
     ghost counts = { folder_counts };
 
     fn call(&mut self, call: Call<'_>) -> Answer {
-        let ended = perform(&self.rt, &mut self.walk, &mut self.target, call);
+        let ended = perform(&self.disk, &mut self.walk, &mut self.target, call);
         let told = conclude(call, ended);
         told.into_answer(&mut self.failures)
     }
 }
 
 /// What the system answers and does.
-fn perform<H: Files<File = File> + AllocGlobal + Clone + Drop>(
-    rt: &H,
+fn perform<D: Disk>(
+    disk: &D,
     walk: &mut Walk,
     target: &mut Walk,
     call: Call<'_>,
@@ -93,17 +98,17 @@ fn perform<H: Files<File = File> + AllocGlobal + Clone + Drop>(
     ensures { IfOk result (Suits (asked call.entry)) }
 {
     match call {
-        Call::Stat(path) => stat(rt, walk, path),
-        Call::List(path) => list(rt, walk, path),
-        Call::Make(path) => make(rt, walk, path),
-        Call::MakeDir(path) => make_dir(rt, walk, path),
-        Call::Remove(path) => remove(rt, walk, path),
-        Call::RemoveDir(path) => remove_dir(rt, walk, path),
-        Call::Rename { from, to } => rename(rt, walk, target, from, to),
-        Call::Read { path, offset, size } => read(rt, walk, path, offset, size),
-        Call::Write { path, offset, data } => write(rt, walk, path, offset, data),
-        Call::SetLen { path, size } => set_len(rt, walk, path, size),
-        Call::Sync(path) => sync(rt, walk, path),
+        Call::Stat(path) => stat(disk, walk, path),
+        Call::List(path) => list(disk, walk, path),
+        Call::Make(path) => make(disk, walk, path),
+        Call::MakeDir(path) => make_dir(disk, walk, path),
+        Call::Remove(path) => remove(disk, walk, path),
+        Call::RemoveDir(path) => remove_dir(disk, walk, path),
+        Call::Rename { from, to } => rename(disk, walk, target, from, to),
+        Call::Read { path, offset, size } => read(disk, walk, path, offset, size),
+        Call::Write { path, offset, data } => write(disk, walk, path, offset, data),
+        Call::SetLen { path, size } => set_len(disk, walk, path, size),
+        Call::Sync(path) => sync(disk, walk, path),
     }
 }
 

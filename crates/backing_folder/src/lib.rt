@@ -1,6 +1,7 @@
 //! A real folder as a directory.
 #![tactic(auto)]
 
+mod disk;
 mod entries;
 mod explained;
 mod files;
@@ -8,6 +9,11 @@ mod folder;
 mod host_error;
 mod listing;
 mod parts;
+mod system;
 mod walk;
 
+pub use disk::Disk;
 pub use folder::Folder;
+pub use host_error::{HostError, Reason};
+pub use system::System;
+pub use walk::{Found, Identity};

@@ -5,6 +5,7 @@ ghost use Rattle.backing.specs.Calls.{AskList};
 ghost use Rattle.backing_folder.specs.Contents.{bareness, joined_by};
 ghost use Rattle.backing_folder.specs.Explained.{Suits};
 
+use crate::disk::Disk;
 use crate::files::find_folder;
 use crate::host_error::{HostError, Reason};
 use crate::walk::{Found, Walk, found_of};
@@ -18,16 +19,20 @@ use std::io::ErrorKind;
 use std::rt::Files;
 
 /// The names of files and folders in the folder: `open`, `getdents`, `close`, and one `lstat` for each name.
-pub fn list<H: Files + AllocGlobal + Clone + Drop>(
-    rt: &H,
-    walk: &mut Walk,
-    path: &Path,
-) -> Result<Answer, HostError>
+pub fn list<D: Disk>(disk: &D, walk: &mut Walk, path: &Path) -> Result<Answer, HostError>
     ensures { IfOk result (Suits (AskList path.now)) }
 {
-    find_folder(rt, walk, path)?;
+    find_folder(disk, walk, path)?;
+    Ok(Answer::Names(disk.list(walk.path())?))
+}
+
+/// The names of files and folders in the folder of the system.
+pub fn children_of<H: Files + AllocGlobal + Clone + Drop>(
+    rt: &H,
+    path: &str,
+) -> Result<Children, HostError> {
     let mut list = Vec::new(rt.alloc());
-    for entry in fs::read_dir(rt, walk.path())? {
+    for entry in fs::read_dir(rt, path)? {
         let entry = entry?;
         match found_at(&entry)? {
             Found::Folder(_) => push_child(&mut list, rt.alloc(), &entry, Kind::Folder)?,
@@ -35,7 +40,7 @@ pub fn list<H: Files + AllocGlobal + Clone + Drop>(
             Found::Nothing | Found::Hidden => {}
         }
     }
-    Ok(Answer::Names(Children::from_vec(list)))
+    Ok(Children::from_vec(list))
 }
 
 /// What stands at that name, or nothing if it has gone: one `lstat`.

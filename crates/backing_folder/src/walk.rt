@@ -1,18 +1,16 @@
 //! The way down a path of the file system.
 
-ghost use Rattle.std.specs.Prelude.{true, ◌≡◌, ◌≢◌, ◌<◌, ℕ, [], ◌∷◌, ◌++◌, OnOk, length, slice_index, string_bytes};
-ghost use Rattle.backing_folder.specs.Routes.{IsLawfulName, ResolvesDown};
+ghost use Rattle.std.specs.Prelude.{true, ◌≡◌, ◌≢◌, ◌<◌, ℕ, List, [], ◌∷◌, ◌++◌, IfOk, OnOk, length, slice_index};
+ghost use Rattle.backing_folder.specs.Routes.{IsFolder, IsLawfulName, IsWalked};
 
+use crate::disk::Disk;
 use crate::host_error::{HostError, Reason};
 use errno::EINVAL;
 use paths::Name;
 use std::alloc::{AllocError, Global};
-use std::fs;
 use std::fs::Metadata;
-use std::io::ErrorKind;
 use std::marker::Model;
 use std::os::unix::fs::MetadataExt;
-use std::rt::Files;
 
 /// Which file it is, and how long it was.
 #[derive(Clone, Copy)]
@@ -50,53 +48,46 @@ pub enum Found {
 /// A path of the file system that grows from the root down, always in one buffer.
 #[derive(Drop)]
 pub struct Walk {
-    root: String,
-    top: Identity,
     path: String,
 }
 
 impl Model for Walk {
-    ghost use Rattle.std.specs.Prelude.{string_bytes};
-    ghost use Rattle.backing_folder.specs.Routes.{Route};
+    ghost use Rattle.std.specs.Prelude.{ℕ, List, string_bytes};
 
-    ghost Value = { Route };
+    ghost Value = { List ℕ };
 
-    ghost view = { λ w. record { root = string_bytes w.root; path = string_bytes w.path } };
+    ghost view = { λ w. string_bytes w.path };
 }
 
 impl Walk {
     /// A walk that has not started.
-    pub fn new(alloc: Global, root: String, top: Identity) -> Walk
-        ensures { result ≡ record { root = string_bytes root; path = [] } }
+    pub fn new(alloc: Global) -> Walk
+        ensures { result ≡ [] }
     {
         Walk {
-            root,
-            top,
             path: String::new(alloc),
         }
     }
 
     /// Where it stands.
     pub fn path(&self) -> &str
-        ensures { result.now ≡ self.now.path }
+        ensures { result.now ≡ self.now }
     {
         self.path.as_str()
     }
 
     /// Back to the root.
-    pub fn start(&mut self) -> Result<(), AllocError>
-        ensures ok { OnOk result (self.new.path ≡ self.old.root) }
-        ensures root { self.new.root ≡ self.old.root }
+    fn start(&mut self, root: &str) -> Result<(), AllocError>
+        ensures { OnOk result (self.new ≡ root.now) }
     {
         self.path.clear();
-        self.path.push_str(self.root.as_str())
+        self.path.push_str(root)
     }
 
     /// Goes down by a name, if a folder can hold it.
     pub fn enter(&mut self, name: &Name) -> Result<(), HostError>
-        ensures ok { OnOk result (self.new.path ≡ self.old.path ++ 47 ∷ name.now) }
+        ensures ok { OnOk result (self.new ≡ self.old ++ 47 ∷ name.now) }
         ensures lawful { OnOk result (IsLawfulName name.now) }
-        ensures root { self.new.root ≡ self.old.root }
     {
         let text = name.as_str();
         if !is_lawful(text) {
@@ -107,17 +98,17 @@ impl Walk {
         Ok(())
     }
 
-    /// Goes down from the root, and answers what stands there: one `lstat` for each name.
-    pub fn find<H: Files>(&mut self, rt: &H, names: &[Name]) -> Result<Found, HostError>
-        ensures below { OnOk result (ResolvesDown self.old.root self.new.path names.now) }
-        ensures root { self.new.root ≡ self.old.root }
+    /// Goes down from the root, and answers what stands there: one look for each name.
+    pub fn find<D: Disk>(&mut self, disk: &D, names: &[Name]) -> Result<Found, HostError>
+        ensures walked { OnOk result (IsWalked (D.root disk.now) (D.folders disk.now) self.new names.now) }
+        ensures folder { IfOk result (λ found. IsFolder found → D.folders disk.now self.new) }
     {
-        self.start()?;
-        let mut found = Found::Folder(self.top);
+        self.start(disk.root())?;
+        let mut found = Found::Folder(disk.top());
         for name in names {
             expect_folder(found)?;
             self.enter(name)?;
-            found = look(rt, self.path())?;
+            found = disk.look(self.path())?;
         }
         Ok(found)
     }
@@ -154,15 +145,6 @@ fn is_plain(bytes: &[u8]) -> bool
     true
 }
 
-/// What stands at that very path, its links not followed: one `lstat`.
-pub fn look<H: Files>(rt: &H, path: &str) -> Result<Found, HostError> {
-    match fs::symlink_metadata(rt, path) {
-        Ok(metadata) => Ok(found_of(&metadata)),
-        Err(error) if error.kind() == ErrorKind::NotFound => Ok(Found::Nothing),
-        Err(error) => Err(HostError::from(error)),
-    }
-}
-
 /// What that is.
 pub fn found_of(metadata: &Metadata) -> Found {
     if metadata.is_dir() {
@@ -175,7 +157,9 @@ pub fn found_of(metadata: &Metadata) -> Found {
 }
 
 /// Something below it can be reached.
-fn expect_folder(found: Found) -> Result<(), HostError> {
+fn expect_folder(found: Found) -> Result<(), HostError>
+    ensures { OnOk result (IsFolder found) }
+{
     match found {
         Found::Folder(_) => Ok(()),
         Found::File(_) => Err(HostError::Refused(Reason::NoFolder)),

@@ -5,7 +5,7 @@ ghost use Rattle.mirrord_server.specs.Folders.{IsFolderServed, ServesFolder};
 ghost use Rattle.mirrord_server.specs.declared.folder.Unserved.TheVariants.{NoSocket};
 
 use crate::hosting::serve_alone;
-use backing_folder::Folder;
+use backing_folder::{Folder, System};
 use engine::{SessionEnd, Settings};
 use engine_streams::StreamLink;
 use std::fs::File;
@@ -52,7 +52,7 @@ fn unopened(error: io::Error) -> Unserved
 pub(crate) fn open_folder<H: Files<File = File> + AllocGlobal + Clone + Drop>(
     rt: &H,
     root: &str,
-) -> Result<Folder<H>, Unserved>
+) -> Result<Folder<System<H>>, Unserved>
     ensures new { IfOk result (λ folder. folder ≡ 0) }
     ensures why { IfErr result (λ why. why ≢ NoSocket) }
 {
@@ -82,7 +82,7 @@ pub(crate) fn serve_opened<
     O: Write + Drop,
 >(
     rt: &H,
-    folder: Folder<H>,
+    folder: Folder<System<H>>,
     seeds: Seeds,
     settings: Settings,
     input: I,

@@ -4,7 +4,7 @@ ghost use Rattle.std.specs.Prelude.{◌≡◌};
 ghost use Rattle.mirrord_server.specs.Folders.{ServesSocket};
 
 use crate::folder::{Unserved, new_seeds, open_folder, serve_opened};
-use backing_folder::Folder;
+use backing_folder::{Folder, System};
 use engine::{SessionEnd, Settings};
 use std::fs::File;
 use std::io::{BufReader, ErrorKind};
@@ -31,7 +31,7 @@ fn unheard(error: io::Error) -> Unserved {
 /// Serves the client at the other end of a socket.
 fn serve_client<H: Wait + Files<File = File> + AllocGlobal + Clone + Drop>(
     rt: &H,
-    folder: Folder<H>,
+    folder: Folder<System<H>>,
     seeds: Seeds,
     settings: Settings,
     stream: &UnixStream,
@@ -51,7 +51,7 @@ fn serve_client<H: Wait + Files<File = File> + AllocGlobal + Clone + Drop>(
 /// Waits for one client and serves it.
 fn serve_first<H: Wait + Files<File = File> + AllocGlobal + Clone + Drop>(
     rt: &H,
-    folder: Folder<H>,
+    folder: Folder<System<H>>,
     seeds: Seeds,
     settings: Settings,
     listener: &UnixListener,

@@ -2,7 +2,7 @@
 
 use crate::asking::{expect_count, expect_rows};
 use crate::places::{place_of, sample_folder};
-use backing_folder::Folder;
+use backing_folder::{Folder, System};
 use std::alloc::{Allocator, Global};
 use std::fs::{File, Metadata, OpenOptions};
 use std::io::ErrorKind;
@@ -116,7 +116,7 @@ impl Files for Tricked {
 /// The calls have these answers, and so many of them are counted as failures.
 fn ask_all(
     alloc: Global,
-    folder: &mut Folder<Tricked>,
+    folder: &mut Folder<System<Tricked>>,
     rows: &[(&str, &str)],
     count: u64,
 ) -> Result<(), Fail> {

@@ -2,7 +2,7 @@
 
 use crate::asking::{expect, expect_count};
 use crate::places::{place_of, sample_folder};
-use backing_folder::Folder;
+use backing_folder::{Folder, System};
 use std::os::unix::fs::symlink;
 use std::os::unix::net::UnixListener;
 use std::test::Fail;
@@ -47,7 +47,7 @@ fn put(rt: &HostRuntime, place: &str, item: Item) -> io::Result<()> {
 fn take(
     rt: &HostRuntime,
     root: &str,
-    folder: &mut Folder<HostRuntime>,
+    folder: &mut Folder<System<HostRuntime>>,
     step: Step,
 ) -> Result<(), Fail> {
     match step {
@@ -64,7 +64,7 @@ fn take(
 fn take_all(
     rt: &HostRuntime,
     root: &str,
-    folder: &mut Folder<HostRuntime>,
+    folder: &mut Folder<System<HostRuntime>>,
     steps: &[Step],
 ) -> Result<(), Fail> {
     for step in steps {

@@ -3,7 +3,7 @@
 use crate::asking::{ask, expect, expect_count};
 use crate::places::new_folder;
 use backing::MemTree;
-use backing_folder::Folder;
+use backing_folder::{Folder, System};
 use std::alloc::{AllocError, Global};
 use std::fs;
 use std::test::Fail;
@@ -70,7 +70,7 @@ fn call(alloc: Global, dice: &mut Dice) -> Result<String, AllocError> {
 fn ask_both(
     alloc: Global,
     tree: &mut MemTree,
-    folder: &mut Folder<HostRuntime>,
+    folder: &mut Folder<System<HostRuntime>>,
     words: &str,
 ) -> Result<(), Fail> {
     let wanted = ask(alloc, tree, words)?;
@@ -78,7 +78,7 @@ fn ask_both(
     expect_count(folder.failures(), 0)
 }
 
-fn ask_many(alloc: Global, folder: &mut Folder<HostRuntime>) -> Result<(), Fail> {
+fn ask_many(alloc: Global, folder: &mut Folder<System<HostRuntime>>) -> Result<(), Fail> {
     let mut tree = MemTree::new(alloc);
     let mut dice = Dice { state: 20_251_122 };
     for _ in 0..6000 {

@@ -1,6 +1,9 @@
-use Rattle.std.proofs.Common.{sym, ◌∙◌}
+use Rattle.std.proofs.Common.{sym, ◌∙◌, subst}
 use Rattle.backing_folder.proofs.RouteLemmas.{entered}
+use Rattle.backing_folder.specs.Routes.{IsFolder}
 use Rattle.backing_folder.proofs.entries.find_place.Goals as goal
 
 pub returns-in-Folder : goal.returns-in-Folder
-returns-in-Folder g c = entered c.args.walk.now.root c.find.new.self.path c.enter.new.self.path c.in-Some.parent.now c.args.path.now c.in-Some.name.now c.enter.result c.in_ok-find.ensures.below (sym c.names.ensures ∙ c.in-Some.ensures.cases.0) c.enter.ensures.ok c.enter.ensures.lawful
+returns-in-Folder g c =
+    let is_folder = subst IsFolder (sym c.in-Folder.is) tt in
+    entered (g.D.Disk.root c.args.disk.now) c.find.new.self c.enter.new.self (g.D.Disk.folders c.args.disk.now) c.in-Some.parent.now c.args.path.now c.in-Some.name.now c.enter.result c.in_ok-find.ensures.walked (c.in_ok-find.ensures.folder is_folder) (sym c.names.ensures ∙ c.in-Some.ensures.cases.0) c.enter.ensures.ok c.enter.ensures.lawful

@@ -1,9 +1,9 @@
-use Rattle.std.proofs.Common.{◌≡◌, take}
-use Rattle.backing_folder.specs.Routes.{ResolvesDown}
+use Rattle.std.proofs.Common.{take}
+use Rattle.backing_folder.specs.Routes.{IsFolder, IsWalked}
 use Rattle.backing_folder.proofs.walk.Walk.find.Given as goal
 
 abbrev pub invariant-loop-name : goal.invariant-loop-name
 invariant-loop-name g l = record {
-  root : l.self.root ≡ l.fn.self.root;
-  below : ResolvesDown l.fn.self.root l.self.path (take l.name-index l.names);
+  walked : IsWalked (g.D.Disk.root l.disk) (g.D.Disk.folders l.disk) l.self (take l.name-index l.names);
+  folder : IsFolder l.found → g.D.Disk.folders l.disk l.self;
 }
