@@ -10,13 +10,11 @@ use Rattle.sums.specs.Sum.{IsSum}
 use Rattle.sums.proofs.Changing.{part_of_sum, sum_changed, sum_with, sum_without}
 use Rattle.sums.proofs.Once.{sum_once}
 use Rattle.tree.specs.declared.nodes.Node.{Node}
-use Rattle.paths.specs.Prefixes.{Names}
-use Rattle.tree.specs.Places.{Lookup, Nodes, at_in, Climbs, with_node, without, IsRooted, IsTree, IsCensus}
+use Rattle.tree.specs.Places.{Lookup, Nodes, at_in, with_node, without, IsTree, IsCensus}
 use Rattle.tree.specs.Listed.{node_at, next_of, IsDistinct, IsLeastFree, IsGrown, nodes_of, counts_of}
 use Rattle.tree.specs.Stored.{slot_at, listed, next_number}
 use Rattle.tree.proofs.Counting.{look}
 use Rattle.tree.proofs.Census.{census_of}
-use Rattle.tree.proofs.Climbing.{climbs_short}
 use Rattle.tree.proofs.Walking.{next_is}
 use Rattle.tree.proofs.LookupLemmas.{with_other, with_same}
 

@@ -1,6 +1,5 @@
-use Rattle.std.proofs.Common.{◌≡◌, sym, ap, ◌∙◌, subst}
-use Rattle.tree.specs.Places.{at_in, IsTree}
-use Rattle.tree.specs.Stored.{slot_at}
+use Rattle.std.proofs.Common.{sym, subst}
+use Rattle.tree.specs.Places.{IsTree}
 use Rattle.tree.proofs.Slots.{seen_at}
 use Rattle.tree.proofs.Tree.take_newly_cut.Goals as goal
 
