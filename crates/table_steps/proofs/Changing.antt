@@ -16,7 +16,7 @@ use Rattle.table_steps.specs.Ending.{ChangesNames, IsUnder, KeepsChildren, MayAl
 use Rattle.table_steps.specs.Kept.{IsKept, flights_in, world_of}
 use Rattle.table_steps.specs.Steps.{Alters}
 use Rattle.table_steps.specs.Swept.{IsSwept}
-use Rattle.table_steps.specs.Sweeping.{HaveReasonsBelow, IsBooked, IsSameRest, parent_at, parent_in}
+use Rattle.table_steps.specs.Sweeping.{AreListed, HaveReasonsAside, IsBooked, IsSameRest, parent_at, parent_in}
 use Rattle.table_steps.specs.World.{AreReady, RequestInFlight, RequestsInFlight, IsAtWork, Work}
 use Rattle.table_steps.proofs.Booked.{IsBooked-swept}
 use Rattle.table_steps.proofs.Altering.{AltersNodes, IsAltered, IsBooked-altered, altered_back, alters_by, alters_hidden, alters_then, nodes_altered, nothing_altered}
@@ -24,6 +24,7 @@ use Rattle.table_steps.proofs.Filing.{nodes_swept}
 use Rattle.table_steps.proofs.Guarding.{left_where, path_some, path_stays}
 use Rattle.table_steps.proofs.Kept.{kept_changed, ready_swept}
 use Rattle.table_steps.proofs.Lawful.{booked_of, lawful_from}
+use Rattle.table_steps.proofs.NewlyCut.{cut_childless, cut_named, was_cut}
 use Rattle.table_steps.proofs.Replacing.{alters_follow}
 use Rattle.table_steps.proofs.Staying.{KeepsPaths}
 use Rattle.table_steps.proofs.Viewed.{are_kept}
@@ -59,7 +60,7 @@ under_given s (footprints.replaces l t c m) may n other (inr (inl e)) = may.kept
 under_given s (footprints.replaces l t c m) may n other (inr (inr e)) = may.kept n (subst (λ k. Contains may.footprint.given k) (sym e) (may.grounded.exclusive c may.own.2))
 
 module _ (s : State) (kept : IsKept s) (change : footprints.Change) (may : MayAlter s change) (mid : Nodes) (alters : Alters (at_in s.tree) change (at_in mid))
-    (children : KeepsChildren (at_in s.tree) (IsUnder (at_in s.tree) change) (at_in mid)) (rest : mid ≡ record s.tree { nodes = mid.nodes; next = mid.next }) (tree : IsTree (at_in mid)) where
+    (children : KeepsChildren (at_in s.tree) (IsUnder (at_in s.tree) change) (at_in mid)) (listed : AreListed s.tree mid) (rest : mid ≡ record s.tree { nodes = mid.nodes; next = mid.next; newly_cut = mid.newly_cut }) (tree : IsTree (at_in mid)) where
   abbrev flights : RequestsInFlight
   flights = flights_in (requests_of s.flights)
 
@@ -85,12 +86,28 @@ module _ (s : State) (kept : IsKept s) (change : footprints.Change) (may : MayAl
     | inr (inr one) ↦ inr (inr (inl (under_given s change may n other one)))
   ]
 
-  -- but for nodes that are cut, and the one over a node that was cut by its number, each has a reason
-  pub mid_reasons : HaveReasonsBelow (at_in mid) (kept_by s.flights s.files) (loses (at_in s.tree) change) 1
+  -- one that was cut before has its count or its pin
+  cut_reason : (n : ℕ) (x y : Node) → IsAltered x y → at_in s.tree n ≡ Some x → x.place ≡ place.Cut → HasReason (at_in s.tree) (kept_by s.flights s.files) n x → HasReason (at_in mid) (kept_by s.flights s.files) n y
+  cut_reason n x y altered stood lost (inl counted) = inl (subst (λ c. 0 < c) (sym altered.count) counted)
+  cut_reason n x y altered stood lost (inr (inl hidden)) = let named = kept.law.marks n x stood hidden in absurd (cut_named x.place named.0 lost named.1)
+  cut_reason n x y altered stood lost (inr (inr (inl pin))) = inr (inr (inl pin))
+  cut_reason n x y altered stood lost (inr (inr (inr child))) = absurd (cut_childless (at_in s.tree) kept.law.tree n x stood lost child)
+
+  -- but for nodes that were newly cut, and the one over a node that was cut by its number, each has a reason
+  pub mid_reasons : HaveReasonsAside (at_in mid) (kept_by s.flights s.files) (loses (at_in s.tree) change) mid.newly_cut
   mid_reasons = record {
-    reasons = λ n y now not_root other below.
+    reasons = λ n y now not_root other aside.
         let was = altered_back (at_in s.tree) (at_in mid) it n y now in
-        kept_reason n was.0 y other was.2 now (λ lost. let bad = below lost in absurd (omega (arith, bad.0, bad.1))) (kept.law.reasons n was.0 was.1 not_root);
+        let reason = kept.law.reasons n was.0 was.1 not_root in
+        elim (was_cut (at_in mid) n) [
+          | inl lost ↦
+              let place : y.place ≡ place.Cut = ap (λ (w : Node). w.place) (same_Some y lost.0 (sym now ∙ lost.1)) ∙ lost.2 in
+              elim (listed.cut n lost) [
+                | inl before ↦ cut_reason n was.0 y was.2 was.1 (ap (λ (w : Node). w.place) (same_Some was.0 before.0 (sym was.1 ∙ before.1)) ∙ before.2) reason
+                | inr among ↦ absurd (aside place among)
+              ]
+          | inr whole ↦ kept_reason n was.0 y other was.2 now (λ e. whole (y, now, e)) reason
+        ];
   }
 
   module _ (new : Nodes) (tree' : IsTree (at_in new)) (reasons : HaveReasons (at_in new) (kept_by s.flights s.files)) (swept : IsSwept (kept_by s.flights s.files) (at_in mid) (at_in new)) (same : IsSameRest mid new) where

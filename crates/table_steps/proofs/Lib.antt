@@ -38,3 +38,4 @@ mod Replacing
 pub mod Changing
 pub mod Answering
 mod Filling
+pub mod NewlyCut

@@ -1,6 +1,7 @@
 -- Who has a reason to stay after a node was dropped or changed, and what a sweep leaves.
-use Rattle.std.proofs.Common.{ℕ, ◌+◌, ◌≤◌, ◌≡◌, ◌≢◌, Bool, true, List, [], ◌∷◌, Option, Some, None, MatchOption, refl, sym, ap, ◌∙◌, subst, ◌⊎◌, inl, inr, arith}
+use Rattle.std.proofs.Common.{ℕ, zero, suc, ◌≤◌, ◌≡◌, ◌≢◌, Bool, true, List, [], ◌∷◌, ◌++◌, Contains, Option, Some, None, MatchOption, refl, sym, ap, ◌∙◌, subst, ◌⊎◌, inl, inr, arith}
 use Rattle.std.proofs.lemmas.Bool.{cases_eq}
+use Rattle.std.proofs.lemmas.List.Elements.{Contains-append_cases}
 use Rattle.std.proofs.lemmas.Option.{none-some, same_Some}
 use Rattle.tree.specs.declared.nodes.Key.{Key}
 use Rattle.tree.specs.declared.nodes.Node.{Node}
@@ -11,7 +12,7 @@ use Rattle.tree.proofs.LookupLemmas.{without_some, without_other, with_other, wi
 use Rattle.table_image.specs.Law.{HasReason, HaveReasons}
 use Rattle.table_steps.specs.Swept.{IsNeedless, IsSwept}
 use Rattle.tree.proofs.Climbing.{cut_unnamed}
-use Rattle.table_steps.specs.Sweeping.{HaveReasonsBelow, IsAmong, HaveReasonsBut, IsPruned, IsSameRest, listed, parent_in}
+use Rattle.table_steps.specs.Sweeping.{HaveReasonsAside, IsAmong, HaveReasonsBut, IsPruned, IsSameRest, listed, parent_in}
 
 -- ---- dropping
 
@@ -200,37 +201,67 @@ IsSameRest-trans a b c first then = record {
   room = omega (arith, first.room, then.room);
 }
 
--- ---- nodes that are cut, one number after another
-
--- the node of that number has a reason
-pub below_needed : (at : Lookup) (pinned : ℕ → Bool) (but : Option ℕ) (number : ℕ) (x : Node) → at number ≡ Some x → HasReason at pinned number x ⊎ (number ≡ 1) → HaveReasonsBelow at pinned but number → HaveReasonsBelow at pinned but (number + 1)
-below_needed at pinned but number x stood needed before = record {
-  reasons = λ n y h not_root left below. elim (cases_eq n number) [
-    | inl e ↦ elim needed [
-      | inl reason ↦ subst (λ k. HasReason at pinned k y) (sym e) (subst (λ (z : Node). HasReason at pinned number z) (same_Some x y (sym stood ∙ (ap at (sym e) ∙ h))) reason)
-      | inr root ↦ absurd (not_root (e ∙ root))
-    ]
-    | inr ne ↦ before.reasons n y h not_root left (λ lost. let b = below lost in (b.0, omega (arith, b, ne)))
-  ];
+-- the list of nodes that were newly cut is no part of that
+pub rest_taken : (a b c : Nodes) → c ≡ record b { newly_cut = c.newly_cut } → IsSameRest a b → IsSameRest a c
+rest_taken a b c same rest = record {
+  fewer = omega (arith, rest.fewer, ap (λ (t : Nodes). t.living) same);
+  counts = ap (λ (t : Nodes). t.counts) same ∙ rest.counts;
+  limit = ap (λ (t : Nodes). t.limit) same ∙ rest.limit;
+  room = omega (arith, rest.room, ap (λ (t : Nodes). t.room) same);
 }
 
--- it was cut, and is dropped
-pub below_dropped : (at new : Lookup) (pinned : ℕ → Bool) (but : Option ℕ) (number : ℕ) (x : Node) → at number ≡ Some x → x.place ≡ Cut → new ≡ without at number → HaveReasonsBelow at pinned but number → HaveReasonsBelow new pinned but (number + 1)
-below_dropped at new pinned but number x stood place is before = subst (λ a. HaveReasonsBelow a pinned but (number + 1)) (sym is) (record {
-  reasons = λ n y h not_root left below.
-      let was = without_some at number n y h in
-      let other : (name : List ℕ) → IsNamed at number n name → ⊥ = λ name k. cut_unnamed at number x stood place n name k in
-      let ne : number ≢ n = was.0 in
-      stays_kept at pinned number n y other (before.reasons n y was.1 not_root left (λ lost. let b = below lost in (b.0, omega (arith, b, ne))));
-})
+-- ---- nodes that were newly cut, one after another
+
+only_in : (m n : ℕ) → Contains (m ∷ []) n → m ≡ n
+only_in m n (zero, within, e) = e
+only_in m n (suc k, within, e) = absurd (omega (arith, within))
+
+module _ (at : Lookup) (kept : ℕ → Bool) (but : Option ℕ) (cuts : List ℕ) (number : ℕ) (before : HaveReasonsAside at kept but (cuts ++ number ∷ [])) where
+  -- one that is not that number is in the list only where it was
+  later : (n : ℕ) (x : Node) → (n ≡ number → ⊥) → (x.place ≡ Cut → Contains cuts n → ⊥) → x.place ≡ Cut → Contains (cuts ++ number ∷ []) n → ⊥
+  later n x ne aside lost among = elim (Contains-append_cases cuts (number ∷ []) n among) [
+    | inl earlier ↦ aside lost earlier
+    | inr last ↦ ne (sym (only_in number n last))
+  ]
+
+  -- where the node of that number has a reason, or is not cut, it need not be listed
+  aside_less : ((x : Node) → at number ≡ Some x → number ≢ 1 → (x.place ≡ Cut → ⊥) ⊎ HasReason at kept number x) → HaveReasonsAside at kept but cuts
+  aside_less here = record {
+    reasons = λ n x h not_root left aside. elim (cases_eq n number) [
+      | inl e ↦ elim (here x (ap at (sym e) ∙ h) (λ root. not_root (e ∙ root))) [
+        | inl whole ↦ before.reasons n x h not_root left (λ lost among. whole lost)
+        | inr reason ↦ subst (λ k. HasReason at kept k x) (sym e) reason
+      ]
+      | inr ne ↦ before.reasons n x h not_root left (later n x ne aside)
+    ];
+  }
+
+  pub aside_none : at number ≡ None → HaveReasonsAside at kept but cuts
+  aside_none none = aside_less (λ x stood not_root. absurd (none-some x (sym none ∙ stood)))
+
+  module _ (x : Node) (stood : at number ≡ Some x) where
+    pub aside_whole : (x.place ≡ Cut → ⊥) → HaveReasonsAside at kept but cuts
+    aside_whole whole = aside_less (λ y h not_root. inl (λ lost. whole (ap (λ (w : Node). w.place) (same_Some x y (sym stood ∙ h)) ∙ lost)))
+
+    pub aside_needed : HasReason at kept number x ⊎ (number ≡ 1) → HaveReasonsAside at kept but cuts
+    aside_needed needed = aside_less (λ y h not_root. elim needed [
+      | inl reason ↦ inr (subst (λ (z : Node). HasReason at kept number z) (same_Some x y (sym stood ∙ h)) reason)
+      | inr root ↦ absurd (not_root root)
+    ])
+
+    -- it was cut, and is dropped
+    pub aside_dropped : (new : Lookup) → x.place ≡ Cut → new ≡ without at number → HaveReasonsAside new kept but cuts
+    aside_dropped new place is = subst (λ a. HaveReasonsAside a kept but cuts) (sym is) (record {
+      reasons = λ n y h not_root left aside.
+          let was = without_some at number n y h in
+          let other : (name : List ℕ) → IsNamed at number n name → ⊥ = λ name k. cut_unnamed at number x stood place n name k in
+          stays_kept at kept number n y other (before.reasons n y was.1 not_root left (later n y (λ e. was.0 (sym e)) aside));
+    })
 
 left_out : (but : Option ℕ) (n : ℕ) → (IsAmong n (listed but) → ⊥) → but ≡ Some n → ⊥
 left_out None n left e = none-some n e
 left_out (Some b) n left e = left (inl (sym (same_Some b n e)))
 
--- all that live were looked at, and none bears the number 0
-pub below_all : (at : Lookup) (pinned : ℕ → Bool) (but : Option ℕ) (last : ℕ) → at 0 ≡ None → ((n : ℕ) → IsAlive at n → n ≤ last) → HaveReasonsBelow at pinned but (last + 1) → HaveReasonsBut at pinned (listed but)
-below_all at pinned but last none within before n x h not_root left = before.reasons n x h not_root (left_out but n left) (λ lost.
-    let b = within n (x, h) in
-    let some : n ≢ 0 = λ e. none-some x (sym none ∙ (ap at (sym e) ∙ h)) in
-    (omega arith, omega arith))
+-- none is listed
+pub aside_all : (at : Lookup) (kept : ℕ → Bool) (but : Option ℕ) (cuts : List ℕ) → cuts ≡ [] → HaveReasonsAside at kept but cuts → HaveReasonsBut at kept (listed but)
+aside_all at kept but cuts none before n x h not_root left = before.reasons n x h not_root (left_out but n left) (λ lost among. let it = subst (λ (l : List ℕ). Contains l n) none among in absurd (omega (arith, it.1)))

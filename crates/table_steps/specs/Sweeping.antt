@@ -1,11 +1,11 @@
 -- What holds while nodes that nothing keeps are dropped one by one.
-use Rattle.std.specs.Prelude.{ℕ, ◌+◌, ◌≡◌, ◌≢◌, ◌≤◌, ◌<◌, ◌⊎◌, Bool, true, List, [], ◌∷◌, Option, Some, None, length}
+use Rattle.std.specs.Prelude.{ℕ, ◌+◌, ◌≡◌, ◌≢◌, ◌≤◌, ◌⊎◌, Bool, true, List, [], ◌∷◌, Option, Some, None, Contains, length}
 use Rattle.table_files.specs.Handles.{AreOpenEntries, Opened}
 use Rattle.paths.specs.Prefixes.{Name}
 use Rattle.tree.specs.declared.nodes.Node.{Node}
 use Rattle.tree.specs.declared.nodes.Place.{Place}
 use Rattle.tree.specs.declared.nodes.Place.TheVariants.{Root, Named, Cut}
-use Rattle.tree.specs.Places.{Lookup, Nodes, at_in, IsNamed, IsTree}
+use Rattle.tree.specs.Places.{Lookup, Nodes, at_in, IsCut, IsNamed, IsTree}
 use Rattle.ledger.specs.Postings.{Postings}
 use Rattle.ledger.specs.declared.postings.Posting.{Posting}
 use Rattle.table_steps.specs.Steps.{files_without}
@@ -27,9 +27,14 @@ pub record IsBooked (at : Lookup) (ps : List Posting) (kept : ℕ → Bool) : Ty
 abbrev pub HaveReasonsBut : Lookup → (ℕ → Bool) → List ℕ → Type 0
 HaveReasonsBut at kept but = (n : ℕ) (x : Node) → at n ≡ Some x → n ≢ 1 → (IsAmong n but → ⊥) → HasReason at kept n x
 
--- each node but the root has a reason, those aside that are cut and whose number is 0 or not below that one, and one that may be left out
-pub record HaveReasonsBelow (at : Lookup) (kept : ℕ → Bool) (but : Option ℕ) (bound : ℕ) : Type 0 where
-  pub reasons : (n : ℕ) (x : Node) → at n ≡ Some x → n ≢ 1 → (but ≡ Some n → ⊥) → (x.place ≡ Cut → (0 < n) × (n < bound)) → HasReason at kept n x
+-- each node but the root has a reason, those aside that are cut and in the list, and one that may be left out
+pub record HaveReasonsAside (at : Lookup) (kept : ℕ → Bool) (but : Option ℕ) (cuts : List ℕ) : Type 0 where
+  pub reasons : (n : ℕ) (x : Node) → at n ≡ Some x → n ≢ 1 → (but ≡ Some n → ⊥) → (x.place ≡ Cut → Contains cuts n → ⊥) → HasReason at kept n x
+
+-- each node that is cut was cut before, or is listed as newly cut, and what was listed is
+pub record AreListed (old new : Nodes) : Type 0 where
+  pub kept : (n : ℕ) → Contains old.newly_cut n → Contains new.newly_cut n
+  pub cut : (n : ℕ) → IsCut (at_in new) n → IsCut (at_in old) n ⊎ Contains new.newly_cut n
 
 -- the one that may be left out
 abbrev pub listed : Option ℕ → List ℕ

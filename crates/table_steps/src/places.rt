@@ -3,6 +3,7 @@
 ghost use Rattle.std.specs.Prelude.{◌≡◌, ◌≢◌, ◌⊎◌, ℤ};
 ghost use Rattle.table_steps.specs.Ending.{AreUnder, IsOver, IsUnder, KeepsChildren, change_in, loses, name_at};
 ghost use Rattle.table_steps.specs.Steps.{Alters, Cuts, Hides, Moves, Replaces};
+ghost use Rattle.table_steps.specs.Sweeping.{AreListed};
 ghost use Rattle.tree.specs.Places.{at_in, IsTree, Leads};
 ghost use Rattle.table_footprints.specs.Asked.{IsMisplaced, IsRefusedAt};
 ghost use Rattle.table_footprints.specs.Footprints.{AtNode, cuts};
@@ -17,7 +18,8 @@ fn cut_at(tree: &mut Tree, key: &Key)
     requires { Leads (at_in tree.old) key.now.parent }
     ensures cuts { Cuts (at_in tree.old) (name_at key.now) (at_in tree.new) }
     ensures children { KeepsChildren (at_in tree.old) (λ n. n ≡ key.now.parent) (at_in tree.new) }
-    ensures rest { tree.new ≡ record tree.old { nodes = tree.new.nodes; next = tree.new.next } }
+    ensures listed { AreListed tree.old tree.new }
+    ensures rest { tree.new ≡ record tree.old { nodes = tree.new.nodes; next = tree.new.next; newly_cut = tree.new.newly_cut } }
     ensures tree { IsTree (at_in tree.new) }
 {
     let Some(number) = tree.find(key) else {
@@ -34,7 +36,8 @@ fn cut_node(tree: &mut Tree, number: u64)
     requires not_root { number ≢ 1 }
     ensures cuts { Cuts (at_in tree.old) (AtNode number) (at_in tree.new) }
     ensures children { KeepsChildren (at_in tree.old) (IsOver (at_in tree.old) (AtNode number)) (at_in tree.new) }
-    ensures rest { tree.new ≡ record tree.old { nodes = tree.new.nodes; next = tree.new.next } }
+    ensures listed { AreListed tree.old tree.new }
+    ensures rest { tree.new ≡ record tree.old { nodes = tree.new.nodes; next = tree.new.next; newly_cut = tree.new.newly_cut } }
     ensures tree { IsTree (at_in tree.new) }
 {
     let _nodes = tree.len(); // proof: its law
@@ -51,7 +54,8 @@ fn move_at(tree: &mut Tree, key: &Key, target: Keys)
     ensures moves { Leads (at_in tree.old) key.now.parent → Moves (at_in tree.old) (name_at key.now) (name_at target.key) (at_in tree.new) }
     ensures exclusive { (Leads (at_in tree.old) key.now.parent → ⊥) → Cuts (at_in tree.old) (name_at target.key) (at_in tree.new) }
     ensures children { KeepsChildren (at_in tree.old) (λ n. (n ≡ key.now.parent) ⊎ (n ≡ target.key.parent)) (at_in tree.new) }
-    ensures rest { tree.new ≡ record tree.old { nodes = tree.new.nodes; next = tree.new.next } }
+    ensures listed { AreListed tree.old tree.new }
+    ensures rest { tree.new ≡ record tree.old { nodes = tree.new.nodes; next = tree.new.next; newly_cut = tree.new.newly_cut } }
     ensures tree { IsTree (at_in tree.new) }
 {
     match tree.find(key) {
@@ -68,7 +72,8 @@ fn hide_at(tree: &mut Tree, key: &Key, candidate: Keys)
     requires may { (e : ℤ) → IsRefusedAt (at_in tree.old) (name_at key.now) (name_at candidate.key) e → ⊥ }
     ensures hides { Hides (at_in tree.old) (name_at key.now) (name_at candidate.key) (at_in tree.new) }
     ensures children { KeepsChildren (at_in tree.old) (λ n. (n ≡ key.now.parent) ⊎ (n ≡ candidate.key.parent)) (at_in tree.new) }
-    ensures rest { tree.new ≡ record tree.old { nodes = tree.new.nodes; next = tree.new.next } }
+    ensures listed { AreListed tree.old tree.new }
+    ensures rest { tree.new ≡ record tree.old { nodes = tree.new.nodes; next = tree.new.next; newly_cut = tree.new.newly_cut } }
     ensures tree { IsTree (at_in tree.new) }
 {
     let found = tree.find(key);
@@ -88,7 +93,8 @@ fn replace_at(tree: &mut Tree, key: &Key, target: Keys, candidate: Keys, moved: 
     requires may_hide { (e : ℤ) → IsRefusedAt (at_in tree.old) (name_at target.key) (name_at candidate.key) e → ⊥ }
     ensures replaces { Replaces (at_in tree.old) (name_at key.now) (name_at target.key) (name_at candidate.key) moved (at_in tree.new) }
     ensures children { KeepsChildren (at_in tree.old) (λ n. (n ≡ key.now.parent) ⊎ ((n ≡ target.key.parent) ⊎ (n ≡ candidate.key.parent))) (at_in tree.new) }
-    ensures rest { tree.new ≡ record tree.old { nodes = tree.new.nodes; next = tree.new.next } }
+    ensures listed { AreListed tree.old tree.new }
+    ensures rest { tree.new ≡ record tree.old { nodes = tree.new.nodes; next = tree.new.next; newly_cut = tree.new.newly_cut } }
     ensures tree { IsTree (at_in tree.new) }
 {
     hide_at(tree, &target.key, candidate);
@@ -119,7 +125,8 @@ pub(crate) fn alter(tree: &mut Tree, change: Change)
     requires may { (e : ℤ) → IsMisplaced (at_in tree.old) (change_in change) e → ⊥ }
     ensures alters { Alters (at_in tree.old) (change_in change) (at_in tree.new) }
     ensures children { KeepsChildren (at_in tree.old) (IsUnder (at_in tree.old) (change_in change)) (at_in tree.new) }
-    ensures rest { tree.new ≡ record tree.old { nodes = tree.new.nodes; next = tree.new.next } }
+    ensures listed { AreListed tree.old tree.new }
+    ensures rest { tree.new ≡ record tree.old { nodes = tree.new.nodes; next = tree.new.next; newly_cut = tree.new.newly_cut } }
     ensures tree { IsTree (at_in tree.new) }
 {
     match change {

@@ -4,7 +4,7 @@ ghost use Rattle.std.specs.Prelude.{true, false, ◌≡◌, ◌≤◌, ◌<◌, 
 ghost use Rattle.table_image.specs.Law.{HasReason, HaveReasons};
 ghost use Rattle.table_steps.specs.Keeping.{kept_by};
 ghost use Rattle.table_steps.specs.Swept.{IsNeedless, IsSwept};
-ghost use Rattle.table_steps.specs.Sweeping.{HaveReasonsBelow, HaveReasonsBut, IsPruned, IsSameRest, listed, parent_at, parent_in};
+ghost use Rattle.table_steps.specs.Sweeping.{HaveReasonsAside, HaveReasonsBut, IsPruned, IsSameRest, listed, parent_at, parent_in};
 ghost use Rattle.table_steps.specs.Steps.{numbers_of};
 ghost use Rattle.tree.specs.Places.{at_in, IsTree};
 
@@ -158,9 +158,10 @@ fn drop_cut(
     _but: Option<u64>,
 )
     requires tree { IsTree (at_in tree.old) }
-    requires below { HaveReasonsBelow (at_in tree.old) (kept_by flights.now files.now) _but number }
+    requires aside { HaveReasonsAside (at_in tree.old) (kept_by flights.now files.now) _but (tree.old.newly_cut ++ number ∷ []) }
     ensures tree { IsTree (at_in tree.new) }
-    ensures below { HaveReasonsBelow (at_in tree.new) (kept_by flights.now files.now) _but (number + 1) }
+    ensures aside { HaveReasonsAside (at_in tree.new) (kept_by flights.now files.now) _but tree.new.newly_cut }
+    ensures cuts { tree.new.newly_cut ≡ tree.old.newly_cut }
     ensures swept { IsSwept (kept_by flights.now files.now) (at_in tree.old) (at_in tree.new) }
     ensures rest { IsSameRest tree.old tree.new }
 {
@@ -177,27 +178,25 @@ fn drop_cut(
     tree.drop_node(number);
 }
 
-/// Drops each node that is cut and that nothing keeps. No node loses a child by it. One node may lack a reason.
+/// Drops each node that was newly cut and that nothing keeps. No node loses a child by it. One node may lack a reason.
 fn sweep_cut(tree: &mut Tree, flights: &RequestsInFlight, files: &Files, but: Option<u64>)
     requires tree { IsTree (at_in tree.old) }
-    requires below { HaveReasonsBelow (at_in tree.old) (kept_by flights.now files.now) but 1 }
+    requires aside { HaveReasonsAside (at_in tree.old) (kept_by flights.now files.now) but tree.old.newly_cut }
     ensures tree { IsTree (at_in tree.new) }
     ensures reasons { HaveReasonsBut (at_in tree.new) (kept_by flights.now files.now) (listed but) }
     ensures swept { IsSwept (kept_by flights.now files.now) (at_in tree.old) (at_in tree.new) }
     ensures rest { IsSameRest tree.old tree.new }
 {
-    let mut number = 0;
-    while let Some(next) = tree.after(number) {
-        drop_cut(tree, flights, files, next, but);
-        number = next;
+    while let Some(number) = tree.take_newly_cut() {
+        drop_cut(tree, flights, files, number, but);
     }
 }
 
-/// Drops each node that is cut and that nothing keeps, and then the one that may have lost its last child, if there is one, its
+/// Drops each node that was newly cut and that nothing keeps, and then the one that may have lost its last child, if there is one, its
 /// parent, and so on.
 pub fn sweep_change(tree: &mut Tree, flights: &RequestsInFlight, files: &Files, losing: Option<u64>)
     requires tree { IsTree (at_in tree.old) }
-    requires below { HaveReasonsBelow (at_in tree.old) (kept_by flights.now files.now) losing 1 }
+    requires aside { HaveReasonsAside (at_in tree.old) (kept_by flights.now files.now) losing tree.old.newly_cut }
     ensures tree { IsTree (at_in tree.new) }
     ensures reasons { HaveReasons (at_in tree.new) (kept_by flights.now files.now) }
     ensures swept { IsSwept (kept_by flights.now files.now) (at_in tree.old) (at_in tree.new) }

@@ -1,11 +1,12 @@
 -- The way down to a leaf and up again.
-use Rattle.std.proofs.Common.{ℕ, ◌+◌, ◌<◌, ◌≡◌, [], ◌∷◌, Some, length, refl, sym, ap, ◌∙◌, subst, inl, inr, arith}
+use Rattle.std.proofs.Common.{ℕ, ◌+◌, ◌<◌, ◌≡◌, List, [], ◌∷◌, ◌++◌, Some, length, refl, sym, ap, ◌∙◌, subst, inl, inr, arith}
 use Rattle.paths.specs.Prefixes.{Name, Names}
 use Rattle.tree.specs.declared.nodes.Node.{Node}
 use Rattle.tree.specs.declared.nodes.Place.TheVariants.{Cut}
-use Rattle.tree.specs.Moves.{cut_node, CutsBelow}
+use Rattle.tree.specs.Moves.{cut_node, CutsBelow, ListsCuts}
 use Rattle.tree.specs.Places.{Lookup, with_node, IsNamed, Reaches, HasChild}
 use Rattle.tree.proofs.Climbing.{cut_unnamed, named_same, place_same, root_unnamed}
+use Rattle.tree.proofs.Listing.{lists_cut, named_uncut}
 use Rattle.tree.proofs.LookupLemmas.{with_other, with_same}
 use Rattle.tree.proofs.Pruning.{IsPruned, IsPruned-step, CutsBelow-pruned}
 
@@ -99,3 +100,7 @@ module _ (old mid new : Lookup) (n current depth p : ℕ) (word : Name) (h : IsN
 
   pub cuts_on : current ≡ n → CutsBelow old new n
   cuts_on e = cut_last old mid new n h.0 (ap mid (sym e) ∙ h.1) whole_here (wrote ∙ ap (λ (k : ℕ). with_node mid k (cut_node h.0)) e) pruned pruned_on
+
+  -- and it is listed
+  pub lists_on : (before after : List ℕ) → ListsCuts old mid before after → ListsCuts old new before (after ++ current ∷ [])
+  lists_on before after lists = lists_cut old mid new before after current h.0 h.1 whole_here (named_uncut old current p word (was_named old mid n pruned current p word h)) wrote lists

@@ -10,13 +10,11 @@ use Rattle.sums.specs.Sum.{IsSum}
 use Rattle.sums.proofs.Changing.{part_of_sum, sum_changed, sum_with, sum_without}
 use Rattle.sums.proofs.Once.{sum_once}
 use Rattle.tree.specs.declared.nodes.Node.{Node}
-use Rattle.paths.specs.Prefixes.{Names}
-use Rattle.tree.specs.Places.{Lookup, Nodes, at_in, Climbs, with_node, without, IsRooted, IsTree, IsCensus}
+use Rattle.tree.specs.Places.{Lookup, Nodes, at_in, with_node, without, IsTree, IsCensus}
 use Rattle.tree.specs.Listed.{node_at, next_of, IsDistinct, IsLeastFree, IsGrown, nodes_of, counts_of}
 use Rattle.tree.specs.Stored.{slot_at, listed, next_number}
 use Rattle.tree.proofs.Counting.{look}
 use Rattle.tree.proofs.Census.{census_of}
-use Rattle.tree.proofs.Climbing.{climbs_short}
 use Rattle.tree.proofs.Walking.{next_is}
 use Rattle.tree.proofs.LookupLemmas.{with_other, with_same}
 
@@ -148,10 +146,10 @@ module _ (old new : Slab Node) (numbered : (n : ℕ) (x : Node) → slot_at old 
       omega arith
 
 -- the same of what callers see
-pub census_in : (s : Slab Node) → ((n : ℕ) (x : Node) → slot_at s n ≡ Some x → x.number ≡ n) → (t : Nodes) (limit room next : ℕ) → record { nodes = nodes_of (listed s.slots); living = slab_len s; counts = counts_of (listed s.slots); limit = limit; room = room; next = next } ≡ t → IsCensus (at_in t) t.living t.counts
-census_in s numbered t limit room next view =
+pub census_in : (s : Slab Node) → ((n : ℕ) (x : Node) → slot_at s n ≡ Some x → x.number ≡ n) → (t : Nodes) (limit room next : ℕ) (cut : List ℕ) → record { nodes = nodes_of (listed s.slots); living = slab_len s; counts = counts_of (listed s.slots); limit = limit; room = room; next = next; newly_cut = cut } ≡ t → IsCensus (at_in t) t.living t.counts
+census_in s numbered t limit room next cut view =
     let P : Nodes → Type 0 = λ u. IsCensus (at_in u) u.living u.counts in
-    let here : IsCensus (at_in (record { nodes = nodes_of (listed s.slots); living = slab_len s; counts = counts_of (listed s.slots); limit = limit; room = room; next = next })) (slab_len s) (counts_of (listed s.slots)) =
+    let here : IsCensus (at_in (record { nodes = nodes_of (listed s.slots); living = slab_len s; counts = counts_of (listed s.slots); limit = limit; room = room; next = next; newly_cut = cut })) (slab_len s) (counts_of (listed s.slots)) =
     subst (λ (at : Lookup). IsCensus at (slab_len s) (counts_of (listed s.slots))) (sym (seen_at s numbered)) (census_listed s numbered) in
     subst P view here
 
@@ -167,12 +165,12 @@ unfolding next_number
 next_same s s' slots next = λ i. if nat_lt (next i + 1) (2 ^ 64) then next i + 1 else next_of (listed (slots i))
 
 -- callers see no capacity
-pub view_same : (s s' : Slab Node) → s'.slots ≡ s.slots → s'.vacant_key ≡ s.vacant_key → (limit room : ℕ)
-    → ◌≡◌ {A = Nodes} (record { nodes = nodes_of (listed s'.slots); living = slab_len s'; counts = counts_of (listed s'.slots); limit = limit; room = room; next = next_number s' })
-    (record { nodes = nodes_of (listed s.slots); living = slab_len s; counts = counts_of (listed s.slots); limit = limit; room = room; next = next_number s })
-view_same s s' slots next limit room =
+pub view_same : (s s' : Slab Node) → s'.slots ≡ s.slots → s'.vacant_key ≡ s.vacant_key → (limit room : ℕ) (cut cut' : List ℕ) → cut' ≡ cut
+    → ◌≡◌ {A = Nodes} (record { nodes = nodes_of (listed s'.slots); living = slab_len s'; counts = counts_of (listed s'.slots); limit = limit; room = room; next = next_number s'; newly_cut = cut' })
+    (record { nodes = nodes_of (listed s.slots); living = slab_len s; counts = counts_of (listed s.slots); limit = limit; room = room; next = next_number s; newly_cut = cut })
+view_same s s' slots next limit room cut cut' same =
     let number = next_same s s' slots next in
-    λ i. record { nodes = nodes_of (listed (slots i)); living = count_by is_some (slots i); counts = counts_of (listed (slots i)); limit = limit; room = room; next = number i }
+    λ i. record { nodes = nodes_of (listed (slots i)); living = count_by is_some (slots i); counts = counts_of (listed (slots i)); limit = limit; room = room; next = number i; newly_cut = same i }
 
 -- where the slab's next key is the greatest number, the least free one is next
 pub next_full : (s : Slab Node) (n : ℕ) → 2 ^ 64 ≤ s.vacant_key + 1 → IsDistinct (listed s.slots) → IsLeastFree (listed s.slots) n → n ≡ next_number s

@@ -26,7 +26,7 @@ use Rattle.tree.proofs.Relating.{related_changed, related_same, parent_here, kno
 use Rattle.tree.proofs.Climbing.{place_same, cut_unnamed}
 use Rattle.tree.proofs.Indexing.{IsIndexed-unnamed, IsIndexed-named, IsIndexed-same}
 use Rattle.tree.proofs.LookupLemmas.{with_other, with_same}
-use Rattle.tree.proofs.Slots.{slot_updated, key_of}
+use Rattle.tree.proofs.Slots.{slot_updated}
 use Rattle.tree.proofs.Writing.{IsSamePlace, IsTree-write, named_now, named_was}
 
 -- a write of one node in the slab

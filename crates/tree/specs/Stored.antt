@@ -1,6 +1,7 @@
 -- Nodes that stand in a slab, each under its number less one, an index of them by parents and names, and their children.
-use Rattle.std.specs.Prelude.{ℕ, ◌+◌, ◌-◌, ◌*◌, ◌≤◌, ◌≡◌, ◌^◌, ◌==◌, nat_lt, if◌then◌else◌, List, [], ◌∷◌, Option, Some, None}
+use Rattle.std.specs.Prelude.{ℕ, ◌+◌, ◌-◌, ◌*◌, ◌≤◌, ◌≡◌, ◌^◌, ◌==◌, nat_lt, if◌then◌else◌, List, [], ◌∷◌, Option, Some, None, Vec, vec_len, vec_capacity}
 use Rattle.indexmap.specs.IndexMap.{IndexMap}
+use Rattle.std.specs.declared.alloc.Global.{Global}
 use Rattle.slab.specs.Slab.{Slab, get, slab_len}
 use Rattle.steady_map.specs.Living.{found, live, places}
 use Rattle.tree_children.specs.declared.Children.{Children}
@@ -48,7 +49,8 @@ pub record HasRoom {S : Type 0} (nodes : Slab Node) (index : IndexMap Key (Optio
 unfoldable pub next_number : Slab Node → ℕ
 next_number s = if nat_lt (s.vacant_key + 1) (2 ^ 64) then s.vacant_key + 1 else next_of (listed s.slots)
 
--- the law of a tree
-pub record IsHeld {S : Type 0} (nodes : Slab Node) (index : IndexMap Key (Option ℕ) S) (children : Children) (named room limit : ℕ) : Type 0 where
+-- the law of a tree: each named node, and each that is born without memory, may be listed as newly cut without memory
+pub record IsHeld {S : Type 0} (nodes : Slab Node) (index : IndexMap Key (Option ℕ) S) (children : Children) (newly_cut : Vec ℕ Global) (named room limit : ℕ) : Type 0 where
   pub stored : IsStored nodes index children named
   pub reserved : HasRoom nodes index children named room limit
+  pub lists : vec_len newly_cut + (named + room) ≤ vec_capacity newly_cut

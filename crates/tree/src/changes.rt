@@ -1,6 +1,6 @@
 //! How a tree of stored nodes changes. No step takes memory.
 
-ghost use Rattle.std.specs.Prelude.{true, false, ◌≡◌, ◌≢◌, ◌≤◌, ◌+◌, ◌*◌, ◌^◌, ℕ, List, None, Some};
+ghost use Rattle.std.specs.Prelude.{true, false, ◌≡◌, ◌≢◌, ◌≤◌, ◌+◌, ◌*◌, ◌^◌, ℕ, List, None, Some, vec_len, vec_capacity};
 ghost use Rattle.slab.specs.Slab.{slab_len, HasRoomFor};
 ghost use Rattle.steady_map.specs.Living.{live, places};
 ghost use Rattle.tree.specs.declared.nodes.Key.{Key};
@@ -10,7 +10,7 @@ ghost use Rattle.tree_children.specs.Ordinals.{HasPlaces, KeepsPlaces, child_cou
 ghost use Rattle.tree.specs.Children.{IsChildrenOf};
 ghost use Rattle.tree.specs.Places.{IsAlive, IsNamed, HasChild, IsFree, Leads, with_node, without, born_node};
 ghost use Rattle.tree.specs.Listed.{counts_of};
-ghost use Rattle.tree.specs.Moves.{CanRelink, IsFreed, Moves, moved_node, cut_node};
+ghost use Rattle.tree.specs.Moves.{CanRelink, IsFreed, ListsCuts, Moves, moved_node, cut_node};
 ghost use Rattle.tree.specs.Stored.{slot_at, listed, IsIndexed, IsStored};
 
 use crate::leaves::cut_leaves;
@@ -70,10 +70,11 @@ fn place_number(store: &mut Store, number: u64, key: Key, copy: Key)
 }
 
 /// Makes the place of the key free, but for the node of that number. Whether that node stands there already is the result.
-fn make_free(store: &mut Store, number: u64, key: &Key) -> bool
+fn make_free(store: &mut Store, newly_cut: &mut Vec<u64>, number: u64, key: &Key) -> bool
     requires can { CanRelink (slot_at store.old.nodes) number key.now.parent key.now.name }
     requires few { slab_len store.old.nodes ≤ 2 ^ 62 }
     requires stored { IsStored store.old.nodes store.old.index store.old.children store.old.named }
+    requires list_room { vec_len newly_cut.old + store.old.named ≤ vec_capacity newly_cut.old }
     ensures there { result ≡ true → IsNamed (slot_at store.old.nodes) number key.now.parent key.now.name }
     ensures same { result ≡ true → slot_at store.new.nodes ≡ slot_at store.old.nodes }
     ensures free { result ≡ false → IsFreed (slot_at store.old.nodes) (slot_at store.new.nodes) number key.now.parent key.now.name }
@@ -84,13 +85,16 @@ fn make_free(store: &mut Store, number: u64, key: &Key) -> bool
     ensures capacity { store.new.nodes.capacity ≡ store.old.nodes.capacity }
     ensures places { places store.new.index ≡ places store.old.index }
     ensures child_places { KeepsPlaces store.old.children store.new.children }
+    ensures lists { ListsCuts (slot_at store.old.nodes) (slot_at store.new.nodes) newly_cut.old.items newly_cut.new.items }
+    ensures list_room { vec_len newly_cut.new + store.new.named ≡ vec_len newly_cut.old + store.old.named }
+    ensures list_capacity { vec_capacity newly_cut.new ≡ vec_capacity newly_cut.old }
 {
     match find_in(&store.index, key) {
         Some(other) => {
             if other == number {
                 return true;
             }
-            cut_leaves(store, other);
+            cut_leaves(store, newly_cut, other);
             false
         }
         None => false,
@@ -98,10 +102,17 @@ fn make_free(store: &mut Store, number: u64, key: &Key) -> bool
 }
 
 /// Moves the node to the key's place, with all below it.
-pub(crate) fn move_number(store: &mut Store, number: u64, key: Key, copy: Key)
+pub(crate) fn move_number(
+    store: &mut Store,
+    newly_cut: &mut Vec<u64>,
+    number: u64,
+    key: Key,
+    copy: Key,
+)
     requires copy { copy ≡ key }
     requires can { CanRelink (slot_at store.old.nodes) number key.parent key.name }
     requires stored { IsStored store.old.nodes store.old.index store.old.children store.old.named }
+    requires list_room { vec_len newly_cut.old + store.old.named ≤ vec_capacity newly_cut.old }
     requires few { slab_len store.old.nodes ≤ 2 ^ 62 }
     requires room { 2 * store.old.named ≤ places store.old.index }
     requires child_places { HasPlaces store.old.children store.old.named (slab_len store.old.nodes) }
@@ -113,8 +124,11 @@ pub(crate) fn move_number(store: &mut Store, number: u64, key: Key, copy: Key)
     ensures capacity { store.new.nodes.capacity ≡ store.old.nodes.capacity }
     ensures places { places store.old.index ≤ places store.new.index }
     ensures child_places { KeepsPlaces store.old.children store.new.children }
+    ensures lists { ListsCuts (slot_at store.old.nodes) (slot_at store.new.nodes) newly_cut.old.items newly_cut.new.items }
+    ensures list_room { vec_len newly_cut.new + store.new.named ≡ vec_len newly_cut.old + store.old.named }
+    ensures list_capacity { vec_capacity newly_cut.new ≡ vec_capacity newly_cut.old }
 {
-    if make_free(store, number, &key) {
+    if make_free(store, newly_cut, number, &key) {
         return;
     }
     place_number(store, number, key, copy);

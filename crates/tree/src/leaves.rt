@@ -1,12 +1,12 @@
 //! A cut that goes to the leaves below a node, and to no other node.
 
-ghost use Rattle.std.specs.Prelude.{true, false, ◌≡◌, ◌≢◌, ◌<◌, ◌≤◌, ◌+◌, ◌*◌, ◌^◌, ℕ, List, None, Some};
+ghost use Rattle.std.specs.Prelude.{true, false, ◌≡◌, ◌≢◌, ◌<◌, ◌≤◌, ◌+◌, ◌*◌, ◌^◌, ℕ, List, None, Some, vec_len, vec_capacity};
 ghost use Rattle.slab.specs.Slab.{slab_len};
 ghost use Rattle.steady_map.specs.Living.{live, places};
 ghost use Rattle.tree.specs.declared.nodes.Node.{Node};
 ghost use Rattle.tree.specs.Places.{IsNamed, IsTree, HasChild, with_node};
 ghost use Rattle.tree.specs.Listed.{counts_of};
-ghost use Rattle.tree.specs.Moves.{CutsBelow, cut_node};
+ghost use Rattle.tree.specs.Moves.{CutsBelow, ListsCuts, cut_node};
 ghost use Rattle.tree.specs.Stored.{slot_at, listed, IsIndexed, IsStored};
 ghost use Rattle.tree_children.specs.Ordinals.{KeepsPlaces};
 
@@ -15,11 +15,12 @@ use crate::lookups::parent_of;
 use crate::writes::Store;
 use tree_children::last_child;
 
-/// Cuts the node, and all below it: from it down to a child without children, which goes, and up again.
-pub(crate) fn cut_leaves(store: &mut Store, number: u64)
+/// Cuts the node, and all below it: from it down to a child without children, which goes, and up again. What is cut is listed.
+pub(crate) fn cut_leaves(store: &mut Store, newly_cut: &mut Vec<u64>, number: u64)
     requires named { (p : ℕ) × (name : List ℕ) × IsNamed (slot_at store.old.nodes) number p name }
     requires few { slab_len store.old.nodes ≤ 2 ^ 62 }
     requires stored { IsStored store.old.nodes store.old.index store.old.children store.old.named }
+    requires room { vec_len newly_cut.old + store.old.named ≤ vec_capacity newly_cut.old }
     ensures cuts { CutsBelow (slot_at store.old.nodes) (slot_at store.new.nodes) number }
     ensures stored { IsStored store.new.nodes store.new.index store.new.children store.new.named }
     ensures counts { counts_of (listed store.new.nodes.slots) ≡ counts_of (listed store.old.nodes.slots) }
@@ -28,6 +29,9 @@ pub(crate) fn cut_leaves(store: &mut Store, number: u64)
     ensures capacity { store.new.nodes.capacity ≡ store.old.nodes.capacity }
     ensures places { places store.new.index ≡ places store.old.index }
     ensures child_places { KeepsPlaces store.old.children store.new.children }
+    ensures lists { ListsCuts (slot_at store.old.nodes) (slot_at store.new.nodes) newly_cut.old.items newly_cut.new.items }
+    ensures list_room { vec_len newly_cut.new + store.new.named ≡ vec_len newly_cut.old + store.old.named }
+    ensures list_capacity { vec_capacity newly_cut.new ≡ vec_capacity newly_cut.old }
 {
     let mut current = number;
     let mut depth = 0usize;
@@ -42,6 +46,7 @@ pub(crate) fn cut_leaves(store: &mut Store, number: u64)
                     unreachable!();
                 };
                 cut_leaf(store, current);
+                newly_cut.push_reserved(current);
                 if current == number {
                     return;
                 }

@@ -3,6 +3,7 @@ use Rattle.tree.specs.Places.{at_in}
 use Rattle.table_footprints.specs.Asked.{IsMisplaced}
 use Rattle.table_footprints.specs.Footprints.{AtNode, Change, cuts}
 use Rattle.table_steps.specs.Ending.{IsUnder, KeepsChildren, change_in}
+use Rattle.table_steps.proofs.NewlyCut.{listed_same}
 use Rattle.table_steps.proofs.places.alter.Goals as goal
 
 pub move_at-requires-clause-may : goal.move_at-requires-clause-may
@@ -34,3 +35,6 @@ replace_at-requires-clause-may_hide c e refused = c.requires.may e (subst (λ (c
 
 pub returns-in-Replaces-clause-children : goal.returns-in-Replaces-clause-children
 returns-in-Replaces-clause-children c = subst (λ (change : Change). KeepsChildren (at_in c.args.tree.now) (IsUnder (at_in c.args.tree.now) change) (at_in c.replace_at.new.tree)) (ap change_in (sym c.in-Replaces.is)) c.replace_at.ensures.children
+
+pub returns-in-Stays-clause-listed : goal.returns-in-Stays-clause-listed
+returns-in-Stays-clause-listed c = listed_same c.args.tree.now

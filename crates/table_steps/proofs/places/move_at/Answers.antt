@@ -2,6 +2,7 @@ use Rattle.std.proofs.Common.{◌≡◌, ◌⊎◌, inr}
 use Rattle.tree.specs.Places.{at_in}
 use Rattle.tree.proofs.Climbing.{path_of_lead}
 use Rattle.table_steps.proofs.Placing.{children_more, may_relink, move_children, moves_free, moves_named, parent_leads}
+use Rattle.table_steps.proofs.NewlyCut.{listed_by}
 use Rattle.table_steps.proofs.places.move_at.Goals as goal
 
 pub relink-requires-clause-can : goal.relink-requires-clause-can
@@ -33,3 +34,6 @@ returns-in-None-clause-moves c leads =
 pub returns-in-None-clause-children : goal.returns-in-None-clause-children
 returns-in-None-clause-children c =
     children_more (at_in c.args.tree.now) (at_in c.cut_at.new.tree) (λ n. n ≡ c.args.target.key.parent) (λ n. (n ≡ c.args.key.now.parent) ⊎ (n ≡ c.args.target.key.parent)) (λ n e. inr e) c.cut_at.ensures.children
+
+pub returns-in-Some-clause-listed : goal.returns-in-Some-clause-listed
+returns-in-Some-clause-listed c = listed_by c.args.tree.now c.relink.new.self c.relink.ensures.relinks.lists

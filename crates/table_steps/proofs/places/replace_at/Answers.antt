@@ -4,6 +4,7 @@ use Rattle.table_steps.specs.Ending.{name_at}
 use Rattle.table_steps.specs.Steps.{Replaces}
 use Rattle.table_steps.proofs.Placing.{children_more}
 use Rattle.table_steps.proofs.Replacing.{may_follow, replaced, replaced_children, replaced_none, target_leads}
+use Rattle.table_steps.proofs.NewlyCut.{listed_then}
 use Rattle.table_steps.proofs.places.replace_at.Goals as goal
 
 pub move_at-requires-clause-target_leads : goal.move_at-requires-clause-target_leads
@@ -41,3 +42,6 @@ returns-else-moved-clause-children c =
     let s : ℕ → Type 0 = λ n. n ≡ c.args.key.now.parent in
     let h : ℕ → Type 0 = λ n. (n ≡ c.args.target.key.parent) ⊎ (n ≡ c.args.candidate.key.parent) in
     children_more (at_in c.args.tree.now) (at_in c.hide_at.new.tree) h (λ n. s n ⊎ h n) (λ n e. inr e) c.hide_at.ensures.children
+
+pub returns-then-moved-clause-listed : goal.returns-then-moved-clause-listed
+returns-then-moved-clause-listed c = listed_then c.args.tree.now c.hide_at.new.tree c.move_at.new.tree c.hide_at.ensures.listed c.move_at.ensures.listed

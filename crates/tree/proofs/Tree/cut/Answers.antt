@@ -4,6 +4,7 @@ use Rattle.tree.specs.Stored.{slot_at}
 use Rattle.tree.specs.Moves.{IsFault, CutsBelow}
 use Rattle.tree.proofs.Slots.{seen_at}
 use Rattle.tree.proofs.Counting.{rest_is}
+use Rattle.tree.proofs.Listing.{lists_as}
 use Rattle.std.proofs.lemmas.Result.{err_from_is_err_and}
 use Rattle.tree.proofs.Climbing.{path_of_lead}
 use Rattle.tree.proofs.Cutting.{Changes-cut}
@@ -39,6 +40,7 @@ returns-clause-ok c =
       leads = way.1;
       below = below;
       changes = Changes-cut (at_in c.args.self.now) tree c.args.number c.requires _ below way.0 way.1;
+      lists = lists_as _ _ _ _ _ _ _ same (sym (seen_at c.cut_leaves.new.store.nodes c.cut_leaves.ensures.stored.tree.numbered)) (ap (λ (t : Nodes). t.newly_cut) c.self.view_is) c.cut_leaves.ensures.lists;
       rest = rest_is c.args.self.now _
           (c.cut_leaves.ensures.len ∙ ap (λ (t : Nodes). t.living) c.self.view_is)
           (c.cut_leaves.ensures.counts ∙ ap (λ (t : Nodes). t.counts) c.self.view_is)

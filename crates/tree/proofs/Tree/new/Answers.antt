@@ -34,6 +34,7 @@ invariant_of-result c =
         within = omega (arith, none, c.insert_reserved.ensures.len, c.requires);
         few = omega (arith, none, c.insert_reserved.ensures.len);
       };
+      lists = omega (arith, c.new.ensures.len, c.new.ensures.capacity);
     }
 
 pub returns : goal.returns
@@ -53,4 +54,5 @@ returns c =
       living = omega (arith, none, c.insert_reserved.ensures.len);
       counts = root_counts s new c.insert_reserved.result empty one c.insert_reserved.ensures.updates;
       limited = refl;
+      none_cut = c.new.ensures.items;
     }

@@ -2,7 +2,8 @@ use Rattle.std.proofs.Common.{sym, subst, arith}
 use Rattle.tree.specs.Moves.{Moves, moved_node}
 use Rattle.tree.specs.Places.{Lookup, IsTree}
 use Rattle.tree.specs.Stored.{slot_at}
-use Rattle.tree.proofs.Climbing.{climbs_alive}
+use Rattle.tree.proofs.Climbing.{climbs_alive, cut_unnamed}
+use Rattle.tree.proofs.Listing.{lists_moved}
 use Rattle.tree.proofs.Moving.{IsTree-moved, Moves-freed, Moves-same}
 use Rattle.tree.proofs.Slots.{counts_changed}
 use Rattle.tree.proofs.Stepping.{named_lead}
@@ -62,3 +63,13 @@ returns-clause-counts c =
     let it = climbs_alive mid c.make_free.ensures.stored.tree.rooted leads.names c.args.number leads.climb in
     let sum = counts_changed c.make_free.new.store.nodes c.place_number.new.store.nodes c.make_free.ensures.stored.tree.numbered (returns-clause-stored c).tree.numbered c.args.number it.0 (moved_node it.0 c.args.key.parent c.args.key.name) it.1 (c.place_number.ensures.moved it.0 it.1) in
     omega (arith, sum, c.make_free.ensures.counts)
+
+pub returns-clause-lists : goal.returns-clause-lists
+returns-clause-lists c =
+    let mid = slot_at c.make_free.new.store.nodes in
+    let freed = c.make_free.ensures.free c.if-make_free.false in
+    let leads = freed.movable.leads in
+    let named = named_lead mid c.args.number c.requires.can.not_root leads.names leads.climb in
+    let x = named.2.0 in
+    lists_moved (slot_at c.args.store.now.nodes) mid (slot_at c.place_number.new.store.nodes) c.args.newly_cut.now.items c.make_free.new.newly_cut.items c.args.number x (moved_node x c.args.key.parent c.args.key.name) named.2.1
+    (λ e. cut_unnamed mid c.args.number x named.2.1 e named.0 named.1 named.2) (λ e. cc) (c.place_number.ensures.moved x named.2.1) c.make_free.ensures.lists

@@ -1,8 +1,7 @@
-use Rattle.std.proofs.Common.{ℕ, ◌≡◌, true, None, Some, Option, refl, sym, ap, ◌∙◌, arith}
+use Rattle.std.proofs.Common.{sym, ap, ◌∙◌}
 use Rattle.tree.specs.declared.nodes.Key.{Key}
 use Rattle.tree.specs.Children.{place_parent}
 use Rattle.tree.specs.Moves.{moved_node}
-use Rattle.tree.specs.Places.{Lookup, with_node}
 use Rattle.tree.specs.Stored.{slot_at}
 use Rattle.tree.proofs.Relating.{known_here, parent_here, related_changed}
 use Rattle.tree.proofs.Storing.{free_found, moved_indexed, place_found, taken_free}

@@ -1,7 +1,7 @@
-use Rattle.std.proofs.Common.{◌-◌, ◌∙◌, arith}
-use Rattle.tree.specs.Moves.{cut_node}
+use Rattle.std.proofs.Common.{ℕ, ◌-◌, ◌∙◌, List, sym, subst, arith}
+use Rattle.tree.specs.Moves.{ListsCuts, cut_node}
 use Rattle.tree.specs.Stored.{slot_at}
-use Rattle.tree.proofs.Descending.{IsDescended-down, current_named, cuts_on, deeper, descended_on, pruned_on}
+use Rattle.tree.proofs.Descending.{IsDescended-down, current_named, cuts_on, deeper, descended_on, lists_on, pruned_on}
 use Rattle.tree.proofs.Relating.{child_named, childless_last, places_kept}
 use Rattle.tree.proofs.Slots.{counts_changed}
 use Rattle.tree.proofs.Ways.{way_short}
@@ -36,6 +36,9 @@ loop-child-preserved-in-Some c =
       capacity = inv.capacity;
       places = inv.places;
       child_places = inv.child_places;
+      lists = inv.lists;
+      list_room = inv.list_room;
+      list_capacity = inv.list_capacity;
     }
 
 pub unreachable-requires : goal.unreachable-requires
@@ -54,6 +57,17 @@ returns-then-current-number-clause-cuts c =
     let named = c.in-Some-parent_of.ensures.some in
     let leaf = childless_last mid c.loop-child.store.children inv.stored.related c.loop-child.current c.in-None.ensures.none in
     cuts_on (slot_at c.args.store.now.nodes) mid (slot_at c.cut_leaf.new.store.nodes) c.args.number c.loop-child.current c.loop-child.depth c.in-Some-parent_of.parent named.0 named.1 leaf (c.cut_leaf.ensures.cut named.1.0 named.1.1) inv.pruned inv.descended c.if-current-number.true
+
+pub returns-then-current-number-clause-lists : goal.returns-then-current-number-clause-lists
+returns-then-current-number-clause-lists c =
+    let inv = c.loop-child.invariant in
+    let old = slot_at c.args.store.now.nodes in
+    let mid = slot_at c.loop-child.store.nodes in
+    let new = slot_at c.cut_leaf.new.store.nodes in
+    let named = c.in-Some-parent_of.ensures.some in
+    let leaf = childless_last mid c.loop-child.store.children inv.stored.related c.loop-child.current c.in-None.ensures.none in
+    subst (λ (l : List ℕ). ListsCuts old new c.args.newly_cut.now.items l) (sym c.push_reserved.ensures.items)
+    (lists_on old mid new c.args.number c.loop-child.current c.loop-child.depth c.in-Some-parent_of.parent named.0 named.1 leaf (c.cut_leaf.ensures.cut named.1.0 named.1.1) inv.pruned inv.descended c.args.newly_cut.now.items c.loop-child.newly_cut.items inv.lists)
 
 pub returns-then-current-number-clause-counts : goal.returns-then-current-number-clause-counts
 returns-then-current-number-clause-counts c =
@@ -85,4 +99,7 @@ loop-child-preserved c =
       capacity = c.cut_leaf.ensures.capacity ∙ inv.capacity;
       places = c.cut_leaf.ensures.places ∙ inv.places;
       child_places = places_kept _ _ _ inv.child_places c.cut_leaf.ensures.child_places;
+      lists = subst (λ (l : List ℕ). ListsCuts old new c.args.newly_cut.now.items l) (sym c.push_reserved.ensures.items) (lists_on old mid new c.args.number c.loop-child.current c.loop-child.depth p named.0 named.1 leaf wrote inv.pruned inv.descended c.args.newly_cut.now.items c.loop-child.newly_cut.items inv.lists);
+      list_room = omega (arith, c.push_reserved.ensures.len, c.cut_leaf.ensures.less, inv.list_room);
+      list_capacity = c.push_reserved.ensures.capacity ∙ inv.list_capacity;
     }

@@ -1,7 +1,8 @@
-use Rattle.std.proofs.Common.{◌≡◌, ◌≤◌, ◌+◌, ◌*◌, ◌-◌}
+use Rattle.std.proofs.Common.{◌≡◌, ◌≤◌, ◌+◌, ◌*◌, ◌-◌, vec_len, vec_capacity}
 use Rattle.slab.specs.Slab.{slab_len}
 use Rattle.steady_map.specs.Living.{places}
 use Rattle.tree.specs.Listed.{counts_of}
+use Rattle.tree.specs.Moves.{ListsCuts}
 use Rattle.tree_children.specs.Ordinals.{KeepsPlaces}
 use Rattle.tree.specs.Stored.{slot_at, listed, IsStored}
 use Rattle.tree.proofs.Descending.{IsDescended}
@@ -19,6 +20,9 @@ invariant-loop-child l = record {
   capacity : l.store.nodes.capacity ≡ l.fn.store.nodes.capacity;
   places : places l.store.index ≡ places l.fn.store.index;
   child_places : KeepsPlaces l.fn.store.children l.store.children;
+  lists : ListsCuts (slot_at l.fn.store.nodes) (slot_at l.store.nodes) l.fn.newly_cut.items l.newly_cut.items;
+  list_room : vec_len l.newly_cut + l.store.named ≡ vec_len l.fn.newly_cut + l.fn.store.named;
+  list_capacity : vec_capacity l.newly_cut ≡ vec_capacity l.fn.newly_cut;
 }
 
 abbrev pub decreases-loop-child : goal.decreases-loop-child

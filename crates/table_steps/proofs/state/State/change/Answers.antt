@@ -3,7 +3,7 @@ use Rattle.std.proofs.lemmas.Bool.{true≢false}
 use Rattle.tree.specs.Places.{at_in}
 use Rattle.table_footprints.specs.Laws.{AreOwn}
 use Rattle.table_footprints.specs.Footprints.{Change}
-use Rattle.table_steps.specs.Sweeping.{HaveReasonsBelow}
+use Rattle.table_steps.specs.Sweeping.{HaveReasonsAside}
 use Rattle.table_steps.specs.Keeping.{kept_by}
 use Rattle.table_steps.specs.Ending.{ChangesNames, change_in}
 use Rattle.table_steps.specs.Kept.{world_of}
@@ -20,10 +20,10 @@ alter-requires-clause-leads c = let may = c.requires.may in own_leads (at_in c.a
 pub alter-requires-clause-below : goal.alter-requires-clause-below
 alter-requires-clause-below c e = let may = c.requires.may in may.placed (subst (λ (change : Change). AreOwn may.footprint.exclusive change) e may.own)
 
-pub sweep_change-requires-clause-below : goal.sweep_change-requires-clause-below
-sweep_change-requires-clause-below c =
-    subst (λ (losing : Option ℕ). HaveReasonsBelow (at_in c.alter.new.tree) (kept_by c.args.self.now.flights c.args.self.now.files) losing 1) (sym c.losing-losing.ensures)
-    (mid_reasons c.args.self.now c.requires.kept (change_in c.args.change) c.requires.may c.alter.new.tree c.alter.ensures.alters c.alter.ensures.children c.alter.ensures.rest c.alter.ensures.tree)
+pub sweep_change-requires-clause-aside : goal.sweep_change-requires-clause-aside
+sweep_change-requires-clause-aside c =
+    subst (λ (losing : Option ℕ). HaveReasonsAside (at_in c.alter.new.tree) (kept_by c.args.self.now.flights c.args.self.now.files) losing c.alter.new.tree.newly_cut) (sym c.losing-losing.ensures)
+    (mid_reasons c.args.self.now c.requires.kept (change_in c.args.change) c.requires.may c.alter.new.tree c.alter.ensures.alters c.alter.ensures.children c.alter.ensures.listed c.alter.ensures.rest c.alter.ensures.tree)
 
 pub returns-then-matches-clause-changes : goal.returns-then-matches-clause-changes
 returns-then-matches-clause-changes c = elim c.match-matches.branch [
@@ -35,10 +35,10 @@ returns-then-matches-clause-changes c = elim c.match-matches.branch [
 
 pub returns-clause-changes : goal.returns-clause-changes
 returns-clause-changes c =
-    changes_names c.args.self.now c.requires.kept (change_in c.args.change) c.requires.may c.alter.new.tree c.alter.ensures.alters c.alter.ensures.children c.alter.ensures.rest c.alter.ensures.tree
+    changes_names c.args.self.now c.requires.kept (change_in c.args.change) c.requires.may c.alter.new.tree c.alter.ensures.alters c.alter.ensures.children c.alter.ensures.listed c.alter.ensures.rest c.alter.ensures.tree
     c.sweep_change.new.tree c.sweep_change.ensures.tree c.sweep_change.ensures.reasons c.sweep_change.ensures.swept c.sweep_change.ensures.rest
 
 pub returns-clause-kept : goal.returns-clause-kept
 returns-clause-kept c =
-    change_kept c.args.self.now c.requires.kept (change_in c.args.change) c.requires.may c.alter.new.tree c.alter.ensures.alters c.alter.ensures.children c.alter.ensures.rest c.alter.ensures.tree
+    change_kept c.args.self.now c.requires.kept (change_in c.args.change) c.requires.may c.alter.new.tree c.alter.ensures.alters c.alter.ensures.children c.alter.ensures.listed c.alter.ensures.rest c.alter.ensures.tree
     c.sweep_change.new.tree c.sweep_change.ensures.tree c.sweep_change.ensures.reasons c.sweep_change.ensures.swept c.sweep_change.ensures.rest
