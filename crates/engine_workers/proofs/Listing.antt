@@ -73,7 +73,7 @@ at_work flights id (Some f) e = by_stage f.stage refl where
 pub finished_lists : (old new : World) (id : ℕ) (outcome : Outcome) (answer : Answer) → Finishes old id outcome answer new → posted new.postings ≡ posted old.postings + entries_in answer.given
 finished_lists old new id outcome answer finishes = elim (at_work old.flights id (old.flights id) refl) [
   | inl none ↦ (let lost = finishes.lost none in let p : posted new.postings ≡ posted old.postings = ap (λ (w : World). posted w.postings) lost.1 in let e : entries_in answer.given ≡ 0 = ap (λ (a : Answer). entries_in a.given) lost.0 in omega arith)
-  | inr (f, work, here) ↦ (let ends = finishes.found f work here in enters_all _ old.at ends.entered old.postings new.postings work.row.entries (act_of work.row outcome).found answer.given ends.enters)
+  | inr (f, work, here) ↦ (let ends = finishes.found f work here in enters_all _ old.at ends.entered old.postings new.postings work.footprint.entries (act_of work.footprint outcome).found answer.given ends.enters)
 ]
 
 backs_all : (at at' : Lookup) (ps ps' : List Posting) (gs : List (Option Given)) → TakesAllBack at ps gs at' ps' → posted ps' ≡ posted ps
