@@ -17,11 +17,7 @@ use std::io;
 use std::io::ErrorKind;
 
 /// Makes an empty file: `open` with `O_EXCL`, `close`, or one `lstat` where something stands there.
-pub fn make<D: Disk>(
-    disk: &D,
-    walk: &mut Walk,
-    path: &Path,
-) -> Result<Answer, HostError>
+pub fn make<D: Disk>(disk: &D, walk: &mut Walk, path: &Path) -> Result<Answer, HostError>
     ensures { IfOk result (Suits (AskMake path.now)) }
 {
     find_place(disk, walk, path)?;
@@ -75,11 +71,7 @@ pub fn remove<D: Disk>(disk: &D, walk: &mut Walk, path: &Path) -> Result<Answer,
 }
 
 /// Removes the folder: `open`, `getdents`, `close`, one `lstat` for each name, `rmdir`.
-pub fn remove_dir<D: Disk>(
-    disk: &D,
-    walk: &mut Walk,
-    path: &Path,
-) -> Result<Answer, HostError>
+pub fn remove_dir<D: Disk>(disk: &D, walk: &mut Walk, path: &Path) -> Result<Answer, HostError>
     ensures { IfOk result (Suits (AskRemoveDir path.now)) }
 {
     if path.len() == 0 {

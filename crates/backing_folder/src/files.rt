@@ -91,11 +91,7 @@ pub fn set_len<D: Disk>(
 }
 
 /// Brings the file or the folder to the disk: `open`, `fstat`, `fsync`, `close`.
-pub fn sync<D: Disk>(
-    disk: &D,
-    walk: &mut Walk,
-    path: &Path,
-) -> Result<Answer, HostError>
+pub fn sync<D: Disk>(disk: &D, walk: &mut Walk, path: &Path) -> Result<Answer, HostError>
     ensures { IfOk result (Suits (AskSync path.now)) }
 {
     let identity = match walk.find(disk, path.names())? {

@@ -14,9 +14,9 @@ use crate::system::System;
 use crate::walk::Walk;
 use backing::{Answer, Call, Calls, Told};
 use std::fs::File;
+use std::io;
 use std::marker::Model;
 use std::rt::Files;
-use std::io;
 
 /// A folder of the file system, and all that is below it.
 ///
