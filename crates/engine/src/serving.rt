@@ -24,8 +24,8 @@ use std::sync::Wait;
 use table::Table;
 use wire::{CutFault, Cutter};
 
-/// How many bytes are asked of a link at a time.
-const ROOM: usize = 4096;
+/// How many bytes are asked of a link at a time: more than the longest frame has.
+const ROOM: usize = 131_072;
 
 /// Works off the frames that are there whole. Some end says that the session is over.
 fn work_off_frames<H: Wait, T: Ledgers, L: Link, C: Calls>(
