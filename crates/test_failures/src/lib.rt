@@ -16,6 +16,12 @@ mod folders;
 #[cfg(test)]
 mod frames;
 #[cfg(test)]
+mod hostile;
+#[cfg(test)]
+mod hostile_frames;
+#[cfg(test)]
+mod hostile_runs;
+#[cfg(test)]
 mod items;
 #[cfg(test)]
 mod product;

@@ -57,7 +57,7 @@ fn plant(alloc: Global, tree: &mut MemTree, item: &Item) -> Result<(), AllocErro
 }
 
 /// The sample tree, of which a call fails where that is planned.
-fn tree_of(alloc: Global, plan: &Plan) -> Result<MemTree, AllocError> {
+pub fn tree_of(alloc: Global, plan: &Plan) -> Result<MemTree, AllocError> {
     let mut tree = MemTree::new(alloc);
     for item in sample_items(alloc)? {
         plant(alloc, &mut tree, &item)?;

@@ -6,7 +6,7 @@ use crate::compare::compare;
 use crate::frames::{FIRST_REPLIES, FRAMES, LAST_REPLIES};
 use crate::product::{Ran, has_bytes, serve_session, what_stands};
 use crate::session::{ASKS, HIDDEN, LEDGER, REQUESTS, STANDS};
-use crate::slow::{Plan, run_slow};
+use crate::slow::{PLAIN, Plan, run_slow};
 use crate::world::FaultAt;
 use backing::Fault;
 use engine::{Sent, SessionEnd};
@@ -23,13 +23,6 @@ use wire::{Request, encode_request};
 const CALLS: usize = 14;
 
 const REPLIES: u32 = 14;
-
-/// Nothing fails.
-const PLAIN: Plan = Plan {
-    fault: None,
-    declined: 0,
-    fate: Sent::Taken,
-};
 
 /// The replies where nothing fails, one after another.
 fn replies_of(alloc: Global) -> Result<Vec<u8>, Fail> {

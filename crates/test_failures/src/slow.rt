@@ -32,6 +32,13 @@ pub struct Plan {
     pub fate: Sent,
 }
 
+/// Nothing fails.
+pub const PLAIN: Plan = Plan {
+    fault: None,
+    declined: 0,
+    fate: Sent::Taken,
+};
+
 /// How the slow program ended.
 #[derive(Drop)]
 pub struct Outcome {
