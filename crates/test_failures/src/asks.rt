@@ -1,0 +1,45 @@
+//! Calls of a tree by the names in its root.
+
+use backing::Call;
+use paths::Path;
+
+/// What is asked of a tree. All names stand in its root.
+#[derive(Clone, Copy, Debug, PartialEq, Eq)]
+pub enum Ask {
+    Stat(&'static str),
+    /// Of the root.
+    List,
+    MakeDir(&'static str),
+    Remove(&'static str),
+    RemoveDir(&'static str),
+    /// From one name to another.
+    Rename(&'static str, &'static str),
+    /// At that byte of the file.
+    Write(&'static str, u64, &'static [u8]),
+}
+
+/// Whether the path is that of a name in the root.
+fn is_at(path: &Path, name: &str) -> bool {
+    match path.names() {
+        [only] => only.as_str() == name,
+        _ => false,
+    }
+}
+
+/// Whether the call asks that.
+pub fn is_ask(call: Call<'_>, ask: Ask) -> bool {
+    match (call, ask) {
+        (Call::Stat(path), Ask::Stat(name)) => is_at(path, name),
+        (Call::List(path), Ask::List) => path.names().is_empty(),
+        (Call::MakeDir(path), Ask::MakeDir(name)) => is_at(path, name),
+        (Call::Remove(path), Ask::Remove(name)) => is_at(path, name),
+        (Call::RemoveDir(path), Ask::RemoveDir(name)) => is_at(path, name),
+        (Call::Rename { from, to }, Ask::Rename(source, target)) => {
+            is_at(from, source) && is_at(to, target)
+        }
+        (Call::Write { path, offset, data }, Ask::Write(name, at, bytes)) => {
+            is_at(path, name) && offset == at && data == bytes
+        }
+        _ => false,
+    }
+}

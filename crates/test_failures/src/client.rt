@@ -1,0 +1,133 @@
+//! A client that is scripted, and sessions with it.
+
+ghost use Rattle.std.specs.Prelude.{◌≡◌};
+
+use crate::watched::Watched;
+use engine::{Link, LinkIn, LinkOut, Received, Sent, SessionEnd, Settings, serve};
+use handles::Dirs;
+use ledger::{Blanks, Ledgers};
+use std::alloc::{AllocError, Global};
+use std::random::RandomSource;
+use std::sync::Wait;
+use table::{Limits, Seeds, Table};
+use table_image::Image;
+
+/// Gives its frames one after another, and takes all replies but one.
+#[derive(Drop)]
+pub struct Client {
+    frames: Vec<Vec<u8>>,
+    given: usize,
+    /// How many replies were offered.
+    pub offers: u32,
+    /// The reply that is not taken, counted from 1, or 0.
+    declined: u32,
+    /// What becomes of it.
+    fate: Sent,
+    /// The replies that were taken, one after another.
+    pub taken: Vec<u8>,
+    failures: u64,
+}
+
+impl Client {
+    /// A client that sends these frames. Of the reply of that number, counted from 1, it tells that.
+    pub fn new(alloc: Global, frames: Vec<Vec<u8>>, declined: u32, fate: Sent) -> Client {
+        Client {
+            frames,
+            given: 0,
+            offers: 0,
+            declined,
+            fate,
+            taken: Vec::new(alloc),
+            failures: 0,
+        }
+    }
+}
+
+impl LinkIn for Client {
+    ghost use Rattle.engine.specs.Links.{counted, lost};
+
+    ghost receives = { λ old brought new. new.failures ≡ counted old.failures (lost brought) };
+
+    ghost failed_receives = { λ link. link.failures };
+
+    ghost counts_receives = { λ _ _ _ counts. counts };
+
+    fn receive(&mut self, room: &mut [u8]) -> Received {
+        let Some(frame) = self.frames.get(self.given) else {
+            return Received::End;
+        };
+        self.given = self.given.saturating_add(1);
+        if frame.len() > room.len() {
+            self.failures = self.failures.saturating_add(1);
+            return Received::Broken;
+        }
+        room[..frame.len()].copy_from_slice(frame);
+        Received::Bytes(frame.len())
+    }
+}
+
+impl LinkOut for Client {
+    ghost use Rattle.engine.specs.Links.{counted, missed};
+
+    ghost sends = { λ old _ sent new. new.failures ≡ counted old.failures (missed sent) };
+
+    ghost failed_sends = { λ link. link.failures };
+
+    ghost counts_sends = { λ _ _ _ _ counts. counts };
+
+    fn send(&mut self, frame: &[u8]) -> Sent {
+        self.offers = self.offers.saturating_add(1);
+        if self.offers == self.declined && self.fate != Sent::Taken {
+            self.failures = self.failures.saturating_add(1);
+            return self.fate;
+        }
+        match self.taken.extend_from_slice(frame) {
+            Ok(()) => Sent::Taken,
+            Err(_) => {
+                self.failures = self.failures.saturating_add(1);
+                Sent::Broken
+            }
+        }
+    }
+}
+
+impl Link for Client {
+    ghost use Rattle.std.specs.Prelude.{refl};
+
+    ghost one_count = { λ _. refl };
+}
+
+/// How a session ended, and its table then.
+#[derive(Drop)]
+pub struct Over {
+    pub end: SessionEnd,
+    pub image: Image,
+}
+
+/// Serves a tree to a client, with a new table.
+pub fn serve_on<H: Wait + RandomSource, T: Ledgers>(
+    rt: &H,
+    alloc: Global,
+    blanks: Blanks,
+    tree: &mut Watched<'_>,
+    client: &mut Client,
+) -> Result<Over, AllocError>
+    requires names { blanks ≡ T.names }
+    requires shares { T.names.parts ≡ 1 }
+{
+    let Ok(seeds) = Seeds::new(rt) else {
+        return Err(AllocError);
+    };
+    let limits = Limits::default();
+    let (mut table, mut shares) = Table::<T>::open(alloc, limits, seeds, blanks, 1)?;
+    let mut share = shares.pop().unwrap();
+    shares.destroy_empty();
+    let settings = Settings { uid: 0, gid: 0 };
+    let dirs = Dirs::new(alloc);
+    let end = serve(
+        rt, alloc, client, tree, &mut table, &mut share, &dirs, settings,
+    );
+    share.leave();
+    let image = table.export()?;
+    Ok(Over { end, image })
+}

@@ -1,0 +1,186 @@
+//! A tree with names in its root alone, as a plain list.
+
+use crate::asks::Ask;
+use errno::{EEXIST, EFBIG, EISDIR, ENOENT, ENOTDIR};
+use std::alloc::{AllocError, Global};
+
+/// No file may be longer, in bytes.
+const LONGEST: u64 = 1_048_576;
+
+/// What stands at a name of the root. Folders are empty.
+#[derive(Drop)]
+pub struct Item {
+    /// None, once it was removed.
+    pub name: Option<&'static str>,
+    pub is_folder: bool,
+    /// Of a file.
+    pub bytes: Vec<u8>,
+}
+
+/// What a call of the tree is answered.
+#[derive(Clone, Copy, Debug, PartialEq, Eq)]
+pub enum Told {
+    Done,
+    /// So many bytes.
+    File(u64),
+    Folder,
+    /// So many bytes.
+    Wrote(u32),
+    Error(i32),
+}
+
+/// The sample tree: the file `a` with `abc`, the folder `d`, and the empty file `e`.
+pub fn sample_items(alloc: Global) -> Result<Vec<Item>, AllocError> {
+    let mut items = Vec::new(alloc);
+    items.push(Item {
+        name: Some("a"),
+        is_folder: false,
+        bytes: Vec::from_slice(alloc, b"abc")?,
+    })?;
+    items.push(Item {
+        name: Some("d"),
+        is_folder: true,
+        bytes: Vec::new(alloc),
+    })?;
+    items.push(Item {
+        name: Some("e"),
+        is_folder: false,
+        bytes: Vec::new(alloc),
+    })?;
+    Ok(items)
+}
+
+/// What stands there, or ENOENT.
+pub fn stat(items: &[Item], name: &str) -> Told {
+    for item in items {
+        if item.name == Some(name) {
+            return if item.is_folder {
+                Told::Folder
+            } else {
+                Told::File(item.bytes.len() as u64)
+            };
+        }
+    }
+    Told::Error(ENOENT)
+}
+
+/// What stands at the name gets another one, or none.
+fn put_name(items: &mut Vec<Item>, name: &str, new: Option<&'static str>) {
+    for item in items.iter_mut() {
+        if item.name == Some(name) {
+            item.name = new;
+        }
+    }
+}
+
+fn make_folder(items: &mut Vec<Item>, name: &'static str) -> Result<Told, AllocError> {
+    let alloc = *items.allocator();
+    match stat(items, name) {
+        Told::Error(_) => {
+            items.push(Item {
+                name: Some(name),
+                is_folder: true,
+                bytes: Vec::new(alloc),
+            })?;
+            Ok(Told::Done)
+        }
+        _ => Ok(Told::Error(EEXIST)),
+    }
+}
+
+fn remove(items: &mut Vec<Item>, name: &str) -> Told {
+    match stat(items, name) {
+        Told::Error(errno) => Told::Error(errno),
+        Told::Folder => Told::Error(EISDIR),
+        _ => {
+            put_name(items, name, None);
+            Told::Done
+        }
+    }
+}
+
+fn remove_folder(items: &mut Vec<Item>, name: &str) -> Told {
+    match stat(items, name) {
+        Told::Error(errno) => Told::Error(errno),
+        Told::Folder => {
+            put_name(items, name, None);
+            Told::Done
+        }
+        _ => Told::Error(ENOTDIR),
+    }
+}
+
+fn rename(items: &mut Vec<Item>, from: &str, to: &'static str) -> Told {
+    match (stat(items, from), stat(items, to)) {
+        (Told::Error(errno), _) => return Told::Error(errno),
+        (_, _) if from == to => return Told::Done,
+        (Told::File(_), Told::Folder) => return Told::Error(EISDIR),
+        (Told::Folder, Told::File(_)) => return Told::Error(ENOTDIR),
+        (_, _) => {}
+    }
+    put_name(items, to, None);
+    put_name(items, from, Some(to));
+    Told::Done
+}
+
+/// The bytes with the data laid over them. A gap is filled with zeros.
+fn laid_over(bytes: &Vec<u8>, offset: usize, data: &[u8]) -> Result<Vec<u8>, AllocError> {
+    let mut all = Vec::new(*bytes.allocator());
+    let end = bytes.len().max(offset.saturating_add(data.len()));
+    for place in 0..end {
+        let new = place.checked_sub(offset).and_then(|at| data.get(at));
+        let byte = match (new, bytes.get(place)) {
+            (Some(byte), _) | (None, Some(byte)) => *byte,
+            (None, None) => 0,
+        };
+        all.push(byte)?;
+    }
+    Ok(all)
+}
+
+/// Writes to the file at the name, whatever its length.
+fn put_bytes(
+    items: &mut Vec<Item>,
+    name: &str,
+    offset: usize,
+    data: &[u8],
+) -> Result<(), AllocError> {
+    for item in items.iter_mut() {
+        if item.name == Some(name) {
+            item.bytes = laid_over(&item.bytes, offset, data)?;
+        }
+    }
+    Ok(())
+}
+
+fn write(items: &mut Vec<Item>, name: &str, offset: u64, data: &[u8]) -> Result<Told, AllocError> {
+    match stat(items, name) {
+        Told::Error(errno) => return Ok(Told::Error(errno)),
+        Told::Folder => return Ok(Told::Error(EISDIR)),
+        _ => {}
+    }
+    if data.is_empty() {
+        return Ok(Told::Wrote(0));
+    }
+    let (Ok(at), Ok(count)) = (usize::try_from(offset), u32::try_from(data.len())) else {
+        return Ok(Told::Error(EFBIG));
+    };
+    if offset.saturating_add(u64::from(count)) > LONGEST {
+        return Ok(Told::Error(EFBIG));
+    }
+    put_bytes(items, name, at, data)?;
+    Ok(Told::Wrote(count))
+}
+
+/// Does what is asked. A LIST is done: its names are those of the items.
+pub fn work(items: &mut Vec<Item>, ask: Ask) -> Result<Told, AllocError> {
+    Ok(match ask {
+        Ask::Stat(name) => stat(items, name),
+        Ask::List => Told::Done,
+        Ask::MakeDir(name) => make_folder(items, name)?,
+        Ask::Remove(name) => remove(items, name),
+        Ask::RemoveDir(name) => remove_folder(items, name),
+        Ask::Rename(from, to) => rename(items, from, to),
+        Ask::Write(name, offset, data) => write(items, name, offset, data)?,
+    })
+}

@@ -1,0 +1,39 @@
+//! One session whose calls of the tree and whose replies fail in turn, beside a plain slow program of it.
+#![tactic(auto)]
+
+#[cfg(test)]
+mod answers;
+#[cfg(test)]
+mod asks;
+#[cfg(test)]
+mod bytes;
+#[cfg(test)]
+mod client;
+#[cfg(test)]
+mod compare;
+#[cfg(test)]
+mod folders;
+#[cfg(test)]
+mod frames;
+#[cfg(test)]
+mod hostile;
+#[cfg(test)]
+mod hostile_frames;
+#[cfg(test)]
+mod hostile_runs;
+#[cfg(test)]
+mod items;
+#[cfg(test)]
+mod product;
+#[cfg(test)]
+mod requests;
+#[cfg(test)]
+mod runs;
+#[cfg(test)]
+mod session;
+#[cfg(test)]
+mod slow;
+#[cfg(test)]
+mod watched;
+#[cfg(test)]
+mod world;

@@ -1,0 +1,215 @@
+//! The session without a failure, and with each in turn.
+
+use crate::asks::Ask;
+use crate::bytes::{bytes_of, joined};
+use crate::compare::compare;
+use crate::frames::{FIRST_REPLIES, FRAMES, LAST_REPLIES};
+use crate::product::{Ran, has_bytes, serve_session, what_stands};
+use crate::session::{ASKS, HIDDEN, LEDGER, REQUESTS, STANDS};
+use crate::slow::{PLAIN, Plan, run_slow};
+use crate::world::FaultAt;
+use backing::Fault;
+use engine::{Sent, SessionEnd};
+use errno::EIO;
+use ledger::Blanks;
+use std::alloc::{AllocError, Global};
+use std::marker::Brand;
+use std::test::Fail;
+use table_image::Image;
+use tree::Place;
+use wire::{Request, encode_request};
+
+/// How many calls of the tree and how many replies the session has.
+const CALLS: usize = 14;
+
+const REPLIES: u32 = 14;
+
+/// The replies where nothing fails, one after another.
+fn replies_of(alloc: Global) -> Result<Vec<u8>, Fail> {
+    let mut replies = joined(alloc, FIRST_REPLIES)?;
+    replies.extend_from_slice(&joined(alloc, LAST_REPLIES)?)?;
+    Ok(replies)
+}
+
+/// At how many of the names that stands which is to stand there.
+fn count_right(alloc: Global, ran: &mut Ran) -> Result<usize, AllocError> {
+    let mut right = 0usize;
+    for (name, told) in STANDS {
+        if what_stands(alloc, &mut ran.tree, name)? == *told {
+            right = right.saturating_add(1);
+        }
+    }
+    Ok(right)
+}
+
+/// Whether the node of that number has that name in the root, and is marked as hidden just where the name says so.
+fn is_named(image: &Image, number: u64, name: &str) -> bool {
+    for node in image.nodes.as_slice() {
+        if let Place::Named(key) = &node.place {
+            if node.number == number && key.parent == 1 && key.name.as_str() == name {
+                return node.hidden == (name == HIDDEN);
+            }
+        }
+    }
+    false
+}
+
+// The frames that are sent are those of the requests, numbered from 1.
+#[test]
+fn frames_of_the_session(rt: HostRuntime) -> Result<(), Fail> {
+    let alloc = rt.alloc();
+    let mut unique = 0u64;
+    for ((node, operation), frame) in REQUESTS.iter().zip(FRAMES) {
+        unique = unique.saturating_add(1);
+        let request = Request {
+            unique,
+            node: *node,
+            operation: *operation,
+        };
+        let mut spelled = Vec::new(alloc);
+        encode_request(&request, &mut spelled)?;
+        assert!(rt;
+            spelled.as_slice() == bytes_of(alloc, frame)?.as_slice(),
+            "unique {unique}"
+        );
+    }
+    assert_eq!(rt; REQUESTS.len(), FRAMES.len());
+    Ok(())
+}
+
+// Without a failure: replies, calls, ledger and tree as they are typed in.
+#[test]
+fn fixed_session(rt: HostRuntime) -> Result<(), Fail> {
+    let alloc = rt.alloc();
+    let mut ran = serve_session::<HostRuntime, Brand>(&rt, alloc, Blanks::new(1), &PLAIN, ASKS)?;
+    assert_eq!(rt; ran.end, SessionEnd::Destroyed);
+    assert!(rt; ran.taken.as_slice() == replies_of(alloc)?.as_slice());
+    assert_eq!(rt; ran.offers, REPLIES);
+    assert!(rt; ran.are_due);
+    assert!(rt; ran.image.postings.as_slice() == LEDGER);
+    assert!(rt; ran.image.lawful());
+    assert_eq!(rt; count_right(alloc, &mut ran)?, STANDS.len());
+    Ok(())
+}
+
+// The slow program has the same of its own.
+#[test]
+fn slow_session(rt: HostRuntime) -> Result<(), Fail> {
+    let alloc = rt.alloc();
+    let slow = run_slow(alloc, REQUESTS, &PLAIN)?;
+    assert!(rt; slow.taken.as_slice() == replies_of(alloc)?.as_slice());
+    assert!(rt; slow.world.asks.as_slice() == ASKS);
+    assert!(rt; slow.world.ledger.as_slice() == LEDGER);
+    Ok(())
+}
+
+// UNLINK's move is made and fails: its reply is EIO, the node keeps its name, RELEASE removes nothing, and the file is left where it was moved.
+#[test]
+fn failed_hiding(rt: HostRuntime) -> Result<(), Fail> {
+    let alloc = rt.alloc();
+    let plan = Plan {
+        fault: Some(FaultAt {
+            call: 5,
+            fault: Fault::After(EIO),
+        }),
+        ..PLAIN
+    };
+    let due = &ASKS[..13];
+    let mut ran = serve_session::<HostRuntime, Brand>(&rt, alloc, Blanks::new(1), &plan, due)?;
+    let mut replies = joined(alloc, &FIRST_REPLIES[..4])?;
+    replies.extend_from_slice(&bytes_of(alloc, "10000000 fbffffff 0500000000000000")?)?;
+    replies.extend_from_slice(&joined(alloc, &FIRST_REPLIES[5..])?)?;
+    replies.extend_from_slice(&joined(alloc, LAST_REPLIES)?)?;
+    assert!(rt; ran.taken.as_slice() == replies.as_slice());
+    assert!(rt; ran.are_due);
+    assert!(rt; is_named(&ran.image, 2, "a"));
+    assert!(rt; has_bytes(alloc, &mut ran.tree, HIDDEN, b"abcde")?);
+    Ok(())
+}
+
+// RELEASE's removal fails: its reply is 0, the mark stays, and the end of the session removes the file by one more call.
+#[test]
+fn failed_removal(rt: HostRuntime) -> Result<(), Fail> {
+    let alloc = rt.alloc();
+    let plan = Plan {
+        fault: Some(FaultAt {
+            call: 14,
+            fault: Fault::Before(EIO),
+        }),
+        ..PLAIN
+    };
+    let mut due = Vec::from_slice(alloc, ASKS)?;
+    due.push(Ask::Remove(HIDDEN))?;
+    let mut ran = serve_session::<HostRuntime, Brand>(&rt, alloc, Blanks::new(1), &plan, &due)?;
+    assert!(rt; ran.taken.as_slice() == replies_of(alloc)?.as_slice());
+    assert!(rt; ran.are_due);
+    assert!(rt; is_named(&ran.image, 2, HIDDEN));
+    assert_eq!(rt; count_right(alloc, &mut ran)?, STANDS.len());
+    Ok(())
+}
+
+/// Each call fails, before its work and after it.
+fn failing_calls(alloc: Global) -> Result<Vec<Plan>, AllocError> {
+    let mut plans = Vec::new(alloc);
+    for made in 0..CALLS {
+        let call = made.saturating_add(1);
+        let before = FaultAt {
+            call,
+            fault: Fault::Before(EIO),
+        };
+        let after = FaultAt {
+            call,
+            fault: Fault::After(EIO),
+        };
+        plans.push(Plan {
+            fault: Some(before),
+            ..PLAIN
+        })?;
+        plans.push(Plan {
+            fault: Some(after),
+            ..PLAIN
+        })?;
+    }
+    Ok(plans)
+}
+
+/// Each reply is not taken, and breaks the link.
+fn failing_replies(alloc: Global) -> Result<Vec<Plan>, AllocError> {
+    let mut plans = Vec::new(alloc);
+    for made in 0..REPLIES {
+        let declined = made.saturating_add(1);
+        plans.push(Plan {
+            declined,
+            fate: Sent::Untaken,
+            ..PLAIN
+        })?;
+        plans.push(Plan {
+            declined,
+            fate: Sent::Broken,
+            ..PLAIN
+        })?;
+    }
+    Ok(plans)
+}
+
+// 28 runs, each as the slow program's.
+#[test]
+fn each_call_fails(rt: HostRuntime) -> Result<(), Fail> {
+    let plans = failing_calls(rt.alloc())?;
+    assert_eq!(rt; plans.len(), 28);
+    for plan in &plans {
+        compare::<HostRuntime, Brand>(&rt, rt.alloc(), Blanks::new(1), plan)?;
+    }
+    Ok(())
+}
+
+// 28 runs, each as the slow program's.
+#[test]
+fn each_reply_fails(rt: HostRuntime) -> Result<(), Fail> {
+    let plans = failing_replies(rt.alloc())?;
+    assert_eq!(rt; plans.len(), 28);
+    for plan in &plans {
+        compare::<HostRuntime, Brand>(&rt, rt.alloc(), Blanks::new(1), plan)?;
+    }
+    Ok(())
+}

@@ -1,0 +1,124 @@
+//! The session whose calls and replies fail in turn: over the sample tree, a request of each kind that changes something, as data.
+
+use crate::asks::Ask;
+use crate::items::Told;
+use ledger::Posting;
+use wire::Operation;
+
+/// The name that the open file is hidden under.
+pub const HIDDEN: &str = ".fuse_hidden0000000200000000";
+
+/// What is asked of which node, one after another, and numbered from 1.
+pub const REQUESTS: &[(u64, Operation<'static>)] = &[
+    (
+        0,
+        Operation::Init {
+            major: 7,
+            minor: 31,
+            max_readahead: 131072,
+            flags: 0,
+        },
+    ),
+    (1, Operation::Lookup { name: "a" }),
+    (2, Operation::Open { flags: 2 }),
+    (
+        2,
+        Operation::Write {
+            fh: 1,
+            offset: 3,
+            data: b"de",
+        },
+    ),
+    (1, Operation::Unlink { name: "a" }),
+    (1, Operation::Lookup { name: "e" }),
+    (
+        1,
+        Operation::Rename {
+            name: "e",
+            new_parent: 1,
+            new_name: "b",
+        },
+    ),
+    (1, Operation::MakeDir { name: "m" }),
+    (1, Operation::RemoveDir { name: "m" }),
+    (1, Operation::OpenDir),
+    (
+        1,
+        Operation::ReadDirPlus {
+            fh: 1,
+            offset: 0,
+            size: 4096,
+        },
+    ),
+    (2, Operation::Release { fh: 1 }),
+    (1, Operation::ReleaseDir { fh: 1 }),
+    (0, Operation::Destroy),
+];
+
+/// The calls of the tree, one after another, where nothing fails.
+pub const ASKS: &[Ask] = &[
+    Ask::Stat("a"),
+    Ask::Stat("a"),
+    Ask::Write("a", 3, b"de"),
+    Ask::Stat(HIDDEN),
+    Ask::Rename("a", HIDDEN),
+    Ask::Stat("e"),
+    Ask::Rename("e", "b"),
+    Ask::MakeDir("m"),
+    Ask::Stat("m"),
+    Ask::RemoveDir("m"),
+    Ask::List,
+    Ask::Stat("b"),
+    Ask::Stat("d"),
+    Ask::Remove(HIDDEN),
+];
+
+/// The ledger in the end, where nothing fails.
+pub const LEDGER: &[Posting] = &[
+    Posting::Born {
+        number: 2,
+        generation: 0,
+    },
+    Posting::Entry {
+        number: 2,
+        generation: 0,
+    },
+    Posting::Born {
+        number: 3,
+        generation: 0,
+    },
+    Posting::Entry {
+        number: 3,
+        generation: 0,
+    },
+    Posting::Born {
+        number: 4,
+        generation: 0,
+    },
+    Posting::Entry {
+        number: 4,
+        generation: 0,
+    },
+    Posting::Entry {
+        number: 3,
+        generation: 0,
+    },
+    Posting::Born {
+        number: 5,
+        generation: 0,
+    },
+    Posting::Entry {
+        number: 5,
+        generation: 0,
+    },
+];
+
+/// What stands at names of the root in the end, where nothing fails.
+pub const STANDS: &[(&str, Told)] = &[
+    ("a", Told::Error(2)),
+    ("b", Told::File(0)),
+    ("d", Told::Folder),
+    ("e", Told::Error(2)),
+    ("m", Told::Error(2)),
+    (HIDDEN, Told::Error(2)),
+];
