@@ -4,3 +4,4 @@ pub mod Parts
 pub mod HostErrors
 pub mod Routes
 pub mod Counting
+pub mod Places

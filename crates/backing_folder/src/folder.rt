@@ -12,6 +12,7 @@ use crate::host_error::{HostError, Reason};
 use crate::listing::list;
 use crate::system::System;
 use crate::walk::Walk;
+use crate::ways::Ways;
 use backing::{Answer, Call, Calls, Told};
 use std::fs::File;
 use std::io;
@@ -28,7 +29,7 @@ use std::rt::Files;
 /// in which another user can write.
 #[derive(Drop)]
 pub struct Folder<D: Disk + Drop> {
-    disk: D,
+    ways: Ways<D>,
     walk: Walk,
     target: Walk,
     failures: u64,
@@ -57,7 +58,7 @@ impl<D: Disk + Drop> Folder<D> {
         let walk = Walk::new(disk.alloc());
         let target = Walk::new(disk.alloc());
         Folder {
-            disk,
+            ways: Ways::new(disk),
             walk,
             target,
             failures: 0,
@@ -82,15 +83,15 @@ impl<D: Disk + Drop> Calls for Folder<D> {
     ghost counts = { folder_counts };
 
     fn call(&mut self, call: Call<'_>) -> Answer {
-        let ended = perform(&self.disk, &mut self.walk, &mut self.target, call);
+        let ended = perform(&mut self.ways, &mut self.walk, &mut self.target, call);
         let told = conclude(call, ended);
         told.into_answer(&mut self.failures)
     }
 }
 
 /// What the system answers and does.
-fn perform<D: Disk>(
-    disk: &D,
+fn perform<D: Disk + Drop>(
+    ways: &mut Ways<D>,
     walk: &mut Walk,
     target: &mut Walk,
     call: Call<'_>,
@@ -98,17 +99,17 @@ fn perform<D: Disk>(
     ensures { IfOk result (Suits (asked call.entry)) }
 {
     match call {
-        Call::Stat(path) => stat(disk, walk, path),
-        Call::List(path) => list(disk, walk, path),
-        Call::Make(path) => make(disk, walk, path),
-        Call::MakeDir(path) => make_dir(disk, walk, path),
-        Call::Remove(path) => remove(disk, walk, path),
-        Call::RemoveDir(path) => remove_dir(disk, walk, path),
-        Call::Rename { from, to } => rename(disk, walk, target, from, to),
-        Call::Read { path, offset, size } => read(disk, walk, path, offset, size),
-        Call::Write { path, offset, data } => write(disk, walk, path, offset, data),
-        Call::SetLen { path, size } => set_len(disk, walk, path, size),
-        Call::Sync(path) => sync(disk, walk, path),
+        Call::Stat(path) => stat(ways, walk, path),
+        Call::List(path) => list(ways, walk, path),
+        Call::Make(path) => make(ways, walk, path),
+        Call::MakeDir(path) => make_dir(ways, walk, path),
+        Call::Remove(path) => remove(ways, walk, path),
+        Call::RemoveDir(path) => remove_dir(ways, walk, path),
+        Call::Rename { from, to } => rename(ways, walk, target, from, to),
+        Call::Read { path, offset, size } => read(ways, walk, path, offset, size),
+        Call::Write { path, offset, data } => write(ways, walk, path, offset, data),
+        Call::SetLen { path, size } => set_len(ways, walk, path, size),
+        Call::Sync(path) => sync(ways, walk, path),
     }
 }
 

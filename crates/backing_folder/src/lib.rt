@@ -9,8 +9,10 @@ mod folder;
 mod host_error;
 mod listing;
 mod parts;
+mod places;
 mod system;
 mod walk;
+mod ways;
 
 pub use disk::Disk;
 pub use folder::Folder;
