@@ -5,3 +5,5 @@ pub mod HostErrors
 pub mod Routes
 pub mod Counting
 pub mod Places
+pub mod Same
+pub mod Kept

@@ -4,12 +4,17 @@ ghost use Rattle.std.specs.Prelude.{◌≡◌, IfOk, OnOk};
 ghost use Rattle.backing.specs.Calls.{AskMake, AskMakeDir, AskRemove, AskRemoveDir, AskRename};
 ghost use Rattle.backing_folder.specs.Contents.{takenness};
 ghost use Rattle.backing_folder.specs.Explained.{Suits};
+ghost use Rattle.std.specs.List.{All};
+ghost use Rattle.backing_folder.specs.declared.walk.Found.TheVariants as Found;
+ghost use Rattle.backing_folder.specs.declared.walk.Identity.{Identity};
+ghost use Rattle.backing_folder.specs.Kept.{IsOther};
 ghost use Rattle.backing_folder.specs.Routes.{IsBelow, IsWalked};
 
 use crate::disk::Disk;
 use crate::files::{find_file, find_folder};
 use crate::host_error::{HostError, Reason};
-use crate::walk::{Found, Walk};
+use crate::kept::OpenFiles;
+use crate::walk::{Found, Identity, Walk};
 use crate::ways::Ways;
 use backing::Answer;
 use errno::EEXIST;
@@ -70,17 +75,32 @@ fn taken_by(found: Found) -> HostError
     }
 }
 
-/// Removes the file: `unlink`.
+/// Removes the file, which is closed: `unlink`.
 pub fn remove<D: Disk + Drop>(
     ways: &mut Ways<D>,
+    files: &mut OpenFiles,
     walk: &mut Walk,
     path: &Path,
 ) -> Result<Answer, HostError>
     ensures { IfOk result (Suits (AskRemove path.now)) }
 {
-    find_file(ways, walk, path)?;
-    ways.disk().remove_file(walk.path())?;
+    let identity = find_file(ways, walk, path)?;
+    unlink(ways.disk(), files, walk.path(), &identity)?;
     Ok(Answer::Done)
+}
+
+/// Closes the file and removes it.
+fn unlink<D: Disk>(
+    disk: &D,
+    files: &mut OpenFiles,
+    path: &str,
+    identity: &Identity,
+) -> Result<(), HostError>
+    requires { IsBelow (D.root disk.now) (D.folders disk.now) path.now }
+    ensures { All (IsOther identity.now) files.new }
+{
+    files.close(identity);
+    disk.remove_file(path)
 }
 
 /// Removes the folder: `open`, `getdents`, `close`, one `lstat` for each name, `rmdir`.
@@ -104,6 +124,7 @@ pub fn remove_dir<D: Disk + Drop>(
 /// Renames: `rename`; if a folder is replaced, `open`, `getdents`, `close` and one `lstat` for each name before it.
 pub fn rename<D: Disk + Drop>(
     ways: &mut Ways<D>,
+    files: &mut OpenFiles,
     walk: &mut Walk,
     target: &mut Walk,
     from: &Path,
@@ -125,8 +146,24 @@ pub fn rename<D: Disk + Drop>(
     let found = ways.find(target, to.names())?;
     expect_fitting(ways.disk(), target.path(), source, found)?;
     ways.forget_moved(source);
-    ways.disk().rename(walk.path(), target.path())?;
+    replace(ways.disk(), files, walk.path(), target.path(), found)?;
     Ok(Answer::Done)
+}
+
+/// Closes the file that was found at the other path, if one was, and renames.
+fn replace<D: Disk>(
+    disk: &D,
+    files: &mut OpenFiles,
+    from: &str,
+    to: &str,
+    found: Found,
+) -> Result<(), HostError>
+    requires from { IsBelow (D.root disk.now) (D.folders disk.now) from.now }
+    requires to { IsBelow (D.root disk.now) (D.folders disk.now) to.now }
+    ensures { (identity : Identity) → found ≡ Found.File identity → All (IsOther identity) files.new }
+{
+    files.close_found(found);
+    disk.rename(from, to)
 }
 
 fn is_gone(found: Found) -> bool {

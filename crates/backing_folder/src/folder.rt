@@ -9,6 +9,7 @@ use crate::entries::{make, make_dir, remove, remove_dir, rename};
 use crate::explained::is_explained;
 use crate::files::{read, set_len, stat, sync, write};
 use crate::host_error::{HostError, Reason};
+use crate::kept::OpenFiles;
 use crate::listing::list;
 use crate::system::System;
 use crate::walk::Walk;
@@ -30,6 +31,7 @@ use std::rt::Files;
 #[derive(Drop)]
 pub struct Folder<D: Disk + Drop> {
     ways: Ways<D>,
+    files: OpenFiles,
     walk: Walk,
     target: Walk,
     failures: u64,
@@ -57,8 +59,10 @@ impl<D: Disk + Drop> Folder<D> {
     {
         let walk = Walk::new(disk.alloc());
         let target = Walk::new(disk.alloc());
+        let files = OpenFiles::new(disk.alloc());
         Folder {
             ways: Ways::new(disk),
+            files,
             walk,
             target,
             failures: 0,
@@ -83,7 +87,13 @@ impl<D: Disk + Drop> Calls for Folder<D> {
     ghost counts = { folder_counts };
 
     fn call(&mut self, call: Call<'_>) -> Answer {
-        let ended = perform(&mut self.ways, &mut self.walk, &mut self.target, call);
+        let ended = perform(
+            &mut self.ways,
+            &mut self.files,
+            &mut self.walk,
+            &mut self.target,
+            call,
+        );
         let told = conclude(call, ended);
         told.into_answer(&mut self.failures)
     }
@@ -92,6 +102,7 @@ impl<D: Disk + Drop> Calls for Folder<D> {
 /// What the system answers and does.
 fn perform<D: Disk + Drop>(
     ways: &mut Ways<D>,
+    files: &mut OpenFiles,
     walk: &mut Walk,
     target: &mut Walk,
     call: Call<'_>,
@@ -103,12 +114,12 @@ fn perform<D: Disk + Drop>(
         Call::List(path) => list(ways, walk, path),
         Call::Make(path) => make(ways, walk, path),
         Call::MakeDir(path) => make_dir(ways, walk, path),
-        Call::Remove(path) => remove(ways, walk, path),
+        Call::Remove(path) => remove(ways, files, walk, path),
         Call::RemoveDir(path) => remove_dir(ways, walk, path),
-        Call::Rename { from, to } => rename(ways, walk, target, from, to),
-        Call::Read { path, offset, size } => read(ways, walk, path, offset, size),
-        Call::Write { path, offset, data } => write(ways, walk, path, offset, data),
-        Call::SetLen { path, size } => set_len(ways, walk, path, size),
+        Call::Rename { from, to } => rename(ways, files, walk, target, from, to),
+        Call::Read { path, offset, size } => read(ways, files, walk, path, offset, size),
+        Call::Write { path, offset, data } => write(ways, files, walk, path, offset, data),
+        Call::SetLen { path, size } => set_len(ways, files, walk, path, size),
         Call::Sync(path) => sync(ways, walk, path),
     }
 }

@@ -7,6 +7,7 @@ mod explained;
 mod files;
 mod folder;
 mod host_error;
+mod kept;
 mod listing;
 mod parts;
 mod places;

@@ -21,6 +21,9 @@ pub struct Identity {
 }
 
 impl Identity {
+    ghost use Rattle.std.specs.Prelude.{IsTrue, ◌↔◌};
+    ghost use Rattle.backing_folder.specs.Same.{IsSame};
+
     pub fn of(metadata: &Metadata) -> Identity {
         Identity {
             device: metadata.dev(),
@@ -30,13 +33,10 @@ impl Identity {
     }
 
     /// Whether both are the same file or folder, however long it is.
-    pub fn is(&self, other: &Identity) -> bool {
+    pub fn is(&self, other: &Identity) -> bool
+        ensures { IsTrue result ↔ IsSame self.now other.now }
+    {
         self.device == other.device && self.inode == other.inode
-    }
-
-    /// Whether the open file is the one that was found.
-    pub fn is_of(&self, metadata: &Metadata) -> bool {
-        self.device == metadata.dev() && self.inode == metadata.ino()
     }
 }
 

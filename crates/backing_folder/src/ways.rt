@@ -1,7 +1,8 @@
 //! The ways down a disk, and the folders that they led to.
 
 ghost use Rattle.std.specs.Prelude.{true, ◌≡◌, IfOk, IfSome, OnOk};
-ghost use Rattle.backing_folder.specs.Routes.{IsFolder, IsWalked};
+ghost use Rattle.backing_folder.specs.Routes.{IsBelow, IsFolder, IsWalked};
+ghost use Rattle.backing_folder.specs.Same.{ShowsFolder};
 
 use crate::disk::Disk;
 use crate::host_error::HostError;
@@ -91,10 +92,7 @@ impl<D: Disk + Drop> Ways<D> {
             return Ok(false);
         };
         walk.start(place.path.as_str())?;
-        match self.disk.look(walk.path()) {
-            Ok(Found::Folder(identity)) => Ok(identity.is(&place.identity)),
-            _ => Ok(false),
-        }
+        Ok(stands_there(&self.disk, walk.path(), &place.identity))
     }
 
     /// What is remembered of the folder.
@@ -164,5 +162,17 @@ impl<D: Disk + Drop> Ways<D> {
             Found::Folder(_) => self.slots.clear(),
             Found::File(_) | Found::Nothing | Found::Hidden => {}
         }
+    }
+}
+
+/// Whether that very folder stands there: one look.
+fn stands_there<D: Disk>(disk: &D, path: &str, identity: &Identity) -> bool
+    requires { IsBelow (D.root disk.now) (D.folders disk.now) path.now }
+    ensures folder { result ≡ true → D.folders disk.now path.now }
+    ensures same { result ≡ true → ShowsFolder (D.shows disk.now path.now) identity.now }
+{
+    match disk.look(path) {
+        Ok(Found::Folder(now)) => now.is(identity),
+        _ => false,
     }
 }

@@ -1,6 +1,11 @@
 //! What a real folder remembers, and others change meanwhile. A folder that is opened just now remembers nothing.
 
+use crate::asking::{expect, expect_count};
+use crate::places::sample_folder;
 use crate::telling::{Item, Step, tell};
+use backing_folder::{Folder, System};
+use std::alloc::Global;
+use std::fs;
 use std::test::Fail;
 
 #[test]
@@ -117,4 +122,139 @@ fn folders_that_its_own_calls_change_are_forgotten(rt: HostRuntime) -> Result<()
         Step::Both("stat d/x/f", "file 0"),
     ];
     tell(rt, "own-changes", STEPS)
+}
+
+#[test]
+fn a_replaced_file_is_opened_anew(rt: HostRuntime) -> Result<(), Fail> {
+    const STEPS: &[Step] = &[
+        Step::Both("read a 0 9", "bytes 616263"),
+        Step::Ask("write a 0 A", "wrote 1"),
+        Step::Put("old", Item::Moved("a")),
+        Step::Put("a", Item::File("new")),
+        Step::Both("read a 0 9", "bytes 6e6577"),
+        Step::Ask("write a 0 N", "wrote 1"),
+        Step::Both("read a 0 9", "bytes 4e6577"),
+        Step::Both("read old 0 9", "bytes 416263"),
+        Step::Ask("setlen a 1", "done"),
+        Step::Both("read a 0 9", "bytes 4e"),
+        Step::Both("read old 0 9", "bytes 416263"),
+        Step::Failed(0),
+    ];
+    tell(rt, "replaced-file", STEPS)
+}
+
+#[test]
+fn a_file_that_became_absent_is_not_read(rt: HostRuntime) -> Result<(), Fail> {
+    const STEPS: &[Step] = &[
+        Step::Both("read a 0 9", "bytes 616263"),
+        Step::Ask("write a 0 A", "wrote 1"),
+        Step::Put("a", Item::Nothing),
+        Step::Both("read a 0 9", "fault 2"),
+        Step::Both("write a 0 x", "fault 2"),
+        Step::Put("a", Item::Folder),
+        Step::Both("read a 0 9", "fault 21"),
+        Step::Put("b", Item::Moved("a")),
+        Step::Put("a", Item::Link("e")),
+        Step::Both("read a 0 9", "fault 2"),
+        Step::Both("write a 0 x", "fault 2"),
+        Step::Both("read e 0 9", "bytes "),
+        Step::Failed(0),
+    ];
+    tell(rt, "absent-file", STEPS)
+}
+
+#[test]
+fn a_file_that_was_removed_and_made_is_opened_anew(rt: HostRuntime) -> Result<(), Fail> {
+    const STEPS: &[Step] = &[
+        Step::Both("read a 0 9", "bytes 616263"),
+        Step::Ask("write a 0 A", "wrote 1"),
+        Step::Ask("remove a", "done"),
+        Step::Both("read a 0 9", "fault 2"),
+        Step::Ask("make a", "done"),
+        Step::Both("read a 0 9", "bytes "),
+        Step::Ask("write a 0 xyz", "wrote 3"),
+        Step::Both("read a 0 9", "bytes 78797a"),
+        Step::Failed(0),
+    ];
+    tell(rt, "remade-file", STEPS)
+}
+
+#[test]
+fn a_file_that_is_renamed_over_is_opened_anew(rt: HostRuntime) -> Result<(), Fail> {
+    const STEPS: &[Step] = &[
+        Step::Ask("write e 0 eee", "wrote 3"),
+        Step::Both("read e 0 9", "bytes 656565"),
+        Step::Both("read a 0 9", "bytes 616263"),
+        Step::Ask("rename a e", "done"),
+        Step::Both("read e 0 9", "bytes 616263"),
+        Step::Both("read a 0 9", "fault 2"),
+        Step::Ask("write e 0 A", "wrote 1"),
+        Step::Both("read e 0 9", "bytes 416263"),
+        Step::Ask("rename e d/f", "done"),
+        Step::Both("read d/f 0 9", "bytes 416263"),
+        Step::Ask("write d/f 1 B", "wrote 1"),
+        Step::Both("read d/f 0 9", "bytes 414263"),
+        Step::Failed(0),
+    ];
+    tell(rt, "renamed-file", STEPS)
+}
+
+/// Folders and files by number, more than are remembered and kept open.
+const MANY: u64 = 300;
+
+/// Makes the folder of that number and a file in it, which is written.
+fn make_one(alloc: Global, folder: &mut Folder<System<HostRuntime>>, n: u64) -> Result<(), Fail> {
+    let made = format!(in alloc; "mkdir d/{n}")?;
+    expect(alloc, folder, made.as_str(), "done")?;
+    let file = format!(in alloc; "make d/{n}/f")?;
+    expect(alloc, folder, file.as_str(), "done")?;
+    let written = format!(in alloc; "write d/{n}/f 0 {n}")?;
+    let count = format!(in alloc; "wrote {}", digits(n))?;
+    expect(alloc, folder, written.as_str(), count.as_str())
+}
+
+/// How many digits the number has, which is below 1,000.
+fn digits(n: u64) -> u64 {
+    if n < 10 {
+        1
+    } else if n < 100 {
+        2
+    } else {
+        3
+    }
+}
+
+/// The file of that number is as long as its number, and its first byte is the number's first digit.
+fn check_one(alloc: Global, folder: &mut Folder<System<HostRuntime>>, n: u64) -> Result<(), Fail> {
+    let looked = format!(in alloc; "stat d/{n}/f")?;
+    let size = format!(in alloc; "file {}", digits(n))?;
+    expect(alloc, folder, looked.as_str(), size.as_str())?;
+    let read = format!(in alloc; "read d/{n}/f {} 1", digits(n) - 1)?;
+    let last = format!(in alloc; "bytes 3{}", n % 10)?;
+    expect(alloc, folder, read.as_str(), last.as_str())
+}
+
+fn ask_many(alloc: Global, folder: &mut Folder<System<HostRuntime>>) -> Result<(), Fail> {
+    for n in 0..MANY {
+        make_one(alloc, folder, n)?;
+    }
+    for round in 0..3u64 {
+        for n in 0..MANY {
+            check_one(alloc, folder, (n * (round + 1)) % MANY)?;
+        }
+    }
+    expect_count(folder.failures(), 0)
+}
+
+fn ask_many_at(rt: HostRuntime, root: &str) -> Result<(), Fail> {
+    let mut folder = Folder::open(rt, root)?;
+    ask_many(rt.alloc(), &mut folder)
+}
+
+#[test]
+fn more_than_is_remembered_is_found(rt: HostRuntime) -> Result<(), Fail> {
+    let root = sample_folder(&rt, "many")?;
+    ask_many_at(rt, root.as_str())?;
+    fs::remove_dir_all(&rt, root.as_str())?;
+    Ok(())
 }
