@@ -23,11 +23,16 @@ use std::rt::Files;
 /// A folder of the file system, and all that is below it.
 ///
 /// It shows files and folders alone: a symbolic link, a pipe, a socket or a device is absent to it, wherever it stands in a
-/// path, and is neither followed nor opened. Each call first walks down the path, with one look for each name. What is then
-/// opened to be read, written, cut or synced is compared with what was found, by device and inode number, before a byte
-/// moves: a file that was replaced after its look is not touched. A folder above it that another user swaps for a link
-/// between two calls is not noticed, and the standard library has no call that works below an open folder: serve no folder
-/// in which another user can write.
+/// path, and is neither followed nor opened. Each call first walks down the path, with one look for each name. Up to 256
+/// folders that it walked to are remembered: one look at such a folder that shows the same device and inode number stands
+/// for the walk to it. What is opened to be read, written, cut or synced is compared with what was found in the same way,
+/// before a byte moves: a file that was replaced after its look is not touched. Up to 64 files that were read, written or
+/// cut stay open, and are used again where a look at a path shows their numbers; a file that the folder's own call removes
+/// or replaces is closed.
+///
+/// A folder in the way that another user swaps for a link between two calls of the system is not noticed, nor is a link
+/// that leads to the very folder that is remembered, or to one that got the number of a folder that is gone. The standard
+/// library has no call that works below an open folder: serve no folder in which another user can write.
 #[derive(Drop)]
 pub struct Folder<D: Disk + Drop> {
     ways: Ways<D>,
