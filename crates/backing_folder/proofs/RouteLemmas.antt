@@ -29,3 +29,7 @@ one_deeper root before after folders names name down folder entered lawful = rec
 pub entered : {E : Type 0} (root before after : List ℕ) (folders : List ℕ → Type 0) (parent path : Names) (name : Name) (r : Result (Unit {0}) E) → IsWalked root folders before parent → folders before → path ≡ parent ++ name ∷ [] → OnOk r (after ≡ before ++ 47 ∷ name) → OnOk r (IsLawfulName name) → OnOk r (IsWalked root folders after path)
 entered root before after folders parent path name (Ok done) down folder whole goes lawful = subst (λ (p : Names). IsWalked root folders after p) (sym whole) (one_deeper root before after folders parent name down folder goes lawful)
 entered root before after folders parent path name (Err e) down folder whole goes lawful = tt
+
+pub on_ok : {T E P : Type 0} (r : Result T E) → P → OnOk r P
+on_ok (Ok value) it = it
+on_ok (Err e) it = tt

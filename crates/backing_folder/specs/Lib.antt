@@ -4,3 +4,6 @@ pub mod Parts
 pub mod HostErrors
 pub mod Routes
 pub mod Counting
+pub mod Places
+pub mod Same
+pub mod Kept

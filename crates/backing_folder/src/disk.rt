@@ -2,6 +2,7 @@
 
 ghost use Rattle.std.specs.Prelude.{ℕ, List, ◌≡◌, IfOk};
 ghost use Rattle.backing_folder.specs.Routes.{IsBelow, IsFolder};
+ghost use Rattle.backing_folder.specs.declared.walk.Found.{Found};
 
 use crate::host_error::HostError;
 use crate::walk::{Found, Identity};
@@ -19,6 +20,9 @@ pub trait Disk {
     /// At which paths a folder was found.
     ghost folders: { Self → List ℕ → Type 0 };
 
+    /// What was found at which path.
+    ghost shows: { Self → List ℕ → Found → Type 0 };
+
     /// The path of the folder that is served.
     fn root(&self) -> &str
         ensures { result.now ≡ root self.now };
@@ -33,7 +37,8 @@ pub trait Disk {
     /// What stands at that very path, its links not followed.
     fn look(&self, path: &str) -> Result<Found, HostError>
         requires { IsBelow (root self.now) (folders self.now) path.now }
-        ensures { IfOk result (λ found. IsFolder found → folders self.now path.now) };
+        ensures folder { IfOk result (λ found. IsFolder found → folders self.now path.now) }
+        ensures shown { IfOk result (λ found. shows self.now path.now found) };
 
     /// Opens what stands there for reading.
     fn open(&self, path: &str) -> Result<File, HostError>

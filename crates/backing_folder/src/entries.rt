@@ -4,12 +4,18 @@ ghost use Rattle.std.specs.Prelude.{◌≡◌, IfOk, OnOk};
 ghost use Rattle.backing.specs.Calls.{AskMake, AskMakeDir, AskRemove, AskRemoveDir, AskRename};
 ghost use Rattle.backing_folder.specs.Contents.{takenness};
 ghost use Rattle.backing_folder.specs.Explained.{Suits};
+ghost use Rattle.std.specs.List.{All};
+ghost use Rattle.backing_folder.specs.declared.walk.Found.TheVariants as Found;
+ghost use Rattle.backing_folder.specs.declared.walk.Identity.{Identity};
+ghost use Rattle.backing_folder.specs.Kept.{IsOther};
 ghost use Rattle.backing_folder.specs.Routes.{IsBelow, IsWalked};
 
 use crate::disk::Disk;
 use crate::files::{find_file, find_folder};
 use crate::host_error::{HostError, Reason};
-use crate::walk::{Found, Walk};
+use crate::kept::OpenFiles;
+use crate::walk::{Found, Identity, Walk};
+use crate::ways::Ways;
 use backing::Answer;
 use errno::EEXIST;
 use paths::Path;
@@ -17,29 +23,37 @@ use std::io;
 use std::io::ErrorKind;
 
 /// Makes an empty file: `open` with `O_EXCL`, `close`, or one `lstat` where something stands there.
-pub fn make<D: Disk>(disk: &D, walk: &mut Walk, path: &Path) -> Result<Answer, HostError>
+pub fn make<D: Disk + Drop>(
+    ways: &mut Ways<D>,
+    walk: &mut Walk,
+    path: &Path,
+) -> Result<Answer, HostError>
     ensures { IfOk result (Suits (AskMake path.now)) }
 {
-    find_place(disk, walk, path)?;
-    match disk.create_new(walk.path()) {
+    find_place(ways, walk, path)?;
+    match ways.disk().create_new(walk.path()) {
         Ok(()) => Ok(Answer::Done),
-        Err(error) => Err(why_not_made(disk, walk.path(), error)),
+        Err(error) => Err(why_not_made(ways.disk(), walk.path(), error)),
     }
 }
 
 /// Makes an empty folder: `mkdir`, or one `lstat` more where something stands there.
-pub fn make_dir<D: Disk>(disk: &D, walk: &mut Walk, path: &Path) -> Result<Answer, HostError>
+pub fn make_dir<D: Disk + Drop>(
+    ways: &mut Ways<D>,
+    walk: &mut Walk,
+    path: &Path,
+) -> Result<Answer, HostError>
     ensures { IfOk result (Suits (AskMakeDir path.now)) }
 {
-    find_place(disk, walk, path)?;
-    match disk.create_dir(walk.path()) {
+    find_place(ways, walk, path)?;
+    match ways.disk().create_dir(walk.path()) {
         Ok(()) => Ok(Answer::Done),
-        Err(error) => Err(why_not_made(disk, walk.path(), error)),
+        Err(error) => Err(why_not_made(ways.disk(), walk.path(), error)),
     }
 }
 
 /// Why nothing could be made there. If something stands there, one `lstat` says what.
-fn why_not_made<D: Disk>(disk: &D, path: &str, error: io::Error) -> HostError
+fn why_not_made<D: Disk + Drop>(disk: &D, path: &str, error: io::Error) -> HostError
     requires { IsBelow (D.root disk.now) (D.folders disk.now) path.now }
 {
     if error.kind() != ErrorKind::AlreadyExists {
@@ -61,31 +75,56 @@ fn taken_by(found: Found) -> HostError
     }
 }
 
-/// Removes the file: `unlink`.
-pub fn remove<D: Disk>(disk: &D, walk: &mut Walk, path: &Path) -> Result<Answer, HostError>
+/// Removes the file, which is closed: `unlink`.
+pub fn remove<D: Disk + Drop>(
+    ways: &mut Ways<D>,
+    files: &mut OpenFiles,
+    walk: &mut Walk,
+    path: &Path,
+) -> Result<Answer, HostError>
     ensures { IfOk result (Suits (AskRemove path.now)) }
 {
-    find_file(disk, walk, path)?;
-    disk.remove_file(walk.path())?;
+    let identity = find_file(ways, walk, path)?;
+    unlink(ways.disk(), files, walk.path(), &identity)?;
     Ok(Answer::Done)
 }
 
+/// Closes the file and removes it.
+fn unlink<D: Disk>(
+    disk: &D,
+    files: &mut OpenFiles,
+    path: &str,
+    identity: &Identity,
+) -> Result<(), HostError>
+    requires { IsBelow (D.root disk.now) (D.folders disk.now) path.now }
+    ensures { All (IsOther identity.now) files.new }
+{
+    files.close(identity);
+    disk.remove_file(path)
+}
+
 /// Removes the folder: `open`, `getdents`, `close`, one `lstat` for each name, `rmdir`.
-pub fn remove_dir<D: Disk>(disk: &D, walk: &mut Walk, path: &Path) -> Result<Answer, HostError>
+pub fn remove_dir<D: Disk + Drop>(
+    ways: &mut Ways<D>,
+    walk: &mut Walk,
+    path: &Path,
+) -> Result<Answer, HostError>
     ensures { IfOk result (Suits (AskRemoveDir path.now)) }
 {
     if path.len() == 0 {
         return Err(HostError::Refused(Reason::Root));
     }
-    find_folder(disk, walk, path)?;
-    disk.expect_bare(walk.path())?;
-    disk.remove_dir(walk.path())?;
+    find_folder(ways, walk, path)?;
+    ways.disk().expect_bare(walk.path())?;
+    ways.forget(path.names());
+    ways.disk().remove_dir(walk.path())?;
     Ok(Answer::Done)
 }
 
 /// Renames: `rename`; if a folder is replaced, `open`, `getdents`, `close` and one `lstat` for each name before it.
-pub fn rename<D: Disk>(
-    disk: &D,
+pub fn rename<D: Disk + Drop>(
+    ways: &mut Ways<D>,
+    files: &mut OpenFiles,
     walk: &mut Walk,
     target: &mut Walk,
     from: &Path,
@@ -96,7 +135,7 @@ pub fn rename<D: Disk>(
     if from.len() == 0 || to.len() == 0 {
         return Err(HostError::Refused(Reason::Root));
     }
-    let source = walk.find(disk, from.names())?;
+    let source = ways.find(walk, from.names())?;
     if is_gone(source) {
         return Err(HostError::Refused(Reason::Nothing));
     }
@@ -104,10 +143,27 @@ pub fn rename<D: Disk>(
         return Ok(Answer::Done);
     }
     expect_apart(from, to)?;
-    let found = target.find(disk, to.names())?;
-    expect_fitting(disk, target.path(), source, found)?;
-    disk.rename(walk.path(), target.path())?;
+    let found = ways.find(target, to.names())?;
+    expect_fitting(ways.disk(), target.path(), source, found)?;
+    ways.forget_moved(source);
+    replace(ways.disk(), files, walk.path(), target.path(), found)?;
     Ok(Answer::Done)
+}
+
+/// Closes the file that was found at the other path, if one was, and renames.
+fn replace<D: Disk>(
+    disk: &D,
+    files: &mut OpenFiles,
+    from: &str,
+    to: &str,
+    found: Found,
+) -> Result<(), HostError>
+    requires from { IsBelow (D.root disk.now) (D.folders disk.now) from.now }
+    requires to { IsBelow (D.root disk.now) (D.folders disk.now) to.now }
+    ensures { (identity : Identity) → found ≡ Found.File identity → All (IsOther identity) files.new }
+{
+    files.close_found(found);
+    disk.rename(from, to)
 }
 
 fn is_gone(found: Found) -> bool {
@@ -129,7 +185,7 @@ fn expect_apart(from: &Path, to: &Path) -> Result<(), HostError> {
 }
 
 /// The one may replace the other. What is hidden is not replaced.
-fn expect_fitting<D: Disk>(
+fn expect_fitting<D: Disk + Drop>(
     disk: &D,
     target: &str,
     source: Found,
@@ -152,13 +208,17 @@ fn expect_fitting<D: Disk>(
 }
 
 /// A folder stands at the path's parent, where something is to be made.
-fn find_place<D: Disk>(disk: &D, walk: &mut Walk, path: &Path) -> Result<(), HostError>
-    ensures { OnOk result (IsWalked (D.root disk.now) (D.folders disk.now) walk.new path.now) }
+fn find_place<D: Disk + Drop>(
+    ways: &mut Ways<D>,
+    walk: &mut Walk,
+    path: &Path,
+) -> Result<(), HostError>
+    ensures { OnOk result (IsWalked (D.root ways.new) (D.folders ways.new) walk.new path.now) }
 {
     let Some((name, parent)) = path.names().split_last() else {
         return Err(HostError::Refused(Reason::Taken));
     };
-    match walk.find(disk, parent)? {
+    match ways.find(walk, parent)? {
         Found::Folder(_) => walk.enter(name),
         Found::File(_) => Err(HostError::Refused(Reason::NoFolder)),
         Found::Nothing | Found::Hidden => Err(HostError::Refused(Reason::Nothing)),

@@ -3,22 +3,30 @@
 ghost use Rattle.std.specs.Prelude.{IfOk, OnOk};
 ghost use Rattle.backing.specs.Calls.{AskStat, AskRead, AskWrite, AskSetLen, AskSync};
 ghost use Rattle.backing_folder.specs.Explained.{Suits};
-ghost use Rattle.backing_folder.specs.Routes.{IsWalked};
+ghost use Rattle.backing_folder.specs.Kept.{IsKeptAt};
+ghost use Rattle.backing_folder.specs.Routes.{IsBelow, IsWalked};
+ghost use Rattle.backing_folder.specs.Same.{IsSame};
 
 use crate::disk::Disk;
 use crate::host_error::{HostError, Reason};
+use crate::kept::{Access, Kept, OpenFiles};
 use crate::parts::{read_all, write_all};
 use crate::walk::{Found, Identity, Walk};
+use crate::ways::Ways;
 use backing::{Answer, Bytes, Kind};
 use errno::EIO;
 use paths::Path;
 use std::fs::File;
 
 /// What stands at the path.
-pub fn stat<D: Disk>(disk: &D, walk: &mut Walk, path: &Path) -> Result<Answer, HostError>
+pub fn stat<D: Disk + Drop>(
+    ways: &mut Ways<D>,
+    walk: &mut Walk,
+    path: &Path,
+) -> Result<Answer, HostError>
     ensures { IfOk result (Suits (AskStat path.now)) }
 {
-    match walk.find(disk, path.names())? {
+    match ways.find(walk, path.names())? {
         Found::Folder(_) => Ok(Answer::Stat {
             kind: Kind::Folder,
             size: 0,
@@ -31,9 +39,11 @@ pub fn stat<D: Disk>(disk: &D, walk: &mut Walk, path: &Path) -> Result<Answer, H
     }
 }
 
-/// Reads at most `size` bytes from `offset` on: `open`, `fstat`, `pread` until the end, `close`.
-pub fn read<D: Disk>(
-    disk: &D,
+/// Reads at most `size` bytes from `offset` on: `pread` until there are so many or the file ends. A file that is not kept open is
+/// opened, and the bytes end where it ended when it was found.
+pub fn read<D: Disk + Drop>(
+    ways: &mut Ways<D>,
+    files: &mut OpenFiles,
     walk: &mut Walk,
     path: &Path,
     offset: u64,
@@ -41,19 +51,19 @@ pub fn read<D: Disk>(
 ) -> Result<Answer, HostError>
     ensures { IfOk result (Suits (AskRead path.now offset size)) }
 {
-    let identity = find_file(disk, walk, path)?;
-    let file = disk.open(walk.path())?;
-    let len = expect_same(&file, &identity)?;
-    let size = u64::from(size).min(len.saturating_sub(offset)) as usize;
-    let mut buffer = vec![in disk.alloc(); 0u8; size]?;
-    let count = read_all(&file, buffer.as_mut_slice(), offset)?;
+    let identity = find_file(ways, walk, path)?;
+    let i = open_found(ways.disk(), files, walk.path(), &identity, Access::Read)?;
+    let size = u64::from(size).min(identity.size.saturating_sub(offset)) as usize;
+    let mut buffer = vec![in ways.disk().alloc(); 0u8; size]?;
+    let count = read_all(files.file(i), buffer.as_mut_slice(), offset)?;
     buffer.truncate(count);
     Ok(Answer::Bytes(Bytes::from_vec(buffer)))
 }
 
-/// Writes the piece at `offset`: `open`, `fstat`, `pwrite` until all is written, `close`. No bytes need none of these.
-pub fn write<D: Disk>(
-    disk: &D,
+/// Writes the piece at `offset`: `pwrite` until all is written. A file that is not kept open is opened. No bytes need none of these.
+pub fn write<D: Disk + Drop>(
+    ways: &mut Ways<D>,
+    files: &mut OpenFiles,
     walk: &mut Walk,
     path: &Path,
     offset: u64,
@@ -61,55 +71,62 @@ pub fn write<D: Disk>(
 ) -> Result<Answer, HostError>
     ensures { IfOk result (Suits (AskWrite path.now offset piece.now)) }
 {
-    let identity = find_file(disk, walk, path)?;
+    let identity = find_file(ways, walk, path)?;
     if piece.is_empty() {
         return Ok(Answer::Wrote(0));
     }
-    let file = disk.open_to_write(walk.path())?;
-    expect_same(&file, &identity)?;
+    let i = open_found(ways.disk(), files, walk.path(), &identity, Access::Write)?;
     let Some(_end) = offset.checked_add(piece.len() as u64) else {
         return Err(HostError::Failed(EIO));
     };
-    write_all(&file, piece, offset)?;
+    write_all(files.file(i), piece, offset)?;
     Ok(Answer::Wrote(piece.len()))
 }
 
-/// Gives the file that length: `open`, `fstat`, `ftruncate`, `close`.
-pub fn set_len<D: Disk>(
-    disk: &D,
+/// Gives the file that length: `ftruncate`. A file that is not kept open is opened.
+pub fn set_len<D: Disk + Drop>(
+    ways: &mut Ways<D>,
+    files: &mut OpenFiles,
     walk: &mut Walk,
     path: &Path,
     size: u64,
 ) -> Result<Answer, HostError>
     ensures { IfOk result (Suits (AskSetLen path.now size)) }
 {
-    let identity = find_file(disk, walk, path)?;
-    let file = disk.open_to_write(walk.path())?;
-    expect_same(&file, &identity)?;
-    file.set_len(size)?;
+    let identity = find_file(ways, walk, path)?;
+    let i = open_found(ways.disk(), files, walk.path(), &identity, Access::Write)?;
+    files.file(i).set_len(size)?;
     Ok(Answer::Done)
 }
 
 /// Brings the file or the folder to the disk: `open`, `fstat`, `fsync`, `close`.
-pub fn sync<D: Disk>(disk: &D, walk: &mut Walk, path: &Path) -> Result<Answer, HostError>
+pub fn sync<D: Disk + Drop>(
+    ways: &mut Ways<D>,
+    walk: &mut Walk,
+    path: &Path,
+) -> Result<Answer, HostError>
     ensures { IfOk result (Suits (AskSync path.now)) }
 {
-    let identity = match walk.find(disk, path.names())? {
+    let identity = match ways.find(walk, path.names())? {
         Found::Folder(identity) => identity,
         Found::File(identity) => identity,
         Found::Nothing | Found::Hidden => return Err(HostError::Refused(Reason::Nothing)),
     };
-    let file = disk.open(walk.path())?;
+    let file = ways.disk().open(walk.path())?;
     expect_same(&file, &identity)?;
     file.sync_all()?;
     Ok(Answer::Done)
 }
 
 /// A file stands there: which one it is.
-pub fn find_file<D: Disk>(disk: &D, walk: &mut Walk, path: &Path) -> Result<Identity, HostError>
-    ensures { OnOk result (IsWalked (D.root disk.now) (D.folders disk.now) walk.new path.now) }
+pub fn find_file<D: Disk + Drop>(
+    ways: &mut Ways<D>,
+    walk: &mut Walk,
+    path: &Path,
+) -> Result<Identity, HostError>
+    ensures { OnOk result (IsWalked (D.root ways.new) (D.folders ways.new) walk.new path.now) }
 {
-    match walk.find(disk, path.names())? {
+    match ways.find(walk, path.names())? {
         Found::File(identity) => Ok(identity),
         Found::Folder(_) => Err(HostError::Refused(Reason::Folder)),
         Found::Nothing | Found::Hidden => Err(HostError::Refused(Reason::Nothing)),
@@ -117,21 +134,53 @@ pub fn find_file<D: Disk>(disk: &D, walk: &mut Walk, path: &Path) -> Result<Iden
 }
 
 /// A folder stands there.
-pub fn find_folder<D: Disk>(disk: &D, walk: &mut Walk, path: &Path) -> Result<(), HostError>
-    ensures { OnOk result (IsWalked (D.root disk.now) (D.folders disk.now) walk.new path.now) }
+pub fn find_folder<D: Disk + Drop>(
+    ways: &mut Ways<D>,
+    walk: &mut Walk,
+    path: &Path,
+) -> Result<(), HostError>
+    ensures { OnOk result (IsWalked (D.root ways.new) (D.folders ways.new) walk.new path.now) }
 {
-    match walk.find(disk, path.names())? {
+    match ways.find(walk, path.names())? {
         Found::Folder(_) => Ok(()),
         Found::File(_) => Err(HostError::Refused(Reason::NoFolder)),
         Found::Nothing | Found::Hidden => Err(HostError::Refused(Reason::Nothing)),
     }
 }
 
-/// The open file is the one that was found: how long it is.
-fn expect_same(file: &File, identity: &Identity) -> Result<u64, HostError> {
-    let metadata = file.metadata()?;
-    if identity.is_of(&metadata) {
-        Ok(metadata.len())
+/// Which of the open files is the one that was found: one that is kept, or else `open` and `fstat`.
+fn open_found<D: Disk>(
+    disk: &D,
+    files: &mut OpenFiles,
+    path: &str,
+    identity: &Identity,
+    access: Access,
+) -> Result<usize, HostError>
+    requires { IsBelow (D.root disk.now) (D.folders disk.now) path.now }
+    ensures { IfOk result (λ i. IsKeptAt files.new i identity.now access) }
+{
+    if let Some(i) = files.index_of(identity, access) {
+        return Ok(i);
+    }
+    let file = match access {
+        Access::Read => disk.open(path)?,
+        Access::Write => disk.open_to_write(path)?,
+    };
+    let identity = expect_same(&file, identity)?;
+    Ok(files.keep(Kept {
+        identity,
+        access,
+        file,
+    })?)
+}
+
+/// The open file is the one that was found: one `fstat`.
+fn expect_same(file: &File, identity: &Identity) -> Result<Identity, HostError>
+    ensures { IfOk result (λ opened. IsSame opened identity.now) }
+{
+    let opened = Identity::of(&file.metadata()?);
+    if opened.is(identity) {
+        Ok(opened)
     } else {
         Err(HostError::Failed(EIO))
     }

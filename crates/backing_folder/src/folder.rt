@@ -9,9 +9,11 @@ use crate::entries::{make, make_dir, remove, remove_dir, rename};
 use crate::explained::is_explained;
 use crate::files::{read, set_len, stat, sync, write};
 use crate::host_error::{HostError, Reason};
+use crate::kept::OpenFiles;
 use crate::listing::list;
 use crate::system::System;
 use crate::walk::Walk;
+use crate::ways::Ways;
 use backing::{Answer, Call, Calls, Told};
 use std::fs::File;
 use std::io;
@@ -21,14 +23,20 @@ use std::rt::Files;
 /// A folder of the file system, and all that is below it.
 ///
 /// It shows files and folders alone: a symbolic link, a pipe, a socket or a device is absent to it, wherever it stands in a
-/// path, and is neither followed nor opened. Each call first walks down the path, with one look for each name. What is then
-/// opened to be read, written, cut or synced is compared with what was found, by device and inode number, before a byte
-/// moves: a file that was replaced after its look is not touched. A folder above it that another user swaps for a link
-/// between two calls is not noticed, and the standard library has no call that works below an open folder: serve no folder
-/// in which another user can write.
+/// path, and is neither followed nor opened. Each call first walks down the path, with one look for each name. Up to 256
+/// folders that it walked to are remembered: one look at such a folder that shows the same device and inode number stands
+/// for the walk to it. What is opened to be read, written, cut or synced is compared with what was found in the same way,
+/// before a byte moves: a file that was replaced after its look is not touched. Up to 64 files that were read, written or
+/// cut stay open, and are used again where a look at a path shows their numbers; a file that the folder's own call removes
+/// or replaces is closed.
+///
+/// A folder in the way that another user swaps for a link between two calls of the system is not noticed, nor is a link
+/// that leads to the very folder that is remembered, or to one that got the number of a folder that is gone. The standard
+/// library has no call that works below an open folder: serve no folder in which another user can write.
 #[derive(Drop)]
 pub struct Folder<D: Disk + Drop> {
-    disk: D,
+    ways: Ways<D>,
+    files: OpenFiles,
     walk: Walk,
     target: Walk,
     failures: u64,
@@ -56,8 +64,10 @@ impl<D: Disk + Drop> Folder<D> {
     {
         let walk = Walk::new(disk.alloc());
         let target = Walk::new(disk.alloc());
+        let files = OpenFiles::new(disk.alloc());
         Folder {
-            disk,
+            ways: Ways::new(disk),
+            files,
             walk,
             target,
             failures: 0,
@@ -82,15 +92,22 @@ impl<D: Disk + Drop> Calls for Folder<D> {
     ghost counts = { folder_counts };
 
     fn call(&mut self, call: Call<'_>) -> Answer {
-        let ended = perform(&self.disk, &mut self.walk, &mut self.target, call);
+        let ended = perform(
+            &mut self.ways,
+            &mut self.files,
+            &mut self.walk,
+            &mut self.target,
+            call,
+        );
         let told = conclude(call, ended);
         told.into_answer(&mut self.failures)
     }
 }
 
 /// What the system answers and does.
-fn perform<D: Disk>(
-    disk: &D,
+fn perform<D: Disk + Drop>(
+    ways: &mut Ways<D>,
+    files: &mut OpenFiles,
     walk: &mut Walk,
     target: &mut Walk,
     call: Call<'_>,
@@ -98,17 +115,17 @@ fn perform<D: Disk>(
     ensures { IfOk result (Suits (asked call.entry)) }
 {
     match call {
-        Call::Stat(path) => stat(disk, walk, path),
-        Call::List(path) => list(disk, walk, path),
-        Call::Make(path) => make(disk, walk, path),
-        Call::MakeDir(path) => make_dir(disk, walk, path),
-        Call::Remove(path) => remove(disk, walk, path),
-        Call::RemoveDir(path) => remove_dir(disk, walk, path),
-        Call::Rename { from, to } => rename(disk, walk, target, from, to),
-        Call::Read { path, offset, size } => read(disk, walk, path, offset, size),
-        Call::Write { path, offset, data } => write(disk, walk, path, offset, data),
-        Call::SetLen { path, size } => set_len(disk, walk, path, size),
-        Call::Sync(path) => sync(disk, walk, path),
+        Call::Stat(path) => stat(ways, walk, path),
+        Call::List(path) => list(ways, walk, path),
+        Call::Make(path) => make(ways, walk, path),
+        Call::MakeDir(path) => make_dir(ways, walk, path),
+        Call::Remove(path) => remove(ways, files, walk, path),
+        Call::RemoveDir(path) => remove_dir(ways, walk, path),
+        Call::Rename { from, to } => rename(ways, files, walk, target, from, to),
+        Call::Read { path, offset, size } => read(ways, files, walk, path, offset, size),
+        Call::Write { path, offset, data } => write(ways, files, walk, path, offset, data),
+        Call::SetLen { path, size } => set_len(ways, files, walk, path, size),
+        Call::Sync(path) => sync(ways, walk, path),
     }
 }
 

@@ -7,10 +7,13 @@ mod explained;
 mod files;
 mod folder;
 mod host_error;
+mod kept;
 mod listing;
 mod parts;
+mod places;
 mod system;
 mod walk;
+mod ways;
 
 pub use disk::Disk;
 pub use folder::Folder;

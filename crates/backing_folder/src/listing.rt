@@ -9,6 +9,7 @@ use crate::disk::Disk;
 use crate::files::find_folder;
 use crate::host_error::{HostError, Reason};
 use crate::walk::{Found, Walk, found_of};
+use crate::ways::Ways;
 use backing::{Answer, Child, Children, Kind};
 use errno::ENOTEMPTY;
 use paths::{Name, Path};
@@ -19,11 +20,15 @@ use std::io::ErrorKind;
 use std::rt::Files;
 
 /// The names of files and folders in the folder: `open`, `getdents`, `close`, and one `lstat` for each name.
-pub fn list<D: Disk>(disk: &D, walk: &mut Walk, path: &Path) -> Result<Answer, HostError>
+pub fn list<D: Disk + Drop>(
+    ways: &mut Ways<D>,
+    walk: &mut Walk,
+    path: &Path,
+) -> Result<Answer, HostError>
     ensures { IfOk result (Suits (AskList path.now)) }
 {
-    find_folder(disk, walk, path)?;
-    Ok(Answer::Names(disk.list(walk.path())?))
+    find_folder(ways, walk, path)?;
+    Ok(Answer::Names(ways.disk().list(walk.path())?))
 }
 
 /// The names of files and folders in the folder of the system.

@@ -39,6 +39,8 @@ impl<H: Files<File = File> + AllocGlobal + Clone + Drop> Disk for System<H> {
 
     ghost folders = { λ _ _. Unit {0} };
 
+    ghost shows = { λ _ _ _. Unit {0} };
+
     fn root(&self) -> &str {
         self.root.as_str()
     }

@@ -21,6 +21,9 @@ pub struct Identity {
 }
 
 impl Identity {
+    ghost use Rattle.std.specs.Prelude.{IsTrue, ◌↔◌};
+    ghost use Rattle.backing_folder.specs.Same.{IsSame};
+
     pub fn of(metadata: &Metadata) -> Identity {
         Identity {
             device: metadata.dev(),
@@ -29,9 +32,11 @@ impl Identity {
         }
     }
 
-    /// Whether the open file is the one that was found.
-    pub fn is_of(&self, metadata: &Metadata) -> bool {
-        self.device == metadata.dev() && self.inode == metadata.ino()
+    /// Whether both are the same file or folder, however long it is.
+    pub fn is(&self, other: &Identity) -> bool
+        ensures { IsTrue result ↔ IsSame self.now other.now }
+    {
+        self.device == other.device && self.inode == other.inode
     }
 }
 
@@ -76,8 +81,8 @@ impl Walk {
         self.path.as_str()
     }
 
-    /// Back to the root.
-    fn start(&mut self, root: &str) -> Result<(), AllocError>
+    /// To the root, or to a place that was walked to before.
+    pub fn start(&mut self, root: &str) -> Result<(), AllocError>
         ensures { OnOk result (self.new ≡ root.now) }
     {
         self.path.clear();
@@ -156,12 +161,12 @@ pub fn found_of(metadata: &Metadata) -> Found {
     }
 }
 
-/// Something below it can be reached.
-fn expect_folder(found: Found) -> Result<(), HostError>
+/// Something below it can be reached: which folder it is.
+pub fn expect_folder(found: Found) -> Result<Identity, HostError>
     ensures { OnOk result (IsFolder found) }
 {
     match found {
-        Found::Folder(_) => Ok(()),
+        Found::Folder(identity) => Ok(identity),
         Found::File(_) => Err(HostError::Refused(Reason::NoFolder)),
         Found::Nothing | Found::Hidden => Err(HostError::Refused(Reason::Nothing)),
     }

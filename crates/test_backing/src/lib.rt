@@ -12,4 +12,8 @@ mod places;
 #[cfg(test)]
 mod random;
 #[cfg(test)]
+mod remembered;
+#[cfg(test)]
 mod rows;
+#[cfg(test)]
+mod telling;

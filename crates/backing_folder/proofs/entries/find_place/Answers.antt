@@ -6,4 +6,4 @@ use Rattle.backing_folder.proofs.entries.find_place.Goals as goal
 pub returns-in-Folder : goal.returns-in-Folder
 returns-in-Folder g c =
     let is_folder = subst IsFolder (sym c.in-Folder.is) tt in
-    entered (g.D.Disk.root c.args.disk.now) c.find.new.self c.enter.new.self (g.D.Disk.folders c.args.disk.now) c.in-Some.parent.now c.args.path.now c.in-Some.name.now c.enter.result c.in_ok-find.ensures.walked (c.in_ok-find.ensures.folder is_folder) (sym c.names.ensures ∙ c.in-Some.ensures.cases.0) c.enter.ensures.ok c.enter.ensures.lawful
+    entered (g.D.Disk.root c.find.new.self) c.find.new.walk c.enter.new.self (g.D.Disk.folders c.find.new.self) c.in-Some.parent.now c.args.path.now c.in-Some.name.now c.enter.result c.in_ok-find.ensures.walked (c.in_ok-find.ensures.folder is_folder) (sym c.names.ensures ∙ c.in-Some.ensures.cases.0) c.enter.ensures.ok c.enter.ensures.lawful

@@ -29,5 +29,5 @@ loop-name-preserved g c =
     let deeper = one_deeper root c.loop-name.self c.enter.new.self folders (take i names) name inv.walked (inv.folder c.in_ok-expect_folder.ensures) c.in_ok-enter.ensures.ok c.in_ok-enter.ensures.lawful in
     record {
       walked = subst (λ (ns : Names). IsWalked root folders c.enter.new.self ns) (sym more) deeper;
-      folder = λ is. subst folders c.path.ensures (c.in_ok-found.ensures is);
+      folder = λ is. subst folders c.path.ensures (c.in_ok-found.ensures.folder is);
     }

@@ -1,0 +1,22 @@
+-- Open files that are kept.
+use Rattle.std.specs.Prelude.{ℕ, ◌≡◌, ◌<◌, List, Some, length, slice_get}
+use Rattle.backing_folder.specs.declared.kept.Access.{Access}
+use Rattle.backing_folder.specs.declared.kept.Kept.{Kept}
+use Rattle.backing_folder.specs.declared.walk.Identity.{Identity}
+use Rattle.backing_folder.specs.Same.{IsSame}
+
+-- it is that file, opened for that access
+pub record IsFor (identity : Identity) (access : Access) (kept : Kept) : Type 0 where
+  pub same : IsSame kept.identity identity
+  pub opened : kept.access ≡ access
+
+-- the i-th of them is that file, opened for that access
+pub record IsKeptAt (files : List Kept) (i : ℕ) (identity : Identity) (access : Access) : Type 0 where
+  pub within : i < length files
+  pub kept : Kept
+  pub stands : slice_get files i ≡ Some kept
+  pub fits : IsFor identity access kept
+
+-- it is another file
+abbrev pub IsOther : Identity → Kept → Type 0
+IsOther identity kept = IsSame kept.identity identity → ⊥

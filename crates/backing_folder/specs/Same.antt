@@ -1,0 +1,16 @@
+-- Files and folders that are the same one.
+use Rattle.std.specs.Prelude.{◌≡◌}
+use Rattle.backing_folder.specs.declared.walk.Identity.{Identity}
+use Rattle.backing_folder.specs.declared.walk.Found.{Found}
+use Rattle.backing_folder.specs.declared.walk.Found.TheVariants as found
+
+-- the same file or folder, however long it is
+pub record IsSame (one other : Identity) : Type 0 where
+  pub device : one.device ≡ other.device
+  pub inode : one.inode ≡ other.inode
+
+-- a folder was found, and it is that one
+pub record ShowsFolder (shows : Found → Type 0) (identity : Identity) : Type 0 where
+  pub now : Identity
+  pub shown : shows (found.Folder now)
+  pub same : IsSame now identity

@@ -1,0 +1,148 @@
+//! Open files that are kept for the next call on them.
+
+ghost use Rattle.std.specs.Prelude.{true, ◌≡◌, ◌<◌, [], IfOk, IfSome, length};
+
+use crate::walk::{Found, Identity};
+use std::alloc::{AllocError, Global};
+use std::fs::File;
+use std::marker::Model;
+
+/// How many open files are kept at most.
+const KEPT: usize = 64;
+
+/// What a file is opened for.
+#[derive(Clone, Copy)]
+pub enum Access {
+    Read,
+    Write,
+}
+
+impl Access {
+    fn is(self, other: Access) -> bool
+        ensures { result ≡ true → self ≡ other }
+    {
+        match self {
+            Access::Read => match other {
+                Access::Read => true,
+                Access::Write => false,
+            },
+            Access::Write => match other {
+                Access::Read => false,
+                Access::Write => true,
+            },
+        }
+    }
+}
+
+/// An open file.
+#[derive(Drop)]
+pub struct Kept {
+    pub identity: Identity,
+    pub access: Access,
+    pub file: File,
+}
+
+impl Kept {
+    ghost use Rattle.backing_folder.specs.Kept.{IsFor};
+
+    /// Whether it is that file, opened for that access.
+    fn is_for(&self, identity: &Identity, access: Access) -> bool
+        ensures { result ≡ true → IsFor identity.now access self.now }
+    {
+        if !self.identity.is(identity) {
+            return false;
+        }
+        self.access.is(access)
+    }
+}
+
+/// At most 64 open files. Contracts see the list.
+///
+/// They are known by device and inode number, which no other file has while it is open: where one `lstat` of a path shows
+/// them, the open file is what stands there, whatever its path was when it was opened.
+#[derive(Drop)]
+pub struct OpenFiles {
+    list: Vec<Kept>,
+    oldest: usize,
+}
+
+impl Model for OpenFiles {
+    ghost use Rattle.std.specs.Prelude.{◌≤◌, ◌<◌, List, length};
+    ghost use Rattle.backing_folder.specs.declared.kept.Kept.{Kept};
+
+    ghost Value = { List Kept };
+
+    ghost view = { λ f. f.list.items };
+
+    ghost invariant = { λ f. (length f.list.items ≤ 64) × (f.oldest < 64) };
+}
+
+impl OpenFiles {
+    ghost use Rattle.std.specs.Prelude.{Some, slice_get, ◌≤◌};
+    ghost use Rattle.std.specs.List.{All};
+    ghost use Rattle.backing_folder.specs.declared.walk.Found.TheVariants as Found;
+    ghost use Rattle.backing_folder.specs.declared.walk.Identity.{Identity};
+    ghost use Rattle.backing_folder.specs.Kept.{IsKeptAt, IsOther};
+
+    /// None are open.
+    pub fn new(alloc: Global) -> OpenFiles
+        ensures { result ≡ [] }
+    {
+        OpenFiles {
+            list: Vec::new(alloc),
+            oldest: 0,
+        }
+    }
+
+    /// Which of them is that file, opened for that access.
+    pub fn index_of(&self, identity: &Identity, access: Access) -> Option<usize>
+        ensures { IfSome result (λ i. IsKeptAt self.now i identity.now access) }
+    {
+        for i in 0..self.list.len() {
+            if self.list[i].is_for(identity, access) {
+                return Some(i);
+            }
+        }
+        None
+    }
+
+    /// The open file.
+    pub fn file(&self, i: usize) -> &File
+        requires { i < length self.now }
+    {
+        &self.list[i].file
+    }
+
+    /// Keeps the open file, if need be in the place of one that is then closed: where it is.
+    pub fn keep(&mut self, kept: Kept) -> Result<usize, AllocError>
+        ensures kept { IfOk result (λ i. slice_get self.new i ≡ Some kept) }
+        ensures bound { length self.new ≤ 64 }
+    {
+        let count = self.list.len();
+        if count < KEPT {
+            self.list.push(kept)?;
+            return Ok(count);
+        }
+        let i = self.oldest;
+        self.oldest = (i + 1) % KEPT;
+        self.list[i] = kept;
+        Ok(i)
+    }
+
+    /// Closes the file, for whatever it was opened.
+    pub fn close(&mut self, identity: &Identity)
+        ensures { All (IsOther identity.now) self.new }
+    {
+        self.list.retain(|kept| !kept.identity.is(identity));
+    }
+
+    /// Closes what was found, if it is a file.
+    pub fn close_found(&mut self, found: Found)
+        ensures { (identity : Identity) → found ≡ Found.File identity → All (IsOther identity) self.new }
+    {
+        match found {
+            Found::File(identity) => self.close(&identity),
+            Found::Folder(_) | Found::Nothing | Found::Hidden => {}
+        }
+    }
+}

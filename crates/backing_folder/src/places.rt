@@ -1,0 +1,81 @@
+//! Folders that were walked to, as they are remembered.
+
+ghost use Rattle.std.specs.Prelude.{true, ◌≡◌, IfOk, string_bytes};
+
+use crate::walk::Identity;
+use paths::{Name, Path};
+use std::alloc::{AllocError, Global};
+
+/// How many folders are remembered at most.
+pub const PLACES: usize = 256;
+
+/// A folder that was walked to.
+#[derive(Drop)]
+pub struct Place {
+    pub names: Path,
+    /// Its path in the file system.
+    pub path: String,
+    pub identity: Identity,
+}
+
+/// The place of the folder with these names, which stands at that path of the file system.
+pub fn place_of(
+    alloc: Global,
+    names: &[Name],
+    path: &str,
+    identity: Identity,
+) -> Result<Place, AllocError>
+    ensures names { IfOk result (λ p. p.names ≡ names.now) }
+    ensures path { IfOk result (λ p. string_bytes p.path ≡ path.now) }
+{
+    Ok(Place {
+        names: path_of(alloc, names)?,
+        path: String::from_str(alloc, path)?,
+        identity,
+    })
+}
+
+/// The path of these names.
+fn path_of(alloc: Global, names: &[Name]) -> Result<Path, AllocError>
+    ensures { IfOk result (λ p. p ≡ names.now) }
+{
+    let mut path = Path::new(alloc);
+    for name in names {
+        path.push(name.copy()?)?;
+    }
+    Ok(path)
+}
+
+/// Whether both have the same names.
+pub fn are_same(names: &[Name], others: &[Name]) -> bool
+    ensures { result ≡ true → names.now ≡ others.now }
+{
+    if names.len() != others.len() {
+        return false;
+    }
+    for (i, name) in names.iter().enumerate() {
+        if !name.is(&others[i]) {
+            return false;
+        }
+    }
+    true
+}
+
+/// In which slot the folder of these names is remembered. Folders that share a slot take it from one another, whatever
+/// their names are: so names that a client chose to share one cost walks, and nothing else.
+pub fn slot_of(names: &[Name]) -> usize {
+    let mut hash = 0xcbf2_9ce4_8422_2325u64;
+    for name in names {
+        hash = mixed(hash, name.as_str().as_bytes());
+    }
+    (hash % PLACES as u64) as usize
+}
+
+/// The hash with the bytes and an end mixed into it (FNV-1a).
+fn mixed(hash: u64, bytes: &[u8]) -> u64 {
+    let mut hash = hash;
+    for byte in bytes {
+        hash = (hash ^ u64::from(*byte)).wrapping_mul(0x0000_0100_0000_01b3);
+    }
+    (hash ^ 0x2f).wrapping_mul(0x0000_0100_0000_01b3)
+}

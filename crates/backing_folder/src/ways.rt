@@ -1,0 +1,178 @@
+//! The ways down a disk, and the folders that they led to.
+
+ghost use Rattle.std.specs.Prelude.{true, ◌≡◌, IfOk, IfSome, OnOk};
+ghost use Rattle.backing_folder.specs.Routes.{IsBelow, IsFolder, IsWalked};
+ghost use Rattle.backing_folder.specs.Same.{ShowsFolder};
+
+use crate::disk::Disk;
+use crate::host_error::HostError;
+use crate::places::{PLACES, Place, are_same, place_of, slot_of};
+use crate::walk::{Found, Identity, Walk, expect_folder};
+use paths::Name;
+use std::alloc::AllocError;
+use std::marker::Model;
+
+/// A disk, and folders that were walked to on it. Contracts see the disk.
+///
+/// A folder that is remembered is looked at again, by its whole path, each time that it is used. It is the one that was
+/// walked to if it has the same device and inode number; else it is walked to anew.
+#[derive(Drop)]
+pub struct Ways<D: Disk + Drop> {
+    disk: D,
+    slots: Vec<Option<Place>>,
+}
+
+impl<D: Disk + Drop> Model for Ways<D> {
+    ghost use Rattle.std.specs.List.{All};
+    ghost use Rattle.backing_folder.specs.Places.{IsKnownSlot};
+
+    ghost Value = { D };
+
+    ghost view = { λ w. w.disk };
+
+    ghost invariant = { λ w. All (IsKnownSlot (D.root w.disk) (D.folders w.disk)) w.slots.items };
+}
+
+impl<D: Disk + Drop> Ways<D> {
+    ghost use Rattle.backing_folder.specs.Places.{IsKnown};
+
+    /// The disk, on which nothing was walked to.
+    pub fn new(disk: D) -> Ways<D>
+        ensures { result ≡ disk }
+    {
+        let slots = Vec::new(disk.alloc());
+        Ways { disk, slots }
+    }
+
+    pub fn disk(&self) -> &D
+        ensures { result.now ≡ self.now }
+    {
+        &self.disk
+    }
+
+    /// Goes down from the root, and answers what stands there: one look for each name, or two where its folder is
+    /// remembered.
+    pub fn find(&mut self, walk: &mut Walk, names: &[Name]) -> Result<Found, HostError>
+        ensures same { self.new ≡ self.old }
+        ensures walked { OnOk result (IsWalked (D.root self.new) (D.folders self.new) walk.new names.now) }
+        ensures folder { IfOk result (λ found. IsFolder found → D.folders self.new walk.new) }
+    {
+        if names.len() < 3 {
+            return walk.find(&self.disk, names);
+        }
+        let Some((name, parent)) = names.split_last() else {
+            return walk.find(&self.disk, names);
+        };
+        self.go_to_folder(walk, parent)?;
+        walk.enter(name)?;
+        self.disk.look(walk.path())
+    }
+
+    /// Goes down to the folder, by one look where it is remembered.
+    fn go_to_folder(&mut self, walk: &mut Walk, names: &[Name]) -> Result<(), HostError>
+        ensures same { self.new ≡ self.old }
+        ensures walked { OnOk result (IsWalked (D.root self.new) (D.folders self.new) walk.new names.now) }
+        ensures folder { OnOk result (D.folders self.new walk.new) }
+    {
+        if self.recall(walk, names)? {
+            return Ok(());
+        }
+        let found = walk.find(&self.disk, names)?;
+        let identity = expect_folder(found)?;
+        self.remember(walk, names, identity);
+        Ok(())
+    }
+
+    /// Whether the folder is remembered and stands there still: one look, if it is. The walk then stands there.
+    fn recall(&self, walk: &mut Walk, names: &[Name]) -> Result<bool, HostError>
+        ensures walked { IfOk result (λ there. there ≡ true → IsWalked (D.root self.now) (D.folders self.now) walk.new names.now) }
+        ensures folder { IfOk result (λ there. there ≡ true → D.folders self.now walk.new) }
+    {
+        let Some(place) = self.place(names) else {
+            return Ok(false);
+        };
+        walk.start(place.path.as_str())?;
+        Ok(stands_there(&self.disk, walk.path(), &place.identity))
+    }
+
+    /// What is remembered of the folder.
+    fn place(&self, names: &[Name]) -> Option<&Place>
+        ensures known { IfSome result (λ place. IsKnown (D.root self.now) (D.folders self.now) place.now) }
+        ensures same { IfSome result (λ place. place.now.names ≡ names.now) }
+    {
+        let slot = slot_of(names);
+        if slot >= self.slots.len() {
+            return None;
+        }
+        match &self.slots[slot] {
+            Some(place) => {
+                if are_same(place.names.names(), names) {
+                    Some(place)
+                } else {
+                    None
+                }
+            }
+            None => None,
+        }
+    }
+
+    /// Remembers the folder that was walked to, if there is memory for it.
+    fn remember(&mut self, walk: &Walk, names: &[Name], identity: Identity)
+        requires walked { IsWalked (D.root self.old) (D.folders self.old) walk.now names.now }
+        requires folder { D.folders self.old walk.now }
+        ensures { self.new ≡ self.old }
+    {
+        let Ok(place) = place_of(self.disk.alloc(), names, walk.path(), identity) else {
+            return;
+        };
+        if self.make_slots().is_err() {
+            return;
+        }
+        let slot = slot_of(names);
+        if slot < self.slots.len() {
+            self.slots[slot] = Some(place);
+        }
+    }
+
+    /// Makes all slots.
+    fn make_slots(&mut self) -> Result<(), AllocError>
+        ensures { self.new ≡ self.old }
+    {
+        while self.slots.len() < PLACES {
+            self.slots.push(None)?;
+        }
+        Ok(())
+    }
+
+    /// Forgets the folder, which is to be removed.
+    pub fn forget(&mut self, names: &[Name])
+        ensures { self.new ≡ self.old }
+    {
+        let slot = slot_of(names);
+        if slot < self.slots.len() {
+            self.slots[slot] = None;
+        }
+    }
+
+    /// Forgets all folders where one is to be moved, and all that is below it with it.
+    pub fn forget_moved(&mut self, moved: Found)
+        ensures { self.new ≡ self.old }
+    {
+        match moved {
+            Found::Folder(_) => self.slots.clear(),
+            Found::File(_) | Found::Nothing | Found::Hidden => {}
+        }
+    }
+}
+
+/// Whether that very folder stands there: one look.
+fn stands_there<D: Disk>(disk: &D, path: &str, identity: &Identity) -> bool
+    requires { IsBelow (D.root disk.now) (D.folders disk.now) path.now }
+    ensures folder { result ≡ true → D.folders disk.now path.now }
+    ensures same { result ≡ true → ShowsFolder (D.shows disk.now path.now) identity.now }
+{
+    match disk.look(path) {
+        Ok(Found::Folder(now)) => now.is(identity),
+        _ => false,
+    }
+}

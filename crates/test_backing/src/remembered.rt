@@ -1,0 +1,244 @@
+//! What a real folder remembers, and others change meanwhile. A folder that is opened just now remembers nothing.
+
+use crate::asking::{expect, expect_count};
+use crate::places::sample_folder;
+use crate::telling::{Item, Step, tell};
+use backing_folder::{Folder, System};
+use std::alloc::Global;
+use std::fs;
+use std::test::Fail;
+
+#[test]
+fn a_replaced_folder_is_walked_to_anew(rt: HostRuntime) -> Result<(), Fail> {
+    const STEPS: &[Step] = &[
+        Step::Put("d/x", Item::Folder),
+        Step::Put("d/x/f", Item::File("one")),
+        Step::Both("read d/x/f 0 9", "bytes 6f6e65"),
+        Step::Put("d/y", Item::Moved("d/x")),
+        Step::Put("d/x", Item::Folder),
+        Step::Put("d/x/f", Item::File("two")),
+        Step::Both("read d/x/f 0 9", "bytes 74776f"),
+        Step::Put("d/x/g", Item::File("g")),
+        Step::Both("stat d/x/g", "file 1"),
+        Step::Both("stat d/y/g", "fault 2"),
+        Step::Failed(0),
+    ];
+    tell(rt, "replaced-folder", STEPS)
+}
+
+#[test]
+fn a_moved_folder_is_absent_where_it_was(rt: HostRuntime) -> Result<(), Fail> {
+    const STEPS: &[Step] = &[
+        Step::Put("d/x", Item::Folder),
+        Step::Put("d/x/f", Item::File("one")),
+        Step::Both("stat d/x/f", "file 3"),
+        Step::Put("y", Item::Moved("d/x")),
+        Step::Both("stat d/x/f", "fault 2"),
+        Step::Both("make d/x/g", "fault 2"),
+        Step::Both("stat y/f", "file 3"),
+        Step::Put("d/x", Item::Moved("y")),
+        Step::Both("stat d/x/f", "file 3"),
+        Step::Put("z", Item::Moved("d")),
+        Step::Both("stat d/x/f", "fault 2"),
+        Step::Both("stat z/x/f", "file 3"),
+        Step::Put("d", Item::File("d")),
+        Step::Both("stat d/x/f", "fault 20"),
+        Step::Failed(0),
+    ];
+    tell(rt, "moved-folder", STEPS)
+}
+
+#[test]
+fn a_link_in_the_way_is_not_followed(rt: HostRuntime) -> Result<(), Fail> {
+    const STEPS: &[Step] = &[
+        Step::Put("d/x", Item::Folder),
+        Step::Put("d/x/f", Item::File("one")),
+        Step::Put("other", Item::Folder),
+        Step::Put("other/x", Item::Folder),
+        Step::Put("other/x/f", Item::File("two")),
+        Step::Both("stat d/x/f", "file 3"),
+        Step::Put("away", Item::Moved("d")),
+        Step::Put("d", Item::Link("other")),
+        Step::Both("read d/x/f 0 9", "fault 2"),
+        Step::Both("write d/x/f 0 x", "fault 2"),
+        Step::Both("make d/x/g", "fault 2"),
+        Step::Both("remove d/x/f", "fault 2"),
+        Step::Both("read other/x/f 0 9", "bytes 74776f"),
+        Step::Failed(0),
+    ];
+    tell(rt, "link-above", STEPS)
+}
+
+#[test]
+fn a_link_in_a_folder_s_place_is_not_followed(rt: HostRuntime) -> Result<(), Fail> {
+    const STEPS: &[Step] = &[
+        Step::Put("d/x", Item::Folder),
+        Step::Put("d/x/f", Item::File("one")),
+        Step::Both("stat d/x/f", "file 3"),
+        Step::Put("away", Item::Moved("d/x")),
+        Step::Put("d/x", Item::Link("../away")),
+        Step::Both("read d/x/f 0 9", "fault 2"),
+        Step::Both("list d/x", "fault 2"),
+        Step::Both("stat d/x/f", "fault 2"),
+        Step::Failed(0),
+    ];
+    tell(rt, "link-there", STEPS)
+}
+
+// The folder itself is not another one: this is what others may do in a folder that is served.
+#[test]
+fn a_link_that_leads_to_the_very_folder_is_followed(rt: HostRuntime) -> Result<(), Fail> {
+    const STEPS: &[Step] = &[
+        Step::Put("d/x", Item::Folder),
+        Step::Put("d/x/f", Item::File("one")),
+        Step::Both("stat d/x/f", "file 3"),
+        Step::Put("away", Item::Moved("d")),
+        Step::Put("d", Item::Link("away")),
+        Step::Ask("read d/x/f 0 9", "bytes 6f6e65"),
+        Step::Ask("list d", "fault 2"),
+    ];
+    tell(rt, "same-folder", STEPS)
+}
+
+#[test]
+fn folders_that_its_own_calls_change_are_forgotten(rt: HostRuntime) -> Result<(), Fail> {
+    const STEPS: &[Step] = &[
+        Step::Ask("mkdir d/x", "done"),
+        Step::Ask("make d/x/f", "done"),
+        Step::Ask("write d/x/f 0 one", "wrote 3"),
+        Step::Ask("rename d z", "done"),
+        Step::Both("stat d/x/f", "fault 2"),
+        Step::Both("read z/x/f 0 9", "bytes 6f6e65"),
+        Step::Ask("mkdir d", "done"),
+        Step::Ask("mkdir d/x", "done"),
+        Step::Both("stat d/x/f", "fault 2"),
+        Step::Ask("make d/x/f", "done"),
+        Step::Both("stat d/x/f", "file 0"),
+        Step::Ask("remove d/x/f", "done"),
+        Step::Ask("rmdir d/x", "done"),
+        Step::Both("stat d/x/f", "fault 2"),
+        Step::Ask("mkdir d/x", "done"),
+        Step::Ask("make d/x/f", "done"),
+        Step::Both("stat d/x/f", "file 0"),
+    ];
+    tell(rt, "own-changes", STEPS)
+}
+
+#[test]
+fn a_replaced_file_is_opened_anew(rt: HostRuntime) -> Result<(), Fail> {
+    const STEPS: &[Step] = &[
+        Step::Both("read a 0 9", "bytes 616263"),
+        Step::Ask("write a 0 A", "wrote 1"),
+        Step::Put("old", Item::Moved("a")),
+        Step::Put("a", Item::File("new")),
+        Step::Both("read a 0 9", "bytes 6e6577"),
+        Step::Ask("write a 0 N", "wrote 1"),
+        Step::Both("read a 0 9", "bytes 4e6577"),
+        Step::Both("read old 0 9", "bytes 416263"),
+        Step::Ask("setlen a 1", "done"),
+        Step::Both("read a 0 9", "bytes 4e"),
+        Step::Both("read old 0 9", "bytes 416263"),
+        Step::Failed(0),
+    ];
+    tell(rt, "replaced-file", STEPS)
+}
+
+#[test]
+fn a_file_that_became_absent_is_not_read(rt: HostRuntime) -> Result<(), Fail> {
+    const STEPS: &[Step] = &[
+        Step::Both("read a 0 9", "bytes 616263"),
+        Step::Ask("write a 0 A", "wrote 1"),
+        Step::Put("a", Item::Nothing),
+        Step::Both("read a 0 9", "fault 2"),
+        Step::Both("write a 0 x", "fault 2"),
+        Step::Put("a", Item::Folder),
+        Step::Both("read a 0 9", "fault 21"),
+        Step::Put("b", Item::Moved("a")),
+        Step::Put("a", Item::Link("e")),
+        Step::Both("read a 0 9", "fault 2"),
+        Step::Both("write a 0 x", "fault 2"),
+        Step::Both("read e 0 9", "bytes "),
+        Step::Failed(0),
+    ];
+    tell(rt, "absent-file", STEPS)
+}
+
+#[test]
+fn a_file_that_was_removed_and_made_is_opened_anew(rt: HostRuntime) -> Result<(), Fail> {
+    const STEPS: &[Step] = &[
+        Step::Both("read a 0 9", "bytes 616263"),
+        Step::Ask("write a 0 A", "wrote 1"),
+        Step::Ask("remove a", "done"),
+        Step::Both("read a 0 9", "fault 2"),
+        Step::Ask("make a", "done"),
+        Step::Both("read a 0 9", "bytes "),
+        Step::Ask("write a 0 xyz", "wrote 3"),
+        Step::Both("read a 0 9", "bytes 78797a"),
+        Step::Failed(0),
+    ];
+    tell(rt, "remade-file", STEPS)
+}
+
+#[test]
+fn a_file_that_is_renamed_over_is_opened_anew(rt: HostRuntime) -> Result<(), Fail> {
+    const STEPS: &[Step] = &[
+        Step::Ask("write e 0 eee", "wrote 3"),
+        Step::Both("read e 0 9", "bytes 656565"),
+        Step::Both("read a 0 9", "bytes 616263"),
+        Step::Ask("rename a e", "done"),
+        Step::Both("read e 0 9", "bytes 616263"),
+        Step::Both("read a 0 9", "fault 2"),
+        Step::Ask("write e 0 A", "wrote 1"),
+        Step::Both("read e 0 9", "bytes 416263"),
+        Step::Ask("rename e d/f", "done"),
+        Step::Both("read d/f 0 9", "bytes 416263"),
+        Step::Ask("write d/f 1 B", "wrote 1"),
+        Step::Both("read d/f 0 9", "bytes 414263"),
+        Step::Failed(0),
+    ];
+    tell(rt, "renamed-file", STEPS)
+}
+
+/// Makes the folder of that number and a file in it, which holds the number.
+fn make_one(alloc: Global, folder: &mut Folder<System<HostRuntime>>, n: u64) -> Result<(), Fail> {
+    let made = format!(in alloc; "mkdir d/{n}")?;
+    expect(alloc, folder, made.as_str(), "done")?;
+    let file = format!(in alloc; "make d/{n}/f")?;
+    expect(alloc, folder, file.as_str(), "done")?;
+    let written = format!(in alloc; "write d/{n}/f 0 {n}")?;
+    expect(alloc, folder, written.as_str(), "wrote 3")
+}
+
+/// The last byte of the file of that number is the number's last digit.
+fn check_one(alloc: Global, folder: &mut Folder<System<HostRuntime>>, n: u64) -> Result<(), Fail> {
+    let read = format!(in alloc; "read d/{n}/f 2 9")?;
+    let last = format!(in alloc; "bytes 3{}", n % 10)?;
+    expect(alloc, folder, read.as_str(), last.as_str())
+}
+
+// These are more folders and files than are remembered and kept open.
+fn ask_many(alloc: Global, folder: &mut Folder<System<HostRuntime>>) -> Result<(), Fail> {
+    for n in 100..400 {
+        make_one(alloc, folder, n)?;
+    }
+    for n in 100..400 {
+        check_one(alloc, folder, n)?;
+    }
+    for n in 100..400 {
+        check_one(alloc, folder, 499 - n)?;
+    }
+    expect_count(folder.failures(), 0)
+}
+
+fn ask_many_at(rt: HostRuntime, root: &str) -> Result<(), Fail> {
+    let mut folder = Folder::open(rt, root)?;
+    ask_many(rt.alloc(), &mut folder)
+}
+
+#[test]
+fn more_than_is_remembered_is_found(rt: HostRuntime) -> Result<(), Fail> {
+    let root = sample_folder(&rt, "many")?;
+    ask_many_at(rt, root.as_str())?;
+    fs::remove_dir_all(&rt, root.as_str())?;
+    Ok(())
+}

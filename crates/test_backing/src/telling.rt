@@ -1,0 +1,103 @@
+//! Stories of a real folder: what the system puts into it, and what its calls answer. Each is told to a new sample folder.
+
+use crate::asking::{expect, expect_count};
+use crate::places::{place_of, sample_folder};
+use backing_folder::{Folder, System};
+use std::os::unix::fs::symlink;
+use std::os::unix::net::UnixListener;
+use std::test::Fail;
+use std::{fs, io};
+
+/// What is put at a place of the folder by the system, and not by its calls.
+#[derive(Clone, Copy)]
+pub enum Item<'a> {
+    /// A link to that place.
+    Link(&'a str),
+    /// A file with that text.
+    File(&'a str),
+    Folder,
+    Socket,
+    /// What stood there, a file, is taken away.
+    Nothing,
+    /// What stands at that other name of the folder, moved.
+    Moved(&'a str),
+}
+
+#[derive(Clone, Copy)]
+pub enum Step<'a> {
+    /// The system puts that at the name.
+    Put(&'a str, Item<'a>),
+    /// A call, and its answer.
+    Ask(&'a str, &'a str),
+    /// The same, and a folder that was opened just now has the same answer.
+    Both(&'a str, &'a str),
+    /// So many of the calls so far were counted as failures.
+    Failed(u64),
+}
+
+fn put(rt: &HostRuntime, root: &str, place: &str, item: Item) -> io::Result<()> {
+    match item {
+        Item::Link(to) => symlink(rt, to, place),
+        Item::File(text) => fs::write(rt, place, text),
+        Item::Folder => fs::create_dir(rt, place),
+        Item::Socket => {
+            let _listener = UnixListener::bind(rt, place)?;
+            Ok(())
+        }
+        Item::Nothing => fs::remove_file(rt, place),
+        Item::Moved(name) => fs::rename(rt, place_of(rt.alloc(), root, name)?.as_str(), place),
+    }
+}
+
+/// A folder that is opened just now has that answer.
+fn expect_anew(rt: HostRuntime, root: &str, words: &str, wanted: &str) -> Result<(), Fail> {
+    let mut folder = Folder::open(rt, root)?;
+    expect(rt.alloc(), &mut folder, words, wanted)
+}
+
+fn take(
+    rt: &HostRuntime,
+    root: &str,
+    folder: &mut Folder<System<HostRuntime>>,
+    step: Step,
+) -> Result<(), Fail> {
+    match step {
+        Step::Put(name, item) => {
+            let place = place_of(rt.alloc(), root, name)?;
+            put(rt, root, place.as_str(), item)?;
+            Ok(())
+        }
+        Step::Ask(words, wanted) => expect(rt.alloc(), folder, words, wanted),
+        Step::Both(words, wanted) => {
+            expect(rt.alloc(), folder, words, wanted)?;
+            expect_anew(*rt, root, words, wanted)
+        }
+        Step::Failed(count) => expect_count(folder.failures(), count),
+    }
+}
+
+fn take_all(
+    rt: &HostRuntime,
+    root: &str,
+    folder: &mut Folder<System<HostRuntime>>,
+    steps: &[Step],
+) -> Result<(), Fail> {
+    for step in steps {
+        take(rt, root, folder, *step)?;
+    }
+    Ok(())
+}
+
+/// Takes each step in the folder there.
+fn tell_at(rt: HostRuntime, root: &str, steps: &[Step]) -> Result<(), Fail> {
+    let mut folder = Folder::open(rt, root)?;
+    take_all(&rt, root, &mut folder, steps)
+}
+
+/// Takes each step in a new sample folder of that name.
+pub fn tell(rt: HostRuntime, name: &str, steps: &[Step]) -> Result<(), Fail> {
+    let root = sample_folder(&rt, name)?;
+    tell_at(rt, root.as_str(), steps)?;
+    fs::remove_dir_all(&rt, root.as_str())?;
+    Ok(())
+}
