@@ -73,6 +73,14 @@ class Ran(NamedTuple):
     came: bool
 
 
+def asked_program():
+    """The program that the command line names, or that the first build leaves."""
+    program = os.path.abspath(sys.argv[1]) if len(sys.argv) > 1 else PROGRAM
+    if not os.access(program, os.X_OK):
+        raise SystemExit(f"{program} is not there: build it first")
+    return program
+
+
 def build(place):
     """The library that has a call fail, built there."""
     library = os.path.join(place, "fail_call.so")
