@@ -241,6 +241,7 @@ module _ {W L C : Type 0} (table : Table W) (settings : Settings) (receives : L 
       let all = splits_all kept in
       closing (side link calls (stand world false) []) (side link' calls' s kept) [] link' calls' (standing s None) kept None all.frames all.rest ends.Memory world refl refl fresh walks
       (tells_none (side link' calls' s kept)) all.splits refl
+  by_stop link link' calls calls' world s kept None ends.NoWorkers fresh walks stops = absurd stops
 
   pub drained_end : (link mid link' : L) (calls calls' calls'' : C) (world : W) (s s' : Stand W) (fed kept : List ℕ) (result : Option SessionEnd) (end : SessionEnd) (now : Settings) → now ≡ settings → table.is_idle world → Walks table settings receives sends gives (side link calls (stand world false) []) (side mid calls' s fed) → result ≡ Some end
       → WorksOffFrames table now receives sends gives (side mid calls' s fed) link' calls'' s' kept result

@@ -302,6 +302,7 @@ Closes None ends.Destroyed stop dropped rest = ⊥
 Closes None (ends.BadLength len) stop dropped rest = (stop ≡ None) × (dropped ≡ []) × BeginsBadly rest len
 Closes None ends.LinkBroken stop dropped rest = (stop ≡ Some Lost) × (dropped ≡ []) × IsPartial rest
 Closes None ends.Memory stop dropped rest = stop ≡ None
+Closes None ends.NoWorkers stop dropped rest = ⊥
 
 -- ---- a whole session
 

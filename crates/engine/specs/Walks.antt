@@ -99,6 +99,7 @@ Stops None (Some ends.Destroyed) kept = ⊥
 Stops None (Some (ends.BadLength len)) kept = BeginsBadly kept len
 Stops None (Some ends.LinkBroken) kept = ⊥
 Stops None (Some ends.Memory) kept = Unit {0}
+Stops None (Some ends.NoWorkers) kept = ⊥
 
 -- the frames that stand whole are worked off
 pub record WorksOffFrames {W L C : Type 0} (table : Table W) (settings : Settings) (receives : L → Heard → L → Type 0) (sends : L → List ℕ → Sent → L → Type 0) (gives : C → Asked → Answer → C → Type 0) (old : Side W L C) (link : L) (calls : C) (s : Stand W) (kept : List ℕ) (end : Option SessionEnd) : Type 0 where

@@ -13,4 +13,6 @@ pub enum SessionEnd {
     LinkBroken,
     /// Memory was refused where no request could be told so.
     Memory,
+    /// There were no directories for threads to serve, or more than four. Nothing was read. One thread never ends so.
+    NoWorkers,
 }

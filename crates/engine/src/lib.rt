@@ -23,4 +23,4 @@ pub use outlet::Outlet;
 pub use playing::play;
 pub use reach::Reach;
 pub use requests::Session;
-pub use serving::serve;
+pub use serving::{remove_leftovers, serve};

@@ -131,8 +131,8 @@ fn remove_all<C: Calls>(calls: &mut C, paths: &[Path])
     }
 }
 
-/// Removes the files that are still hidden. Without memory for the list of them nothing is removed.
-fn remove_leftovers<T: Ledgers, C: Calls>(calls: &mut C, table: &Table<T>)
+/// Removes the files that are still hidden, each by one call. Without memory for the list of them nothing is removed.
+pub fn remove_leftovers<T: Ledgers, C: Calls>(calls: &mut C, table: &Table<T>)
     ensures { RemovesLeft worlds C.gives calls.old (world_of table.now) calls.new }
 {
     match table.leftover() {

@@ -4,7 +4,7 @@ use Rattle.wire.specs.Requests.{IsFramed}
 use Rattle.engine.specs.declared.ends.SessionEnd.{SessionEnd}
 use Rattle.engine_reader.specs.Verdicts.{IsFarewell, IsVerdict, Queued, Queueing, Queues, QueuesAll, Stops}
 use Rattle.engine_reader.specs.Shown.{queued_of, shown}
-use Rattle.engine_reader.specs.declared.jobs.Job.{Job}
+use Rattle.engine_jobs.specs.declared.jobs.Job.{Job}
 
 pub queued_snoc : (js : List Job) (j : Job) → queued_of (js ++ j ∷ []) ≡ queued_of js ++ shown j ∷ []
 queued_snoc [] j = refl

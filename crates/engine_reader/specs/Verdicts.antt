@@ -60,6 +60,7 @@ Stops rest kept agreed (Some (ends.BadLength len)) = BeginsBadly rest len
 -- the queue handed a job back
 Stops rest kept agreed (Some ends.LinkBroken) = Unit {0}
 Stops rest kept agreed (Some ends.Memory) = Unit {0}
+Stops rest kept agreed (Some ends.NoWorkers) = ⊥
 
 -- these bytes are worked through: which jobs join the queue
 pub record QueuesAll (kept : List ℕ) (agreed : Bool) (put : List Queued) (end : Option SessionEnd) (kept' : List ℕ) (now : Bool) (put' : List Queued) : Type 0 where

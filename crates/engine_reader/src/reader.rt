@@ -1,14 +1,16 @@
 //! The thread that cuts frames and queues a job for each.
 
-ghost use Rattle.std.specs.Prelude.{◌≡◌, ◌<◌, ◌++◌, ◌∷◌, [], length, map, IsTrue, IsFalse};
+ghost use Rattle.std.specs.Prelude.{◌≡◌, ◌<◌, ◌++◌, ◌∷◌, [], false, length, map, IsTrue, IsFalse};
 ghost use Rattle.crossbeam_channel.specs.Claims.{view, IsSeatAt};
 ghost use Rattle.crossbeam_channel.specs.Ends.{sends_on};
 ghost use Rattle.engine_queues.specs.Jobs.{numbers};
+ghost use Rattle.wire.specs.Requests.{IsFramed};
 
-use crate::jobs::Job;
 use crate::verdicts::{agrees_after, is_farewell};
 use engine::{LinkIn, Received, SessionEnd};
+use engine_jobs::Job;
 use engine_queues::jobs::{JobPass, JobSender, Puts};
+use std::alloc::Global;
 use std::sync::Wait;
 use wire::{CutFault, Cutter};
 
@@ -22,8 +24,8 @@ pub struct Reader {
     pub next: u64,
     pub agreed: bool,
     pub cutter: Cutter,
-    /// The frame that ended the session, if one did.
-    pub destroy_frame: Option<Vec<u8>>,
+    /// The job of the frame that ended the session, if one did. It is not queued.
+    pub farewell: Option<Job>,
     ghost seated: { IsSeatAt (sends_on to) pass },
     ghost some_part: { 0 < (view pass).parts },
     ghost takes_none: { length (view pass).taken ≡ 0 },
@@ -31,10 +33,40 @@ pub struct Reader {
     ghost numbered: { map (λ j. j.ordinal) (view pass).put ≡ numbers 0 (length (view pass).put) },
 }
 
+fn job_of(ordinal: u64, agreed: bool, frame: Vec<u8>) -> Job
+    requires { IsFramed frame.items }
+    ensures { (result.ordinal ≡ ordinal) × (result.agreed ≡ agreed) × (result.frame ≡ frame) }
+{
+    Job {
+        ordinal,
+        agreed,
+        frame,
+    }
+}
+
 impl Reader {
-    ghost use Rattle.wire.specs.Requests.{IsFramed};
     ghost use Rattle.engine_reader.specs.Shown.{queued_of};
     ghost use Rattle.engine_reader.specs.Verdicts.{IsVerdict, QueuesAll, Reads};
+
+    /// A reader that has heard nothing, with the pass of one that has put nothing.
+    pub fn new(alloc: Global, to: JobSender<Job>, pass: JobPass<Job>) -> Reader
+        requires seat { IsSeatAt (sends_on to) pass }
+        requires parts { 0 < (view pass).parts }
+        requires takes_none { length (view pass).taken ≡ 0 }
+        requires puts_none { (view pass).put ≡ [] }
+        ensures ring { sends_on result.to ≡ sends_on to }
+        ensures pass { view result.pass ≡ view pass }
+        ensures empty { (result.cutter.kept ≡ []) × (result.agreed ≡ false) × (queued_of (view result.pass).put ≡ []) }
+    {
+        Reader {
+            to,
+            pass,
+            next: 0,
+            agreed: false,
+            cutter: Cutter::new(alloc),
+            farewell: None,
+        }
+    }
 
     /// Queues a job for a frame. False where the queue hands it back.
     fn queue<H: Wait>(&mut self, rt: &H, frame: Vec<u8>) -> bool
@@ -42,6 +74,7 @@ impl Reader {
         ensures yes { IsTrue result → (queued_of (view self.new.pass).put ≡ queued_of (view self.old.pass).put ++ record { agreed = self.old.agreed; frame = frame.items } ∷ []) × IsVerdict self.old.agreed frame.items self.new.agreed }
         ensures no { IsFalse result → (queued_of (view self.new.pass).put ≡ queued_of (view self.old.pass).put) × (self.new.agreed ≡ self.old.agreed) }
         ensures ring { sends_on self.new.to ≡ sends_on self.old.to }
+        ensures parts { (view self.new.pass).parts ≡ (view self.old.pass).parts }
         ensures cutter { self.new.cutter ≡ self.old.cutter }
     {
         let Some(after) = self.next.checked_add(1) else {
@@ -67,13 +100,14 @@ impl Reader {
     fn queue_all<H: Wait>(&mut self, rt: &H) -> Option<SessionEnd>
         ensures all { QueuesAll self.old.cutter.kept self.old.agreed (queued_of (view self.old.pass).put) result self.new.cutter.kept self.new.agreed (queued_of (view self.new.pass).put) }
         ensures ring { sends_on self.new.to ≡ sends_on self.old.to }
+        ensures parts { (view self.new.pass).parts ≡ (view self.old.pass).parts }
     {
         loop {
             match self.cutter.next() {
                 Ok(None) => return None,
                 Ok(Some(frame)) => {
                     if is_farewell(self.agreed, frame.as_slice()) {
-                        self.destroy_frame = Some(frame);
+                        self.farewell = Some(job_of(self.next, self.agreed, frame));
                         return Some(SessionEnd::Destroyed);
                     }
                     if !self.queue(rt, frame) {
@@ -90,6 +124,7 @@ impl Reader {
     pub fn turn<H: Wait, L: LinkIn>(&mut self, rt: &H, link: &mut L) -> Option<SessionEnd>
         ensures reads { Reads L.receives link.old self.old.cutter.kept self.old.agreed (queued_of (view self.old.pass).put) result link.new self.new.cutter.kept self.new.agreed (queued_of (view self.new.pass).put) }
         ensures ring { sends_on self.new.to ≡ sends_on self.old.to }
+        ensures parts { (view self.new.pass).parts ≡ (view self.old.pass).parts }
     {
         let mut room = [0; ROOM];
         let count = match link.receive(&mut room) {

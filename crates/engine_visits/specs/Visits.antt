@@ -11,7 +11,7 @@ use Rattle.table_histories.specs.declared.views.View.{View}
 use Rattle.table_histories.specs.Views.{own}
 use Rattle.table_recorded.specs.declared.entries.Entry.{Entry}
 use Rattle.table_recorded.specs.Runs.{Call, IsRun, IsStep, Log, after, began, call_of, end_of, finished, forgot, settled}
-use Rattle.engine_visits.specs.declared.left.Left.{Left}
+use Rattle.engine_jobs.specs.declared.left.Left.{Left}
 use Rattle.engine_visits.specs.declared.visits.ComeTo.{ComeTo}
 use Rattle.engine_visits.specs.declared.visits.ComeTo.TheVariants as come_to
 

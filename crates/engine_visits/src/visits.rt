@@ -2,8 +2,8 @@
 
 ghost use Rattle.std.specs.Prelude.{◌≡◌};
 
-use crate::left::Left;
 use engine::Reach;
+use engine_jobs::Left;
 use ledger::{Ledgers, Share};
 use std::snapshot::Snapshot;
 use std::sync::Wait;

@@ -13,8 +13,8 @@ use Rattle.engine_workers.specs.Halls.{Fresh, GainsListed, Visited, left_in, lis
 use Rattle.engine_workers.specs.Rights.{IsRight}
 use Rattle.engine_workers.specs.Slips.{bytes_in, bytes_of}
 use Rattle.engine_workers.specs.Turns.{MeetsJob, Writes, ended_as, untaken_of}
-use Rattle.engine_workers.specs.declared.jobs.Job.{Job}
-use Rattle.engine_workers.specs.declared.left.Left.{Left}
+use Rattle.engine_jobs.specs.declared.jobs.Job.{Job}
+use Rattle.engine_jobs.specs.declared.left.Left.{Left}
 use Rattle.engine_workers.specs.declared.replies.Reply.{Reply}
 use Rattle.engine_workers.specs.declared.slips.Bytes.{Bytes}
 

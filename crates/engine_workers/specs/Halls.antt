@@ -5,7 +5,7 @@ use Rattle.table_steps.specs.Answers.{Answer, Settlement, entries_in}
 use Rattle.table_steps.specs.Steps.{Begins, Finishes, Settles, Forgets}
 use Rattle.table_steps.specs.World.{IsLawfulWorld, World}
 use Rattle.engine.specs.Tables.{Table}
-use Rattle.engine_workers.specs.declared.left.Left.{Left}
+use Rattle.engine_jobs.specs.declared.left.Left.{Left}
 
 -- what a visit has come to: nothing yet, an answer, an answer that is left to the one who offers its reply, or a settle
 pub data Visited : Type 0 where

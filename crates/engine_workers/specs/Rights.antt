@@ -7,8 +7,8 @@ use Rattle.engine.specs.Classes.{class}
 use Rattle.engine.specs.Reference.{HandlesFrame, Offer, Turn}
 use Rattle.engine.specs.declared.links.Sent.TheVariants.{Taken}
 use Rattle.engine_workers.specs.Halls.{Fresh, Visited, halls, left_in}
-use Rattle.engine_workers.specs.declared.jobs.Job.{Job}
-use Rattle.engine_workers.specs.declared.left.Left.{Left}
+use Rattle.engine_jobs.specs.declared.jobs.Job.{Job}
+use Rattle.engine_jobs.specs.declared.left.Left.{Left}
 
 -- what the rules say to a job, with the calls that were made for it and their answers
 pub record IsJobHandled (settings : Settings) (job : Job) (turn : Turn) (visited : Visited) : Type 0 where

@@ -18,8 +18,8 @@ use Rattle.engine_queues.specs.declared.letters.Letter.{Letter}
 use Rattle.engine_workers.specs.Halls.{Fresh, GainsListed, Visited, left_in, settled_in}
 use Rattle.engine_workers.specs.Rights.{IsJobHandled, IsWritten}
 use Rattle.engine_workers.specs.Slips.{bytes_of}
-use Rattle.engine_workers.specs.declared.jobs.Job.{Job}
-use Rattle.engine_workers.specs.declared.left.Left.{Left}
+use Rattle.engine_jobs.specs.declared.jobs.Job.{Job}
+use Rattle.engine_jobs.specs.declared.left.Left.{Left}
 use Rattle.engine_workers.specs.declared.replies.Reply.{Reply}
 
 -- ---- a worker
@@ -60,6 +60,13 @@ pub data PutsReply (settings : Settings) (from : ℕ) (job : Job) (visited : Vis
   handed_back : (bytes : List ℕ) → said ≡ Some bytes → new ≡ old → settled ≡ untaken_in visited → PutsReply settings from job visited old said new settled
   none : said ≡ None → new ≡ old → settled ≡ settled_in visited → PutsReply settings from job visited old said new settled
 
+-- a job was handled and answered
+pub record AnswersJob {C : Type 0} (gives : C → Asked → Told → C → Type 0) (settings : Settings) (from : ℕ) (job : Job) (lane : ReplyLane Reply) (calls : C) (before : Part) (settled : Option Settlement) (lane' : ReplyLane Reply) (calls' : C) (after : Part) : Type 0 where
+  pub bytes : Option (List ℕ)
+  pub visited : Visited
+  pub meets : MeetsJob gives settings job calls before bytes visited calls' after
+  pub puts : PutsReply settings from job visited lane bytes lane' settled
+
 -- one job was taken, handled and answered
 pub record Worked {C : Type 0} (gives : C → Asked → Told → C → Type 0) (settings : Settings) (from : ℕ) (hand' : Hand Job) (lane : ReplyLane Reply) (calls : C) (before : Part) (settled : Option Settlement) (hand'' : Hand Job) (lane' : ReplyLane Reply) (calls' : C) (after : Part) : Type 0 where
   pub job : Job
@@ -75,6 +82,12 @@ pub record Worked {C : Type 0} (gives : C → Asked → Told → C → Type 0) (
 abbrev pub ended_as : Option Left → Bool → Option Settlement
 ended_as None taken = None
 ended_as (Some left) taken = Some (record { id = left.answered.id; entries = entries_in left.answered.given; taken = taken })
+
+-- the front reply was taken once the session was over: nothing is offered, and its answer is settled as untaken
+pub record Empties (lane : ReplyLane Reply) (settled : Option Settlement) (lane' : ReplyLane Reply) : Type 0 where
+  pub front : Letter Reply
+  pub got : lane' ≡ letters.got_of lane (Some front)
+  pub settled_is : settled ≡ ended_as front.reply.left false
 
 -- its bytes are offered, and once
 pub record OffersBytes {L : Type 0} (sends : L → List ℕ → Sent → L → Type 0) (letter : Letter Reply) (settled : Option Settlement) (link link' : L) (broken : Bool) : Type 0 where

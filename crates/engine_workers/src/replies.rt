@@ -1,12 +1,12 @@
 //! What a worker puts into the reply queue.
 
+ghost use Rattle.std.specs.Prelude.{◌≡◌};
 ghost use Rattle.engine_workers.specs.Rights.{IsRight};
 ghost use Rattle.engine_workers.specs.Slips.{bytes_of};
 
-use crate::jobs::Job;
-use crate::left::Left;
 use crate::slips::Bytes;
 use engine::Settings;
+use engine_jobs::{Job, Left};
 use std::snapshot::Snapshot;
 
 /// The reply to a job: its bytes, and the answer that is settled once they are offered. By its type it is the right one.
@@ -17,4 +17,19 @@ pub struct Reply {
     pub bytes: Bytes,
     pub left: Option<Left>,
     pub ghost right: { ∥ IsRight settings job.value (bytes_of bytes) left ∥₁ },
+}
+
+impl Reply {
+    /// The answer that is left, of a reply that is not offered.
+    pub(crate) fn into_left(self) -> Option<Left>
+        ensures { result ≡ self.left }
+    {
+        let Reply {
+            settings: _,
+            job: _,
+            bytes: _,
+            left,
+        } = self;
+        left
+    }
 }

@@ -8,19 +8,19 @@ ghost use Rattle.engine.specs.Reference.{Turn as IsHandled};
 ghost use Rattle.engine_workers.specs.Halls.{Visited, left_in, settled_in};
 ghost use Rattle.engine_workers.specs.Rights.{IsRight};
 ghost use Rattle.engine_workers.specs.Slips.{bytes_in, bytes_of};
-ghost use Rattle.engine_workers.specs.Turns.{ended_as, IsReplyTo, MeetsJob, PutsReply, Worked};
+ghost use Rattle.engine_workers.specs.Turns.{AnswersJob, ended_as, IsReplyTo, MeetsJob, PutsReply, Worked};
 ghost use Rattle.engine_workers.specs.Visits.{visited_of};
 
 use crate::halls::Hall;
-use crate::jobs::Job;
-use crate::left::Left;
 use crate::replies::Reply;
 use crate::slips::{Bytes, Slip};
 use crate::visits::{ComeTo, Visit};
 use backing::Calls;
 use engine::{Session, Settings};
+use engine_jobs::{Job, Left};
 use engine_queues::jobs::{JobPass, JobReceiver, Takes};
 use engine_queues::letters::{Letter, Posts, ReplyPass, ReplySender};
+use engine_queues::passes::Passes;
 use handles::Dirs;
 use ledger::{Ledgers, Share};
 use std::alloc::Global;
@@ -143,6 +143,68 @@ pub struct Worker {
 }
 
 impl Worker {
+    /// A worker that goes on from these passes.
+    pub fn new(
+        alloc: Global,
+        settings: Settings,
+        jobs: JobReceiver<Job>,
+        replies: ReplySender<Reply>,
+        passes: Passes<Job, Reply>,
+    ) -> Worker
+        requires jobs { IsSeatAt (receives_on jobs) passes.job_pass }
+        requires replies { IsSeatAt (sends_on replies) passes.reply_pass }
+        ensures rings { (receives_on result.jobs ≡ receives_on jobs) × (sends_on result.replies ≡ sends_on replies) × (result.number ≡ passes.number) }
+        ensures passes { (view result.job_pass ≡ view passes.job_pass) × (view result.reply_pass ≡ view passes.reply_pass) }
+        ensures settings { result.session.settings ≡ settings }
+    {
+        let Passes {
+            number,
+            count,
+            job_pass,
+            reply_pass,
+        } = passes;
+        let session = Session {
+            alloc,
+            settings,
+            agreed: false,
+            buffer: Vec::new(alloc),
+        };
+        Worker {
+            number,
+            session,
+            jobs,
+            job_pass,
+            replies,
+            reply_pass,
+            count,
+        }
+    }
+
+    /// Its passes, once it has ended.
+    pub fn into_passes(self) -> Passes<Job, Reply>
+        ensures number { result.number ≡ self.number }
+        ensures seats { IsSeatAt (receives_on self.jobs) result.job_pass × IsSeatAt (sends_on self.replies) result.reply_pass }
+        ensures passes { (view result.job_pass ≡ view self.job_pass) × (view result.reply_pass ≡ view self.reply_pass) }
+    {
+        let Worker {
+            number,
+            session: _,
+            jobs,
+            job_pass,
+            replies,
+            reply_pass,
+            count,
+        } = self;
+        drop(jobs);
+        drop(replies);
+        Passes {
+            number,
+            count,
+            job_pass,
+            reply_pass,
+        }
+    }
+
     /// Puts the reply to a job, if there is one. One that is handed back is settled as untaken.
     fn put<H: Wait, T: Ledgers>(
         &mut self,
@@ -193,6 +255,25 @@ impl Worker {
         }
     }
 
+    /// Meets a job, and puts its reply.
+    pub fn answer<H: Wait, T: Ledgers, C: Calls>(
+        &mut self,
+        rt: &H,
+        hall: &Hall<T>,
+        share: &mut Share<T>,
+        calls: &mut C,
+        dirs: &Dirs,
+        job: &Job,
+    ) -> Option<Settled>
+        ensures rings { (receives_on self.new.jobs ≡ receives_on self.old.jobs) × (sends_on self.new.replies ≡ sends_on self.old.replies) × (self.new.number ≡ self.old.number) }
+        ensures answers { AnswersJob C.gives self.old.session.settings self.old.number job.now (view self.old.reply_pass) calls.old share.old result (view self.new.reply_pass) calls.new share.new }
+        ensures jobs { view self.new.job_pass ≡ view self.old.job_pass }
+        ensures settings { self.new.session.settings ≡ self.old.session.settings }
+    {
+        let (said, come_to) = meet_job(&mut self.session, rt, hall, share, calls, dirs, job);
+        self.put(rt, hall, share, dirs, job, said, come_to)
+    }
+
     /// Takes one job, meets it, and puts its reply.
     pub fn turn<H: Wait, T: Ledgers, C: Calls>(
         &mut self,
@@ -214,16 +295,7 @@ impl Worker {
         match self.jobs.recv_as::<Takes, H>(rt, &mut self.job_pass) {
             Ok(Some(job)) => {
                 self.count = after;
-                let (said, come_to) = meet_job(
-                    &mut self.session,
-                    rt,
-                    hall,
-                    share,
-                    calls,
-                    dirs,
-                    &job,
-                );
-                Turn::Worked(self.put(rt, hall, share, dirs, &job, said, come_to))
+                Turn::Worked(self.answer(rt, hall, share, calls, dirs, &job))
             }
             Ok(None) | Err(_) => Turn::Nothing,
         }

@@ -1,12 +1,12 @@
 //! One reply of the writer.
 
-ghost use Rattle.std.specs.Prelude.{◌≡◌, [], length, true, Option};
+ghost use Rattle.std.specs.Prelude.{◌≡◌, [], false, length, true, Option};
 ghost use Rattle.crossbeam_channel.specs.Claims.{view, IsSeatAt};
 ghost use Rattle.crossbeam_channel.specs.Ends.{receives_on};
 ghost use Rattle.engine.specs.Reference.{is_broken, is_taken};
 ghost use Rattle.table_steps.specs.Answers.{Settlement};
 ghost use Rattle.engine_workers.specs.Slips.{bytes_of};
-ghost use Rattle.engine_workers.specs.Turns.{Wrote};
+ghost use Rattle.engine_workers.specs.Turns.{Empties, Wrote};
 
 use crate::halls::Hall;
 use crate::replies::Reply;
@@ -40,6 +40,60 @@ fn offer<L: LinkOut>(link: &mut L, bytes: &Bytes) -> Sent
 }
 
 impl Writer {
+    /// A writer that has offered nothing, with the pass that gets the replies.
+    pub fn new(replies: ReplyReceiver<Reply>, pass: ReplyPass<Reply>) -> Writer
+        requires seat { IsSeatAt (receives_on replies) pass }
+        requires gets { (view pass).gets ≡ true }
+        requires knows_none { length (view pass).known ≡ 0 }
+        ensures ring { receives_on result.replies ≡ receives_on replies }
+        ensures pass { view result.pass ≡ view pass }
+        ensures whole { result.is_broken ≡ false }
+    {
+        Writer {
+            replies,
+            pass,
+            is_broken: false,
+        }
+    }
+
+    /// Its pass, once it has ended.
+    pub fn into_pass(self) -> ReplyPass<Reply>
+        ensures seat { IsSeatAt (receives_on self.replies) result }
+        ensures pass { view result ≡ view self.pass }
+        ensures told { ((view result).gets ≡ true) × (length (view result).known ≡ 0) }
+    {
+        let Writer {
+            replies,
+            pass,
+            is_broken: _,
+        } = self;
+        drop(replies);
+        pass
+    }
+
+    /// Takes the front reply of a session that is over, and settles its answer as untaken. It waits for none.
+    pub fn empty<H: Wait, T: Ledgers>(
+        &mut self,
+        rt: &H,
+        hall: &Hall<T>,
+        share: &mut Share<T>,
+        dirs: &Dirs,
+    ) -> Turn
+        ensures ring { receives_on self.new.replies ≡ receives_on self.old.replies }
+        ensures made { (view self.new.pass).made ≡ (view self.old.pass).made }
+        ensures empties { (settled : Option Settlement) → result ≡ Turn.Worked settled → Empties (view self.old.pass) settled (view self.new.pass) }
+        ensures entries { share.new.totals.entries ≡ share.old.totals.entries }
+        ensures index { share.new.index ≡ share.old.index }
+    {
+        match self.replies.try_recv_as::<Gets, H>(rt, &mut self.pass) {
+            Ok(Some(letter)) => {
+                let Letter { from: _, reply } = letter;
+                Turn::Worked(settle_left(rt, hall, share, dirs, reply.into_left(), false))
+            }
+            Ok(None) | Err(_) => Turn::Nothing,
+        }
+    }
+
     /// Takes the front reply, offers it, and settles its answer: as taken only where the link took it.
     pub fn turn<H: Wait, T: Ledgers, L: LinkOut>(
         &mut self,
@@ -50,6 +104,7 @@ impl Writer {
         dirs: &Dirs,
     ) -> Turn
         ensures ring { receives_on self.new.replies ≡ receives_on self.old.replies }
+        ensures made { (view self.new.pass).made ≡ (view self.old.pass).made }
         ensures wrote { (settled : Option Settlement) → result ≡ Turn.Worked settled → Wrote L.sends (view self.old.pass) link.old self.old.is_broken settled (view self.new.pass) link.new self.new.is_broken }
         ensures nothing { result ≡ Turn.Nothing → (view self.new.pass ≡ view self.old.pass) × (link.new ≡ link.old) × (self.new.is_broken ≡ self.old.is_broken) }
         ensures entries { share.new.totals.entries ≡ share.old.totals.entries }

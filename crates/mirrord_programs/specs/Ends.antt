@@ -8,7 +8,7 @@ use Rattle.mirrord_server.specs.declared.folder.Unserved.{Unserved}
 use Rattle.mirrord_server.specs.declared.folder.Unserved.TheVariants as unserved
 use Rattle.mirrord_programs.specs.Faults.{line_of, status_of}
 use Rattle.mirrord_programs.specs.declared.faults.Fault.{Fault}
-use Rattle.mirrord_programs.specs.declared.faults.Fault.TheVariants.{FrameLength, Link, Memory, Seed}
+use Rattle.mirrord_programs.specs.declared.faults.Fault.TheVariants.{FrameLength, Link, Memory, Seed, Workers}
 use Rattle.mirrord_programs.specs.declared.faults.Failure.{Failure}
 use Rattle.mirrord_programs.specs.declared.faults.Failure.TheVariants.{Stopped, NoFolder, NoSocket}
 
@@ -19,6 +19,7 @@ failure_of end.Destroyed cause = None
 failure_of (end.BadLength len) cause = Some (Stopped (FrameLength len))
 failure_of end.LinkBroken cause = Some (Stopped (unwrap_or cause Link))
 failure_of end.Memory cause = Some (Stopped Memory)
+failure_of end.NoWorkers cause = Some (Stopped Workers)
 
 -- the failure with which serving a folder ended
 abbrev pub failure_after : Result SessionEnd Unserved → (root path : Bor (List ℕ)) → Option Failure

@@ -2,7 +2,7 @@
 use Rattle.std.specs.Prelude.{ℕ, List, [], ◌∷◌, ◌++◌, codes}
 use Rattle.std.specs.Fmt.{decimal}
 use Rattle.mirrord_programs.specs.declared.faults.Fault.{Fault}
-use Rattle.mirrord_programs.specs.declared.faults.Fault.TheVariants.{FrameLength, Line, Link, Memory, Seed}
+use Rattle.mirrord_programs.specs.declared.faults.Fault.TheVariants.{FrameLength, Line, Link, Memory, Seed, Workers}
 use Rattle.mirrord_programs.specs.declared.faults.Failure.{Failure}
 use Rattle.mirrord_programs.specs.declared.faults.Failure.TheVariants.{Stopped, NoFolder, NoSocket}
 
@@ -13,6 +13,7 @@ status_of (Stopped (Line line)) = 4
 status_of (Stopped Link) = 4
 status_of (Stopped Memory) = 4
 status_of (Stopped Seed) = 4
+status_of (Stopped Workers) = 4
 status_of (NoFolder root) = 4
 status_of (NoSocket path) = 4
 
@@ -23,6 +24,7 @@ fault_message (Line line) = codes "line " ++ decimal line ++ codes " is not hexa
 fault_message Link = codes "the link failed"
 fault_message Memory = codes "out of memory"
 fault_message Seed = codes "no random seed"
+fault_message Workers = codes "1 to 4 workers can serve"
 
 abbrev pub message : Failure → List ℕ
 message (Stopped fault) = fault_message fault

@@ -57,6 +57,7 @@ Explains old new (fault.Line n) =
 Explains old new fault.Link = new.lines ≡ old.lines
 Explains old new fault.Memory = Unit {0}
 Explains old new fault.Seed = ⊥
+Explains old new fault.Workers = ⊥
 
 abbrev pub Receives : Hexing → Heard → Hexing → Type 0
 Receives old (Piece bytes) new = (mid : Hexing) × HasPiece old mid × ((n : ℕ) × HandsOut mid n bytes new)
@@ -78,6 +79,7 @@ IsOfWriting (fault.Line n) = ⊥
 IsOfWriting fault.Link = Unit {0}
 IsOfWriting fault.Memory = Unit {0}
 IsOfWriting fault.Seed = ⊥
+IsOfWriting fault.Workers = ⊥
 
 -- A reply that was taken is one line. Of one that broke the link the first bytes of its line may have been written, and nothing else.
 abbrev pub Sends : Hexing → List ℕ → Sent → Hexing → Type 0

@@ -28,6 +28,7 @@ pub fn failure_of<'a>(end: SessionEnd, cause: Option<Fault>) -> Option<Failure<'
         SessionEnd::BadLength { len } => Some(Failure::Stopped(Fault::FrameLength { len })),
         SessionEnd::LinkBroken => Some(Failure::Stopped(cause.unwrap_or(Fault::Link))),
         SessionEnd::Memory => Some(Failure::Stopped(Fault::Memory)),
+        SessionEnd::NoWorkers => Some(Failure::Stopped(Fault::Workers)),
     }
 }
 

@@ -24,6 +24,8 @@ pub enum Fault {
     Memory,
     /// The system gives no random bytes.
     Seed,
+    /// There were no directories for threads to serve, or more than four.
+    Workers,
 }
 
 /// Why a program failed.
@@ -44,7 +46,9 @@ impl<'a> Failure<'a> {
     {
         match self {
             Failure::Stopped(Fault::FrameLength { .. }) => 3,
-            Failure::Stopped(Fault::Line { .. } | Fault::Link | Fault::Memory | Fault::Seed)
+            Failure::Stopped(
+                Fault::Line { .. } | Fault::Link | Fault::Memory | Fault::Seed | Fault::Workers,
+            )
             | Failure::NoFolder { .. }
             | Failure::NoSocket { .. } => 4,
         }
@@ -67,6 +71,7 @@ impl Display for Fault {
             Fault::Link => f.write_str("the link failed"),
             Fault::Memory => f.write_str("out of memory"),
             Fault::Seed => f.write_str("no random seed"),
+            Fault::Workers => f.write_str("1 to 4 workers can serve"),
         }
     }
 }

@@ -6,7 +6,7 @@ use Rattle.engine_queues.specs.declared.jobs.Hand.{Hand}
 use Rattle.engine_queues.proofs.JobSteps.{puts}
 use Rattle.engine_queues.proofs.Numbers.{numbered_snoc}
 use Rattle.engine_reader.specs.Shown.{queued_of}
-use Rattle.engine_reader.specs.declared.jobs.Job.{Job}
+use Rattle.engine_jobs.specs.declared.jobs.Job.{Job}
 use Rattle.engine_reader.proofs.Queuing.{queued_snoc}
 use Rattle.engine_reader.proofs.reader.Reader.queue.Goals as goal
 

@@ -8,7 +8,7 @@ use Rattle.engine_reader.proofs.Queuing.{all_queued, nothing_queued, one_queued}
 use Rattle.engine_reader.proofs.reader.Reader.queue_all.Goals as goal
 
 pub loop-frame-init : goal.loop-frame-init
-loop-frame-init g c = record { so_far = nothing_queued _ _ _; ring = refl }
+loop-frame-init g c = record { so_far = nothing_queued _ _ _; ring = refl; parts = refl }
 
 pub returns-in-Ok-None-clause-all : goal.returns-in-Ok-None-clause-all
 returns-in-Ok-None-clause-all g c =
@@ -47,6 +47,7 @@ loop-frame-preserved g c =
           (frame.front ∙ ap (λ (k : Cutting). c.in-Ok-Some.frame.items ++ k.kept) (sym c.queue.ensures.cutter)) frame.framed
           (λ f. c.is_farewell.ensures.no c.if-is_farewell.false (subst (λ (b : List ℕ). IsFarewell l.agreed b) (sym c.as_slice.ensures.value) f)) yes.1 yes.0;
       ring = c.queue.ensures.ring ∙ c.loop-frame.invariant.ring;
+      parts = c.queue.ensures.parts ∙ c.loop-frame.invariant.parts;
     }
 
 pub returns-in-Err-BadLength-clause-all : goal.returns-in-Err-BadLength-clause-all

@@ -9,6 +9,7 @@ abbrev pub invariant-loop-frame : goal.invariant-loop-frame
 invariant-loop-frame g l = record {
   so_far : Queueing l.initial.self.cutter.kept l.initial.self.agreed (queued_of (view l.initial.self.pass).put) l.self.cutter.kept l.self.agreed (queued_of (view l.self.pass).put);
   ring : sends_on l.self.to ≡ sends_on l.initial.self.to;
+  parts : (view l.self.pass).parts ≡ (view l.initial.self.pass).parts;
 }
 
 abbrev pub decreases-loop-frame : goal.decreases-loop-frame

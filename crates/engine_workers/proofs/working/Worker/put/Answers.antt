@@ -5,7 +5,7 @@ use Rattle.engine_workers.specs.Halls.{left_in, settled_in}
 use Rattle.engine_workers.specs.Slips.{bytes_in, bytes_of}
 use Rattle.engine_workers.specs.Turns.{ended_as, untaken_of, is_put, handed_back, none}
 use Rattle.engine_workers.specs.Visits.{visited_of}
-use Rattle.engine_workers.specs.declared.left.Left.{Left}
+use Rattle.engine_jobs.specs.declared.left.Left.{Left}
 use Rattle.engine_workers.proofs.Answering.{left_by, untaken_none, untaken_some}
 use Rattle.engine_workers.proofs.working.Worker.put.Goals as goal
 
