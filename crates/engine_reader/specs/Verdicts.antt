@@ -86,3 +86,25 @@ pub record Reads {L : Type 0} (receives : L → Heard → L → Type 0) (link : 
   pub heard : Heard
   pub brought : receives link heard link'
   pub reads : ReadsAs heard kept agreed put end kept' now put'
+
+-- ---- one receive after another
+
+-- where a reader stands: its link, the bytes that are no whole frame yet, the verdict so far, and what it has queued
+pub record Reading (L : Type 0) : Type 0 where
+  pub link : L
+  pub kept : List ℕ
+  pub agreed : Bool
+  pub put : List Queued
+
+abbrev pub ReadsFrom : {L : Type 0} → (L → Heard → L → Type 0) → Reading L → Option SessionEnd → Reading L → Type 0
+ReadsFrom receives old end new = Reads receives old.link old.kept old.agreed old.put end new.link new.kept new.agreed new.put
+
+-- any number of receives, none of which ended the session
+pub data ReadsOn {L : Type 0} (receives : L → Heard → L → Type 0) (old : Reading L) : Reading L → Type 0 where
+  stays : (new : Reading L) → new ≡ old → ReadsOn receives old new
+  goes : (mid new : Reading L) → ReadsOn receives old mid → ReadsFrom receives mid None new → ReadsOn receives old new
+
+-- until one ended it so, or the writer had seen the link break before the next
+pub data ReadsAll {L : Type 0} (receives : L → Heard → L → Type 0) (old : Reading L) (end : SessionEnd) (put : List Queued) : Type 0 where
+  by_receive : (now last : Reading L) → ReadsOn receives old now → ReadsFrom receives now (Some end) last → put ≡ last.put → ReadsAll receives old end put
+  by_writer : (now : Reading L) → ReadsOn receives old now → end ≡ ends.LinkBroken → put ≡ now.put → ReadsAll receives old end put

@@ -3,6 +3,8 @@
 ghost use Rattle.std.specs.Prelude.{◌≡◌, length};
 ghost use Rattle.crossbeam_channel.specs.Claims.{view, IsSeatAt};
 ghost use Rattle.crossbeam_channel.specs.Ends.{sends_on};
+ghost use Rattle.engine_reader.specs.Shown.{queued_of, reading};
+ghost use Rattle.engine_reader.specs.Verdicts.{ReadsAll};
 
 use crate::reader::Reader;
 use engine::{LinkIn, SessionEnd};
@@ -48,6 +50,7 @@ pub fn read_all<H: Wait, L: LinkIn + Drop>(
     link: L,
     is_broken: &AtomicBool,
 ) -> ReaderEnd
+    ensures reads { ReadsAll L.receives (reading link reader.cutter.kept reader.agreed (view reader.pass).put) result.end (queued_of (view result.pass).put) }
     ensures seat { IsSeatAt (sends_on reader.to) result.pass }
     ensures parts { (view result.pass).parts ≡ (view reader.pass).parts }
     ensures takes_none { length (view result.pass).taken ≡ 0 }
@@ -58,8 +61,9 @@ pub fn read_all<H: Wait, L: LinkIn + Drop>(
         if is_broken.load(Ordering::SeqCst) {
             return ended(reader, SessionEnd::LinkBroken);
         }
-        if let Some(end) = reader.turn(rt, &mut link) {
-            return ended(reader, end);
+        match reader.turn(rt, &mut link) {
+            Some(end) => return ended(reader, end),
+            None => {}
         }
     }
     unreachable!()
