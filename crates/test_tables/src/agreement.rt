@@ -65,7 +65,12 @@ fn bearer_of(posting: Posting) -> Bearer {
 fn held_ways(list: &ListTable) -> Result<Vec<Way>, AllocError> {
     let mut held = Vec::new(list.alloc);
     for request in list.requests.iter().filter(|request| request.working) {
-        for way in request.plan.shared.iter().chain(request.plan.exclusive.iter()) {
+        for way in request
+            .plan
+            .shared
+            .iter()
+            .chain(request.plan.exclusive.iter())
+        {
             add_once(&mut held, way.copy()?)?;
         }
     }
@@ -73,11 +78,8 @@ fn held_ways(list: &ListTable) -> Result<Vec<Way>, AllocError> {
 }
 
 fn holds(image: &Image, path: &Path, numbers: (u64, u64)) -> bool {
-    image
-        .holds
-        .as_slice()
-        .iter()
-        .any(|hold| hold.path.is(path) && (hold.shared, hold.exclusive) == numbers)
+    image.holds.as_slice().iter().any(|hold| hold.path.is(path)
+        && (hold.shared, hold.exclusive) == numbers)
 }
 
 impl Pairs {
@@ -91,7 +93,12 @@ impl Pairs {
     }
 
     /// Whether the postings after those that were seen are the same.
-    pub fn take_postings(&mut self, list: &ListTable, image: &Image, seen: usize) -> Result<bool, AllocError> {
+    pub fn take_postings(
+        &mut self,
+        list: &ListTable,
+        image: &Image,
+        seen: usize,
+    ) -> Result<bool, AllocError> {
         let others = image.postings.as_slice();
         let (new, news) = (list.postings.iter().skip(seen), others.iter().skip(seen));
         for (posting, other) in new.zip(news) {
@@ -119,7 +126,12 @@ impl Pairs {
         }
     }
 
-    fn has_node(&self, list: &ListTable, node: &ListNode, image: &Image) -> Result<bool, AllocError> {
+    fn has_node(
+        &self,
+        list: &ListTable,
+        node: &ListNode,
+        image: &Image,
+    ) -> Result<bool, AllocError> {
         let Some((number, _)) = self.of(node.bearer()) else {
             return Ok(false);
         };
@@ -203,7 +215,11 @@ impl Pairs {
     }
 
     /// What both tables do not show alike, if something is so.
-    pub fn difference(&self, list: &ListTable, image: &Image) -> Result<Option<&'static str>, AllocError> {
+    pub fn difference(
+        &self,
+        list: &ListTable,
+        image: &Image,
+    ) -> Result<Option<&'static str>, AllocError> {
         if !self.same_nodes(list, image)? {
             return Ok(Some("nodes"));
         }

@@ -3,29 +3,46 @@
 use crate::words::Word;
 use table::{Access, Need};
 
-/// Up to three names of a page.
+/// The first so many of three names, those of a page.
 #[derive(Clone, Copy, Debug, PartialEq, Eq)]
 pub struct Batch {
-    pub words: [Word; 3],
+    pub first: Word,
+    pub second: Word,
+    pub third: Word,
     pub count: usize,
 }
 
 impl Batch {
-    pub fn as_slice(&self) -> &[Word] {
-        self.words.get(..self.count).unwrap_or(&[])
+    /// All three.
+    pub fn words(self) -> [Word; 3] {
+        [self.first, self.second, self.third]
+    }
+
+    /// How many are those of the page.
+    pub fn len(self) -> usize {
+        self.count.min(3)
     }
 }
 
-/// Up to four findings.
+/// The first so many of four findings.
 #[derive(Clone, Copy, Debug, PartialEq, Eq)]
 pub struct Findings {
-    pub found: [bool; 4],
+    pub first: bool,
+    pub second: bool,
+    pub third: bool,
+    pub fourth: bool,
     pub count: usize,
 }
 
 impl Findings {
-    pub fn as_slice(&self) -> &[bool] {
-        self.found.get(..self.count).unwrap_or(&[])
+    /// All four.
+    pub fn found(self) -> [bool; 4] {
+        [self.first, self.second, self.third, self.fourth]
+    }
+
+    /// How many are those of the page.
+    pub fn len(self) -> usize {
+        self.count.min(4)
     }
 }
 

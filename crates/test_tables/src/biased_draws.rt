@@ -7,7 +7,11 @@ use crate::words::Word;
 
 /// The place of a node that has no mark.
 fn plain_place(table: &ListTable, node: &ListNode) -> Option<(u64, Word)> {
-    if node.hidden { None } else { table.place_of(node) }
+    if node.hidden {
+        None
+    } else {
+        table.place_of(node)
+    }
 }
 
 /// The place of a node that is hidden.
@@ -44,7 +48,11 @@ impl Draws {
 
     /// The root, or as often a number.
     fn parent(&mut self, table: &ListTable) -> u64 {
-        if self.chance(1, 2) { ROOT } else { self.named(table) }
+        if self.chance(1, 2) {
+            ROOT
+        } else {
+            self.named(table)
+        }
     }
 
     fn any_place(&mut self, table: &ListTable) -> (u64, Word) {

@@ -64,7 +64,10 @@ fn outcome_of(alloc: Global, end: End) -> Result<Outcome, AllocError> {
 
 fn found_names(alloc: Global, findings: Findings) -> Result<FoundNames, AllocError> {
     let mut all = Vec::new(alloc);
-    all.extend_from_slice(findings.as_slice())?;
+    let found = findings.found();
+    for found in found.iter().take(findings.len()) {
+        all.push(*found)?;
+    }
     Ok(FoundNames::from_vec(all))
 }
 
@@ -167,7 +170,8 @@ impl<T: Ledgers> Both<T> {
     pub fn same_paths(&self) -> Result<bool, AllocError> {
         match (self.tickets.last(), self.list.request(self.list.last_id)) {
             (Some(begun), Some(request)) => {
-                self.pairs.are_paths(request.plan.ways.as_slice(), begun.ticket.paths())
+                self.pairs
+                    .are_paths(request.plan.ways.as_slice(), begun.ticket.paths())
             }
             _ => Ok(false),
         }
@@ -179,7 +183,9 @@ impl<T: Ledgers> Both<T> {
             return false;
         };
         match self.list.request(*id) {
-            Some(request) => self.pairs.same_given(request.listed.as_slice(), answered.given()),
+            Some(request) => self
+                .pairs
+                .same_given(request.listed.as_slice(), answered.given()),
             None => false,
         }
     }

@@ -8,6 +8,7 @@ use crate::draws::Draws;
 use crate::list_ledger::Sums;
 use crate::list_table::ListTable;
 use crate::pairs::Pairs;
+use crate::tallies::{Came, Tallies};
 use ledger::{Blanks, Gather, Ledgers, Share};
 use std::alloc::{AllocError, AllocFailed, Global};
 use std::marker::Brand;
@@ -31,7 +32,12 @@ pub struct Drive {
     pub manner: Manner,
     pub draws: Draws,
     pub steps: usize,
+    /// What it must come to, five times each.
+    pub expected: &'static [Came],
 }
+
+/// So often a run must come to each thing that is expected of it.
+const LEAST: usize = 5;
 
 impl<T: Ledgers> Both<T> {
     fn draw(&self, manner: Manner, draws: &mut Draws) -> Step {
@@ -71,11 +77,16 @@ impl<T: Ledgers> Both<T> {
 
     fn turns(&mut self, drive: Drive) -> Result<(), Fail> {
         let mut draws = drive.draws;
+        let mut tallies = Tallies::new(self.alloc);
         for place in 0..drive.steps {
             let step = self.draw(drive.manner, &mut draws);
-            let _answers = self.turn(place, step)?;
+            let answers = self.turn(place, step)?;
+            tallies.note(step, answers.list)?;
         }
-        Ok(())
+        match tallies.too_few(drive.expected, LEAST) {
+            Some(few) => Err(Fail::from(("too few", few))),
+            None => Ok(()),
+        }
     }
 
     /// Spends all that is in hand, and gathers the shares.

@@ -61,16 +61,19 @@ impl Draws {
     /// Up to three names.
     pub fn batch(&mut self) -> Batch {
         Batch {
-            words: [self.word(), self.word(), self.word()],
+            first: self.word(),
+            second: self.word(),
+            third: self.word(),
             count: self.place(4),
         }
     }
 
     pub fn findings(&mut self) -> Findings {
-        let (first, second) = (self.chance(1, 2), self.chance(1, 2));
-        let (third, fourth) = (self.chance(1, 2), self.chance(1, 2));
         Findings {
-            found: [first, second, third, fourth],
+            first: self.chance(1, 2),
+            second: self.chance(1, 2),
+            third: self.chance(1, 2),
+            fourth: self.chance(1, 2),
             count: self.place(5),
         }
     }
@@ -107,7 +110,12 @@ impl Draws {
             1 => Ask::Name(self.any_number(), self.word()),
             2 => Ask::Page(self.any_number(), self.batch()),
             3 => Ask::Remove(self.any_number(), self.word(), self.chance(1, 2)),
-            4 => Ask::Move(self.any_number(), self.word(), self.any_number(), self.word()),
+            4 => Ask::Move(
+                self.any_number(),
+                self.word(),
+                self.any_number(),
+                self.word(),
+            ),
             5 => Ask::Open(self.any_number(), self.access()),
             6 => Ask::Create(self.any_number(), self.word(), self.access()),
             _ => Ask::Release(self.any_number(), self.any_number()),

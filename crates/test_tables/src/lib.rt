@@ -32,6 +32,8 @@ mod pairs;
 #[cfg(test)]
 mod runs;
 #[cfg(test)]
+mod tallies;
+#[cfg(test)]
 mod wants;
 #[cfg(test)]
 mod words;

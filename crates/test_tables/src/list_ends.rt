@@ -54,7 +54,11 @@ impl ListTable {
     }
 
     /// All that an answer listed goes back, and the file that it opened is closed.
-    fn take_back(&mut self, listed: &[Option<Bearer>], opened: Option<u64>) -> Result<(), AllocError> {
+    fn take_back(
+        &mut self,
+        listed: &[Option<Bearer>],
+        opened: Option<u64>,
+    ) -> Result<(), AllocError> {
         for given in listed {
             if let Some(bearer) = *given {
                 self.give_back(bearer)?;
@@ -76,7 +80,11 @@ impl ListTable {
             return Ok(Told::Settled { entries: 0, taken });
         };
         let request = self.requests.remove(place);
-        let entries = request.listed.iter().filter(|given| given.is_some()).count() as u64;
+        let entries = request
+            .listed
+            .iter()
+            .filter(|given| given.is_some())
+            .count() as u64;
         if !taken {
             self.take_back(request.listed.as_slice(), request.opened)?;
         }

@@ -63,9 +63,14 @@ impl ListTable {
     }
 
     /// Gives an entry for each name that was found and that no request holds exclusively.
-    fn give_page(&mut self, request: &mut ListRequest, findings: Findings) -> Result<(), AllocError> {
+    fn give_page(
+        &mut self,
+        request: &mut ListRequest,
+        findings: Findings,
+    ) -> Result<(), AllocError> {
         let ways = request.plan.ways.get(1..).unwrap_or(&[]);
-        for (way, found) in ways.iter().zip(findings.as_slice()) {
+        let all = findings.found();
+        for (way, found) in ways.iter().zip(all.iter()) {
             let given = if *found && !self.is_held_alone(way) {
                 Some(self.give(way)?)
             } else {
@@ -140,7 +145,12 @@ impl ListTable {
         Ok(())
     }
 
-    fn open_node(&mut self, request: &mut ListRequest, number: u64, access: Access) -> Result<(), AllocError> {
+    fn open_node(
+        &mut self,
+        request: &mut ListRequest,
+        number: u64,
+        access: Access,
+    ) -> Result<(), AllocError> {
         if let Some(bearer) = self.node(number).map(|node| node.bearer()) {
             request.opened = Some(self.open_file(bearer, access)?);
         }
@@ -175,9 +185,7 @@ impl ListTable {
     fn act(&mut self, request: &mut ListRequest, end: End) -> Result<(), AllocError> {
         match (request.plan.ask, end) {
             (Ask::Name(..) | Ask::Create(..), End::Entry) => self.give_name(request),
-            (Ask::Page(_, batch), End::Entries(findings))
-                if findings.as_slice().len() == batch.as_slice().len() =>
-            {
+            (Ask::Page(_, batch), End::Entries(findings)) if findings.len() == batch.len() => {
                 self.give_page(request, findings)
             }
             (Ask::Open(number, access), End::Done) => self.open_node(request, number, access),

@@ -87,7 +87,9 @@ impl ListTable {
     pub fn births(&self, number: u64) -> u64 {
         let mut births = 0u64;
         for posting in &self.postings {
-            if let Posted::Born((born, _)) = *posting && born == number {
+            if let Posted::Born((born, _)) = *posting
+                && born == number
+            {
                 births = births.saturating_add(1);
             }
         }

@@ -38,13 +38,7 @@ impl ListTable {
     }
 
     /// An entry is promised for the name, and a birth where no node stands there.
-    fn name_plan(
-        &self,
-        ask: Ask,
-        parent: u64,
-        way: &Way,
-        word: Word,
-    ) -> Result<Plan, AllocError> {
+    fn name_plan(&self, ask: Ask, parent: u64, way: &Way, word: Word) -> Result<Plan, AllocError> {
         let path = way.below(word)?;
         let mut plan = self.node_plan(ask, parent, &path)?;
         plan.entries = 1;
@@ -60,7 +54,8 @@ impl ListTable {
         batch: Batch,
     ) -> Result<Plan, AllocError> {
         let mut plan = self.node_plan(ask, folder, way)?;
-        for word in batch.as_slice() {
+        let words = batch.words();
+        for word in words.iter().take(batch.len()) {
             plan.ways.push(way.below(*word)?)?;
             plan.entries = plan.entries.saturating_add(1);
             plan.births = plan.births.saturating_add(1);
@@ -113,7 +108,9 @@ impl ListTable {
         plan.ways.push(path.copy()?)?;
         plan.exclusive.push(path.copy()?)?;
         add_fronts(&mut plan.shared, way)?;
-        if let Some(bearer) = self.open_at(&path) && may_hide {
+        if let Some(bearer) = self.open_at(&path)
+            && may_hide
+        {
             self.add_candidates(&mut plan, bearer, way)?;
         }
         Ok(plan)
@@ -208,7 +205,12 @@ impl ListTable {
         Ok(plan)
     }
 
-    fn plan_of_move(&self, ask: Ask, old: (u64, Word), new: (u64, Word)) -> Result<Option<Plan>, AllocError> {
+    fn plan_of_move(
+        &self,
+        ask: Ask,
+        old: (u64, Word),
+        new: (u64, Word),
+    ) -> Result<Option<Plan>, AllocError> {
         let ((parent, word), (new_parent, new_word)) = (old, new);
         let (Some(way), Some(new_way)) = (self.way_of(parent), self.way_of(new_parent)) else {
             return Ok(None);

@@ -2,6 +2,8 @@
 
 use crate::both_runs::{Drive, Manner, drive_both};
 use crate::draws::Draws;
+use crate::tallies::Came;
+use errno::{EAGAIN, EBADF, EINVAL, ENAMETOOLONG, ENFILE, ENOTEMPTY, ESTALE};
 use std::test::Fail;
 use table::Limits;
 
@@ -23,6 +25,26 @@ const FEW: Limits = Limits {
     ..DEFAULT
 };
 
+/// All that is told of requests and their ends, but of paths that are too long.
+const MUCH: &[Came] = &[
+    Came::Begun,
+    Came::Same,
+    Came::MayHide,
+    Came::Last,
+    Came::Busy,
+    Came::Refused(EBADF),
+    Came::Refused(ESTALE),
+    Came::Refused(EINVAL),
+    Came::Refused(ENOTEMPTY),
+    Came::Refused(ENFILE),
+    Came::Refused(EAGAIN),
+    Came::Ended,
+    Came::Opened,
+    Came::Settled,
+    Came::Untaken,
+    Came::Forgotten,
+];
+
 /// Names of one byte, from that seed.
 fn short(seed: u64) -> Draws {
     Draws {
@@ -40,6 +62,12 @@ fn any_steps(rt: HostRuntime) -> Result<(), Fail> {
             manner: Manner::Any,
             draws: short(1),
             steps: STEPS,
+            expected: &[
+                Came::Begun,
+                Came::Ended,
+                Came::Settled,
+                Came::Refused(ESTALE),
+            ],
         },
     )
 }
@@ -53,6 +81,7 @@ fn biased_steps(rt: HostRuntime) -> Result<(), Fail> {
             manner: Manner::Biased,
             draws: short(1),
             steps: STEPS,
+            expected: MUCH,
         },
     )
 }
@@ -70,6 +99,7 @@ fn biased_steps_with_long_names(rt: HostRuntime) -> Result<(), Fail> {
                 longest: 1_900,
             },
             steps: STEPS,
+            expected: &[Came::Refused(ENAMETOOLONG), Came::MayHide, Came::Last],
         },
     )
 }
@@ -87,6 +117,7 @@ fn biased_steps_with_few_postings(rt: HostRuntime) -> Result<(), Fail> {
             manner: Manner::Biased,
             draws: short(3),
             steps: 3_000,
+            expected: &[Came::Refused(ENFILE), Came::MayHide, Came::Untaken],
         },
     )
 }

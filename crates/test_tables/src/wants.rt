@@ -18,9 +18,7 @@ impl<T: Ledgers> Both<T> {
     /// Whether the other table has a living node of that number.
     fn is_known(&self, number: u64) -> bool {
         let list = &self.list;
-        list.nodes
-            .iter()
-            .any(|node| self.pairs.number(list, node.number) == Some(number))
+        list.nodes.iter().any(|node| self.pairs.number(list, node.number) == Some(number))
     }
 
     /// The other table's number of a node that lives. One that no node bears is unknown to both.
@@ -34,7 +32,8 @@ impl<T: Ledgers> Both<T> {
 
     fn names(&self, batch: Batch) -> Result<Names, AllocError> {
         let mut names = Vec::new(self.alloc);
-        for word in batch.as_slice() {
+        let words = batch.words();
+        for word in words.iter().take(batch.len()) {
             names.push(self.pairs.name(*word)?)?;
         }
         Ok(Names::from_vec(names))
