@@ -28,6 +28,8 @@ mod list_rows;
 #[cfg(test)]
 mod list_table;
 #[cfg(test)]
+mod list_teller;
+#[cfg(test)]
 mod pairs;
 #[cfg(test)]
 mod runs;

@@ -111,13 +111,13 @@ fn biased_steps_with_few_postings(rt: HostRuntime) -> Result<(), Fail> {
         &rt,
         Drive {
             limits: Limits {
-                postings: 600,
+                postings: 200,
                 ..DEFAULT
             },
             manner: Manner::Biased,
             draws: short(3),
             steps: 3_000,
-            expected: &[Came::Refused(ENFILE), Came::MayHide, Came::Untaken],
+            expected: &[Came::Refused(ENFILE), Came::Untaken],
         },
     )
 }
