@@ -1,0 +1,151 @@
+//! Steps at random: any of them, by the plain generator.
+
+use crate::asks::{Ask, Batch, End, Findings, Step};
+use crate::words::Word;
+use table::{Access, Need};
+
+/// Numbers and handles are drawn from 0 to 8.
+const NUMBERS: u64 = 9;
+
+/// The letter of the name that may be long.
+pub const LONG: char = 'c';
+
+/// Numbers at random, the same in each run.
+#[derive(Clone, Copy, Drop)]
+pub struct Draws {
+    pub x: u64,
+    /// How many bytes the name `c` has. The others have one.
+    pub longest: usize,
+}
+
+impl Draws {
+    fn next(&mut self) -> u64 {
+        self.x = self
+            .x
+            .wrapping_mul(6_364_136_223_846_793_005)
+            .wrapping_add(1_442_695_040_888_963_407);
+        self.x >> 32
+    }
+
+    /// A choice among so many, or 0 among none.
+    pub fn among(&mut self, n: u64) -> u64 {
+        let draw = self.next();
+        if n == 0 { 0 } else { draw % n }
+    }
+
+    pub fn place(&mut self, len: usize) -> usize {
+        self.among(len as u64) as usize
+    }
+
+    /// So many times out of so many.
+    pub fn chance(&mut self, times: u64, of: u64) -> bool {
+        self.among(of) < times
+    }
+
+    /// A number from 0 to 8, of a node or of an open file.
+    pub fn any_number(&mut self) -> u64 {
+        self.among(NUMBERS)
+    }
+
+    pub fn word(&mut self) -> Word {
+        match self.among(3) {
+            0 => Word::of('a'),
+            1 => Word::of('b'),
+            _ => Word::Plain {
+                letter: LONG,
+                bytes: self.longest,
+            },
+        }
+    }
+
+    /// Up to three names.
+    pub fn batch(&mut self) -> Batch {
+        Batch {
+            first: self.word(),
+            second: self.word(),
+            third: self.word(),
+            count: self.place(4),
+        }
+    }
+
+    pub fn findings(&mut self) -> Findings {
+        Findings {
+            first: self.chance(1, 2),
+            second: self.chance(1, 2),
+            third: self.chance(1, 2),
+            fourth: self.chance(1, 2),
+            count: self.place(5),
+        }
+    }
+
+    pub fn access(&mut self) -> Access {
+        match self.among(3) {
+            0 => Access::Reading,
+            1 => Access::Writing,
+            _ => Access::Both,
+        }
+    }
+
+    pub fn need(&mut self) -> Need {
+        match self.among(3) {
+            0 => Need::Reading,
+            1 => Need::Writing,
+            _ => Need::Any,
+        }
+    }
+
+    /// The use of a handle, or of none.
+    fn any_handle(&mut self) -> Option<(u64, Need)> {
+        if self.chance(1, 2) {
+            Some((self.any_number(), self.need()))
+        } else {
+            None
+        }
+    }
+
+    /// Any want.
+    pub fn any_ask(&mut self) -> Ask {
+        match self.among(8) {
+            0 => Ask::Node(self.any_number(), self.any_handle()),
+            1 => Ask::Name(self.any_number(), self.word()),
+            2 => Ask::Page(self.any_number(), self.batch()),
+            3 => Ask::Remove(self.any_number(), self.word(), self.chance(1, 2)),
+            4 => Ask::Move(
+                self.any_number(),
+                self.word(),
+                self.any_number(),
+                self.word(),
+            ),
+            5 => Ask::Open(self.any_number(), self.access()),
+            6 => Ask::Create(self.any_number(), self.word(), self.access()),
+            _ => Ask::Release(self.any_number(), self.any_number()),
+        }
+    }
+
+    /// An index of a candidate, or, one time in six, one that is none.
+    pub fn index(&mut self) -> u8 {
+        u8::try_from(self.among(12)).unwrap_or(0)
+    }
+
+    /// Any outcome, fitting or not.
+    pub fn any_end(&mut self) -> End {
+        match self.among(6) {
+            0 => End::Failed,
+            1 => End::Done,
+            2 => End::Entry,
+            3 => End::Entries(self.findings()),
+            4 => End::Hidden(self.index()),
+            _ => End::HiddenMove(self.index(), self.chance(1, 2)),
+        }
+    }
+
+    /// Any step, where so many tickets and answers are in hand.
+    pub fn any_step(&mut self, tickets: usize, answers: usize) -> Step {
+        match self.among(4) {
+            0 => Step::Begin(self.any_ask()),
+            1 => Step::Finish(self.place(tickets), self.any_end()),
+            2 => Step::Settle(self.place(answers), self.chance(1, 2)),
+            _ => Step::Forget(self.any_number(), self.any_number()),
+        }
+    }
+}

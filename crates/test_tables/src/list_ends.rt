@@ -1,0 +1,108 @@
+//! What the list table takes back, and what goes from it.
+
+use crate::asks::Told;
+use crate::list_table::{Bearer, ListNode, ListTable, Posted, ROOT};
+use std::alloc::AllocError;
+
+impl ListTable {
+    /// Closes the open file under the handle, if there is one.
+    pub fn close(&mut self, handle: u64) {
+        if let Some(place) = self.files.iter().position(|file| file.handle == handle) {
+            let _file = self.files.remove(place);
+        }
+    }
+
+    fn is_pinned(&self, number: u64) -> bool {
+        self.requests
+            .iter()
+            .any(|request| request.pins.as_slice().contains(&number))
+    }
+
+    fn has_named_child(&self, node: &ListNode) -> bool {
+        match &node.way {
+            Some(way) => self.has_child(way),
+            None => false,
+        }
+    }
+
+    /// Whether something keeps the node.
+    fn has_reason(&self, node: &ListNode) -> bool {
+        node.number == ROOT
+            || node.hidden
+            || self.openings(node.bearer()) > 0
+            || self.is_pinned(node.number)
+            || self.has_named_child(node)
+            || self.count(node.bearer()) > 0
+    }
+
+    /// Drops what nothing keeps, until all that is left is kept.
+    pub fn sweep(&mut self) {
+        for _round in 0..self.nodes.len() {
+            let Some(place) = self.nodes.iter().position(|node| !self.has_reason(node)) else {
+                return;
+            };
+            let _node = self.nodes.remove(place);
+        }
+    }
+
+    /// An entry goes back, if its count is above 0.
+    fn give_back(&mut self, bearer: Bearer) -> Result<(), AllocError> {
+        if self.count(bearer) > 0 {
+            self.postings.push(Posted::Back(bearer))?;
+        }
+        Ok(())
+    }
+
+    /// All that an answer listed goes back, and the file that it opened is closed.
+    fn take_back(
+        &mut self,
+        listed: &[Option<Bearer>],
+        opened: Option<u64>,
+    ) -> Result<(), AllocError> {
+        for given in listed {
+            if let Some(bearer) = *given {
+                self.give_back(bearer)?;
+            }
+        }
+        if let Some(handle) = opened {
+            self.close(handle);
+        }
+        Ok(())
+    }
+
+    /// Ends the request of that id, which was answered.
+    pub fn settle(&mut self, id: u64, taken: bool) -> Result<Told, AllocError> {
+        let place = self
+            .requests
+            .iter()
+            .position(|request| request.id == id && !request.working);
+        let Some(place) = place else {
+            return Ok(Told::Settled { entries: 0, taken });
+        };
+        let request = self.requests.remove(place);
+        let entries = request
+            .listed
+            .iter()
+            .filter(|given| given.is_some())
+            .count() as u64;
+        if !taken {
+            self.take_back(request.listed.as_slice(), request.opened)?;
+        }
+        self.sweep();
+        Ok(Told::Settled { entries, taken })
+    }
+
+    /// The client gives lookups of a node back: at most as many as its count.
+    pub fn forget(&mut self, number: u64, n: u64) -> Result<Told, AllocError> {
+        let bearer = match self.node(number) {
+            Some(node) if number != ROOT => node.bearer(),
+            _ => return Ok(Told::Amount(0)),
+        };
+        let amount = n.min(self.count(bearer));
+        if amount > 0 {
+            self.postings.push(Posted::Forget(bearer, amount))?;
+            self.sweep();
+        }
+        Ok(Told::Amount(amount))
+    }
+}

@@ -1,0 +1,104 @@
+//! Numbers of the one table beside those of the other, with their generations, paired in the order of births.
+
+use crate::draws::LONG;
+use crate::list_table::{Bearer, ROOT};
+use crate::words::{Way, Word};
+use paths::{Name, Path};
+use std::alloc::{AllocError, Global};
+
+/// A node of the list table, and that of the other.
+#[derive(Clone, Copy)]
+struct Pair {
+    list: Bearer,
+    other: Bearer,
+}
+
+/// All that were ever born, the root first.
+#[derive(Drop)]
+pub struct Pairs {
+    pairs: Vec<Pair>,
+    /// The longest name that is drawn, made once.
+    longest: Name,
+}
+
+/// The name of a file that is hidden.
+fn hidden_name(alloc: Global, number: u64, counter: u32) -> Result<Name, AllocError> {
+    let low = number % 0x1_0000_0000;
+    let text = format!(in alloc; ".fuse_hidden{low:08x}{counter:08x}")?;
+    Ok(Name::new(text))
+}
+
+fn plain_name(alloc: Global, letter: char, bytes: usize) -> Result<Name, AllocError> {
+    let mut text = String::new(alloc);
+    for _byte in 0..bytes {
+        text.push(letter)?;
+    }
+    Ok(Name::new(text))
+}
+
+impl Pairs {
+    /// The root alone.
+    pub fn new(alloc: Global, longest: usize) -> Result<Pairs, AllocError> {
+        let mut pairs = Pairs {
+            pairs: Vec::new(alloc),
+            longest: plain_name(alloc, LONG, longest)?,
+        };
+        pairs.add((ROOT, 0), (ROOT, 0))?;
+        Ok(pairs)
+    }
+
+    /// The next birth of each.
+    pub fn add(&mut self, list: Bearer, other: Bearer) -> Result<(), AllocError> {
+        self.pairs.push(Pair { list, other })?;
+        Ok(())
+    }
+
+    /// What the other table has for that of the list table.
+    pub fn of(&self, list: Bearer) -> Option<Bearer> {
+        let pair = self.pairs.iter().find(|pair| pair.list == list)?;
+        Some(pair.other)
+    }
+
+    /// Whether the other table's number and generation are paired with those of the list table.
+    pub fn are(&self, list: Bearer, other: Bearer) -> bool {
+        self.of(list) == Some(other)
+    }
+
+    /// The name as the other table has it.
+    pub fn name(&self, word: Word) -> Result<Name, AllocError> {
+        let alloc = *self.pairs.allocator();
+        match word {
+            Word::Plain { letter, bytes } if letter == LONG && bytes == self.longest.len() => {
+                self.longest.copy()
+            }
+            Word::Plain { letter, bytes } => plain_name(alloc, letter, bytes),
+            Word::Hidden {
+                number,
+                generation,
+                counter,
+            } => {
+                let (other, _) = self.of((number, generation)).unwrap_or((0, 0));
+                hidden_name(alloc, other, counter)
+            }
+        }
+    }
+
+    /// The path as the other table has it.
+    pub fn path(&self, way: &Way) -> Result<Path, AllocError> {
+        let mut path = Path::new(*self.pairs.allocator());
+        for word in &way.words {
+            path.push(self.name(*word)?)?;
+        }
+        Ok(path)
+    }
+
+    /// Whether these are the paths, in order.
+    pub fn are_paths(&self, ways: &[Way], paths: &[Path]) -> Result<bool, AllocError> {
+        for (way, path) in ways.iter().zip(paths) {
+            if !self.path(way)?.is(path) {
+                return Ok(false);
+            }
+        }
+        Ok(ways.len() == paths.len())
+    }
+}

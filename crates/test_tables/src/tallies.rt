@@ -1,0 +1,77 @@
+//! What a run came to, and how often.
+
+use crate::asks::{Step, Told};
+use std::alloc::{AllocError, Global};
+
+/// What a call came to.
+#[derive(Clone, Copy, Debug, PartialEq, Eq)]
+pub enum Came {
+    Begun,
+    /// A move to the same path.
+    Same,
+    /// A file may be hidden.
+    MayHide,
+    /// The last opening of a hidden file was closed.
+    Last,
+    Busy,
+    Refused(i32),
+    Ended,
+    Opened,
+    Settled,
+    /// A reply with entries was not taken.
+    Untaken,
+    Forgotten,
+    Nothing,
+}
+
+/// What the call came to, by what it told.
+fn event_of(step: Step, told: Told) -> Came {
+    match told {
+        Told::Go { same: true, .. } => Came::Same,
+        Told::Go { hide: true, .. } => Came::MayHide,
+        Told::Go { last: true, .. } => Came::Last,
+        Told::Go { .. } => Came::Begun,
+        Told::Busy => Came::Busy,
+        Told::Refused(errno) => Came::Refused(errno),
+        Told::Ended {
+            opened: Some(_),
+            ..
+        } => Came::Opened,
+        Told::Ended { .. } => Came::Ended,
+        Told::Settled { entries: 1.., .. } if matches!(step, Step::Settle(_, false)) =>
+            Came::Untaken,
+        Told::Settled { .. } => Came::Settled,
+        Told::Amount(1..) => Came::Forgotten,
+        Told::Amount(_) | Told::Nothing => Came::Nothing,
+    }
+}
+
+/// All that a run came to, the oldest first.
+#[derive(Drop)]
+pub struct Tallies {
+    all: Vec<Came>,
+}
+
+impl Tallies {
+    pub fn new(alloc: Global) -> Tallies {
+        Tallies {
+            all: Vec::new(alloc),
+        }
+    }
+
+    pub fn note(&mut self, step: Step, told: Told) -> Result<(), AllocError> {
+        self.all.push(event_of(step, told))?;
+        Ok(())
+    }
+
+    /// The first of these that came less than so often, with how often it came.
+    pub fn too_few(&self, expected: &[Came], least: usize) -> Option<(Came, usize)> {
+        for one in expected {
+            let times = self.all.iter().filter(|came| **came == *one).count();
+            if times < least {
+                return Some((*one, times));
+            }
+        }
+        None
+    }
+}
