@@ -24,7 +24,7 @@ from typing import NamedTuple
 LOOKUP, FORGET, GETATTR, SETATTR, MKDIR, UNLINK, RMDIR, RENAME = 1, 2, 3, 4, 9, 10, 11, 12
 OPEN, READ, WRITE, STATFS, RELEASE, FSYNC, FLUSH, INIT = 14, 15, 16, 17, 18, 20, 25, 26
 OPENDIR, READDIR, RELEASEDIR, FSYNCDIR, CREATE, INTERRUPT, DESTROY = 27, 28, 29, 30, 35, 36, 38
-BATCH_FORGET, READDIRPLUS = 42, 44
+BATCH_FORGET, READDIRPLUS, RENAME2 = 42, 44, 45
 NAMES = {value: name for name, value in list(globals().items()) if name.isupper() and isinstance(value, int)}
 
 ROOT = 1
@@ -34,6 +34,7 @@ MOST_WRITTEN, MOST_READ = 65536, 131072
 PAGE = 4096
 FOLDER, FILE = 4, 8
 SET_SIZE, SET_HANDLE = 1 << 3, 1 << 6
+NO_REPLACE, EXCHANGE = 1, 2
 
 HEADER = struct.Struct("<IIQQIIII")
 REPLY = struct.Struct("<IiQ")
@@ -168,6 +169,11 @@ def rmdir(unique, parent, name):
 
 def rename(unique, parent, name, new_parent, new_name):
     return request(RENAME, unique, parent, struct.pack("<Q", new_parent) + name_bytes(name) + name_bytes(new_name))
+
+
+def rename2(unique, parent, name, new_parent, new_name, flags):
+    """As RENAME with flags 0; with NO_REPLACE or EXCHANGE what they say."""
+    return request(RENAME2, unique, parent, struct.pack("<QII", new_parent, flags, 0) + name_bytes(name) + name_bytes(new_name))
 
 
 def statfs(unique, node):
@@ -432,6 +438,14 @@ class Client:
 
     def rename(self, parent, name, new_parent, new_name):
         self.ask(rename(self.number(), parent, name, new_parent, new_name), name)
+
+    def rename_new(self, parent, name, new_parent, new_name):
+        """As `rename`, but EEXIST where something stands at the new name."""
+        self.ask(rename2(self.number(), parent, name, new_parent, new_name, NO_REPLACE), name)
+
+    def exchange_names(self, parent, name, new_parent, new_name):
+        """A server of a real folder refuses this with EINVAL."""
+        self.ask(rename2(self.number(), parent, name, new_parent, new_name, EXCHANGE), name)
 
     def statfs(self, node=ROOT):
         return statfs_of(self.ask(statfs(self.number(), node)))

@@ -3,7 +3,7 @@ import struct
 
 LOOKUP, FORGET, GETATTR, SETATTR, MKDIR, UNLINK, RMDIR, RENAME, OPEN, READ, WRITE, STATFS = 1, 2, 3, 4, 9, 10, 11, 12, 14, 15, 16, 17
 RELEASE, FSYNC, FLUSH, INIT, OPENDIR, READDIR, RELEASEDIR, FSYNCDIR, CREATE, INTERRUPT = 18, 20, 25, 26, 27, 28, 29, 30, 35, 36
-DESTROY, BATCH_FORGET, READDIRPLUS = 38, 42, 44
+DESTROY, BATCH_FORGET, READDIRPLUS, RENAME2 = 38, 42, 44, 45
 EPERM, ENOENT, EIO, EBADF, EINVAL, ENAMETOOLONG, ENOSYS, EPROTO = 1, 2, 5, 9, 22, 36, 38, 71
 ERRORS = {1, 2, 5, 9, 11, 12, 13, 16, 17, 20, 21, 22, 23, 27, 28, 36, 38, 39, 71, 75, 116}
 SHORTEST, LONGEST = 40, 69632
@@ -11,9 +11,9 @@ SILENT = {FORGET, BATCH_FORGET, INTERRUPT}
 # bodies of one length, and bodies that end with names: what stands before them, and how many
 FIXED = {GETATTR: 16, SETATTR: 88, OPEN: 8, READ: 40, STATFS: 0, RELEASE: 24, FSYNC: 16, FLUSH: 24, OPENDIR: 8, READDIR: 40,
          RELEASEDIR: 24, FSYNCDIR: 16, DESTROY: 0, READDIRPLUS: 40}
-NAMED = {LOOKUP: (0, 1), MKDIR: (8, 1), UNLINK: (0, 1), RMDIR: (0, 1), RENAME: (8, 2), CREATE: (16, 1)}
+NAMED = {LOOKUP: (0, 1), MKDIR: (8, 1), UNLINK: (0, 1), RMDIR: (0, 1), RENAME: (8, 2), CREATE: (16, 1), RENAME2: (16, 2)}
 # bodies of replies that tell of success, where they have one length
-ANSWERED = {LOOKUP: 128, GETATTR: 104, SETATTR: 104, MKDIR: 128, UNLINK: 0, RMDIR: 0, RENAME: 0, OPEN: 16, WRITE: 8, STATFS: 80,
+ANSWERED = {LOOKUP: 128, GETATTR: 104, SETATTR: 104, MKDIR: 128, UNLINK: 0, RMDIR: 0, RENAME: 0, RENAME2: 0, OPEN: 16, WRITE: 8, STATFS: 80,
             RELEASE: 0, FSYNC: 0, FLUSH: 0, INIT: 64, OPENDIR: 16, RELEASEDIR: 0, FSYNCDIR: 0, CREATE: 144, DESTROY: 0}
 # what else is refused than by the bytes alone
 ONLY_ERRORS = {STATFS: set(), FLUSH: {EBADF}, RELEASEDIR: {EBADF}, FSYNCDIR: {EBADF}}
@@ -49,6 +49,8 @@ def fault_of_names(opcode, body):
             return fault_of_name(name)
     if any(name.startswith(b".fuse_hidden") for name in names):
         return ENOENT if opcode == LOOKUP else EPERM
+    if opcode == RENAME2 and struct.unpack_from("<I", body, 8)[0] > 2:
+        return EINVAL
     return EINVAL if opcode == CREATE and body[0] & 3 == 3 else 0
 
 

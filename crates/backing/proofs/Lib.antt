@@ -8,8 +8,8 @@ pub mod Tests
 pub mod Relocating
 pub mod PathSetting
 pub mod Renaming
+pub mod Swapping
 pub mod Ending
-pub mod Keeping
 pub mod Calling
 pub mod PathLemmas
 pub mod Looking

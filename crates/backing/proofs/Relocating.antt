@@ -68,13 +68,13 @@ outside t (e ∷ es) none =
     (head, outside t es (λ more. sym (with_other (look es) e.path e.item (t ++ more) (apart more)) ∙ none more))
 
 -- a path in s, as a path that begins so
-prefix_cases : (s p : Names) → ((more : Names) × (p ≡ s ++ more)) ⊎ (is_prefix s p ≡ false)
+pub prefix_cases : (s p : Names) → ((more : Names) × (p ≡ s ++ more)) ⊎ (is_prefix s p ≡ false)
 prefix_cases s p = elim (cases_Bool (is_prefix s p)) [
   | inl h ↦ inl (is_prefix-more s p h)
   | inr h ↦ inr h
 ]
 
-no_prefix : (s p more : Names) → is_prefix s p ≡ false → p ≡ s ++ more → ⊥
+pub no_prefix : (s p more : Names) → is_prefix s p ≡ false → p ≡ s ++ more → ⊥
 no_prefix s p more far e = true≢false (sym (is_prefix-append s more) ∙ (sym (ap (λ (q : Names). is_prefix s q) e) ∙ far))
 
 same_rest : (s a b : Names) → s ++ a ≡ s ++ b → a ≡ b
@@ -172,7 +172,7 @@ moved-without at s t apart = fun_ext (λ q. three_ways (λ (r : Names). moved (w
     (λ above below. moved_gone (without at t) s t q above below ∙ sym (moved_gone at s t q above below))
     (λ above below. moved_else (without at t) s t q above below ∙ (without_other at t q (λ e. true≢false (sym (is_prefix-same t) ∙ (ap (λ (r : Names). is_prefix t r) e ∙ above))) ∙ sym (moved_else at s t q above below))))
 
-prefix_of_root : (s : Names) → (s ≡ [] → ⊥) → is_prefix s [] ≡ false
+pub prefix_of_root : (s : Names) → (s ≡ [] → ⊥) → is_prefix s [] ≡ false
 prefix_of_root [] below = absurd (below refl)
 prefix_of_root (x ∷ s) below = refl
 
@@ -184,7 +184,7 @@ pub longer_root : (s more : Names) → (s ≡ [] → ⊥) → s ++ more ≡ [] �
 longer_root [] more below e = below refl
 longer_root (x ∷ s) more below e = cc
 
-root_cases : (q : Names) → (q ≡ []) ⊎ (q ≡ [] → ⊥)
+pub root_cases : (q : Names) → (q ≡ []) ⊎ (q ≡ [] → ⊥)
 root_cases [] = inl refl
 root_cases (x ∷ q) = inr (λ e. cc)
 
@@ -209,7 +209,7 @@ up_no_prefix s up name far = elim (cases_Bool (is_prefix s up)) [
 ]
 
 -- a path that goes on ends by a name
-last_of : (x : Name) (more : Names) → (up : Names) × (name : Name) × (x ∷ more ≡ up ++ name ∷ [])
+pub last_of : (x : Name) (more : Names) → (up : Names) × (name : Name) × (x ∷ more ≡ up ++ name ∷ [])
 last_of x [] = ([], x, refl)
 last_of x (y ∷ more) = let it = last_of y more in (x ∷ it.0, it.1, ap (λ (r : Names). x ∷ r) it.2)
 

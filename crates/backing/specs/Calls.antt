@@ -13,7 +13,7 @@ use Rattle.backing.specs.declared.entries.Item.TheVariants.{Folder, File}
 use Rattle.errno.specs.declared.TheConstants.{ENOENT, EBUSY, EEXIST, ENOTDIR, EISDIR, EINVAL, EFBIG, ENOTEMPTY}
 use Rattle.backing.specs.declared.call.TheConstants.{MAX_FILE_LEN}
 use Rattle.backing.specs.Files.{resized, written, read}
-use Rattle.backing.specs.Tree.{Tree, IsFile, IsFolder, Resolves, Stops, HasNames, IsBare, is_path, with_item, without, moved, kind_of, size_of}
+use Rattle.backing.specs.Tree.{Tree, IsFile, IsFolder, Resolves, Stops, HasNames, IsBare, is_path, with_item, without, moved, exchanged, kind_of, size_of}
 
 -- what is asked of a directory, wherever the paths and the bytes lie in memory
 pub data Asked : Type 0 where
@@ -24,6 +24,8 @@ pub data Asked : Type 0 where
   AskRemove : (p : Names) → Asked
   AskRemoveDir : (p : Names) → Asked
   AskRename : (s t : Names) → Asked
+  AskRenameNew : (s t : Names) → Asked
+  AskExchange : (s t : Names) → Asked
   AskRead : (p : Names) → (offset size : ℕ) → Asked
   AskWrite : (p : Names) → (offset : ℕ) → (piece : List ℕ) → Asked
   AskSetLen : (p : Names) → (size : ℕ) → Asked
@@ -37,6 +39,8 @@ asked (calls.MakeDir p) = AskMakeDir p.now
 asked (calls.Remove p) = AskRemove p.now
 asked (calls.RemoveDir p) = AskRemoveDir p.now
 asked (calls.Rename s t) = AskRename s.now t.now
+asked (calls.RenameNew s t) = AskRenameNew s.now t.now
+asked (calls.Exchange s t) = AskExchange s.now t.now
 asked (calls.Read p offset size) = AskRead p.now offset size
 asked (calls.Write p offset piece) = AskWrite p.now offset piece.now
 asked (calls.SetLen p size) = AskSetLen p.now size
@@ -51,6 +55,7 @@ pub data Test : Type 0 where
   NoFolder : (p : Names) → Test  -- no folder stands at p, else EISDIR
   NoFile : (p : Names) → Test  -- no file stands at p, else ENOTDIR
   Bare : (p : Names) → Test  -- no name stands in p, else ENOTEMPTY
+  Differs : (s t : Names) → Test  -- t is not s, else EEXIST
   NotInto : (s t : Names) → Test  -- t is not below s, else EINVAL
   NotOver : (s t : Names) → Test  -- s is not below t, else ENOTEMPTY
   NoFileOnFolder : (s t : Names) → Test  -- not a file onto a folder, else EISDIR
@@ -65,6 +70,7 @@ Passes at (Free p) = at p ≡ None
 Passes at (NoFolder p) = IsFolder (at p) → ⊥
 Passes at (NoFile p) = IsFile (at p) → ⊥
 Passes at (Bare p) = IsBare at p
+Passes at (Differs s t) = is_path s t ≡ false
 Passes at (NotInto s t) = is_prefix s t ≡ false
 Passes at (NotOver s t) = is_prefix t s ≡ false
 Passes at (NoFileOnFolder s t) = IsFile (at s) → IsFolder (at t) → ⊥
@@ -79,6 +85,7 @@ Fails at (Free p) errno = IsSome (at p) × (errno ≡ EEXIST)
 Fails at (NoFolder p) errno = IsFolder (at p) × (errno ≡ EISDIR)
 Fails at (NoFile p) errno = IsFile (at p) × (errno ≡ ENOTDIR)
 Fails at (Bare p) errno = HasNames at p × (errno ≡ ENOTEMPTY)
+Fails at (Differs s t) errno = (is_path s t ≡ true) × (errno ≡ EEXIST)
 Fails at (NotInto s t) errno = (is_prefix s t ≡ true) × (errno ≡ EINVAL)
 Fails at (NotOver s t) errno = (is_prefix t s ≡ true) × (errno ≡ ENOTEMPTY)
 Fails at (NoFileOnFolder s t) errno = IsFile (at s) × IsFolder (at t) × (errno ≡ EISDIR)
@@ -114,6 +121,8 @@ tests_of (AskMakeDir p) = Reached p ∷ Free p ∷ []
 tests_of (AskRemove p) = Reached p ∷ Present p ∷ NoFolder p ∷ []
 tests_of (AskRemoveDir p) = BelowRoot p ∷ Reached p ∷ Present p ∷ NoFile p ∷ Bare p ∷ []
 tests_of (AskRename s t) = BelowRoot s ∷ BelowRoot t ∷ Reached s ∷ Present s ∷ unless (is_path s t) (NotInto s t ∷ NotOver s t ∷ Reached t ∷ NoFileOnFolder s t ∷ NoFolderOnFile s t ∷ Bare t ∷ [])
+tests_of (AskRenameNew s t) = BelowRoot s ∷ BelowRoot t ∷ Reached s ∷ Present s ∷ Differs s t ∷ NotInto s t ∷ NotOver s t ∷ Reached t ∷ Free t ∷ []
+tests_of (AskExchange s t) = BelowRoot s ∷ BelowRoot t ∷ Reached s ∷ Present s ∷ unless (is_path s t) (NotInto s t ∷ NotInto t s ∷ Reached t ∷ Present t ∷ [])
 tests_of (AskRead p offset size) = Reached p ∷ Present p ∷ NoFolder p ∷ []
 tests_of (AskWrite p offset piece) = Reached p ∷ Present p ∷ NoFolder p ∷ Fits (end_of offset piece) ∷ []
 tests_of (AskSetLen p size) = Reached p ∷ Present p ∷ NoFolder p ∷ Fits size ∷ []
@@ -143,6 +152,8 @@ Does old (AskMakeDir p) answer new = (answer ≡ Done) × (new ≡ with_item old
 Does old (AskRemove p) answer new = (answer ≡ Done) × (new ≡ without old p)
 Does old (AskRemoveDir p) answer new = (answer ≡ Done) × (new ≡ without old p)
 Does old (AskRename s t) answer new = (answer ≡ Done) × (new ≡ (if is_path s t then old else moved old s t))
+Does old (AskRenameNew s t) answer new = (answer ≡ Done) × (new ≡ moved old s t)
+Does old (AskExchange s t) answer new = (answer ≡ Done) × (new ≡ (if is_path s t then old else exchanged old s t))
 Does old (AskRead p offset size) answer new = ((bytes : List ℕ) × (old p ≡ Some (File bytes)) × (answer ≡ Bytes (read bytes offset size))) × (new ≡ old)
 Does old (AskWrite p offset []) answer new = (answer ≡ Wrote 0) × (new ≡ old)
 Does old (AskWrite p offset (byte ∷ piece)) answer new = (answer ≡ Wrote (length (byte ∷ piece))) × ((bytes : List ℕ) × (old p ≡ Some (File bytes)) × (new ≡ with_item old p (File (written bytes offset (byte ∷ piece)))))
@@ -163,6 +174,8 @@ TakesMemory (AskMakeDir p) = Unit {0}
 TakesMemory (AskRemove p) = ⊥
 TakesMemory (AskRemoveDir p) = ⊥
 TakesMemory (AskRename s t) = Unit {0}
+TakesMemory (AskRenameNew s t) = Unit {0}
+TakesMemory (AskExchange s t) = Unit {0}
 TakesMemory (AskRead p offset size) = Unit {0}
 TakesMemory (AskWrite p offset piece) = Unit {0}
 TakesMemory (AskSetLen p size) = Unit {0}

@@ -1,7 +1,7 @@
 -- The tests that calls share, in their order.
 use Rattle.std.specs.Prelude.{List, [], ◌∷◌}
 use Rattle.paths.specs.Prefixes.{Names}
-use Rattle.backing.specs.Calls.{Test, BelowRoot, Reached, Present, Free, NoFolder, NoFile, NotInto, NotOver, NoFileOnFolder, NoFolderOnFile, Bare}
+use Rattle.backing.specs.Calls.{Test, BelowRoot, Reached, Present, Free, NoFolder, NoFile, Differs, NotInto, NotOver, NoFileOnFolder, NoFolderOnFile, Bare}
 
 -- something stands at p
 abbrev pub present_tests : Names → List Test
@@ -30,3 +30,11 @@ kind_tests s t = NoFileOnFolder s t ∷ NoFolderOnFile s t ∷ []
 -- it may go to t
 abbrev pub room_tests : Names → Names → List Test
 room_tests s t = NotInto s t ∷ NotOver s t ∷ Reached t ∷ NoFileOnFolder s t ∷ NoFolderOnFile s t ∷ Bare t ∷ []
+
+-- it may go to t, where nothing stands
+abbrev pub new_tests : Names → Names → List Test
+new_tests s t = Differs s t ∷ NotInto s t ∷ NotOver s t ∷ Reached t ∷ Free t ∷ []
+
+-- it may change places with what stands at t
+abbrev pub exchange_tests : Names → Names → List Test
+exchange_tests s t = NotInto s t ∷ NotInto t s ∷ Reached t ∷ Present t ∷ []

@@ -9,6 +9,10 @@ use Rattle.backing.specs.Entries.{look, IsFoundAt}
 abbrev pub moved_path : Names → Names → Names → Option Names
 moved_path s t p = if is_prefix s p then Some (t ++ drop (length s) p) else None
 
+-- the new path of what stood at s or t or below one of them, when both are exchanged
+abbrev pub exchanged_path : Names → Names → Names → Option Names
+exchanged_path s t p = if is_prefix s p then Some (t ++ drop (length s) p) else (if is_prefix t p then Some (s ++ drop (length t) p) else None)
+
 abbrev pub with_path : Entry → Option Names → Entry
 with_path entry None = entry
 with_path entry (Some p) = record entry { path = p }

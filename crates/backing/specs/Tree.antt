@@ -34,6 +34,10 @@ without at p = λ q. if is_path p q then None else at q
 abbrev pub moved : Tree → Names → Names → Tree
 moved at s t = λ q. if is_prefix t q then at (s ++ drop (length t) q) else (if is_prefix s q then None else at q)
 
+-- what stood at s or below it stands at t or below it, and the other way round
+abbrev pub exchanged : Tree → Names → Names → Tree
+exchanged at s t = λ q. if is_prefix s q then at (t ++ drop (length s) q) else (if is_prefix t q then at (s ++ drop (length t) q) else at q)
+
 abbrev pub kind_of : Item → Kind
 kind_of Folder = kinds.Folder
 kind_of (File bytes) = kinds.File

@@ -82,6 +82,16 @@ pub enum Call<'a> {
         from: &'a Path,
         to: &'a Path,
     },
+    /// As `Rename`, to a path at which nothing stands.
+    RenameNew {
+        from: &'a Path,
+        to: &'a Path,
+    },
+    /// Gives what stands at each of both paths the other one, with all that is below it.
+    Exchange {
+        first: &'a Path,
+        second: &'a Path,
+    },
     /// At most `size` bytes of the file, from byte `offset` on.
     Read {
         path: &'a Path,

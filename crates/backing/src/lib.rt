@@ -6,6 +6,7 @@ mod call;
 mod calls;
 mod checks;
 mod entries;
+mod exchanging;
 mod lookups;
 mod making;
 mod memory;

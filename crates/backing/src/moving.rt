@@ -5,18 +5,18 @@ ghost use Rattle.std.specs.List.{remove};
 ghost use Rattle.paths.specs.Prefixes.{is_prefix};
 ghost use Rattle.backing.specs.declared.entries.Entry.{Entry};
 ghost use Rattle.backing.specs.Tree.{IsBare, Resolves, moved};
-ghost use Rattle.backing.specs.Calls.{AskRename, PassesAll, Refuses};
-ghost use Rattle.backing.specs.Checks.{source_tests, kind_tests, room_tests};
+ghost use Rattle.backing.specs.Calls.{AskRename, AskRenameNew, PassesAll, Refuses};
+ghost use Rattle.backing.specs.Checks.{source_tests, kind_tests, room_tests, new_tests};
 ghost use Rattle.backing.specs.Entries.{tree_of, IsEntryTree};
 ghost use Rattle.backing.specs.Moves.{moved_path, with_path, with_paths, Clears};
 ghost use Rattle.backing.specs.Refusals.{Ends};
 
 use crate::call::{Answer, Kind};
-use crate::checks::{expect_bare, expect_below_root, expect_present, expect_reached};
+use crate::checks::{expect_bare, expect_below_root, expect_free, expect_present, expect_reached};
 use crate::entries::Entry;
 use crate::lookups::{index_of, kind_at};
 use crate::refusal::Refusal;
-use errno::{EINVAL, EISDIR, ENOTDIR, ENOTEMPTY};
+use errno::{EEXIST, EINVAL, EISDIR, ENOTDIR, ENOTEMPTY};
 use paths::Path;
 use std::alloc::{AllocError, Global};
 
@@ -40,8 +40,25 @@ pub fn rename(
     Ok(Answer::Done)
 }
 
+/// As `rename`, to a path at which nothing stands.
+pub fn rename_new(
+    alloc: Global,
+    entries: &mut Vec<Entry>,
+    from: &Path,
+    to: &Path,
+) -> Result<Answer, Refusal>
+    requires { IsEntryTree entries.old.items }
+    ensures ends { Ends (tree_of entries.old.items) (AskRenameNew from.now to.now) result (tree_of entries.new.items) }
+    ensures lawful { IsEntryTree entries.new.items }
+{
+    expect_source(entries, from, to)?;
+    expect_new(entries, from, to)?;
+    move_all(alloc, entries, from, to)?;
+    Ok(Answer::Done)
+}
+
 /// Something stands there that may be renamed.
-fn expect_source(entries: &[Entry], from: &Path, to: &Path) -> Result<(), i32>
+pub fn expect_source(entries: &[Entry], from: &Path, to: &Path) -> Result<(), i32>
     ensures ok { OnOk result (PassesAll (tree_of entries.now) (source_tests from.now to.now)) }
     ensures err { IfErr result (Refuses (tree_of entries.now) (source_tests from.now to.now)) }
 {
@@ -66,6 +83,23 @@ fn expect_room(entries: &[Entry], from: &Path, to: &Path) -> Result<(), i32>
     expect_reached(entries, to)?;
     expect_kinds(entries, from, to)?;
     expect_bare(entries, to)
+}
+
+/// It may go there, where nothing stands.
+fn expect_new(entries: &[Entry], from: &Path, to: &Path) -> Result<(), i32>
+    ensures ok { OnOk result (PassesAll (tree_of entries.now) (new_tests from.now to.now)) }
+    ensures err { IfErr result (Refuses (tree_of entries.now) (new_tests from.now to.now)) }
+{
+    if from.is(to) {
+        return Err(EEXIST);
+    }
+    if from.is_prefix_of(to) {
+        return Err(EINVAL);
+    }
+    if to.is_prefix_of(from) {
+        return Err(ENOTEMPTY);
+    }
+    expect_free(entries, to)
 }
 
 /// Neither a file goes onto a folder nor a folder onto a file.
@@ -120,23 +154,25 @@ fn new_paths(
 {
     let mut paths = Vec::with_capacity(alloc, entries.len())?;
     for entry in entries {
-        paths.push(new_path(from, to, &entry.path)?)?;
+        paths.push(new_path(alloc, from, to, &entry.path)?)?;
     }
     Ok(paths)
 }
 
 /// The new path of what stands there, if it moves.
-fn new_path(from: &Path, to: &Path, path: &Path) -> Result<Option<Path>, AllocError>
+pub fn new_path(
+    alloc: Global,
+    from: &Path,
+    to: &Path,
+    path: &Path,
+) -> Result<Option<Path>, AllocError>
     ensures { IfOk result (λ new. new ≡ moved_path from.now to.now path.now) }
 {
     if !from.is_prefix_of(path) {
         return Ok(None);
     }
-    let mut moved = to.copy()?;
     let (_, below) = path.names().split_at(from.len());
-    for name in below {
-        moved.push(name.copy()?)?;
-    }
+    let moved = Path::joined(alloc, to.names(), below)?;
     Ok(Some(moved))
 }
 
@@ -155,7 +191,7 @@ fn clear_place(entries: &mut Vec<Entry>, paths: &mut Vec<Option<Path>>, to: &Pat
 }
 
 /// Gives each entry its new path.
-fn set_paths(entries: &mut Vec<Entry>, paths: Vec<Option<Path>>)
+pub fn set_paths(entries: &mut Vec<Entry>, paths: Vec<Option<Path>>)
     requires { length paths.items ≡ length entries.old.items }
     ensures { entries.new.items ≡ with_paths entries.old.items paths.items }
 {

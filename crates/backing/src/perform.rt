@@ -9,8 +9,9 @@ ghost use Rattle.backing.specs.Memory.{Treated, PutsDir, PutsFile, device_of, tr
 
 use crate::call::{Answer, Call};
 use crate::entries::Entry;
+use crate::exchanging::exchange;
 use crate::making::{make, make_dir};
-use crate::moving::rename;
+use crate::moving::{rename, rename_new};
 use crate::plans::Fault;
 use crate::reading::{list, read, stat, sync};
 use crate::refusal::Refusal;
@@ -35,6 +36,8 @@ pub fn perform(alloc: Global, entries: &mut Vec<Entry>, call: Call<'_>) -> Resul
         Call::Remove(path) => remove(entries, path),
         Call::RemoveDir(path) => remove_dir(entries, path),
         Call::Rename { from, to } => rename(alloc, entries, from, to),
+        Call::RenameNew { from, to } => rename_new(alloc, entries, from, to),
+        Call::Exchange { first, second } => exchange(alloc, entries, first, second),
         Call::Read { path, offset, size } => read(alloc, entries, path, offset, size),
         Call::Write { path, offset, data } => write(entries, path, offset, data),
         Call::SetLen { path, size } => set_len(entries, path, size),

@@ -3,18 +3,19 @@ use Rattle.std.proofs.Common.{ℕ, ℤ, ◌≡◌, ◌<◌, suc, zero, length, t
 use Rattle.std.proofs.lemmas.Bool.{cond-true, cond-false, true≢false, cases_Bool}
 use Rattle.std.proofs.lemmas.List.{length-take-le}
 use Rattle.paths.specs.Prefixes.{Name, Names, is_prefix}
-use Rattle.paths.proofs.PrefixLemmas.{is_prefix-append, is_prefix-same, is_prefix-trans, is_prefix-both, not_over_parent, is_name-same}
+use Rattle.paths.proofs.PrefixLemmas.{is_prefix-append, is_prefix-same, is_prefix-trans, is_prefix-both, is_prefix-whole, not_over_parent, is_name-same}
 use Rattle.backing.specs.declared.entries.Item.{Item}
 use Rattle.backing.specs.declared.entries.Item.TheVariants.{Folder, File}
 use Rattle.errno.specs.declared.TheConstants.{ENOENT, EBUSY, EEXIST, ENOTDIR, EISDIR, EINVAL, ENOTEMPTY}
-use Rattle.backing.specs.Tree.{Tree, IsTree, Blocks, IsFolder, IsFile, Resolves, Stops, IsBare, is_path, with_item}
-use Rattle.backing.specs.Calls.{Test, AskRename, AskRemoveDir, BelowRoot, Reached, Present, Free, NoFolder, NoFile, Bare, PassesAll, Refuses, unless}
+use Rattle.backing.specs.Tree.{Tree, IsTree, Blocks, IsFolder, IsFile, Resolves, Stops, IsBare, with_item}
+use Rattle.backing.specs.Calls.{Test, AskRename, AskRenameNew, AskRemoveDir, BelowRoot, Reached, Present, Free, NoFolder, NoFile, Bare, PassesAll, Refuses}
 use Rattle.backing_folder.specs.Explained.{Explained, Explains}
-use Rattle.backing.proofs.PathLemmas.{same_path}
+use Rattle.backing.proofs.PathLemmas.{same_path, is_path-yes, is_path-no}
 use Rattle.backing.proofs.Looking.{with_same, with_other}
 use Rattle.backing.proofs.Lawful.{some_item, no_item}
-use Rattle.backing.specs.Checks.{source_tests, room_tests}
+use Rattle.backing.specs.Checks.{source_tests, new_tests}
 use Rattle.backing.proofs.Renaming.{renames_refused}
+use Rattle.backing.proofs.Tests.{refuses_later}
 
 -- the folders on the way down to s, on the way down to t, and these two
 abbrev pub two : Names → Names → Tree
@@ -205,27 +206,25 @@ pub dir_not_bare : (p : Names) → 0 < length p → Explains (AskRemoveDir p) EN
 dir_not_bare p within = behind_root p (Reached p ∷ Present p ∷ NoFile p ∷ Bare p ∷ []) ENOTEMPTY within (dir_names p)
 
 -- renames
-pub move_from_root : (s t : Names) → length s ≡ 0 → Explains (AskRename s t) EBUSY
-move_from_root [] t none = record { at = two [] []; is_tree = two_tree [] []; refuses = inl (refl, refl) }
-move_from_root (x ∷ s) t none = absurd (omega arith)
+pub from_root : (s t : Names) (more : List Test) → length s ≡ 0 → Explained (source_tests s t ++ more) EBUSY
+from_root [] t more none = record { at = two [] []; is_tree = two_tree [] []; refuses = inl (refl, refl) }
+from_root (x ∷ s) t more none = absurd (omega arith)
 
-pub move_to_root : (s t : Names) → (length s ≡ 0 → ⊥) → length t ≡ 0 → Explains (AskRename s t) EBUSY
-move_to_root [] t other none = absurd (other refl)
-move_to_root (x ∷ s) [] other none = record { at = two [] []; is_tree = two_tree [] []; refuses = inr (low x s, inl (refl, refl)) }
-move_to_root (x ∷ s) (y ∷ t) other none = absurd (omega arith)
+pub to_root : (s t : Names) (more : List Test) → (length s ≡ 0 → ⊥) → length t ≡ 0 → Explained (source_tests s t ++ more) EBUSY
+to_root [] t more other none = absurd (other refl)
+to_root (x ∷ s) [] more other none = record { at = two [] []; is_tree = two_tree [] []; refuses = inr (low x s, inl (refl, refl)) }
+to_root (x ∷ s) (y ∷ t) more other none = absurd (omega arith)
 
-pub move_lost : (s t : Names) → (length s ≡ 0 → ⊥) → 0 < length t → Explains (AskRename s t) ENOENT
-move_lost [] t other within = absurd (other refl)
-move_lost (x ∷ s) t other within =
+pub source_lost : (s t : Names) (more : List Test) → (length s ≡ 0 → ⊥) → 0 < length t → Explained (source_tests s t ++ more) ENOENT
+source_lost [] t more other within = absurd (other refl)
+source_lost (x ∷ s) t more other within =
     let p = x ∷ s in
-    let more = unless (is_path p t) (room_tests p t) in
     behind_root p (BelowRoot t ∷ Reached p ∷ Present p ∷ more) ENOENT (omega arith) (behind_root t (Reached p ∷ Present p ∷ more) ENOENT within (lost_absent p more (omega arith)))
 
 -- a file stands above s
-pub move_blocked : (s t : Names) → 1 < length s → 0 < length t → Explains (AskRename s t) ENOTDIR
-move_blocked s t deep within =
-    let more = Present s ∷ unless (is_path s t) (room_tests s t) in
-    behind_root s (BelowRoot t ∷ Reached s ∷ more) ENOTDIR (omega arith) (behind_root t (Reached s ∷ more) ENOTDIR within (lost_blocked s more deep))
+pub source_blocked : (s t : Names) (more : List Test) → 1 < length s → 0 < length t → Explained (source_tests s t ++ more) ENOTDIR
+source_blocked s t more deep within =
+    behind_root s (BelowRoot t ∷ Reached s ∷ Present s ∷ more) ENOTDIR (omega arith) (behind_root t (Reached s ∷ Present s ∷ more) ENOTDIR within (lost_blocked s (Present s ∷ more) deep))
 
 -- the tests of the source, where both paths lead through folders
 source_passes : (at : Tree) (s t : Names) → (s ≡ [] → ⊥) → (t ≡ [] → ⊥) → Resolves at s → IsSome (at s) → PassesAll at (source_tests s t)
@@ -315,3 +314,65 @@ move_folder_on_file s t low_s low_t a b =
       refuses = renames_refused at s t ENOTDIR (other_path s t a) (source_passes at s t low_s low_t leads_s (some_item (at s) Folder folder))
           (inr (a, inr (b, inr (leads_t, inr ((λ file_s folder_t. no_folder_file (at s) folder file_s), inl (is_folder (at s) folder, is_file (at t) file, refl))))));
     }
+
+-- ---- renames that replace nothing
+
+-- these tests refuse, behind those of the source
+new_refused : (at : Tree) (s t : Names) (errno : ℤ) → IsTree at → PassesAll at (source_tests s t) → Refuses at (new_tests s t) errno → Explains (AskRenameNew s t) errno
+new_refused at s t errno tree source refused = record { at = at; is_tree = tree; refuses = refuses_later at (source_tests s t) (new_tests s t) errno source refused }
+
+pub new_on_itself : (s t : Names) → s ≡ t → 0 < length s → Explains (AskRenameNew s t) EEXIST
+new_on_itself [] t same within = absurd (omega arith)
+new_on_itself (x ∷ s) t same within =
+    let p = x ∷ s in
+    new_refused (two p p) p t EEXIST (two_tree p p) (source_passes (two p p) p t (low x s) (λ e. low x s (same ∙ e)) (folder_leads p) (some_folder p)) (inl (is_path-yes p t same, refl))
+
+pub new_on_another : (s t : Names) → (s ≡ [] → ⊥) → (t ≡ [] → ⊥) → is_prefix s t ≡ false → is_prefix t s ≡ false → Explains (AskRenameNew s t) EEXIST
+new_on_another s t low_s low_t a b =
+    let at : Tree = two s t in
+    let leads_s = leads at s (λ q prefix other. two_s s t q prefix) in
+    let leads_t = leads at t (λ q prefix other. two_t s t q prefix) in
+    let some_s = some_item (at s) Folder (two_s s t s (is_prefix-same s)) in
+    let some_t = some_item (at t) Folder (two_t s t t (is_prefix-same t)) in
+    new_refused at s t EEXIST (two_tree s t) (source_passes at s t low_s low_t leads_s some_s) (inr (is_path-no s t (other_path s t a), inr (a, inr (b, inr (leads_t, inl (some_t, refl))))))
+
+pub new_into : (s t : Names) → (s ≡ [] → ⊥) → (s ≡ t → ⊥) → is_prefix s t ≡ true → Explains (AskRenameNew s t) EINVAL
+new_into s t below other prefix =
+    new_refused (two s s) s t EINVAL (two_tree s s) (source_passes (two s s) s t below (through_root s t below prefix) (folder_leads s) (some_folder s)) (inr (is_path-no s t other, inl (prefix, refl)))
+
+pub new_over : (s t : Names) → (t ≡ [] → ⊥) → (t ≡ s → ⊥) → is_prefix t s ≡ true → Explains (AskRenameNew s t) ENOTEMPTY
+new_over s t below other prefix =
+    let apart : is_prefix s t ≡ false = elim (cases_Bool (is_prefix s t)) [
+      | inl h ↦ absurd (other (is_prefix-both t s prefix h))
+      | inr h ↦ h
+    ] in
+    new_refused (two s s) s t ENOTEMPTY (two_tree s s) (source_passes (two s s) s t (through_root t s below prefix) below (folder_leads s) (some_folder s)) (inr (is_path-no s t (λ e. other (sym e)), inr (apart, inl (prefix, refl))))
+
+-- a file stands above t, in the root
+new_blocked_at : (z x y : Name) (q : Names) → is_prefix (z ∷ []) (x ∷ []) ≡ false → is_prefix (x ∷ y ∷ q) (z ∷ []) ≡ false → Explains (AskRenameNew (z ∷ []) (x ∷ y ∷ q)) ENOTDIR
+new_blocked_at z x y q a b =
+    let s : Names = z ∷ [] in
+    let t : Names = x ∷ y ∷ q in
+    let u : Names = x ∷ [] in
+    let at : Tree = with_item (two s u) u (File []) in
+    let beside : is_prefix u s ≡ false = elim (cases_Bool (is_prefix u s)) [
+      | inl h ↦ absurd (other_path s u a (sym (is_prefix-whole u s h (omega arith))))
+      | inr h ↦ h
+    ] in
+    let folder : at s ≡ Some Folder = with_other (two s u) u (File []) s (other_path u s beside) ∙ two_s s u s (is_prefix-same s) in
+    let leads_s = leads at s (λ q prefix other. with_other (two s u) u (File []) q (λ e. true≢false (sym (subst (λ (r : Names). is_prefix r s ≡ true) (sym e) prefix) ∙ beside)) ∙ two_s s u q prefix) in
+    let stops : Stops at t ENOTDIR = record {
+      depth = 1;
+      above_path = omega arith;
+      down = λ k within. let first : 0 ≡ k = omega arith in subst (λ (n : ℕ). IsFolder (at (take n t))) first tt;
+      why = subst (λ (o : Option Item). Blocks o ENOTDIR) (sym (with_same (two s u) u (File []))) refl;
+    } in
+    let tree = with_leaf (two s u) u (two_tree s u) (low x []) (two_bare_t s u beside) (some_item (two s u u) Folder (two_t s u u (is_prefix-same u))) in
+    new_refused at s t ENOTDIR tree (source_passes at s t (low z []) (low x (y ∷ q)) leads_s (some_item (at s) Folder folder)) (inr (is_path-no s t (other_path s t a), inr (a, inr (b, inl stops))))
+
+pub new_blocked : (s t : Names) → length s ≡ 1 → 1 < length t → is_prefix s t ≡ false → is_prefix t s ≡ false → Explains (AskRenameNew s t) ENOTDIR
+new_blocked [] t one deep a b = absurd (omega arith)
+new_blocked (z ∷ z' ∷ s) t one deep a b = absurd (omega arith)
+new_blocked (z ∷ []) [] one deep a b = absurd (omega arith)
+new_blocked (z ∷ []) (x ∷ []) one deep a b = absurd (omega arith)
+new_blocked (z ∷ []) (x ∷ (y ∷ q)) one deep a b = new_blocked_at z x y q a b

@@ -1,7 +1,7 @@
 //! Calls on the names of a real folder.
 
 ghost use Rattle.std.specs.Prelude.{◌≡◌, IfOk, OnOk};
-ghost use Rattle.backing.specs.Calls.{AskMake, AskMakeDir, AskRemove, AskRemoveDir, AskRename};
+ghost use Rattle.backing.specs.Calls.{AskMake, AskMakeDir, AskRemove, AskRemoveDir, AskRename, AskRenameNew};
 ghost use Rattle.backing_folder.specs.Contents.{takenness};
 ghost use Rattle.backing_folder.specs.Explained.{Suits};
 ghost use Rattle.std.specs.List.{All};
@@ -132,13 +132,7 @@ pub fn rename<D: Disk + Drop>(
 ) -> Result<Answer, HostError>
     ensures { IfOk result (Suits (AskRename from.now to.now)) }
 {
-    if from.len() == 0 || to.len() == 0 {
-        return Err(HostError::Refused(Reason::Root));
-    }
-    let source = ways.find(walk, from.names())?;
-    if is_gone(source) {
-        return Err(HostError::Refused(Reason::Nothing));
-    }
+    let source = find_source(ways, walk, from, to)?;
     if from.is(to) {
         return Ok(Answer::Done);
     }
@@ -148,6 +142,50 @@ pub fn rename<D: Disk + Drop>(
     ways.forget_moved(source);
     replace(ways.disk(), files, walk.path(), target.path(), found)?;
     Ok(Answer::Done)
+}
+
+/// Renames to a path at which nothing stands: one look at it, then `rename`.
+pub fn rename_new<D: Disk + Drop>(
+    ways: &mut Ways<D>,
+    walk: &mut Walk,
+    target: &mut Walk,
+    from: &Path,
+    to: &Path,
+) -> Result<Answer, HostError>
+    ensures { IfOk result (Suits (AskRenameNew from.now to.now)) }
+{
+    let source = find_source(ways, walk, from, to)?;
+    if from.is(to) {
+        return Err(HostError::Refused(Reason::Taken));
+    }
+    expect_apart(from, to)?;
+    let found = ways.find(target, to.names())?;
+    if !matches!(found, Found::Nothing) {
+        return Err(taken_by(found));
+    }
+    ways.forget_moved(source);
+    ways.disk().rename(walk.path(), target.path())?;
+    Ok(Answer::Done)
+}
+
+/// What stands at the path that is renamed. Neither path is the root.
+fn find_source<D: Disk + Drop>(
+    ways: &mut Ways<D>,
+    walk: &mut Walk,
+    from: &Path,
+    to: &Path,
+) -> Result<Found, HostError>
+    ensures same { ways.new ≡ ways.old }
+    ensures walked { OnOk result (IsWalked (D.root ways.new) (D.folders ways.new) walk.new from.now) }
+{
+    if from.len() == 0 || to.len() == 0 {
+        return Err(HostError::Refused(Reason::Root));
+    }
+    let source = ways.find(walk, from.names())?;
+    if is_gone(source) {
+        return Err(HostError::Refused(Reason::Nothing));
+    }
+    Ok(source)
 }
 
 /// Closes the file that was found at the other path, if one was, and renames.

@@ -1,8 +1,9 @@
 //! Which refusals some tree explains.
 
-ghost use Rattle.std.specs.Prelude.{true, false, ◌≡◌, ◌≢◌, List, ◌∷◌, []};
+ghost use Rattle.std.specs.Prelude.{true, false, ◌≡◌, ◌≢◌, List, ◌∷◌, ◌++◌, []};
 ghost use Rattle.paths.specs.Prefixes.{is_prefix};
-ghost use Rattle.backing.specs.Calls.{Test, asked, Reached, Present, Free, NoFolder, NoFile, AskRename, AskRemoveDir};
+ghost use Rattle.backing.specs.Calls.{Test, asked, Reached, Present, Free, NoFolder, NoFile, AskRename, AskRenameNew, AskRemoveDir};
+ghost use Rattle.backing.specs.Checks.{source_tests};
 ghost use Rattle.backing_folder.specs.Explained.{Explained, Explains, reason_errno};
 
 use crate::host_error::Reason;
@@ -21,6 +22,8 @@ pub fn is_explained(call: Call<'_>, reason: Reason) -> bool
         Call::Remove(path) => is_no_file(path, reason),
         Call::RemoveDir(path) => is_no_bare_folder(path, reason),
         Call::Rename { from, to } => is_no_move(from, to, reason),
+        Call::RenameNew { from, to } => is_no_new_move(from, to, reason),
+        Call::Exchange { .. } => false,
         Call::Read { path, .. } => is_no_file(path, reason),
         Call::Write { path, .. } => is_no_file(path, reason),
         Call::SetLen { path, .. } => is_no_file(path, reason),
@@ -84,9 +87,9 @@ fn is_no_bare_folder(path: &Path, reason: Reason) -> bool
     }
 }
 
-/// It cannot be renamed so.
-fn is_no_move(from: &Path, to: &Path, reason: Reason) -> bool
-    ensures { result ≡ true → Explains (AskRename from.now to.now) (reason_errno reason) }
+/// One of both paths is the root, or nothing is there to be renamed.
+fn is_no_source(from: &Path, to: &Path, reason: Reason) -> bool
+    ensures { result ≡ true → (more : List Test) → Explained (source_tests from.now to.now ++ more) (reason_errno reason) }
 {
     match reason {
         Reason::Root => {
@@ -101,6 +104,24 @@ fn is_no_move(from: &Path, to: &Path, reason: Reason) -> bool
             }
             to.len() > 0
         }
+        Reason::NoFolder => {
+            if from.len() > 1 {
+                return to.len() > 0;
+            }
+            false
+        }
+        _ => false,
+    }
+}
+
+/// It cannot be renamed so.
+fn is_no_move(from: &Path, to: &Path, reason: Reason) -> bool
+    ensures { result ≡ true → Explains (AskRename from.now to.now) (reason_errno reason) }
+{
+    if is_no_source(from, to, reason) {
+        return true;
+    }
+    match reason {
         Reason::Below => leads_through(from, to),
         Reason::Names => {
             if leads_through(to, from) {
@@ -108,14 +129,35 @@ fn is_no_move(from: &Path, to: &Path, reason: Reason) -> bool
             }
             are_apart(from, to)
         }
-        Reason::NoFolder => {
-            if from.len() > 1 {
-                return to.len() > 0;
+        Reason::NoFolder => are_apart(from, to),
+        Reason::Folder => are_apart(from, to),
+        _ => false,
+    }
+}
+
+/// It cannot be renamed so to a path at which nothing stands.
+fn is_no_new_move(from: &Path, to: &Path, reason: Reason) -> bool
+    ensures { result ≡ true → Explains (AskRenameNew from.now to.now) (reason_errno reason) }
+{
+    if is_no_source(from, to, reason) {
+        return true;
+    }
+    match reason {
+        Reason::Taken => {
+            if from.is(to) {
+                return from.len() > 0;
             }
             are_apart(from, to)
         }
-        Reason::Folder => are_apart(from, to),
-        Reason::Taken => false,
+        Reason::Below => leads_through(from, to),
+        Reason::Names => leads_through(to, from),
+        Reason::NoFolder => {
+            if from.len() == 1 && to.len() > 1 {
+                return are_apart(from, to);
+            }
+            false
+        }
+        _ => false,
     }
 }
 

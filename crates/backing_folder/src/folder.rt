@@ -2,10 +2,10 @@
 
 ghost use Rattle.std.specs.Prelude.{◌≡◌, ℕ, IfOk};
 ghost use Rattle.backing.specs.Calls.{asked};
-ghost use Rattle.backing_folder.specs.Explained.{Suits, Follows, Tells};
+ghost use Rattle.backing_folder.specs.Explained.{Suits, Follows, IsRefused, IsUnserved, Tells};
 
 use crate::disk::Disk;
-use crate::entries::{make, make_dir, remove, remove_dir, rename};
+use crate::entries::{make, make_dir, remove, remove_dir, rename, rename_new};
 use crate::explained::is_explained;
 use crate::files::{read, set_len, stat, sync, write};
 use crate::host_error::{HostError, Reason};
@@ -15,6 +15,7 @@ use crate::system::System;
 use crate::walk::Walk;
 use crate::ways::Ways;
 use backing::{Answer, Call, Calls, Told};
+use errno::EINVAL;
 use std::fs::File;
 use std::io;
 use std::marker::Model;
@@ -29,6 +30,9 @@ use std::rt::Files;
 /// before a byte moves: a file that was replaced after its look is not touched. Up to 64 files that were read, written or
 /// cut stay open, and are used again where a look at a path shows their numbers; a file that the folder's own call removes
 /// or replaces is closed.
+///
+/// Two paths are not exchanged: that is EINVAL, whatever stands there, and counted as no failure. A move that is to replace
+/// nothing looks at its target first: what somebody else makes there between that look and the move is replaced.
 ///
 /// A folder in the way that another user swaps for a link between two calls of the system is not noticed, nor is a link
 /// that leads to the very folder that is remembered, or to one that got the number of a folder that is gone. The standard
@@ -112,7 +116,8 @@ fn perform<D: Disk + Drop>(
     target: &mut Walk,
     call: Call<'_>,
 ) -> Result<Answer, HostError>
-    ensures { IfOk result (Suits (asked call.entry)) }
+    ensures suits { IfOk result (Suits (asked call.entry)) }
+    ensures refused { IsRefused (asked call.entry) result }
 {
     match call {
         Call::Stat(path) => stat(ways, walk, path),
@@ -122,6 +127,8 @@ fn perform<D: Disk + Drop>(
         Call::Remove(path) => remove(ways, files, walk, path),
         Call::RemoveDir(path) => remove_dir(ways, walk, path),
         Call::Rename { from, to } => rename(ways, files, walk, target, from, to),
+        Call::RenameNew { from, to } => rename_new(ways, walk, target, from, to),
+        Call::Exchange { .. } => Ok(Answer::Fault(EINVAL)),
         Call::Read { path, offset, size } => read(ways, files, walk, path, offset, size),
         Call::Write { path, offset, data } => write(ways, files, walk, path, offset, data),
         Call::SetLen { path, size } => set_len(ways, files, walk, path, size),
@@ -131,8 +138,10 @@ fn perform<D: Disk + Drop>(
 
 /// What came of it: no failure where the call was done, or where what was found explains its error.
 fn conclude(call: Call<'_>, ended: Result<Answer, HostError>) -> Told
-    requires { IfOk ended (Suits (asked call)) }
-    ensures { Follows (asked call.entry) result.failed result.answer }
+    requires suits { IfOk ended (Suits (asked call)) }
+    requires refused { IsRefused (asked call) ended }
+    ensures follows { Follows (asked call.entry) result.failed result.answer }
+    ensures unserved { IsUnserved (asked call.entry) result.failed result.answer }
 {
     match ended {
         Ok(answer) => Told {

@@ -29,21 +29,10 @@ pub fn place_of(
     ensures path { IfOk result (λ p. string_bytes p.path ≡ path.now) }
 {
     Ok(Place {
-        names: path_of(alloc, names)?,
+        names: Path::joined(alloc, names, &[])?,
         path: String::from_str(alloc, path)?,
         identity,
     })
-}
-
-/// The path of these names.
-fn path_of(alloc: Global, names: &[Name]) -> Result<Path, AllocError>
-    ensures { IfOk result (λ p. p ≡ names.now) }
-{
-    let mut path = Path::new(alloc);
-    for name in names {
-        path.push(name.copy()?)?;
-    }
-    Ok(path)
 }
 
 /// Whether both have the same names.

@@ -29,7 +29,8 @@ pub fn hidden_name(alloc: Global, number: u64, counter: u32) -> Result<Name, All
     let mut text = String::from_str(alloc, RESERVED)?;
     push_digits(&mut text, number, DIGITS)?;
     push_digits(&mut text, u64::from(counter), DIGITS)?;
-    Ok(Name::new(text))
+    let name = Name::new(text)?;
+    Ok(name)
 }
 
 /// The counter of the candidate of that index, from a counter on: modulo 2^32.

@@ -1,9 +1,11 @@
--- The prefixes of a path with one name more.
-use Rattle.std.proofs.Common.{◌≡◌, ◌≢◌, true, List, [], ◌∷◌, ◌++◌, Contains, sym, ap, ◌∙◌, subst, ◌⊎◌, inl, inr, refl, arith}
+-- The prefixes of a path.
+use Rattle.std.proofs.Common.{ℕ, zero, suc, ◌≡◌, ◌≢◌, ◌≤◌, true, List, [], ◌∷◌, ◌++◌, Contains, get_or, length, take, sym, ap, ◌∙◌, subst, ◌⊎◌, inl, inr, refl, arith}
 use Rattle.std.proofs.lemmas.Bool.{and_parts, false≢true}
 use Rattle.std.proofs.lemmas.List.Elements.{Contains-append_left, Contains-push, Contains-push_cases}
-use Rattle.paths.specs.Prefixes.{Name, Names, is_name, is_prefix}
-use Rattle.paths.proofs.PrefixLemmas.{is_name-true, is_prefix-append, is_prefix-same, is_prefix-trans}
+use Rattle.std.proofs.lemmas.List.{take_all}
+use Rattle.std.proofs.Math.Seq.{take-suc}
+use Rattle.paths.specs.Prefixes.{Name, Names, is_name, is_prefix, prefixes}
+use Rattle.paths.proofs.PrefixLemmas.{is_name-true, is_prefix-append, is_prefix-same, is_prefix-trans, prefixes-push}
 use Rattle.holds.specs.Conflicts.{ArePrefixes, IsSomePrefix}
 
 -- a prefix of a longer path is one of the shorter, or all of it
@@ -26,13 +28,13 @@ none_of : (prefix : Names) → IsSomePrefix prefix [] → ⊥
 none_of [] h = h.some refl
 none_of (x ∷ prefix) h = false≢true h.begins
 
-pub prefixes_none : ArePrefixes [] []
+prefixes_none : ArePrefixes [] []
 prefixes_none = record {
   all = λ prefix h. absurd (none_of prefix h);
   only = λ prefix h. absurd (omega (arith, h.1));
 }
 
-pub prefixes_more : (ps : List Names) (p : Names) (name : Name) → ArePrefixes ps p → ArePrefixes (ps ++ (p ++ name ∷ []) ∷ []) (p ++ name ∷ [])
+prefixes_more : (ps : List Names) (p : Names) (name : Name) → ArePrefixes ps p → ArePrefixes (ps ++ (p ++ name ∷ []) ∷ []) (p ++ name ∷ [])
 prefixes_more ps p name are = record {
   all = λ prefix h. elim (push_cases prefix p name h.begins) [
     | inl shorter ↦ Contains-append_left ps ((p ++ name ∷ []) ∷ []) prefix (are.all prefix (record { some = h.some; begins = shorter }))
@@ -46,3 +48,14 @@ prefixes_more ps p name are = record {
     }
   ];
 }
+
+prefixes_up : (path : Names) (i : ℕ) → i ≤ length path → ArePrefixes (prefixes (take i path)) (take i path)
+prefixes_up path zero within = prefixes_none
+prefixes_up path (suc i) within =
+    let name : Name = get_or path i [] in
+    let on = take-suc path i [] (omega (arith, within)) in
+    rw (on, prefixes-push (take i path) name) (prefixes_more (prefixes (take i path)) (take i path) name (prefixes_up path i (omega (arith, within))))
+
+-- the prefixes of a path are its nonempty prefixes
+pub prefixes_are : (path : Names) → ArePrefixes (prefixes path) path
+prefixes_are path = subst (λ (p : Names). ArePrefixes (prefixes p) p) (take_all (length path) path (omega arith)) (prefixes_up path (length path) (omega arith))

@@ -5,4 +5,4 @@ mod held;
 mod prefixes;
 
 pub use held::{GivenPath, GivenPaths, Held, Paths};
-pub use prefixes::prefixes_of;
+pub use prefixes::{prefixes_of, push_prefixes};

@@ -1,6 +1,6 @@
 //! The prefixes of a path.
 
-ghost use Rattle.std.specs.Prelude.{◌≡◌, IfOk};
+ghost use Rattle.std.specs.Prelude.{◌≡◌, ◌++◌, IfOk, OnOk};
 ghost use Rattle.paths.specs.Prefixes.{prefixes as prefixes_in};
 ghost use Rattle.holds.specs.Conflicts.{ArePrefixes};
 
@@ -8,16 +8,23 @@ use crate::held::Paths;
 use paths::Path;
 use std::alloc::{AllocError, Global};
 
-/// Every prefix of the path but the empty one, the path itself last.
+/// Every prefix of the path but the empty one, the path itself last. All share its names.
 pub fn prefixes_of(alloc: Global, path: &Path) -> Result<Paths, AllocError>
     ensures whole { IfOk result (λ ps. ps ≡ prefixes_in path.now) }
     ensures set { IfOk result (λ ps. ArePrefixes ps path.now) }
 {
-    let mut prefix = Path::new(alloc);
     let mut prefixes = Vec::new(alloc);
-    for name in path.names() {
-        prefix.push(name.copy()?)?;
-        prefixes.push(prefix.copy()?)?;
-    }
+    push_prefixes(&mut prefixes, path)?;
     Ok(Paths::from_vec(prefixes))
+}
+
+/// Puts every prefix of the path but the empty one behind the others, the path itself last.
+pub fn push_prefixes(paths: &mut Vec<Path>, path: &Path) -> Result<(), AllocError>
+    ensures { OnOk result (paths.new.items ≡ paths.old.items ++ prefixes_in path.now) }
+{
+    paths.reserve(path.len())?;
+    for i in 0..path.len() {
+        paths.push(path.prefix(i + 1)?)?;
+    }
+    Ok(())
 }

@@ -11,9 +11,9 @@ use std::alloc::{AllocError, Global};
 fn in_root(alloc: Global, name: &str) -> Result<Path, AllocError>
     ensures { IfOk result (λ path. path ≡ name.now ∷ []) }
 {
-    let mut path = Path::new(alloc);
-    path.push(Name::copy_of(alloc, name)?)?;
-    Ok(path)
+    let mut names = Vec::new(alloc);
+    names.push(Name::copy_of(alloc, name)?)?;
+    Path::from_names(names)
 }
 
 /// A root, with the file `a` holding `abc`, the folder `d` and the empty file `e` in it if samples are asked for.

@@ -3,6 +3,7 @@ use Rattle.std.specs.Prelude.{ℕ, ℤ, ◌+◌, is_some, List, [], ◌∷◌, l
 use Rattle.paths.specs.Prefixes.{Names}
 use Rattle.backing.specs.Calls.{asked}
 use Rattle.backing.specs.declared.call.Call.{Call}
+use Rattle.errno.specs.declared.TheConstants.{EEXIST}
 use Rattle.table_steps.specs.declared.data.Outcome.{Outcome}
 use Rattle.table_steps.specs.declared.data.Outcome.TheVariants.{Failed, Done, Entry, Entries, Hidden, HiddenMove}
 use Rattle.ops.specs.declared.findings.Found.{Found}
@@ -53,6 +54,7 @@ LooksAtEach operation = ⊥
 -- what is told of what was found
 abbrev pub told_of : ReplyKind → Found → End
 told_of telling.Nothing found = end_of Nothing
+told_of telling.Taken found = end_of (Error EEXIST)
 told_of telling.Entry found = end_of (NewEntry found)
 told_of telling.NewFile found = end_of (NewFile found)
 told_of telling.Attributes found = end_of (Attributes found)

@@ -45,6 +45,7 @@ names_of (ops.Unlink name) = name.now ∷ []
 names_of (ops.RemoveDir name) = name.now ∷ []
 names_of (ops.Rename name new_parent new_name) = name.now ∷ new_name.now ∷ []
 names_of (ops.Create name flags) = name.now ∷ []
+names_of (ops.Rename2 name new_parent flags new_name) = name.now ∷ new_name.now ∷ []
 names_of operation = []
 
 abbrev pub reserved_errno : Operation → ℤ
@@ -81,6 +82,13 @@ abbrev pub create_intent : ℕ → List ℕ → Option Access → Intent
 create_intent parent name (Some access) = Begin (wants.Create parent name access)
 create_intent parent name None = refused EINVAL
 
+-- a move, by the flags of RENAME2: to whatever stands there, to what is free, or an exchange
+abbrev pub rename_intent : ℕ → List ℕ → ℕ → ℕ → List ℕ → Intent
+rename_intent parent name new_parent flags new_name =
+    if flags == 0 then Begin (wants.Move parent name new_parent new_name false) else
+    if flags == 1 then Begin (wants.Move parent name new_parent new_name true) else
+    if flags == 2 then Begin (wants.Exchange parent name new_parent new_name) else refused EINVAL
+
 -- the node, by the handle of an open file
 abbrev pub by_handle : ℕ → ℕ → Need → Intent
 by_handle node fh needed = Begin (wants.Node node (Some (record { fh = fh; need = needed })))
@@ -100,7 +108,7 @@ intended node (ops.SetAttr valid fh size) = set_intent node valid fh
 intended node (ops.MakeDir name) = Begin (wants.Name node name.now)
 intended node (ops.Unlink name) = Begin (wants.Remove node name.now true)
 intended node (ops.RemoveDir name) = Begin (wants.Remove node name.now false)
-intended node (ops.Rename name new_parent new_name) = Begin (wants.Move node name.now new_parent new_name.now)
+intended node (ops.Rename name new_parent new_name) = Begin (wants.Move node name.now new_parent new_name.now false)
 intended node ops.StatFs = Reply StatFs
 intended node (ops.Init major minor max_readahead flags) = Nothing
 intended node (ops.Open flags) = open_intent node (access_of flags)
@@ -118,6 +126,7 @@ intended node ops.Interrupt = Nothing
 intended node ops.Destroy = Nothing
 intended node (ops.BatchForget pairs) = Forget (pairs_in pairs.now)
 intended node (ops.ReadDirPlus fh offset size) = Folder fh (uses.ReadEntries offset size)
+intended node (ops.Rename2 name new_parent flags new_name) = rename_intent node name.now new_parent flags new_name.now
 
 -- Names are sound by the time a request was read; reserved ones are refused before all else.
 abbrev pub intent : Request → Intent
@@ -129,7 +138,8 @@ abbrev pub want_of : Wanted → Want
 want_of (wanted.Node number handle) = wants.Node number handle
 want_of (wanted.Name parent name) = wants.Name parent name.now
 want_of (wanted.Remove parent name may_hide) = wants.Remove parent name.now may_hide
-want_of (wanted.Move parent name new_parent new_name) = wants.Move parent name.now new_parent new_name.now
+want_of (wanted.Move parent name new_parent new_name keep) = wants.Move parent name.now new_parent new_name.now keep
+want_of (wanted.Exchange parent name new_parent new_name) = wants.Exchange parent name.now new_parent new_name.now
 want_of (wanted.Open number access) = wants.Open number access
 want_of (wanted.Create parent name access) = wants.Create parent name.now access
 want_of (wanted.Release number fh) = wants.Release number fh

@@ -5,7 +5,7 @@ use Rattle.backing.specs.declared.call.Kind.{Kind}
 use Rattle.backing.specs.declared.call.Kind.TheVariants.{Folder, File}
 use Rattle.backing.specs.declared.call.Answer.{Answer}
 use Rattle.backing.specs.declared.call.Answer.TheVariants.{Done, Stat, Names, Bytes, Wrote, Fault}
-use Rattle.backing.specs.Calls.{Asked, AskStat, AskList, AskMake, AskMakeDir, AskRemove, AskRemoveDir, AskRename, AskRead, AskWrite, AskSetLen, AskSync}
+use Rattle.backing.specs.Calls.{Asked, AskStat, AskList, AskMake, AskMakeDir, AskRemove, AskRemoveDir, AskRename, AskRenameNew, AskExchange, AskRead, AskWrite, AskSetLen, AskSync}
 
 -- an error number is 1 to 4,095
 abbrev pub is_errno : ℤ → Bool
@@ -34,6 +34,8 @@ fits (AskMakeDir p) Done = true
 fits (AskRemove p) Done = true
 fits (AskRemoveDir p) Done = true
 fits (AskRename s t) Done = true
+fits (AskRenameNew s t) Done = true
+fits (AskExchange s t) Done = true
 fits (AskRead p offset size) (Bytes bytes) = nat_le (length bytes) size
 fits (AskWrite p offset piece) (Wrote count) = is_written piece count
 fits (AskSetLen p size) Done = true

@@ -1,6 +1,6 @@
 -- What each request asks of the directory, and what it comes to.
-use Rattle.std.specs.Prelude.{ℕ, ℤ, ◌≡◌, ◌-◌, length, Bool, true, false, if◌then◌else◌, is_some, List, [], ◌∷◌, map, Option, Some, None}
-use Rattle.errno.specs.declared.TheConstants.{EBUSY, EIO, EISDIR, ENOENT, ENOTDIR}
+use Rattle.std.specs.Prelude.{ℕ, ℤ, ◌≡◌, ◌-◌, length, Bool, true, false, ◌==◌, if◌then◌else◌, is_some, List, [], ◌∷◌, map, Option, Some, None}
+use Rattle.errno.specs.declared.TheConstants.{EBUSY, EEXIST, EIO, EISDIR, ENOENT, ENOTDIR}
 use Rattle.std.specs.Ordering.{int_eq}
 use Rattle.paths.specs.Prefixes.{Names}
 use Rattle.backing.specs.declared.call.Kind.{Kind}
@@ -10,7 +10,7 @@ use Rattle.backing.specs.declared.call.Answer.TheVariants as told
 use Rattle.backing.specs.declared.call.Call.{Call}
 use Rattle.backing.specs.declared.call.Child.{Child}
 use Rattle.handles.specs.Listings.{are_lawful}
-use Rattle.backing.specs.Calls.{Asked, asked, AskStat, AskList, AskMake, AskMakeDir, AskRemove, AskRemoveDir, AskRename, AskRead, AskWrite, AskSetLen, AskSync}
+use Rattle.backing.specs.Calls.{Asked, asked, AskStat, AskList, AskMake, AskMakeDir, AskRemove, AskRemoveDir, AskRename, AskRenameNew, AskExchange, AskRead, AskWrite, AskSetLen, AskSync}
 use Rattle.table_steps.specs.Answers.{Claim}
 use Rattle.table_steps.specs.declared.data.Outcome.{Outcome}
 use Rattle.table_steps.specs.declared.data.Outcome.TheVariants.{Failed, Done, Entry, Entries, Hidden, HiddenMove}
@@ -164,6 +164,23 @@ rename true hides s t candidates = look s (λ found. done)
 rename false true s t candidates = replace s t candidates
 rename false false s t candidates = make (AskRename s t) done
 
+-- A move that replaces nothing: a path that stands is not free to be moved to, its own neither.
+abbrev pub rename_new : (same : Bool) → Names → Names → Plan
+rename_new true s t = look s (λ found. failed EEXIST)
+rename_new false s t = make (AskRenameNew s t) done
+
+-- An exchange of a path with itself only needs something to stand there.
+abbrev pub exchange : (same : Bool) → Names → Names → Plan
+exchange true s t = look s (λ found. done)
+exchange false s t = make (AskExchange s t) done
+
+-- by the flags of RENAME2; others were refused before
+abbrev pub rename_by : (flags : ℕ) → (same hides : Bool) → Names → Names → List Names → Plan
+rename_by flags same hides s t candidates =
+    if flags == 0 then rename same hides s t candidates else
+    if flags == 1 then rename_new same s t else
+    if flags == 2 then exchange same s t else failed EIO
+
 -- The client has closed a file that is removed then, and is not told where that fails: the file is kept.
 abbrev pub if_removed : Answer → Plan
 if_removed told.Done = done
@@ -214,6 +231,7 @@ plan_of (ops.Sync fh) ticket = at_path ticket.paths (λ p. make (AskSync p) done
 plan_of (ops.Create name flags) ticket = at_path ticket.paths (λ p. make (AskMake p) (give_file p))
 plan_of ops.OpenDir ticket = at_path ticket.paths (λ p. list p)
 plan_of (ops.ReadDirPlus fh offset size) ticket = at_names ticket.paths
+plan_of (ops.Rename2 name new_parent flags new_name) ticket = at_paths ticket.paths (λ s t candidates. rename_by flags ticket.same ticket.hide s t candidates)
 -- The others make no call.
 plan_of (ops.Forget n) ticket = failed EIO
 plan_of ops.StatFs ticket = failed EIO

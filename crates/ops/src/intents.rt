@@ -3,11 +3,11 @@
 ghost use Rattle.std.specs.Prelude.{◌≡◌};
 ghost use Rattle.std.specs.List.{list_any};
 ghost use Rattle.hidden_names.specs.Hidden.{is_reserved};
-ghost use Rattle.ops.specs.Intents.{intent_in, has_handle, intended, intent, names_of, refused, reserved_errno, set_intent, sets_other, sets_size};
+ghost use Rattle.ops.specs.Intents.{intent_in, has_handle, intended, intent, names_of, refused, reserved_errno, rename_intent, set_intent, sets_other, sets_size};
 
 use crate::opening::{by_handle, create_intent, open_intent};
 use crate::wanted::Wanted;
-use errno::{ENOENT, EPERM};
+use errno::{EINVAL, ENOENT, EPERM};
 use hidden_names::is_reserved;
 use table_files::Need;
 use wire::{Forgotten, Operation, ReplyBody, Request};
@@ -53,6 +53,12 @@ const HANDLE: u32 = 1 << 6;
 /// The bit that says that the owner of a lock counts (`FATTR_LOCKOWNER`). It is let through and not looked at.
 const LOCK_OWNER: u32 = 1 << 9;
 
+/// The flag of RENAME2 by which nothing is replaced (`RENAME_NOREPLACE` of `linux/fs.h`).
+pub(crate) const NO_REPLACE: u32 = 1;
+
+/// The flag by which two names change places (`RENAME_EXCHANGE`).
+pub(crate) const EXCHANGE: u32 = 2;
+
 /// Whether the operation names a reserved name.
 fn names_reserved(operation: &Operation<'_>) -> bool
     ensures { result ≡ list_any (λ name. is_reserved name) (names_of operation.now) }
@@ -63,7 +69,9 @@ fn names_reserved(operation: &Operation<'_>) -> bool
         | Operation::Unlink { name }
         | Operation::RemoveDir { name }
         | Operation::Create { name, .. } => is_reserved(name),
-        Operation::Rename { name, new_name, .. } => is_reserved(name) || is_reserved(new_name),
+        Operation::Rename { name, new_name, .. } | Operation::Rename2 { name, new_name, .. } => {
+            is_reserved(name) || is_reserved(new_name)
+        }
         Operation::Forget { .. }
         | Operation::GetAttr
         | Operation::SetAttr { .. }
@@ -140,6 +148,35 @@ fn set_intent<'a>(node: u64, valid: u32, fh: u64) -> Intent<'a>
     })
 }
 
+/// RENAME2 moves a name, replaces nothing, or exchanges two names: any other flags are EINVAL (own), so both at once are too.
+fn rename_intent<'a>(
+    parent: u64,
+    name: &'a str,
+    new_parent: u64,
+    flags: u32,
+    new_name: &'a str,
+) -> Intent<'a>
+    ensures { intent_in result ≡ rename_intent parent name.now new_parent flags new_name.now }
+{
+    let keep = flags == NO_REPLACE;
+    match flags {
+        0 | NO_REPLACE => Intent::Want(Wanted::Move {
+            parent,
+            name,
+            new_parent,
+            new_name,
+            keep,
+        }),
+        EXCHANGE => Intent::Want(Wanted::Exchange {
+            parent,
+            name,
+            new_parent,
+            new_name,
+        }),
+        _ => refused(EINVAL),
+    }
+}
+
 /// What the operation needs, reserved names aside.
 fn intended<'a>(node: u64, operation: Operation<'a>) -> Intent<'a>
     ensures { intent_in result ≡ intended node operation.entry }
@@ -177,12 +214,13 @@ fn intended<'a>(node: u64, operation: Operation<'a>) -> Intent<'a>
             name,
             new_parent,
             new_name,
-        } => Intent::Want(Wanted::Move {
-            parent,
+        } => rename_intent(parent, name, new_parent, 0, new_name),
+        Operation::Rename2 {
             name,
             new_parent,
+            flags,
             new_name,
-        }),
+        } => rename_intent(parent, name, new_parent, flags, new_name),
         Operation::StatFs => Intent::Reply(ReplyBody::StatFs),
         Operation::ReadDir { fh, offset, size } => Intent::Folder {
             fh,
@@ -207,7 +245,8 @@ fn intended<'a>(node: u64, operation: Operation<'a>) -> Intent<'a>
 /// What the request needs. It takes no memory: names stay in the request's frame.
 ///
 /// Refused at once are: a reserved name, before all else, by ENOENT for LOOKUP and EPERM for any other (own); SETATTR of any field but the
-/// size, a handle and the owner of a lock, by EPERM (own); and OPEN and CREATE whose flags name no access, by EINVAL.
+/// size, a handle and the owner of a lock, by EPERM (own); OPEN and CREATE whose flags name no access, by EINVAL; and RENAME2 whose flags are
+/// not 0, 1 or 2, by EINVAL (own).
 pub fn intent_of<'a>(request: &Request<'a>) -> Intent<'a>
     ensures { intent_in result ≡ intent request.now }
 {

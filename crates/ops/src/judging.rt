@@ -28,6 +28,8 @@ fn fits(call: Call<'_>, answer: &Answer) -> bool
             | Call::Remove(_)
             | Call::RemoveDir(_)
             | Call::Rename { .. }
+            | Call::RenameNew { .. }
+            | Call::Exchange { .. }
             | Call::SetLen { .. }
             | Call::Sync(_),
             Answer::Done,

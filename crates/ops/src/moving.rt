@@ -1,13 +1,14 @@
-//! The script of a RENAME, which hides a file that is open and stands at its target.
+//! The scripts of RENAME and RENAME2. A move that may replace something hides a file that is open and stands at its target.
 
 ghost use Rattle.std.specs.Prelude.{◌≡◌, ◌≤◌};
 ghost use Rattle.backing.specs.Calls.{AskRename, AskStat};
 ghost use Rattle.ops.specs.Ahead.{calls_ending, calls_hiding, end_of, plan_ahead, plan_ending};
 ghost use Rattle.ops.specs.Judged.{judged};
-ghost use Rattle.ops.specs.Scripts.{at_paths, hide, if_found, if_moved, move_after, rename, unless_folder, Over};
+ghost use Rattle.ops.specs.Scripts.{at_paths, exchange, hide, if_found, if_moved, move_after, rename, rename_by, rename_new, unless_folder, Over};
 
 use crate::findings::ScriptResult;
 use crate::hiding::Hiding;
+use crate::intents::{EXCHANGE, NO_REPLACE};
 use crate::judging::{errno_in, judge};
 use crate::script::{DONE, LastCall, Script, UNFIT};
 use crate::telling::ReplyKind;
@@ -30,6 +31,57 @@ pub(crate) fn start_rename(ticket: &Ticket) -> Script<'_>
         ),
         [from, to, left @ ..] if ticket.hide() => (None, LastCall::Replace { from, to, left }),
         [from, to, ..] => (Some(Call::Rename { from, to }), DONE),
+        _ => (None, UNFIT),
+    };
+    Script { change, ending }
+}
+
+/// The script of a RENAME2, by its flags.
+pub(crate) fn start_rename_by(flags: u32, ticket: &Ticket) -> Script<'_>
+    ensures { plan_ahead result ≡ at_paths ticket.now.paths (λ s t candidates. rename_by flags ticket.now.same ticket.now.hide s t candidates) }
+{
+    match flags {
+        0 => start_rename(ticket),
+        NO_REPLACE => start_rename_new(ticket),
+        EXCHANGE => start_exchange(ticket),
+        _ => Script {
+            change: None,
+            ending: UNFIT,
+        },
+    }
+}
+
+/// The script of a move that replaces nothing. A name is not free for itself: something stands there, and that is EEXIST.
+fn start_rename_new(ticket: &Ticket) -> Script<'_>
+    ensures { plan_ahead result ≡ at_paths ticket.now.paths (λ s t candidates. rename_new ticket.now.same s t) }
+{
+    let (change, ending) = match ticket.paths() {
+        [path, _, ..] if ticket.same() => (
+            None,
+            LastCall::Look {
+                path,
+                tells: ReplyKind::Taken,
+            },
+        ),
+        [from, to, ..] => (Some(Call::RenameNew { from, to }), DONE),
+        _ => (None, UNFIT),
+    };
+    Script { change, ending }
+}
+
+/// The script of an exchange of the first two paths of its ticket.
+fn start_exchange(ticket: &Ticket) -> Script<'_>
+    ensures { plan_ahead result ≡ at_paths ticket.now.paths (λ s t candidates. exchange ticket.now.same s t) }
+{
+    let (change, ending) = match ticket.paths() {
+        [path, _, ..] if ticket.same() => (
+            None,
+            LastCall::Look {
+                path,
+                tells: ReplyKind::Nothing,
+            },
+        ),
+        [first, second, ..] => (Some(Call::Exchange { first, second }), DONE),
         _ => (None, UNFIT),
     };
     Script { change, ending }

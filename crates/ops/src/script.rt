@@ -1,5 +1,5 @@
 //! The calls of one request: at most one that changes something, and then at most one whose answer the reply tells, or one at each name
-//! of a page. A RENAME that hides changes two names, one after the other.
+//! of a page. A move that hides changes two names, one after the other.
 
 ghost use Rattle.std.specs.Prelude.{◌≡◌, ◌<◌, [], IfOk, OnErr};
 ghost use Rattle.ops.specs.Ahead.{calls_left, end_of, plan_ahead, plan_ending, plan_from, told_of, unless, LooksAtEach};
@@ -11,7 +11,7 @@ use crate::hiding::{Hiding, start_unlink, unhidden};
 use crate::intents::sets_size;
 use crate::judging::{errno_in, judge};
 use crate::looks::Looks;
-use crate::moving::{moved, replace_on, start_rename};
+use crate::moving::{moved, replace_on, start_rename, start_rename_by};
 use crate::telling::{ReplyKind, listed, looked, read, removed, written};
 use backing::{Answer, Call};
 use errno::EIO;
@@ -184,6 +184,7 @@ impl<'a> Script<'a> {
             Operation::RemoveDir { .. } => (Some(Call::RemoveDir(path)), DONE),
             Operation::Rename { .. } => return Ok(start_rename(ticket)),
             Operation::ReadDirPlus { .. } => (None, end_with_looks(alloc, ticket)?),
+            Operation::Rename2 { flags, .. } => return Ok(start_rename_by(flags, ticket)),
             Operation::Forget { .. }
             | Operation::StatFs
             | Operation::Init { .. }

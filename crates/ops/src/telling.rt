@@ -9,13 +9,15 @@ ghost use Rattle.ops.specs.Scripts.{if_found, if_listed, if_read, if_removed, if
 use crate::findings::{Found, ScriptResult};
 use crate::judging::{errno_in, judge};
 use backing::{Answer, Call, Kind};
-use errno::EISDIR;
+use errno::{EEXIST, EISDIR};
 use paths::Path;
 
 /// What is told of what stands at a path.
 #[derive(Clone, Copy, Debug, PartialEq, Eq)]
 pub enum ReplyKind {
     Nothing,
+    /// What stands there is in the way: EEXIST.
+    Taken,
     Entry,
     /// A file that was made is given and opened.
     NewFile,
@@ -41,6 +43,7 @@ impl ReplyKind {
     {
         match self {
             ReplyKind::Nothing => ScriptResult::Nothing,
+            ReplyKind::Taken => ScriptResult::Error { errno: EEXIST },
             ReplyKind::Entry => ScriptResult::NewEntry(found),
             ReplyKind::NewFile => ScriptResult::NewFile(found),
             ReplyKind::Attributes => ScriptResult::Attributes(found),

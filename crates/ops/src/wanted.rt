@@ -33,6 +33,15 @@ pub enum Wanted<'a> {
         name: &'a str,
         new_parent: u64,
         new_name: &'a str,
+        /// Whether what stands at the other is kept.
+        keep: bool,
+    },
+    /// Two names that change places, whatever stands at either.
+    Exchange {
+        parent: u64,
+        name: &'a str,
+        new_parent: u64,
+        new_name: &'a str,
     },
     /// A file to be opened.
     Open {
@@ -97,10 +106,27 @@ impl<'a> Wanted<'a> {
                 name,
                 new_parent,
                 new_name,
+                keep,
             } => {
                 let name = Name::copy_of(alloc, name)?;
                 let new_name = Name::copy_of(alloc, new_name)?;
                 Ok(Want::Move {
+                    parent,
+                    name,
+                    new_parent,
+                    new_name,
+                    keep,
+                })
+            }
+            Wanted::Exchange {
+                parent,
+                name,
+                new_parent,
+                new_name,
+            } => {
+                let name = Name::copy_of(alloc, name)?;
+                let new_name = Name::copy_of(alloc, new_name)?;
+                Ok(Want::Exchange {
                     parent,
                     name,
                     new_parent,

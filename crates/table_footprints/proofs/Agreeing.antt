@@ -9,12 +9,12 @@ use Rattle.tree.specs.Places.{Lookup, IsTree, Leads}
 use Rattle.table_footprints.specs.declared.refusal.Refusal.{Refusal}
 use Rattle.table_footprints.specs.declared.refusal.Refusal.TheVariants as refusal
 use Rattle.table_footprints.specs.declared.footprints.Change as told_change
-use Rattle.table_footprints.specs.declared.footprints.Change.TheVariants.{Stays, Cuts, Moves}
+use Rattle.table_footprints.specs.declared.footprints.Change.TheVariants.{Stays, Cuts, Exchanges, Moves}
 use Rattle.table_footprints.specs.declared.gatherings.Gathering.{Gathering}
 use Rattle.table_footprints.specs.declared.footprints.Hold.{Hold}
 use Rattle.table_footprints.specs.declared.footprints.Hold.TheVariants.{Shared, Exclusive}
-use Rattle.table_footprints.specs.Asked.{ArePaths, HasPath, Holds, IsAboveAt, IsExclusive, IsLong, IsMisplaced, IsPin, IsPrefixAt, IsRefusedMove, IsShared, IsSound, IsStale, IsThere, IsUnsound, long, misplaced, no_memory, stale, promise_of}
-use Rattle.table_footprints.specs.Gatherings.{AreEnough, AreNames, AreRooted, CanMove, IsAgreed, IsBadFootprint, IsCaseOf, IsGathering, IsReserved, IsEntered, IsFit, IsLongPath, IsLost, IsOwnAt, IsPinAt, IsRootedAt, IsSharedAt, IsShortPath, IsTaken, HasNoNode, IsWrongChange, MayChange, exclusive_in, change_in, footprint_by, entered_case, entries_of, refusal_errno, key_in, locations_of}
+use Rattle.table_footprints.specs.Asked.{ArePaths, HasPath, Holds, IsAboveAt, IsExclusive, IsLong, IsMisplaced, IsPin, IsPrefixAt, IsRefusedExchange, IsRefusedMove, IsShared, IsSound, IsStale, IsThere, IsUnsound, long, misplaced, no_memory, stale, promise_of}
+use Rattle.table_footprints.specs.Gatherings.{AreEnough, AreExchangeable, AreNames, AreRooted, CanMove, IsAgreed, IsBadFootprint, IsCaseOf, IsGathering, IsReserved, IsEntered, IsFit, IsLongPath, IsLost, IsOwnAt, IsPinAt, IsRootedAt, IsSharedAt, IsShortPath, IsTaken, HasNoNode, IsWrongChange, MayChange, exclusive_in, change_in, footprint_by, entered_case, entries_of, refusal_errno, key_in, locations_of}
 use Rattle.table_footprints.specs.Laws.{base_of}
 use Rattle.table_requests.specs.declared.data.Case.{Case}
 use Rattle.table_footprints.specs.Footprints.{Location, AtName, AtNode, births_in}
@@ -105,6 +105,14 @@ module _ (at : Lookup) (tree : IsTree at) where
       let source = location_once at tree l bad.path p bad.leads zip.0.0 in
       let target = location_once at tree m bad.new_path q bad.new_leads zip.1.0.0 in
       may e (subst (λ (r : Names). IsRefusedMove r q e) source (subst (λ (r : Names). IsRefusedMove bad.path r e) target bad.refused))
+  not_misplaced Exchanges [] paths zip may e bad = bad
+  not_misplaced Exchanges (l ∷ []) paths zip may e bad = bad
+  not_misplaced Exchanges (l ∷ m ∷ ls) [] zip may e bad = zip
+  not_misplaced Exchanges (l ∷ m ∷ ls) (p ∷ []) zip may e bad = zip.1
+  not_misplaced Exchanges (l ∷ m ∷ ls) (p ∷ q ∷ paths) zip may e bad =
+      let source = location_once at tree l bad.path p bad.leads zip.0.0 in
+      let target = location_once at tree m bad.new_path q bad.new_leads zip.1.0.0 in
+      may e (subst (λ (r : Names). IsRefusedExchange r q e) source (subst (λ (r : Names). IsRefusedExchange bad.path r e) target bad.refused))
 
   pub sound : (ls : List Location) (hold : Hold) (enters : Bool) (change : told_change.Change) (c : Case) (paths : List Names) → AreRooted at ls → AllZip (IsShortPath at) ls paths → MayChange change paths → IsSound at (footprint_by ls hold enters change c)
   sound ls hold enters change c paths rooted zip may = record {
@@ -137,6 +145,11 @@ module _ (at : Lookup) (tree : IsTree at) where
   changed_wrong Moves [] (p ∷ q ∷ paths) zip e wrong = absurd zip
   changed_wrong Moves (l ∷ []) (p ∷ q ∷ paths) zip e wrong = absurd zip.1
   changed_wrong Moves (l ∷ m ∷ ls) (p ∷ q ∷ paths) zip e wrong = record { path = p; leads = zip.0.0; new_path = q; new_leads = zip.1.0.0; refused = wrong }
+  changed_wrong Exchanges ls [] zip e wrong = absurd wrong
+  changed_wrong Exchanges ls (p ∷ []) zip e wrong = absurd wrong
+  changed_wrong Exchanges [] (p ∷ q ∷ paths) zip e wrong = absurd zip
+  changed_wrong Exchanges (l ∷ []) (p ∷ q ∷ paths) zip e wrong = absurd zip.1
+  changed_wrong Exchanges (l ∷ m ∷ ls) (p ∷ q ∷ paths) zip e wrong = record { path = p; leads = zip.0.0; new_path = q; new_leads = zip.1.0.0; refused = wrong }
 
   pub change_refused : (ls : List Location) (hold : Hold) (enters : Bool) (change : told_change.Change) (c : Case) (paths : List Names) → AreRooted at ls → AllZip (IsShortPath at) ls paths → (e : ℤ) → IsWrongChange change paths e → IsUnsound at (footprint_by ls hold enters change c) e
   change_refused ls hold enters change c paths rooted zip e wrong =
@@ -221,10 +234,16 @@ may_move [] p q two a b can = tt
 may_move (x ∷ []) p q two a b can = tt
 may_move (x ∷ y ∷ paths) p q two a b can = subst (λ (r : Names). CanMove x r) b (subst (λ (r : Names). CanMove r q) a can)
 
+pub may_exchange : (paths : List Names) (p q : Names) → 2 ≤ length paths → p ≡ get_or paths 0 p → q ≡ get_or paths 1 q → AreExchangeable p q → MayChange Exchanges paths
+may_exchange [] p q two a b can = tt
+may_exchange (x ∷ []) p q two a b can = tt
+may_exchange (x ∷ y ∷ paths) p q two a b can = subst (λ (r : Names). AreExchangeable x r) b (subst (λ (r : Names). AreExchangeable r q) a can)
+
 pub enough_more : (change : told_change.Change) (m n : ℕ) → m ≤ n → AreEnough change m → AreEnough change n
 enough_more Stays m n more h = tt
 enough_more Cuts m n more h = tt
 enough_more Moves m n more h = omega (arith, more, h)
+enough_more Exchanges m n more h = omega (arith, more, h)
 
 pub enough_paths : (change : told_change.Change) (m n : ℕ) → m ≡ n → AreEnough change m → AreEnough change n
 enough_paths change m n e h = subst (λ k. AreEnough change k) e h

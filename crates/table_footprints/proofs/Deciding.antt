@@ -1,5 +1,5 @@
 -- A want has one case, and so one footprint.
-use Rattle.std.proofs.Common.{ℕ, ◌≡◌, Bool, not, refl, sym, ap, ◌∙◌}
+use Rattle.std.proofs.Common.{ℕ, ◌≡◌, ◌&&◌, Bool, not, refl, sym, ap, ◌∙◌}
 use Rattle.paths.specs.Prefixes.{Name}
 use Rattle.table_requests.specs.declared.data.Case.{Case}
 use Rattle.table_requests.specs.declared.data.Case.TheVariants as cases
@@ -64,7 +64,8 @@ case_once : (seen : Seen) → IsTree seen.at → (want : Want) (c d : Case) → 
 case_once seen tree (wants.Node number handle) c d a b = a ∙ sym b
 case_once seen tree (wants.Name parent name) c d a b = entry_once seen.at parent name c d a b
 case_once seen tree (wants.Remove parent name may_hide) c d a b = hiding_once seen tree parent name may_hide c d a b
-case_once seen tree (wants.Move parent name new_parent new_name) c d a b = hiding_once seen tree new_parent new_name (not (are_same (AtName parent name) (AtName new_parent new_name))) c d a b
+case_once seen tree (wants.Move parent name new_parent new_name keep) c d a b = hiding_once seen tree new_parent new_name (not keep && not (are_same (AtName parent name) (AtName new_parent new_name))) c d a b
+case_once seen tree (wants.Exchange parent name new_parent new_name) c d a b = a ∙ sym b
 case_once seen tree (wants.Page folder names) c d a b = a ∙ sym b
 case_once seen tree (wants.Open number access) c d a b = a ∙ sym b
 case_once seen tree (wants.Create parent name access) c d a b = entry_once seen.at parent name c d a b

@@ -11,7 +11,7 @@ use Rattle.table_requests.specs.declared.data.Case.TheVariants as cases
 use Rattle.table_requests.specs.declared.data.Want.{Want}
 use Rattle.table_requests.specs.declared.data.Want.TheVariants as wants
 use Rattle.table_footprints.specs.Laws.{AreOwn, AreSiblings, IsGrounded, base_of}
-use Rattle.table_footprints.specs.Footprints.{Location, AtNode, AtName, Opening, Used, are_same, closed_exclusive, closed_at, closed_change, closed_on, closed_footprint, closed_shared, closing, used_on, move_footprint, name_footprint, node_footprint, page_names, page_footprint, hidden_in, names_under, removal_footprint, footprint_of}
+use Rattle.table_footprints.specs.Footprints.{Location, AtNode, AtName, Opening, Used, are_same, closed_exclusive, closed_at, closed_change, closed_on, closed_footprint, closed_shared, closing, exchange_footprint, used_on, move_footprint, name_footprint, node_footprint, page_names, page_footprint, hidden_in, names_under, removal_footprint, footprint_of}
 use Rattle.table_footprints.proofs.Members.{any_first, any_later, cases_in, first_in, in_map, later_in, none_in, only_in}
 
 -- a test of two names tells whether they are spelt the same
@@ -106,6 +106,18 @@ module _ (parent : ℕ) (name : Name) (new_parent : ℕ) (new_name : Name) (hidd
     beside = λ l h. let it = in_map (λ (x : Name). AtName new_parent x) hidden l h in subst (λ m. AreSiblings (AtName new_parent new_name) m) it.2 refl;
   }
 
+exchange_is_row : (parent : ℕ) (name : Name) (new_parent : ℕ) (new_name : Name) → IsGrounded (exchange_footprint parent name new_parent new_name)
+exchange_is_row parent name new_parent new_name = record {
+  shared = λ l h. absurd (none_in l h);
+  exclusive = pair_under parent name new_parent new_name [];
+  paths = pair_under parent name new_parent new_name [];
+  covered = λ n h. inr (pair_covered parent name new_parent new_name [] n h);
+  entered = inl refl;
+  own = (first_in (AtName parent name) (AtName new_parent new_name ∷ []), later_in (AtName parent name) (AtName new_parent new_name ∷ []) (AtName new_parent new_name) (first_in (AtName new_parent new_name) []));
+  hidden = λ l h. absurd (none_in l h);
+  beside = λ l h. absurd (none_in l h);
+}
+
 -- each name of a page is under its folder
 page_under : (folder : ℕ) (names : List Name) (l : Location) → Contains (AtNode folder ∷ page_names folder names) l → Contains (folder ∷ []) (base_of l)
 page_under folder names l h = elim (cases_in (AtNode folder) (page_names folder names) l h) [
@@ -179,7 +191,8 @@ pub are_grounded : (want : Want) (case : Case) → IsGrounded (footprint_of want
 are_grounded (wants.Node number handle) c = node_is_row number (used_on number handle) None
 are_grounded (wants.Name parent name) c = name_is_row parent name c None
 are_grounded (wants.Remove parent name may_hide) c = removal_is_row parent name (hidden_in c)
-are_grounded (wants.Move parent name new_parent new_name) c = move_is_row parent name new_parent new_name (hidden_in c)
+are_grounded (wants.Move parent name new_parent new_name keep) c = move_is_row parent name new_parent new_name (hidden_in c)
+are_grounded (wants.Exchange parent name new_parent new_name) c = exchange_is_row parent name new_parent new_name
 are_grounded (wants.Page folder names) c = page_is_row folder names
 are_grounded (wants.Open number access) c = node_is_row number None (Some (record { target = AtNode number; access = access }))
 are_grounded (wants.Create parent name access) c = name_is_row parent name c (Some (record { target = AtName parent name; access = access }))

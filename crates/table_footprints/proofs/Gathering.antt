@@ -10,6 +10,7 @@ use Rattle.paths.proofs.PrefixLemmas.{is_name-same, is_name-true}
 use Rattle.holds.specs.declared.held.GivenPath.{GivenPath}
 use Rattle.holds.specs.Conflicts.{ArePrefixes, IsSomePrefix}
 use Rattle.holds.proofs.Among.{contains_read}
+use Rattle.holds.proofs.Prefixing.{prefixes_are}
 use Rattle.tree.specs.Places.{Lookup, IsPathOf, IsTree}
 use Rattle.table_footprints.specs.declared.gatherings.Gathering.{Gathering}
 use Rattle.table_footprints.specs.declared.found.Found.{Found}
@@ -42,33 +43,6 @@ bad_row at ls l refusal.TooLong here bad = any_in (IsLongPath at) ls l here bad
 bad_row at ls l refusal.IntoItself here bad = absurd bad
 bad_row at ls l refusal.OntoFolder here bad = absurd bad
 bad_row at ls l refusal.Memory here bad = tt
-
--- the prefixes of a path are its nonempty prefixes
-prefix_in : (x : Name) (path : Names) → ((f : Names) → IsSomePrefix f path → Contains (prefixes path) f) → (f : Names) → IsSomePrefix f (x ∷ path) → Contains (prefixes (x ∷ path)) f
-prefix_in x path rest [] h = absurd (h.some refl)
-prefix_in x path rest (y ∷ []) h =
-    let both = and_parts (is_name y x) true h.begins in
-    subst (λ (z : Name). Contains (prefixes (x ∷ path)) (z ∷ [])) (sym (is_name-true y x both.0)) (first_in (x ∷ []) (map (λ p. x ∷ p) (prefixes path)))
-prefix_in x path rest (y ∷ z ∷ f) h =
-    let both = and_parts (is_name y x) (is_prefix (z ∷ f) path) h.begins in
-    let below = rest (z ∷ f) (record { some = λ (e : z ∷ f ≡ []). cc; begins = both.1 }) in
-    subst (λ (w : Name). Contains (prefixes (x ∷ path)) (w ∷ z ∷ f)) (sym (is_name-true y x both.0)) (later_in (x ∷ []) (map (λ p. x ∷ p) (prefixes path)) (x ∷ z ∷ f) (map_in (λ p. x ∷ p) (prefixes path) (z ∷ f) below))
-
-prefix_of : (x : Name) (path : Names) → ((f : Names) → Contains (prefixes path) f → IsSomePrefix f path) → (f : Names) → Contains (prefixes (x ∷ path)) f → IsSomePrefix f (x ∷ path)
-prefix_of x path rest f h = elim (cases_in (x ∷ []) (map (λ p. x ∷ p) (prefixes path)) f h) [
-  | inl e ↦ subst (λ g. IsSomePrefix g (x ∷ path)) e (record { some = λ (bad : x ∷ [] ≡ []). cc; begins = rw (is_name-same x) refl })
-  | inr more ↦
-      let it = in_map (λ p. x ∷ p) (prefixes path) f more in
-      subst (λ g. IsSomePrefix g (x ∷ path)) it.2 (record { some = λ (bad : x ∷ it.0 ≡ []). cc; begins = rw (is_name-same x) (rest it.0 it.1).begins })
-]
-
-no_prefix : (f : Names) → IsSomePrefix f [] → Contains (prefixes []) f
-no_prefix [] h = absurd (h.some refl)
-no_prefix (x ∷ f) h = absurd (false≢true h.begins)
-
-pub prefixes_are : (path : Names) → ArePrefixes (prefixes path) path
-prefixes_are [] = record { all = no_prefix; only = λ f h. absurd (none_in f h) }
-prefixes_are (x ∷ path) = let rest = prefixes_are path in record { all = prefix_in x path rest.all; only = prefix_of x path rest.only }
 
 -- who is in one list or the other
 pub joined : {X A B : Type 0} → (xs ys : List X) (x : X) → Contains xs x ↔ A → Contains ys x ↔ B → Contains (xs ++ ys) x ↔ (A ⊎ B)

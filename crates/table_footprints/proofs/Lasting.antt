@@ -10,6 +10,7 @@ use Rattle.table_requests.specs.declared.data.Promise.{Promise}
 use Rattle.holds.specs.declared.held.GivenPath.{GivenPath}
 use Rattle.holds.specs.declared.held.Held.{Held}
 use Rattle.paths.specs.Prefixes.{Name, Names, is_prefix, path_bytes, prefixes}
+use Rattle.holds.proofs.Prefixing.{prefixes_are}
 use Rattle.paths.proofs.PrefixLemmas.{is_prefix-append, is_prefix-trans, not_over_parent}
 use Rattle.tree.specs.Places.{Lookup, IsPathOf, IsTree, Leads, Reaches}
 use Rattle.table_footprints.specs.declared.gatherings.Reservation.{Reservation}
@@ -17,7 +18,6 @@ use Rattle.table_footprints.specs.Asked.{HasPath, Holds, IsAboveAt, IsLong, IsPi
 use Rattle.table_footprints.specs.Gatherings.{IsClosingPath, IsHeldExclusively, IsReservation}
 use Rattle.table_footprints.specs.Footprints.{Footprint, AtNode, closed_footprint}
 use Rattle.table_footprints.proofs.Agreeing.{prefix_above}
-use Rattle.table_footprints.proofs.Gathering.{prefixes_are}
 use Rattle.table_footprints.proofs.Finding.{location_once}
 use Rattle.table_footprints.proofs.Members.{any_first, any_none, any_only, first_in, only_in}
 

@@ -1,5 +1,5 @@
 -- What a want's footprint asks for, and why it is refused.
-use Rattle.std.proofs.Common.{ℕ, ℤ, ◌≡◌, Bool, not, List, [], ◌∷◌, Option, Some, Contains, refl, sym, ap, ◌∙◌, subst, ◌⊎◌, inl, inr}
+use Rattle.std.proofs.Common.{ℕ, ℤ, ◌≡◌, ◌&&◌, Bool, not, List, [], ◌∷◌, Option, Some, Contains, refl, sym, ap, ◌∙◌, subst, ◌⊎◌, inl, inr}
 use Rattle.std.specs.Prelude.{IsSome}
 use Rattle.std.proofs.lemmas.Bool.{cases_Bool, cases_eq, false≢true}
 use Rattle.std.proofs.lemmas.Option.{none-some, same_Some}
@@ -26,7 +26,7 @@ use Rattle.table_footprints.specs.declared.data.NewRequest.{NewRequest}
 use Rattle.table_footprints.specs.declared.gatherings.Reservation.{Reservation}
 use Rattle.table_footprints.specs.Gatherings.{IsEntryAt, IsTaken, IsRecord, IsReservation, HasNoNode, IsWanted}
 use Rattle.table_footprints.specs.NewRequests.{IsNewRequest, IsRefusedRequest, copied, copied_page}
-use Rattle.table_footprints.specs.Footprints.{Footprint, AtName, AtNode, Opening, Used, are_same, hidden_in, move_footprint, name_footprint, node_footprint, page_footprint, removal_footprint, footprint_of, used_on}
+use Rattle.table_footprints.specs.Footprints.{Footprint, AtName, AtNode, Opening, Used, are_same, exchange_footprint, hidden_in, move_footprint, name_footprint, node_footprint, page_footprint, removal_footprint, footprint_of, used_on}
 use Rattle.table_footprints.proofs.Members.{all_in, any_only, cases_in, first_in, later_in, none_in}
 
 -- ---- whether a node stands at a name
@@ -188,9 +188,9 @@ pub removal_refused : (seen : Seen) (want : Want) (parent : ℕ) (name : Name) (
 removal_refused seen want parent name may_hide e c is fits unsound =
     subst (λ (v : Want). IsRefusedRequest seen v e) (sym is) (record { footprint = removal_footprint parent name (hidden_in c); footprint_is = record { case = c; fits = fits; footprint = refl }; unsound = unsound })
 
--- what stands at the target of a move may be hidden, where the source is elsewhere
-module _ (seen : Seen) (want : Want) (parent : ℕ) (name : Name) (new_parent : ℕ) (new_name : Name) (may_hide : Bool)
-    (is : want ≡ wants.Move parent name new_parent new_name) (apart : may_hide ≡ not (are_same (AtName parent name) (AtName new_parent new_name))) where
+-- what stands at the target of a move may be hidden, where the source is elsewhere and the target need not be kept
+module _ (seen : Seen) (want : Want) (parent : ℕ) (name : Name) (new_parent : ℕ) (new_name : Name) (keep may_hide : Bool)
+    (is : want ≡ wants.Move parent name new_parent new_name keep) (apart : may_hide ≡ (not keep && not (are_same (AtName parent name) (AtName new_parent new_name)))) where
   pub move_wanted : (t : Reservation) → IsHidingCase seen new_parent new_name may_hide t.case → IsReservation seen.at (move_footprint parent name new_parent new_name (hidden_in t.case)) t → IsWanted seen want t
   move_wanted t fits reservation =
       subst (λ (v : Want). IsWanted seen v t) (sym is) (record { fits = subst (λ (b : Bool). IsHidingCase seen new_parent new_name b t.case) apart fits; reservation = reservation })
@@ -201,6 +201,14 @@ module _ (seen : Seen) (want : Want) (parent : ℕ) (name : Name) (new_parent : 
     footprint_is = record { case = c; fits = subst (λ (b : Bool). IsHidingCase seen new_parent new_name b c) apart fits; footprint = refl };
     unsound = unsound;
   })
+
+-- two names that change places are one case
+module _ (seen : Seen) (want : Want) (parent : ℕ) (name : Name) (new_parent : ℕ) (new_name : Name) (is : want ≡ wants.Exchange parent name new_parent new_name) where
+  pub exchange_wanted : (t : Reservation) → t.case ≡ cases.Plain → IsReservation seen.at (exchange_footprint parent name new_parent new_name) t → IsWanted seen want t
+  exchange_wanted t fits reservation = subst (λ (v : Want). IsWanted seen v t) (sym is) (record { fits = fits; reservation = reservation })
+
+  pub exchange_refused : (e : ℤ) → IsUnsound seen.at (exchange_footprint parent name new_parent new_name) e → IsRefusedRequest seen want e
+  exchange_refused e unsound = refused_as seen want (wants.Exchange parent name new_parent new_name) e is (cases.Plain, refl) (λ c. unsound)
 
 -- the record of a request as its want's footprint asks for it
 pub planned : (seen : Seen) (want : Want) (t : Reservation) (p : NewRequest) → IsWanted seen want t → IsRecord want t p → IsNewRequest seen want p

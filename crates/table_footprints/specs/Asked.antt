@@ -8,7 +8,7 @@ use Rattle.holds.specs.Conflicts.{IsSomePrefix}
 use Rattle.table_requests.specs.declared.data.Promise.{Promise}
 use Rattle.tree.specs.Places.{Lookup, IsNamed, IsPathOf, Leads}
 use Rattle.tree.specs.Moves.{IsPathOfName}
-use Rattle.table_footprints.specs.Footprints.{Change, Footprint, Location, AtName, AtNode, cuts, hides, moves, replaces, stays}
+use Rattle.table_footprints.specs.Footprints.{Change, Footprint, Location, AtName, AtNode, cuts, exchanges, hides, moves, replaces, stays}
 
 -- ---- locations
 
@@ -54,12 +54,25 @@ pub record IsRefusedAt (at : Lookup) (source target : Location) (e : ℤ) : Type
   pub new_leads : HasPath at target new_path
   pub refused : IsRefusedMove path new_path e
 
+-- why two paths may not change places: one of them leads to the other
+abbrev pub IsRefusedExchange : Names → Names → ℤ → Type 0
+IsRefusedExchange source target e = (e ≡ EINVAL) × (IsProperPrefix source target ⊎ IsProperPrefix target source)
+
+-- the paths of the two locations, which may not change places
+pub record IsRefusedBetween (at : Lookup) (source target : Location) (e : ℤ) : Type 0 where
+  pub path : Names
+  pub leads : HasPath at source path
+  pub new_path : Names
+  pub new_leads : HasPath at target new_path
+  pub refused : IsRefusedExchange path new_path e
+
 abbrev pub IsMisplaced : Lookup → Change → ℤ → Type 0
 IsMisplaced at stays e = ⊥
 IsMisplaced at (cuts l) e = ⊥
 IsMisplaced at (moves source target) e = IsRefusedAt at source target e
 IsMisplaced at (hides l candidate) e = IsRefusedAt at l candidate e
 IsMisplaced at (replaces source target candidate moved) e = IsRefusedAt at source target e ⊎ IsRefusedAt at target candidate e
+IsMisplaced at (exchanges source target) e = IsRefusedBetween at source target e
 
 -- none of these tests refuses the footprint
 pub record IsSound (at : Lookup) (d : Footprint) : Type 0 where

@@ -1,5 +1,5 @@
 -- Which case of its footprint a want is, as the table stands. Beside the table of footprints this alone looks at wants.
-use Rattle.std.specs.Prelude.{ℕ, ◌≡◌, ◌≢◌, ◌≤◌, Bool, Some, not, true}
+use Rattle.std.specs.Prelude.{ℕ, ◌≡◌, ◌≢◌, ◌≤◌, ◌&&◌, Bool, Some, not, true}
 use Rattle.table_files.specs.OpenEntry.{Filing, files_of}
 use Rattle.table_files.specs.Handles.{Files, IsOpen, of_node}
 use Rattle.table_requests.specs.declared.data.Case.{Case}
@@ -61,7 +61,8 @@ abbrev pub IsCase : Seen → Want → Case → Type 0
 IsCase seen (wants.Node number handle) c = c ≡ cases.Plain
 IsCase seen (wants.Name parent name) c = IsEntryCase seen.at parent name c
 IsCase seen (wants.Remove parent name may_hide) c = IsHidingCase seen parent name may_hide c
-IsCase seen (wants.Move parent name new_parent new_name) c = IsHidingCase seen new_parent new_name (not (are_same (AtName parent name) (AtName new_parent new_name))) c
+IsCase seen (wants.Move parent name new_parent new_name keep) c = IsHidingCase seen new_parent new_name (not keep && not (are_same (AtName parent name) (AtName new_parent new_name))) c
+IsCase seen (wants.Exchange parent name new_parent new_name) c = c ≡ cases.Plain
 IsCase seen (wants.Page folder names) c = c ≡ cases.Plain
 IsCase seen (wants.Open number access) c = c ≡ cases.Plain
 IsCase seen (wants.Create parent name access) c = IsEntryCase seen.at parent name c

@@ -32,6 +32,8 @@ pub data Change : Type 0 where
   hides : Location → Location → Change
   -- what stands at the second is hidden at the third, and then, where it is so told, what stood at the first is moved to the second
   replaces : Location → Location → Location → Bool → Change
+  -- what stands at either is moved to the other
+  exchanges : Location → Location → Change
 
 -- a file that may be opened: of the node that stands there
 pub record Opening : Type 0 where
@@ -130,6 +132,14 @@ move_footprint parent name new_parent new_name hidden = record no_footprint {
   candidates = names_under new_parent hidden;
 }
 
+abbrev pub exchange_footprint : ℕ → Name → ℕ → Name → Footprint
+exchange_footprint parent name new_parent new_name = record no_footprint {
+  given = parent ∷ new_parent ∷ [];
+  paths = AtName parent name ∷ AtName new_parent new_name ∷ [];
+  exclusive = AtName parent name ∷ AtName new_parent new_name ∷ [];
+  done = exchanges (AtName parent name) (AtName new_parent new_name);
+}
+
 -- the handle of the node, if one is used
 abbrev pub used_on : ℕ → Option Handle → Option Used
 used_on number None = None
@@ -205,7 +215,8 @@ abbrev pub footprint_of : Want → Case → Footprint
 footprint_of (wants.Node number handle) c = record (node_footprint number) { used = used_on number handle }
 footprint_of (wants.Name parent name) c = name_footprint parent name c
 footprint_of (wants.Remove parent name may_hide) c = removal_footprint parent name (hidden_in c)
-footprint_of (wants.Move parent name new_parent new_name) c = move_footprint parent name new_parent new_name (hidden_in c)
+footprint_of (wants.Move parent name new_parent new_name keep) c = move_footprint parent name new_parent new_name (hidden_in c)
+footprint_of (wants.Exchange parent name new_parent new_name) c = exchange_footprint parent name new_parent new_name
 footprint_of (wants.Page folder names) c = page_footprint folder names
 footprint_of (wants.Open number access) c = record (node_footprint number) { opens = Some (record { target = AtNode number; access = access }) }
 footprint_of (wants.Create parent name access) c = record (name_footprint parent name c) { opens = Some (record { target = AtName parent name; access = access }) }
@@ -219,10 +230,11 @@ are_same (AtName p a) (AtNode m) = false
 are_same (AtNode n) (AtName q b) = false
 are_same (AtNode n) (AtNode m) = n == m
 
--- whether a name would be moved to itself
+-- whether a name would be moved to itself, or change places with itself
 abbrev pub is_same : Change → Bool
 is_same stays = false
 is_same (cuts l) = false
 is_same (moves source target) = are_same source target
 is_same (hides l candidate) = false
 is_same (replaces source target candidate moved) = false
+is_same (exchanges source target) = are_same source target

@@ -20,17 +20,17 @@ use Rattle.table_footprints.specs.declared.found.Found.{Found}
 use Rattle.table_footprints.specs.declared.refusal.Refusal.{Refusal}
 use Rattle.table_footprints.specs.declared.refusal.Refusal.TheVariants as refusal
 use Rattle.table_footprints.specs.declared.footprints.Change as told_change
-use Rattle.table_footprints.specs.declared.footprints.Change.TheVariants.{Stays, Cuts, Moves}
+use Rattle.table_footprints.specs.declared.footprints.Change.TheVariants.{Stays, Cuts, Exchanges, Moves}
 use Rattle.table_footprints.specs.declared.footprints.Hold.{Hold}
 use Rattle.table_footprints.specs.declared.footprints.Hold.TheVariants.{Shared, Exclusive}
 use Rattle.table_footprints.specs.declared.footprints.Location as told_location
 use Rattle.table_footprints.specs.declared.footprints.Location.TheVariants as locations
 use Rattle.table_footprints.specs.declared.footprints.UniformFootprint.{UniformFootprint}
-use Rattle.table_footprints.specs.Asked.{ArePaths, HasPath, Holds, IsAboveAt, IsPin, IsPrefixAt, IsRefusedMove, IsSound, IsThere, promise_of}
+use Rattle.table_footprints.specs.Asked.{ArePaths, HasPath, Holds, IsAboveAt, IsPin, IsPrefixAt, IsRefusedExchange, IsRefusedMove, IsSound, IsThere, promise_of}
 use Rattle.table_footprints.specs.Cases.{HasShortPath, IsCase, IsClosingCase, Seen}
 use Rattle.table_footprints.specs.Laws.{base_of}
 use Rattle.table_footprints.specs.NewRequests.{copied, copied_page}
-use Rattle.table_footprints.specs.Footprints.{Change, Footprint, Location, AtName, AtNode, births_in, closed_footprint, cuts, hidden_in, moves, no_footprint, footprint_of, stays}
+use Rattle.table_footprints.specs.Footprints.{Change, Footprint, Location, AtName, AtNode, births_in, closed_footprint, cuts, exchanges, hidden_in, moves, no_footprint, footprint_of, stays}
 
 -- ---- refusals
 
@@ -80,6 +80,9 @@ change_in Cuts (l ∷ ls) = cuts l
 change_in Moves [] = stays
 change_in Moves (l ∷ []) = stays
 change_in Moves (l ∷ m ∷ ls) = moves l m
+change_in Exchanges [] = stays
+change_in Exchanges (l ∷ []) = stays
+change_in Exchanges (l ∷ m ∷ ls) = exchanges l m
 
 abbrev pub footprint_by : List Location → Hold → Bool → told_change.Change → Case → Footprint
 footprint_by ls hold enters change c = record {
@@ -121,11 +124,12 @@ abbrev pub IsEntered : Bool → List Location → Type 0
 IsEntered true ls = IsOneName ls
 IsEntered false ls = Unit {0}
 
--- a move has two locations
+-- a move and an exchange have two locations
 abbrev pub AreEnough : told_change.Change → ℕ → Type 0
 AreEnough Stays n = Unit {0}
 AreEnough Cuts n = Unit {0}
 AreEnough Moves n = 2 ≤ n
+AreEnough Exchanges n = 2 ≤ n
 
 -- only names are held exclusively, and an entry is given for a name alone
 pub record IsFit (footprint : UniformFootprint) : Type 0 where
@@ -174,6 +178,9 @@ pub record IsFound (at : Lookup) (l : Location) (f : Found) : Type 0 where
 abbrev pub CanMove : Names → Names → Type 0
 CanMove source target = (e : ℤ) → IsRefusedMove source target e → ⊥
 
+abbrev pub AreExchangeable : Names → Names → Type 0
+AreExchangeable source target = (e : ℤ) → IsRefusedExchange source target e → ⊥
+
 -- what the paths of a change must keep, and why they do not
 abbrev pub MayChange : told_change.Change → List Names → Type 0
 MayChange Stays paths = Unit {0}
@@ -181,6 +188,9 @@ MayChange Cuts paths = Unit {0}
 MayChange Moves [] = Unit {0}
 MayChange Moves (p ∷ []) = Unit {0}
 MayChange Moves (p ∷ q ∷ paths) = CanMove p q
+MayChange Exchanges [] = Unit {0}
+MayChange Exchanges (p ∷ []) = Unit {0}
+MayChange Exchanges (p ∷ q ∷ paths) = AreExchangeable p q
 
 abbrev pub IsWrongChange : told_change.Change → List Names → ℤ → Type 0
 IsWrongChange Stays paths e = ⊥
@@ -188,6 +198,9 @@ IsWrongChange Cuts paths e = ⊥
 IsWrongChange Moves [] e = ⊥
 IsWrongChange Moves (p ∷ []) e = ⊥
 IsWrongChange Moves (p ∷ q ∷ paths) e = IsRefusedMove p q e
+IsWrongChange Exchanges [] e = ⊥
+IsWrongChange Exchanges (p ∷ []) e = ⊥
+IsWrongChange Exchanges (p ∷ q ∷ paths) e = IsRefusedExchange p q e
 
 -- ---- drafts
 

@@ -5,7 +5,7 @@ use Rattle.table_requests.specs.declared.data.Want.{Want}
 use Rattle.tree.specs.declared.nodes.Key.{Key}
 use Rattle.tree.specs.Places.{IsTree}
 use Rattle.table_footprints.specs.Cases.{IsFootprint, Seen}
-use Rattle.table_footprints.specs.Footprints.{Change, Footprint, Location, AtName, AtNode, cuts, hides, moves, replaces, footprint_of, stays}
+use Rattle.table_footprints.specs.Footprints.{Change, Footprint, Location, AtName, AtNode, cuts, exchanges, hides, moves, replaces, footprint_of, stays}
 
 -- the node that a location is that of, or is under
 abbrev pub base_of : Location → ℕ
@@ -19,6 +19,7 @@ AreOwn exclusive (cuts l) = Contains exclusive l
 AreOwn exclusive (moves source target) = Contains exclusive source × Contains exclusive target
 AreOwn exclusive (hides l candidate) = Contains exclusive l × Contains exclusive candidate
 AreOwn exclusive (replaces source target candidate moved) = Contains exclusive source × Contains exclusive target × Contains exclusive candidate
+AreOwn exclusive (exchanges source target) = Contains exclusive source × Contains exclusive target
 
 -- two names under one node
 abbrev pub AreSiblings : Location → Location → Type 0
@@ -33,6 +34,7 @@ IsBeside (cuts gone) l = AreSiblings gone l
 IsBeside (moves source target) l = AreSiblings target l
 IsBeside (hides gone candidate) l = ⊥
 IsBeside (replaces source target candidate moved) l = ⊥
+IsBeside (exchanges source target) l = ⊥
 
 -- what all that is proved of footprints rests on
 pub record IsGrounded (d : Footprint) : Type 0 where

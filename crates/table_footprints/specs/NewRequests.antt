@@ -1,5 +1,5 @@
 -- What a request is recorded with.
-use Rattle.std.specs.Prelude.{ℕ, ℤ, ◌≡◌, ◌≤◌, ◌↔◌, List, [], Option, Some, None, Contains, length}
+use Rattle.std.specs.Prelude.{ℕ, ℤ, ◌≡◌, ◌≤◌, ◌↔◌, List, [], ◌∷◌, Option, Some, None, Contains, length}
 use Rattle.paths.specs.Prefixes.{Name}
 use Rattle.table_requests.specs.declared.data.Want.{Want}
 use Rattle.table_requests.specs.declared.data.Want.TheVariants as wants
@@ -15,23 +15,25 @@ use Rattle.table_footprints.specs.Footprints.{hidden_in, Footprint, footprint_of
 abbrev pub footprint_in : Work → Footprint
 footprint_in work = footprint_of work.want work.case
 
--- the name that the want may give to a node, which is put into the tree under a key and a copy of it
+-- the name that the want may give to a node, which is put into the tree under a key and a copy of it: of an exchange the second
 abbrev pub copied : Want → Option Name
 copied (wants.Node number handle) = None
 copied (wants.Name parent name) = Some name
 copied (wants.Remove parent name may_hide) = None
-copied (wants.Move parent name new_parent new_name) = Some new_name
+copied (wants.Move parent name new_parent new_name keep) = Some new_name
+copied (wants.Exchange parent name new_parent new_name) = Some new_name
 copied (wants.Page folder names) = None
 copied (wants.Open number access) = None
 copied (wants.Create parent name access) = Some name
 copied (wants.Release number fh) = None
 
--- the same of the names of a page, and of those that a file may be hidden under
+-- the same of the names of a page, of those that a file may be hidden under, and of the first name of an exchange
 abbrev pub copied_page : Want → Case → List Name
 copied_page (wants.Node number handle) c = []
 copied_page (wants.Name parent name) c = []
 copied_page (wants.Remove parent name may_hide) c = hidden_in c
-copied_page (wants.Move parent name new_parent new_name) c = hidden_in c
+copied_page (wants.Move parent name new_parent new_name keep) c = hidden_in c
+copied_page (wants.Exchange parent name new_parent new_name) c = name ∷ []
 copied_page (wants.Page folder names) c = names
 copied_page (wants.Open number access) c = []
 copied_page (wants.Create parent name access) c = []

@@ -1,6 +1,6 @@
 //! What each want asks for: one footprint of one table.
 
-ghost use Rattle.std.specs.Prelude.{◌≡◌, IfOk, IfErr};
+ghost use Rattle.std.specs.Prelude.{◌≡◌, ◌&&◌, not, IfOk, IfErr};
 ghost use Rattle.table_footprints.specs.Cases.{seen_of};
 ghost use Rattle.table_footprints.specs.Gatherings.{IsWanted, refusal_errno, location_of};
 ghost use Rattle.table_footprints.specs.Laws.{base_of};
@@ -70,6 +70,8 @@ pub(crate) enum Change {
     Cuts,
     /// What stands at the first location is moved to the second.
     Moves,
+    /// What stands at either of the first two locations is moved to the other.
+    Exchanges,
 }
 
 /// What a want asks for. The node of each location, or the one that its name is under, is given.
@@ -81,6 +83,13 @@ pub(crate) struct UniformFootprint<'a> {
     /// Whether an entry may be given for the name.
     pub(crate) enters: bool,
     pub(crate) change: Change,
+}
+
+/// Whether a move may replace what stands at its target: it is not told to keep it, and moves from elsewhere.
+fn may_replace(keep: bool, same: bool) -> bool
+    ensures { result ≡ (not keep && not same) }
+{
+    !keep && !same
 }
 
 /// What the want's footprint asks for: the table of footprints.
@@ -136,6 +145,7 @@ pub(crate) fn reservation_for(
             name,
             new_parent,
             new_name,
+            keep,
         } => {
             let source = Location::AtName(*parent, name);
             let target = Location::AtName(*new_parent, new_name);
@@ -148,9 +158,26 @@ pub(crate) fn reservation_for(
             let gone = Gone {
                 parent: *new_parent,
                 name: new_name,
-                may_hide: !source.is(&target),
+                may_hide: may_replace(*keep, source.is(&target)),
             };
             going_reservation(alloc, tree, files, counter, &footprint, &gone)
+        }
+        Want::Exchange {
+            parent,
+            name,
+            new_parent,
+            new_name,
+        } => {
+            let footprint = UniformFootprint {
+                locations: &[
+                    Location::AtName(*parent, name),
+                    Location::AtName(*new_parent, new_name),
+                ],
+                hold: Hold::Exclusive,
+                enters: false,
+                change: Change::Exchanges,
+            };
+            reservation_of(alloc, tree, &footprint)
         }
         Want::Page { folder, names } => page_reservation(alloc, tree, *folder, names.as_slice()),
         Want::Open { number, access: _ } => {

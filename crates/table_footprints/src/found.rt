@@ -3,8 +3,8 @@
 ghost use Rattle.std.specs.Prelude.{◌<◌, ◌≡◌, ◌++◌, ◌∷◌, [], Any, IfOk, IfErr, OnOk, length};
 ghost use Rattle.paths.specs.Prefixes.{Name as Spelt, Names};
 ghost use Rattle.tree.specs.Places.{IsCensus, IsTree, Leads, at_in};
-ghost use Rattle.table_footprints.specs.Gatherings.{AreEnough, AreRooted, CanMove, IsBadPath, IsFound, IsLost, IsWrongChange, MayChange, refusal_errno, location_of, told};
-ghost use Rattle.table_footprints.specs.Asked.{IsRefusedMove};
+ghost use Rattle.table_footprints.specs.Gatherings.{AreEnough, AreExchangeable, AreRooted, CanMove, IsBadPath, IsFound, IsLost, IsWrongChange, MayChange, refusal_errno, location_of, told};
+ghost use Rattle.table_footprints.specs.Asked.{IsRefusedExchange, IsRefusedMove};
 ghost use Rattle.table_footprints.specs.Laws.{base_of};
 ghost use Rattle.table_footprints.specs.Footprints as footprints;
 
@@ -28,9 +28,8 @@ pub(crate) struct Found {
 pub(crate) fn above(path: &Path) -> Result<Path, AllocError>
     ensures { IfOk result (λ up. (above : Names) (name : Spelt) → path.now ≡ above ++ name ∷ [] → up ≡ above) }
 {
-    let mut names = path.copy()?.into_names();
-    let _last = names.pop();
-    Ok(Path::from_names(names))
+    let up = path.prefix(path.len().saturating_sub(1))?;
+    Ok(up)
 }
 
 /// What stands at the location of a node.
@@ -107,6 +106,23 @@ fn expect_movable(path: &Path, target: &Path) -> Result<(), Refusal>
     Ok(())
 }
 
+/// Tests that the two paths may change places.
+fn expect_exchangeable(path: &Path, other: &Path) -> Result<(), Refusal>
+    ensures ok { OnOk result (AreExchangeable path.now other.now) }
+    ensures err { IfErr result (λ refusal. IsRefusedExchange path.now other.now (refusal_errno refusal)) }
+{
+    if path.is(other) {
+        return Ok(());
+    }
+    if path.is_prefix_of(other) {
+        return Err(Refusal::IntoItself);
+    }
+    if other.is_prefix_of(path) {
+        return Err(Refusal::IntoItself);
+    }
+    Ok(())
+}
+
 /// Tests that what stands at the first of the paths may change so.
 pub(crate) fn expect_change(change: Change, paths: &[Path]) -> Result<(), Refusal>
     requires { AreEnough change (length paths.now) }
@@ -116,5 +132,6 @@ pub(crate) fn expect_change(change: Change, paths: &[Path]) -> Result<(), Refusa
     match change {
         Change::Stays | Change::Cuts => Ok(()),
         Change::Moves => expect_movable(&paths[0], &paths[1]),
+        Change::Exchanges => expect_exchangeable(&paths[0], &paths[1]),
     }
 }

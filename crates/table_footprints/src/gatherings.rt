@@ -10,7 +10,7 @@ ghost use Rattle.table_footprints.specs.Footprints.{births_in};
 use crate::footprints::{Hold, UniformFootprint};
 use crate::found::{Found, expect_change, expect_rooted, find};
 use crate::refusal::Refusal;
-use holds::{GivenPath, GivenPaths, Held, Paths, prefixes_of};
+use holds::{GivenPath, GivenPaths, Held, Paths, push_prefixes};
 use paths::Path;
 use std::alloc::{AllocError, Global};
 use table_requests::{Case, Givens, Pins, Promise};
@@ -40,14 +40,6 @@ pub(crate) struct Gathering {
     pub(crate) paths: Vec<Path>,
     /// Whether no node stands at one of the locations.
     absent: bool,
-}
-
-/// Shares the nonempty prefixes of the path.
-fn share(alloc: Global, shared: &mut Vec<Path>, path: &Path) -> Result<(), AllocError>
-    ensures { OnOk result (shared.new.items ≡ shared.old.items ++ prefixes path.now) }
-{
-    let mut prefixes = prefixes_of(alloc, path)?.into_vec();
-    shared.append(&mut prefixes)
 }
 
 /// Pins the node, and the one that was found.
@@ -105,7 +97,7 @@ impl Gathering {
     }
 
     /// Holds the path of what was found.
-    fn hold(&mut self, alloc: Global, found: &Found, hold: Hold) -> Result<(), AllocError>
+    fn hold(&mut self, found: &Found, hold: Hold) -> Result<(), AllocError>
         ensures shared { OnOk result (self.new.shared.items ≡ self.old.shared.items ++ prefixes (shared_path hold found.now)) }
         ensures exclusive { OnOk result (self.new.exclusive.items ≡ self.old.exclusive.items ++ own_paths hold found.now) }
         ensures given { self.new.given ≡ self.old.given }
@@ -114,28 +106,22 @@ impl Gathering {
         ensures absent { self.new.absent ≡ self.old.absent }
     {
         match hold {
-            Hold::Shared => share(alloc, &mut self.shared, &found.path),
+            Hold::Shared => push_prefixes(&mut self.shared, &found.path),
             Hold::Exclusive => {
                 self.exclusive.push(found.path.copy()?)?;
-                share(alloc, &mut self.shared, &found.above)
+                push_prefixes(&mut self.shared, &found.above)
             }
         }
     }
 
     /// Adds what was found at a location of that node.
-    pub(crate) fn add(
-        &mut self,
-        alloc: Global,
-        number: u64,
-        found: Found,
-        hold: Hold,
-    ) -> Result<(), AllocError>
+    pub(crate) fn add(&mut self, number: u64, found: Found, hold: Hold) -> Result<(), AllocError>
         requires { 2 ≤ self.old.pins.room }
         ensures { OnOk result (Adds self.old number found hold self.new) }
     {
         pin(&mut self.pins, number, found.node);
         self.absent = self.absent || found.node.is_none();
-        self.hold(alloc, &found, hold)?;
+        self.hold(&found, hold)?;
         let Found {
             above,
             path,
@@ -234,7 +220,7 @@ pub(crate) fn gathering_of(
     let mut gathering = Gathering::new(alloc, 2 * footprint.locations.len() + entries + more)?;
     for location in footprint.locations {
         let found = find(alloc, tree, location)?;
-        gathering.add(alloc, location.base(), found, footprint.hold)?;
+        gathering.add(location.base(), found, footprint.hold)?;
     }
     Ok(gathering)
 }

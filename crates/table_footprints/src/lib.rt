@@ -10,7 +10,7 @@ mod pages;
 mod refusal;
 mod removals;
 
-ghost use Rattle.std.specs.Prelude.{◌≡◌, IfOk, IfErr};
+ghost use Rattle.std.specs.Prelude.{◌≡◌, ◌∷◌, [], IfOk, IfErr};
 ghost use Rattle.table_footprints.specs.Cases.{seen_of};
 ghost use Rattle.table_footprints.specs.Laws.{AreFootprintsFixed, AreGrounded};
 ghost use Rattle.table_footprints.specs.NewRequests.{IsNewRequest, IsRefusedRequest, copied as name_copied, copied_page};
@@ -75,19 +75,30 @@ fn copied(want: &Want) -> Result<Option<Name>, AllocError>
         | Want::Page { .. }
         | Want::Open { .. }
         | Want::Release { .. } => Ok(None),
-        Want::Name { name, .. } | Want::Move { new_name: name, .. } | Want::Create { name, .. } => {
-            Ok(Some(name.copy()?))
-        }
+        Want::Name { name, .. }
+        | Want::Move { new_name: name, .. }
+        | Want::Exchange { new_name: name, .. }
+        | Want::Create { name, .. } => Ok(Some(name.copy()?)),
     }
 }
 
-/// A copy of the names of a page, or of those that a file may be hidden under.
+/// That name alone.
+fn one_name(alloc: Global, name: Name) -> Result<Names, AllocError>
+    ensures { IfOk result (λ names. names ≡ name ∷ []) }
+{
+    let mut names = Vec::new(alloc);
+    names.push(name)?;
+    Ok(Names::from_vec(names))
+}
+
+/// A copy of the names of a page, of those that a file may be hidden under, or of the first name of an exchange.
 fn copies(alloc: Global, want: &Want, case: Case) -> Result<Names, AllocError>
     ensures { IfOk result (λ copies. copies ≡ copied_page want.now case) }
 {
     match want {
         Want::Page { names, .. } => names.copy(),
         Want::Remove { .. } | Want::Move { .. } => candidates(alloc, case),
+        Want::Exchange { name, .. } => one_name(alloc, name.copy()?),
         Want::Node { .. }
         | Want::Name { .. }
         | Want::Open { .. }

@@ -54,7 +54,7 @@ fn folder_draft(alloc: Global, tree: &Tree, folder: u64, names: usize) -> Result
 {
     let mut gathering = Gathering::new(alloc, 2 * names + 2)?;
     let found = find(alloc, tree, &Location::AtNode(folder))?;
-    gathering.add(alloc, folder, found, Hold::Shared)?;
+    gathering.add(folder, found, Hold::Shared)?;
     Ok(gathering)
 }
 

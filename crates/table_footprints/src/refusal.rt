@@ -14,7 +14,7 @@ pub(crate) enum Refusal {
     Stale,
     /// A path is longer than 4,096 bytes.
     TooLong,
-    /// A name would be moved below itself.
+    /// A name would be moved below itself, or change places with one below it.
     IntoItself,
     /// A name would be moved onto a folder that it stands in.
     OntoFolder,

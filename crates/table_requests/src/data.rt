@@ -37,8 +37,17 @@ pub enum Want {
         /// Whether a file that is open may be hidden instead.
         may_hide: bool,
     },
-    /// A name to be moved to another, whatever stands at either (RENAME).
+    /// A name to be moved to another, whatever stands at either (RENAME, RENAME2).
     Move {
+        parent: u64,
+        name: Name,
+        new_parent: u64,
+        new_name: Name,
+        /// Whether what stands at the other is kept: then no open file is hidden there.
+        keep: bool,
+    },
+    /// Two names that change places, whatever stands at either (RENAME2).
+    Exchange {
         parent: u64,
         name: Name,
         new_parent: u64,

@@ -95,7 +95,20 @@ pub(crate) fn copy_of(want: &Want) -> Result<Want, AllocError>
             name,
             new_parent,
             new_name,
+            keep,
         } => Ok(Want::Move {
+            parent: *parent,
+            name: name.copy()?,
+            new_parent: *new_parent,
+            new_name: new_name.copy()?,
+            keep: *keep,
+        }),
+        Want::Exchange {
+            parent,
+            name,
+            new_parent,
+            new_name,
+        } => Ok(Want::Exchange {
             parent: *parent,
             name: name.copy()?,
             new_parent: *new_parent,

@@ -8,7 +8,7 @@ use Rattle.tree.specs.Places.{Lookup}
 use Rattle.table_requests.specs.declared.data.Case.{Case}
 use Rattle.table_requests.specs.declared.data.Case.TheVariants as cases
 use Rattle.table_requests.specs.declared.data.Want.{Want}
-use Rattle.table_requests.specs.declared.data.Want.TheVariants.{Node, Name as AName, Remove, Move, Page, Open, Create, Release}
+use Rattle.table_requests.specs.declared.data.Want.TheVariants.{Node, Name as AName, Remove, Move, Exchange, Page, Open, Create, Release}
 use Rattle.table_steps.specs.Answers.{Claim}
 use Rattle.holds.specs.declared.held.Held.{Held}
 use Rattle.table_footprints.specs.Asked.{Holds, IsPin, IsThere}
@@ -37,7 +37,8 @@ names_known : (seen : Seen) (f : RequestInFlight) (want : Want) (c : Case) → I
 names_known seen f (Node number handle) c fits pins = inl refl
 names_known seen f (AName parent name) c fits pins = entry_known seen.at f parent name c fits pins
 names_known seen f (Remove parent name may_hide) c fits pins = inl refl
-names_known seen f (Move parent name new_parent new_name) c fits pins = inl refl
+names_known seen f (Move parent name new_parent new_name keep) c fits pins = inl refl
+names_known seen f (Exchange parent name new_parent new_name) c fits pins = inl refl
 names_known seen f (Page folder names) c fits pins = inl (sym (length-map names (λ (name : Name). let key : Key = record { parent = folder; name = name } in key)))
 names_known seen f (Open number access) c fits pins = inl refl
 names_known seen f (Create parent name access) c fits pins = entry_known seen.at f parent name c fits pins

@@ -5,7 +5,7 @@ use Rattle.tree.specs.declared.nodes.Node.{Node}
 use Rattle.tree.specs.declared.nodes.Place.{Place}
 use Rattle.tree.specs.declared.nodes.Place.TheVariants as place
 use Rattle.tree.specs.Places.{Lookup, Nodes, at_in, IsTree}
-use Rattle.tree.specs.Moves.{after_cut, after_move}
+use Rattle.tree.specs.Moves.{after_cut, after_exchange, after_move}
 use Rattle.table_files.specs.OpenEntry.{files_of}
 use Rattle.table_requests.specs.Listed.{requests_of}
 use Rattle.table_image.specs.Law.{HasReason, HaveReasons}
@@ -36,6 +36,7 @@ altered_by_change : (s : State) (change : footprints.Change) → MayAlter s chan
 altered_by_change s footprints.stays may new same = subst (λ (at : Lookup). AltersNodes (at_in s.tree) at) (sym same) (nothing_altered (at_in s.tree))
 altered_by_change s (footprints.cuts l) may new it = alters_by (after_cut it.path) (at_in s.tree) new refl it.changes
 altered_by_change s (footprints.moves l m) may new it = alters_by (after_move it.path it.new_path) (at_in s.tree) new refl it.changes
+altered_by_change s (footprints.exchanges l m) may new it = alters_by (after_exchange it.path it.new_path) (at_in s.tree) new refl it.changes
 altered_by_change s (footprints.hides l c) may new it =
     let m = it.moves in
     alters_hidden (at_in s.tree) l c new it (path_some (at_in s.tree) c may.footprint.exclusive may.placed may.own.1 m.new_path m.new_leads)
@@ -53,6 +54,8 @@ under_given s (footprints.cuts (footprints.AtName p a)) may n other e = may.kept
 under_given s (footprints.cuts (footprints.AtNode m)) may n other (name, (x, here, named)) = absurd (other (ap (λ (o : Option Node). parent_at o) here ∙ ap (λ (p : Place). parent_in p) named))
 under_given s (footprints.moves l m) may n other (inl e) = may.kept n (subst (λ k. Contains may.footprint.given k) (sym e) (may.grounded.exclusive l may.own.0))
 under_given s (footprints.moves l m) may n other (inr e) = may.kept n (subst (λ k. Contains may.footprint.given k) (sym e) (may.grounded.exclusive m may.own.1))
+under_given s (footprints.exchanges l m) may n other (inl e) = may.kept n (subst (λ k. Contains may.footprint.given k) (sym e) (may.grounded.exclusive l may.own.0))
+under_given s (footprints.exchanges l m) may n other (inr e) = may.kept n (subst (λ k. Contains may.footprint.given k) (sym e) (may.grounded.exclusive m may.own.1))
 under_given s (footprints.hides l c) may n other (inl e) = may.kept n (subst (λ k. Contains may.footprint.given k) (sym e) (may.grounded.exclusive l may.own.0))
 under_given s (footprints.hides l c) may n other (inr e) = may.kept n (subst (λ k. Contains may.footprint.given k) (sym e) (may.grounded.exclusive c may.own.1))
 under_given s (footprints.replaces l t c m) may n other (inl e) = may.kept n (subst (λ k. Contains may.footprint.given k) (sym e) (may.grounded.exclusive l may.own.0))

@@ -7,7 +7,7 @@ use Rattle.holds.specs.declared.held.Held.{Held}
 use Rattle.holds.specs.Conflicts.{Conflict, IsHeld}
 use Rattle.tree.specs.declared.nodes.Node.{Node}
 use Rattle.tree.specs.Places.{Lookup, IsNamed, IsPathOf, IsTree, Reaches}
-use Rattle.tree.proofs.Transfers.{path_after_cut, path_after_move}
+use Rattle.tree.proofs.Transfers.{path_after_cut, path_after_exchange, path_after_move}
 use Rattle.table_requests.specs.declared.data.Given.{Given}
 use Rattle.ledger.specs.declared.postings.Posting.{Posting}
 use Rattle.tree.specs.declared.nodes.Key.{Key}
@@ -23,7 +23,7 @@ use Rattle.table_steps.specs.declared.data.Outcome.TheVariants.{Done, Entries, E
 use Rattle.table_footprints.specs.Asked.{HasPath, Holds}
 use Rattle.table_footprints.specs.Laws.{AreOwn, IsGrounded}
 use Rattle.table_steps.specs.Laws.{AreEntriesHarmless, AreOthersLeft, AreSweepsHarmless, IsPlaced, LeavesWork}
-use Rattle.table_footprints.specs.Footprints.{AtName, AtNode, Change, Footprint, Location, cuts, hides, moves, replaces, footprint_of, stays}
+use Rattle.table_footprints.specs.Footprints.{AtName, AtNode, Change, Footprint, Location, cuts, exchanges, hides, moves, replaces, footprint_of, stays}
 use Rattle.table_steps.specs.Steps.{Alters, EntersAll, Hides, HoldsUp, Marks, Moves, act_of, hiding_at, none_there, one_there, replacing_at}
 use Rattle.table_steps.specs.World.{RequestInFlight, RequestsInFlight, IsAtWork, Work}
 use Rattle.table_footprints.proofs.Members.{any_in, first_in, later_in}
@@ -46,6 +46,7 @@ hiding_own exclusive (cuts (AtName p a)) (Some c) own among = (own, among c refl
 hiding_own exclusive (moves s t) o own among = tt
 hiding_own exclusive (hides l c) o own among = tt
 hiding_own exclusive (replaces s t c m) o own among = tt
+hiding_own exclusive (exchanges s t) o own among = tt
 
 pub replacing_own : (exclusive : List Location) (change : Change) (o : Option Location) (moved : Bool) → AreOwn exclusive change → ((l : Location) → o ≡ Some l → Contains exclusive l) → AreOwn exclusive (replacing_at change o moved)
 replacing_own exclusive stays o moved own among = tt
@@ -54,6 +55,7 @@ replacing_own exclusive (moves s t) None moved own among = tt
 replacing_own exclusive (moves s t) (Some c) moved own among = (own.0, own.1, among c refl)
 replacing_own exclusive (hides l c) o moved own among = tt
 replacing_own exclusive (replaces s t c m) o moved own among = tt
+replacing_own exclusive (exchanges s t) o moved own among = tt
 
 pub act_own : (d : Footprint) → IsGrounded d → (outcome : Outcome) → AreOwn d.exclusive (act_of d outcome).change
 act_own d footprint Failed = tt
@@ -118,6 +120,7 @@ module _ (old : Lookup) (flights : RequestsInFlight) (d : Footprint) (held : Hel
   path_stays stays new own same n h = subst (λ at. IsPathOf at n q) (sym same) h
   path_stays (cuts l) new own it n h = path_after_cut old new it.path it.changes n q (apart l own it.path it.leads) h
   path_stays (moves s t) new own it n h = moved_away s t own.0 own.1 new it n h
+  path_stays (exchanges s t) new own it n h = path_after_exchange old new it.path it.new_path it.changes n q (apart t own.1 it.new_path it.new_leads) (apart s own.0 it.path it.leads) h
   path_stays (hides l c) new own it n h = hidden_away l c own.0 own.1 new it n h
   path_stays (replaces s t c moved) new own it n h =
       path_follows it.hidden new it.hides.moves.new_path it.path it.new_path moved it.follows n q (apart t own.1 it.new_path it.new_leads) (apart s own.0 it.path it.leads) (hidden_away t c own.1 own.2 it.hidden it.hides n h)

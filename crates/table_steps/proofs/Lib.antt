@@ -39,3 +39,4 @@ pub mod Changing
 pub mod Answering
 mod Filling
 pub mod NewlyCut
+mod Exchanging

@@ -16,7 +16,7 @@ use Rattle.tree.proofs.Transfers.{changes_alive}
 use Rattle.table_footprints.specs.Asked.{HasPath, IsMisplaced, IsProperPrefix, IsRefusedAt}
 use Rattle.table_footprints.specs.Laws.{AreSiblings, IsBeside}
 use Rattle.table_footprints.specs.NewRequests.{footprint_in}
-use Rattle.table_footprints.specs.Footprints.{AtName, AtNode, Change, Location, cuts, hides, moves, replaces, stays}
+use Rattle.table_footprints.specs.Footprints.{AtName, AtNode, Change, Location, cuts, exchanges, hides, moves, replaces, stays}
 use Rattle.table_steps.specs.declared.state.State.{State}
 use Rattle.table_steps.specs.Ending.{IsEnding, KeepsChildren, MayAlter, name_at}
 use Rattle.table_steps.specs.Kept.{IsKept}
@@ -54,6 +54,7 @@ hiding_placed at tree (cuts (AtName p a)) (Some c) beside e bad = siblings_place
 hiding_placed at tree (moves s t) o beside e bad = bad
 hiding_placed at tree (hides l c) o beside e bad = bad
 hiding_placed at tree (replaces s t c moved) o beside e bad = bad
+hiding_placed at tree (exchanges s t) o beside e bad = bad
 
 -- what a request that ends may hide
 pub may_hide : (s : State) (id : ℕ) (work : RecordedWork) → IsKept s → IsEnding s id work → (i : ℕ) → MayAlter s (hiding_at (footprint_in work).done (slice_get (footprint_in work).candidates i))
@@ -81,6 +82,7 @@ replacing_placed at tree (moves s t) (Some c) moved may beside e (inl bad) = may
 replacing_placed at tree (moves s t) (Some c) moved may beside e (inr bad) = siblings_placed at tree t c (beside c refl) e bad
 replacing_placed at tree (hides l c) o moved may beside e bad = bad
 replacing_placed at tree (replaces s t c again) o moved may beside e bad = bad
+replacing_placed at tree (exchanges s t) o moved may beside e bad = bad
 
 -- and what it may replace
 pub may_replace : (s : State) (id : ℕ) (work : RecordedWork) → IsKept s → IsEnding s id work → (i : ℕ) (moved : Bool) → MayAlter s (replacing_at (footprint_in work).done (slice_get (footprint_in work).candidates i) moved)

@@ -1,17 +1,18 @@
 -- Which nodes a change of names lists as newly cut.
-use Rattle.std.proofs.Common.{ℕ, ◌≡◌, List, [], ◌∷◌, ◌++◌, Option, Some, None, Contains, refl, sym, ap, ◌∙◌, subst, ◌⊎◌, inl, inr}
-use Rattle.std.proofs.lemmas.Bool.{cases_eq}
+use Rattle.std.proofs.Common.{ℕ, ◌≡◌, List, [], ◌∷◌, ◌++◌, if◌then◌else◌, Option, Some, None, Contains, length, drop, refl, sym, ap, ◌∙◌, subst, ◌⊎◌, inl, inr}
+use Rattle.std.proofs.lemmas.Bool.{cases_Bool, cases_eq, cond-false, cond-true}
 use Rattle.std.proofs.lemmas.Option.{none-some, same_Some}
 use Rattle.std.proofs.lemmas.List.Elements.{Contains-append_left, Contains-append_right}
-use Rattle.paths.specs.Prefixes.{Name, Names}
+use Rattle.paths.specs.Prefixes.{Name, Names, is_prefix}
 use Rattle.tree.specs.declared.nodes.Key.{Key}
 use Rattle.tree.specs.declared.nodes.Node.{Node}
 use Rattle.tree.specs.declared.nodes.Place.{Place}
 use Rattle.tree.specs.declared.nodes.Place.TheVariants.{Root, Named, Cut}
-use Rattle.tree.specs.Moves.{ListsCuts, Writes}
-use Rattle.tree.specs.Places.{Lookup, HasChild, IsCut, IsTree, Nodes, Reaches, at_in}
-use Rattle.tree.proofs.Climbing.{cut_unnamed, place_same}
+use Rattle.tree.specs.Moves.{Exchanges, ExchangesPlaces, ListsCuts, Stands, Where, Writes, after_exchange, at_path}
+use Rattle.tree.specs.Places.{Lookup, HasChild, IsCut, IsPathOf, IsTree, Nodes, Reaches, at_in}
+use Rattle.tree.proofs.Climbing.{cut_unnamed, path_of_lead, place_same}
 use Rattle.tree.proofs.LookupLemmas.{cases_option, with_some}
+use Rattle.tree.proofs.Transfers.{cut_pathless}
 use Rattle.table_steps.specs.Sweeping.{AreListed}
 use Rattle.table_steps.proofs.Placing.{parent_leads}
 
@@ -19,10 +20,10 @@ pub listed_same : (t : Nodes) → AreListed t t
 listed_same t = record { kept = λ n h. h; cut = λ n h. inl h }
 
 pub listed_then : (a b c : Nodes) → AreListed a b → AreListed b c → AreListed a c
-listed_then a b c first then = record {
-  kept = λ n h. then.kept n (first.kept n h);
-  cut = λ n h. elim (then.cut n h) [
-    | inl was ↦ elim (first.cut n was) [ inl before ↦ inl before | inr among ↦ inr (then.kept n among) ]
+listed_then a b c first after = record {
+  kept = λ n h. after.kept n (first.kept n h);
+  cut = λ n h. elim (after.cut n h) [
+    | inl was ↦ elim (first.cut n was) [ inl before ↦ inl before | inr among ↦ inr (after.kept n among) ]
     | inr among ↦ inr among
   ];
 }
@@ -50,6 +51,42 @@ listed_by old new lists = record {
     | inl was ↦ inl was
     | inr uncut ↦ inr (subst (λ (l : List ℕ). Contains l n) (sym lists.after_is) (Contains-append_right old.newly_cut lists.more n ((lists.are_new n).1 (h, uncut))))
   ];
+}
+
+-- an exchange takes a path to a path
+exchanged_path : (p q r : Names) → (s : Names) × (after_exchange p q (at_path r) ≡ at_path s)
+exchanged_path p q r = elim (cases_Bool (is_prefix p r)) [
+  | inl prefix ↦ (q ++ drop (length p) r, cond-true (is_prefix p r) (at_path (q ++ drop (length p) r)) (if is_prefix q r then at_path (p ++ drop (length q) r) else at_path r) prefix)
+  | inr none ↦ elim (cases_Bool (is_prefix q r)) [
+    | inl prefix ↦ (p ++ drop (length q) r, rw (none, prefix) refl)
+    | inr none' ↦ (r, rw (none, none') refl)
+  ]
+]
+
+-- so it cuts nothing
+module _ (old new : Lookup) (tree : IsTree old) (tree' : IsTree new) (parent : ℕ) (name : Name) (new_parent : ℕ) (new_name : Name) (exchanges : Exchanges old new parent name new_parent new_name) where
+  rooted_uncut : (n : ℕ) (r : Names) → IsPathOf old n r → IsCut new n → ⊥
+  rooted_uncut n r h lost =
+      let p = exchanges.above ++ name ∷ [] in
+      let q = exchanges.new_above ++ new_name ∷ [] in
+      let to = exchanged_path p q r in
+      cut_pathless new tree' n to.0 lost (subst (λ (w : Where). Stands new n w) to.1 (exchanges.changes.moved n (at_path r) h))
+
+  uncut_by : (n : ℕ) (x : Node) → old n ≡ Some x → (pl : Place) → x.place ≡ pl → IsCut new n → IsCut old n
+  uncut_by n x stood Root is lost = absurd (rooted_uncut n [] (tree.only_root n x stood is) lost)
+  uncut_by n x stood (Named key) is lost = let it = path_of_lead old n (tree.reached n key.parent key.name (x, stood, is)) in absurd (rooted_uncut n it.0 it.1 lost)
+  uncut_by n x stood Cut is lost = (x, stood, is)
+
+  pub exchange_uncut : (n : ℕ) → IsCut new n → IsCut old n
+  exchange_uncut n lost = elim (cases_option (old n)) [
+    | inl none ↦ absurd (none-some lost.0 (sym (exchanges.changes.none_comes n none) ∙ lost.1))
+    | inr (x, stood) ↦ uncut_by n x stood x.place refl lost
+  ]
+
+pub listed_exchanged : (old new : Nodes) (parent : ℕ) (name : Name) (new_parent : ℕ) (new_name : Name) → IsTree (at_in old) → IsTree (at_in new) → ExchangesPlaces old parent name new_parent new_name new → AreListed old new
+listed_exchanged old new parent name new_parent new_name tree tree' it = record {
+  kept = λ n h. subst (λ (l : List ℕ). Contains l n) (sym (ap (λ (t : Nodes). t.newly_cut) it.rest)) h;
+  cut = λ n h. inl (exchange_uncut (at_in old) (at_in new) tree tree' parent name new_parent new_name it.exchanges n h);
 }
 
 -- a node is written that keeps its place

@@ -2,8 +2,8 @@
 use Rattle.std.proofs.Common.{ℤ, ap, inl, inr, to_z, of_z, w32}
 use Rattle.paths.specs.Prefixes.{Names}
 use Rattle.tree.specs.Places.{Lookup}
-use Rattle.table_footprints.specs.Asked.{IsMisplaced, IsRefusedAt, IsRefusedMove, IsUnsound, long, misplaced, no_memory, stale}
-use Rattle.table_footprints.specs.Footprints.{Change, Footprint, Location, cuts, hides, moves, replaces, stays}
+use Rattle.table_footprints.specs.Asked.{IsMisplaced, IsRefusedAt, IsRefusedBetween, IsRefusedMove, IsUnsound, long, misplaced, no_memory, stale}
+use Rattle.table_footprints.specs.Footprints.{Change, Footprint, Location, cuts, exchanges, hides, moves, replaces, stays}
 use Rattle.table_steps.specs.Steps.{IsRefusal, bad_handle, crowded, full, unsound}
 use Rattle.table_steps.specs.World.{World}
 
@@ -17,10 +17,14 @@ refused_bits p q e (inr (is, prefix)) = inr (ap bits is, prefix)
 refused_at_bits : (at : Lookup) (source target : Location) (e : ℤ) → IsRefusedAt at source target e → IsRefusedAt at source target (bits e)
 refused_at_bits at source target e it = record { path = it.path; leads = it.leads; new_path = it.new_path; new_leads = it.new_leads; refused = refused_bits it.path it.new_path e it.refused }
 
+refused_between_bits : (at : Lookup) (source target : Location) (e : ℤ) → IsRefusedBetween at source target e → IsRefusedBetween at source target (bits e)
+refused_between_bits at source target e it = record { path = it.path; leads = it.leads; new_path = it.new_path; new_leads = it.new_leads; refused = (ap bits it.refused.0, it.refused.1) }
+
 misplaced_bits : (at : Lookup) (c : Change) (e : ℤ) → IsMisplaced at c e → IsMisplaced at c (bits e)
 misplaced_bits at stays e bad = bad
 misplaced_bits at (cuts l) e bad = bad
 misplaced_bits at (moves source target) e it = refused_at_bits at source target e it
+misplaced_bits at (exchanges source target) e it = refused_between_bits at source target e it
 misplaced_bits at (hides l candidate) e it = refused_at_bits at l candidate e it
 misplaced_bits at (replaces source target candidate moved) e (inl it) = inl (refused_at_bits at source target e it)
 misplaced_bits at (replaces source target candidate moved) e (inr it) = inr (refused_at_bits at target candidate e it)

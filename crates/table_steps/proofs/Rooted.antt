@@ -25,7 +25,7 @@ use Rattle.table_footprints.specs.Asked.{Holds, IsPrefixAt, promise_of}
 use Rattle.table_footprints.specs.Cases.{IsCase, IsClosingCase, Seen}
 use Rattle.table_footprints.specs.Laws.{AreOwn, IsGrounded, base_of}
 use Rattle.table_footprints.specs.NewRequests.{footprint_in}
-use Rattle.table_footprints.specs.Footprints.{AtName, AtNode, Change, Footprint, Opening, closed_exclusive, cuts, hidden_in, hides, moves, names_under, page_keys, replaces, footprint_of, stays}
+use Rattle.table_footprints.specs.Footprints.{AtName, AtNode, Change, Footprint, Opening, closed_exclusive, cuts, exchanges, hidden_in, hides, moves, names_under, page_keys, replaces, footprint_of, stays}
 use Rattle.table_footprints.proofs.Members.{any_in, cases_in, first_in, in_map, none_in, only_in}
 use Rattle.table_footprints.proofs.FootprintLemmas.{are_grounded}
 use Rattle.table_steps.specs.declared.state.State.{State}
@@ -44,7 +44,8 @@ pub entries_under : (want : Want) (c : Case) (key : Key) → Contains (footprint
 entries_under (wants.Node number handle) c key h = absurd (none_in key h)
 entries_under (wants.Name parent name) c key h = subst (λ (k : Key). Contains (parent ∷ []) k.parent) (only_in (record { parent = parent; name = name }) key h) (first_in parent [])
 entries_under (wants.Remove parent name may_hide) c key h = absurd (none_in key h)
-entries_under (wants.Move parent name new_parent new_name) c key h = absurd (none_in key h)
+entries_under (wants.Move parent name new_parent new_name keep) c key h = absurd (none_in key h)
+entries_under (wants.Exchange parent name new_parent new_name) c key h = absurd (none_in key h)
 entries_under (wants.Page folder names) c key h =
     let it = in_map (λ (name : Name). let k : Key = record { parent = folder; name = name } in k) names key h in
     subst (λ (k : Key). Contains (folder ∷ []) k.parent) it.2 (first_in folder [])
@@ -57,7 +58,8 @@ entries_shared : (want : Want) (c : Case) → (footprint_of want c).page ≡ fal
 entries_shared (wants.Node number handle) c one key h = absurd (none_in key h)
 entries_shared (wants.Name parent name) c one key h = subst (λ (k : Key). Contains (AtName parent name ∷ []) (name_at k)) (only_in (record { parent = parent; name = name }) key h) (first_in (AtName parent name) [])
 entries_shared (wants.Remove parent name may_hide) c one key h = absurd (none_in key h)
-entries_shared (wants.Move parent name new_parent new_name) c one key h = absurd (none_in key h)
+entries_shared (wants.Move parent name new_parent new_name keep) c one key h = absurd (none_in key h)
+entries_shared (wants.Exchange parent name new_parent new_name) c one key h = absurd (none_in key h)
 entries_shared (wants.Page folder names) c one key h = absurd (true≢false one)
 entries_shared (wants.Open number access) c one key h = absurd (none_in key h)
 entries_shared (wants.Create parent name access) c one key h = subst (λ (k : Key). Contains (AtName parent name ∷ []) (name_at k)) (only_in (record { parent = parent; name = name }) key h) (first_in (AtName parent name) [])
@@ -68,7 +70,8 @@ page_births : (want : Want) (c : Case) → (footprint_of want c).page ≡ true �
 page_births (wants.Node number handle) c page = refl
 page_births (wants.Name parent name) c page = absurd (false≢true page)
 page_births (wants.Remove parent name may_hide) c page = refl
-page_births (wants.Move parent name new_parent new_name) c page = refl
+page_births (wants.Move parent name new_parent new_name keep) c page = refl
+page_births (wants.Exchange parent name new_parent new_name) c page = refl
 page_births (wants.Page folder names) c page = sym (length-map names (λ (name : Name). let k : Key = record { parent = folder; name = name } in k))
 page_births (wants.Open number access) c page = refl
 page_births (wants.Create parent name access) c page = absurd (false≢true page)
@@ -97,9 +100,13 @@ rows_placed seen (wants.Node number handle) c fits h = none_in (AtNode 1) h
 rows_placed seen (wants.Name parent name) c fits h = none_in (AtNode 1) h
 rows_placed seen (wants.Remove parent name may_hide) c fits h = beside_else parent name (hidden_in c) h
 rows_placed seen (wants.Page folder names) c fits h = none_in (AtNode 1) h
-rows_placed seen (wants.Move parent name new_parent new_name) c fits h = elim (cases_in (AtName parent name) (AtName new_parent new_name ∷ names_under new_parent (hidden_in c)) (AtNode 1) h) [
+rows_placed seen (wants.Move parent name new_parent new_name keep) c fits h = elim (cases_in (AtName parent name) (AtName new_parent new_name ∷ names_under new_parent (hidden_in c)) (AtNode 1) h) [
   | inl e ↦ name_else parent name e
   | inr more ↦ beside_else new_parent new_name (hidden_in c) more
+]
+rows_placed seen (wants.Exchange parent name new_parent new_name) c fits h = elim (cases_in (AtName parent name) (AtName new_parent new_name ∷ []) (AtNode 1) h) [
+  | inl e ↦ name_else parent name e
+  | inr more ↦ beside_else new_parent new_name [] more
 ]
 rows_placed seen (wants.Open number access) c fits h = none_in (AtNode 1) h
 rows_placed seen (wants.Create parent name access) c fits h = none_in (AtNode 1) h
@@ -115,7 +122,8 @@ pub node_given : (want : Want) (c : Case) (number : ℕ) (access : Access) → S
 node_given (wants.Node n handle) c number access e = absurd (none-some _ (sym e))
 node_given (wants.Name parent name) c number access e = absurd (none-some _ (sym e))
 node_given (wants.Remove parent name may_hide) c number access e = absurd (none-some _ (sym e))
-node_given (wants.Move parent name new_parent new_name) c number access e = absurd (none-some _ (sym e))
+node_given (wants.Move parent name new_parent new_name keep) c number access e = absurd (none-some _ (sym e))
+node_given (wants.Exchange parent name new_parent new_name) c number access e = absurd (none-some _ (sym e))
 node_given (wants.Page folder names) c number access e = absurd (none-some _ (sym (e ∙ none_alone (length (page_keys folder names) == 0) None refl)))
 node_given (wants.Open n a) c number access e =
     let one : Opening = record { target = AtNode number; access = access } in
@@ -142,6 +150,7 @@ pub own_leads : (at : Lookup) (d : Footprint) (held : Held) → IsGrounded d →
 own_leads at d held grounded holds stays own = tt
 own_leads at d held grounded holds (cuts l) own = given_leads at d held holds (base_of l) (grounded.exclusive l own)
 own_leads at d held grounded holds (moves s t) own = (given_leads at d held holds (base_of s) (grounded.exclusive s own.0), given_leads at d held holds (base_of t) (grounded.exclusive t own.1))
+own_leads at d held grounded holds (exchanges s t) own = (given_leads at d held holds (base_of s) (grounded.exclusive s own.0), given_leads at d held holds (base_of t) (grounded.exclusive t own.1))
 own_leads at d held grounded holds (hides l c) own = (given_leads at d held holds (base_of l) (grounded.exclusive l own.0), given_leads at d held holds (base_of c) (grounded.exclusive c own.1))
 own_leads at d held grounded holds (replaces s t c moved) own =
     (given_leads at d held holds (base_of s) (grounded.exclusive s own.0), given_leads at d held holds (base_of t) (grounded.exclusive t own.1), given_leads at d held holds (base_of c) (grounded.exclusive c own.2))
@@ -169,7 +178,8 @@ lead_of : (at : Lookup) (want : Want) (c : Case) (held : Held) → Holds at (foo
 lead_of at (wants.Node number handle) c held holds n h = absurd (none_in n h)
 lead_of at (wants.Name parent name) c held holds n h = absurd (none_in n h)
 lead_of at (wants.Remove parent name may_hide) c held holds n h = absurd (none_in n h)
-lead_of at (wants.Move parent name new_parent new_name) c held holds n h = absurd (none_in n h)
+lead_of at (wants.Move parent name new_parent new_name keep) c held holds n h = absurd (none_in n h)
+lead_of at (wants.Exchange parent name new_parent new_name) c held holds n h = absurd (none_in n h)
 lead_of at (wants.Page folder names) c held holds n h = subst (λ k. LeadsTo at held.given k) (only_in folder n h) (lead_only at held.given folder holds.numbers holds.leads)
 lead_of at (wants.Open number access) c held holds n h = absurd (none_in n h)
 lead_of at (wants.Create parent name access) c held holds n h = absurd (none_in n h)

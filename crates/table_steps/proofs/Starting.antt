@@ -104,7 +104,8 @@ pub hides_so : (seen : Seen) (want : Want) (c : Case) → IsCase seen want c →
 hides_so seen (wants.Node number handle) c fits kept is = none_fit kept (is ∙ ap (λ (k : Case). hidden_in k) fits)
 hides_so seen (wants.Name parent name) c fits kept is = none_fit kept (is ∙ entry_fits seen.at parent name c fits)
 hides_so seen (wants.Remove parent name may) c fits kept is = names_fit parent (hidden_in c) kept is
-hides_so seen (wants.Move parent name new_parent new_name) c fits kept is = names_fit new_parent (hidden_in c) kept is
+hides_so seen (wants.Move parent name new_parent new_name keep) c fits kept is = names_fit new_parent (hidden_in c) kept is
+hides_so seen (wants.Exchange parent name new_parent new_name) c fits kept is = none_fit kept (is ∙ ap (λ (k : Case). hidden_in k) fits)
 hides_so seen (wants.Page folder names) c fits kept is = none_fit kept (is ∙ ap (λ (k : Case). hidden_in k) fits)
 hides_so seen (wants.Open number access) c fits kept is = none_fit kept (is ∙ ap (λ (k : Case). hidden_in k) fits)
 hides_so seen (wants.Create parent name access) c fits kept is = none_fit kept (is ∙ entry_fits seen.at parent name c fits)
@@ -122,7 +123,8 @@ pub same_case : (want : Want) (c : Case) → is_same (footprint_of want cases.Pl
 same_case (wants.Node number handle) c = refl
 same_case (wants.Name parent name) c = refl
 same_case (wants.Remove parent name may_hide) c = refl
-same_case (wants.Move parent name new_parent new_name) c = refl
+same_case (wants.Move parent name new_parent new_name keep) c = refl
+same_case (wants.Exchange parent name new_parent new_name) c = refl
 same_case (wants.Page folder names) c = refl
 same_case (wants.Open number access) c = refl
 same_case (wants.Create parent name access) c = refl
@@ -133,7 +135,8 @@ pub same_closes : (want : Want) (c : Case) → (footprint_of want cases.Plain).c
 same_closes (wants.Node number handle) c = refl
 same_closes (wants.Name parent name) c = refl
 same_closes (wants.Remove parent name may_hide) c = refl
-same_closes (wants.Move parent name new_parent new_name) c = refl
+same_closes (wants.Move parent name new_parent new_name keep) c = refl
+same_closes (wants.Exchange parent name new_parent new_name) c = refl
 same_closes (wants.Page folder names) c = refl
 same_closes (wants.Open number access) c = refl
 same_closes (wants.Create parent name access) c = refl

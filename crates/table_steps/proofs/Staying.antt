@@ -12,9 +12,9 @@ use Rattle.tree.specs.declared.nodes.Key.{Key}
 use Rattle.tree.specs.Places.{Lookup, IsPathOf, IsTree}
 use Rattle.tree.proofs.Climbing.{named_at, path_same, path_under}
 use Rattle.table_steps.proofs.Remaining.{HoldsPrefixes}
-use Rattle.table_footprints.specs.Asked.{ArePaths, HasPath, Holds, IsAboveAt, IsExclusive, IsMisplaced, IsRefusedAt, IsPrefixAt, IsShared}
+use Rattle.table_footprints.specs.Asked.{ArePaths, HasPath, Holds, IsAboveAt, IsExclusive, IsMisplaced, IsRefusedAt, IsRefusedBetween, IsPrefixAt, IsShared}
 use Rattle.table_footprints.specs.Laws.{AreOwn, IsGrounded, base_of}
-use Rattle.table_footprints.specs.Footprints.{AtName, AtNode, Change, Footprint, Location, cuts, hides, moves, replaces, stays}
+use Rattle.table_footprints.specs.Footprints.{AtName, AtNode, Change, Footprint, Location, cuts, exchanges, hides, moves, replaces, stays}
 use Rattle.table_steps.specs.World.{RequestInFlight, IsReady, IsStanding, Work}
 use Rattle.table_footprints.proofs.Members.{any_in, in_any, in_map, later_in, cases_in, first_in, none_in}
 use Rattle.table_footprints.proofs.FootprintLemmas.{are_grounded}
@@ -140,6 +140,9 @@ module _ (old new : Lookup) (tree' : IsTree new) (d : Footprint) (held : Held) (
   refused_back : (s t : Location) → Contains d.given (base_of s) → Contains d.given (base_of t) → (e : ℤ) → IsRefusedAt new s t e → IsRefusedAt old s t e
   refused_back s t gs gt e it = record { path = it.path; leads = back s gs it.path it.leads; new_path = it.new_path; new_leads = back t gt it.new_path it.new_leads; refused = it.refused }
 
+  between_back : (s t : Location) → Contains d.given (base_of s) → Contains d.given (base_of t) → (e : ℤ) → IsRefusedBetween new s t e → IsRefusedBetween old s t e
+  between_back s t gs gt e it = record { path = it.path; leads = back s gs it.path it.leads; new_path = it.new_path; new_leads = back t gt it.new_path it.new_leads; refused = it.refused }
+
   -- what stands at a name that is shared stands there still
   standing_kept : (key : Key) → Contains d.shared (AtName key.parent key.name) → IsStanding old f key → IsStanding new f key
   standing_kept key shared it =
@@ -159,6 +162,7 @@ misplaced_back : (old new : Lookup) (tree' : IsTree new) (d : Footprint) (held :
 misplaced_back old new tree' d held footprint holds f pinned keeps stays own e bad = bad
 misplaced_back old new tree' d held footprint holds f pinned keeps (cuts l) own e bad = bad
 misplaced_back old new tree' d held footprint holds f pinned keeps (moves s t) own e bad = refused_back old new tree' d held footprint holds f pinned keeps s t (footprint.exclusive s own.0) (footprint.exclusive t own.1) e bad
+misplaced_back old new tree' d held footprint holds f pinned keeps (exchanges s t) own e bad = between_back old new tree' d held footprint holds f pinned keeps s t (footprint.exclusive s own.0) (footprint.exclusive t own.1) e bad
 misplaced_back old new tree' d held footprint holds f pinned keeps (hides l c) own e bad = refused_back old new tree' d held footprint holds f pinned keeps l c (footprint.exclusive l own.0) (footprint.exclusive c own.1) e bad
 misplaced_back old new tree' d held footprint holds f pinned keeps (replaces s t c moved) own e (inl bad) = inl (refused_back old new tree' d held footprint holds f pinned keeps s t (footprint.exclusive s own.0) (footprint.exclusive t own.1) e bad)
 misplaced_back old new tree' d held footprint holds f pinned keeps (replaces s t c moved) own e (inr bad) = inr (refused_back old new tree' d held footprint holds f pinned keeps t c (footprint.exclusive t own.1) (footprint.exclusive c own.2) e bad)

@@ -17,9 +17,9 @@ use Rattle.tree.specs.Places.{Lookup, HasChild, IsAlive, IsCut, IsNamed, IsPathO
 use Rattle.table_footprints.specs.Asked.{Holds, IsMisplaced}
 use Rattle.table_footprints.specs.Laws.{AreOwn, IsGrounded, base_of}
 use Rattle.table_footprints.specs.NewRequests.{IsProvided}
-use Rattle.table_footprints.specs.Footprints.{Change, Footprint, AtName, AtNode, Location, Opening, cuts, hides, moves, page_keys, page_names, replaces, stays}
+use Rattle.table_footprints.specs.Footprints.{Change, Footprint, AtName, AtNode, Location, Opening, cuts, exchanges, hides, moves, page_keys, page_names, replaces, stays}
 use Rattle.table_steps.specs.declared.acts.Change.{Change as Changing}
-use Rattle.table_steps.specs.declared.acts.Change.TheVariants.{Stays, Cuts, CutsNode, Moves, Hides, Replaces}
+use Rattle.table_steps.specs.declared.acts.Change.TheVariants.{Stays, Cuts, CutsNode, Exchanges, Moves, Hides, Replaces}
 use Rattle.table_steps.specs.declared.acts.Entries.{Entries}
 use Rattle.table_steps.specs.declared.acts.Entries.TheVariants.{Nothing, One, Page}
 use Rattle.table_steps.specs.declared.keys.Keys.{Keys}
@@ -67,6 +67,7 @@ change_in (CutsNode number) = cuts (AtNode number)
 change_in (Moves key target) = moves (name_at key) (name_at target.key)
 change_in (Hides key candidate) = hides (name_at key) (name_at candidate.key)
 change_in (Replaces key target candidate moved) = replaces (name_at key) (name_at target.key) (name_at candidate.key) moved
+change_in (Exchanges source target) = exchanges (name_at source.key) (name_at target.key)
 
 abbrev pub keyed_name : Keys → Location
 keyed_name keys = name_at keys.key
@@ -202,6 +203,7 @@ AreUnder P (cuts l) = P (base_of l)
 AreUnder P (moves source target) = P (base_of source) × P (base_of target)
 AreUnder P (hides l candidate) = P (base_of l) × P (base_of candidate)
 AreUnder P (replaces source target candidate moved) = P (base_of source) × P (base_of target) × P (base_of candidate)
+AreUnder P (exchanges source target) = P (base_of source) × P (base_of target)
 
 -- what stands there is named under the node
 abbrev pub IsOver : Lookup → Location → ℕ → Type 0
@@ -214,6 +216,7 @@ IsUnder at (cuts l) n = IsOver at l n
 IsUnder at (moves source target) n = (n ≡ base_of source) ⊎ (n ≡ base_of target)
 IsUnder at (hides l candidate) n = (n ≡ base_of l) ⊎ (n ≡ base_of candidate)
 IsUnder at (replaces source target candidate moved) n = (n ≡ base_of source) ⊎ ((n ≡ base_of target) ⊎ (n ≡ base_of candidate))
+IsUnder at (exchanges source target) n = (n ≡ base_of source) ⊎ (n ≡ base_of target)
 
 -- the node that is not given and may lose its last child: that over a node which is cut by its number
 abbrev pub loses : Lookup → Change → Option ℕ
@@ -223,6 +226,7 @@ loses at (cuts (AtNode number)) = parent_at (at number)
 loses at (moves source target) = None
 loses at (hides l candidate) = None
 loses at (replaces source target candidate moved) = None
+loses at (exchanges source target) = None
 
 -- an entry of the name is given, and the request pins its node
 pub record EntersName (old : World) (id : ℕ) (f : RequestInFlight) (key : Key) (g : Given) (new : World) : Type 0 where

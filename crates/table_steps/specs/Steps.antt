@@ -14,11 +14,11 @@ use Rattle.ledger.specs.declared.postings.Posting.TheVariants as posting
 use Rattle.paths.specs.Prefixes.{Names, is_prefix}
 use Rattle.tree.specs.declared.nodes.Key.{Key}
 use Rattle.tree.specs.declared.nodes.Node.{Node}
-use Rattle.tree.specs.Moves.{Changes, IsPathOfName, Where, after_cut, after_move}
+use Rattle.tree.specs.Moves.{Changes, IsPathOfName, Where, after_cut, after_exchange, after_move}
 use Rattle.tree.specs.Places.{Lookup, with_node}
 use Rattle.table_footprints.specs.Asked.{ArePaths, HasPath, Holds, IsPin, IsSound, IsThere, IsUnsound, promise_of}
 use Rattle.table_footprints.specs.Cases.{IsFootprint}
-use Rattle.table_footprints.specs.Footprints.{AtName, AtNode, Change, Footprint, Location, Opening, Used, cuts, hides, is_same, moves, replaces, stays}
+use Rattle.table_footprints.specs.Footprints.{AtName, AtNode, Change, Footprint, Location, Opening, Used, cuts, exchanges, hides, is_same, moves, replaces, stays}
 use Rattle.table_steps.specs.declared.data.Begin.{Begin}
 use Rattle.table_steps.specs.declared.data.Begin.TheVariants.{Go, Busy, Refused}
 use Rattle.table_steps.specs.declared.data.Outcome.{Outcome}
@@ -134,12 +134,13 @@ is_cut (cuts l) = true
 is_cut (moves source target) = false
 is_cut (hides l candidate) = false
 is_cut (replaces source target candidate moved) = false
+is_cut (exchanges source target) = false
 
 -- whether a file is closed whose node is removed by the end of the work
 abbrev pub is_last : Footprint → Bool
 is_last d = is_some d.closes && is_cut d.done
 
--- the ticket tells the paths, whether a name is moved to itself, or may have to be hidden, and whether a last opening removes a file
+-- the ticket tells the paths, whether a name is moved to itself or changes places with itself, or may have to be hidden, and whether a last opening removes a file
 pub record IsTicket (at : Lookup) (d : Footprint) (ticket : Claim) : Type 0 where
   pub paths : ArePaths at d.paths ticket.paths
   pub same : ticket.same ≡ is_same d.done
@@ -216,6 +217,7 @@ hiding_at (cuts (AtName parent name)) (Some candidate) = hides (AtName parent na
 hiding_at (moves source target) candidate = stays
 hiding_at (hides l other) candidate = stays
 hiding_at (replaces source target other moved) candidate = stays
+hiding_at (exchanges source target) candidate = stays
 
 -- what was to be replaced is, and then another name is moved to its place, if it may be
 abbrev pub replacing_at : Change → Option Location → Bool → Change
@@ -225,6 +227,7 @@ replacing_at (moves source target) None moved = stays
 replacing_at (moves source target) (Some candidate) moved = replaces source target candidate moved
 replacing_at (hides l other) candidate moved = stays
 replacing_at (replaces source target other again) candidate moved = stays
+replacing_at (exchanges source target) candidate moved = stays
 
 -- an outcome that does not fit the footprint acts as a failure
 abbrev pub act_of : Footprint → Outcome → Act
@@ -302,12 +305,21 @@ pub record Replaces (old : Lookup) (source target candidate : Location) (moved :
   pub hides : Hides old target candidate hidden
   pub follows : Follows hidden hides.moves.new_path path new_path moved new
 
+-- what stands at either or below is moved to the other
+pub record Exchanges (old : Lookup) (source target : Location) (new : Lookup) : Type 0 where
+  pub path : Names
+  pub leads : HasPath old source path
+  pub new_path : Names
+  pub new_leads : HasPath old target new_path
+  pub changes : Changes (after_exchange path new_path) old new
+
 abbrev pub Alters : Lookup → Change → Lookup → Type 0
 Alters old stays new = new ≡ old
 Alters old (cuts l) new = Cuts old l new
 Alters old (moves source target) new = Moves old source target new
 Alters old (hides l candidate) new = Hides old l candidate new
 Alters old (replaces source target candidate moved) new = Replaces old source target candidate moved new
+Alters old (exchanges source target) new = Exchanges old source target new
 
 -- ---- finish: files
 

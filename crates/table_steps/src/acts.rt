@@ -1,6 +1,6 @@
 //! What the end of a request's work may do: the names of its footprint, taken out of its want.
 
-ghost use Rattle.std.specs.Prelude.{◌≡◌};
+ghost use Rattle.std.specs.Prelude.{ℕ, List, ◌≡◌, ◌∷◌, [], Some};
 ghost use Rattle.table_steps.specs.Ending.{exclusive_in, candidates_in, change_in, folders_in, folders_of, is_page, keys_in, with_in};
 ghost use Rattle.table_steps.specs.Steps.{opened_alone, opened_with};
 ghost use Rattle.table_footprints.specs.NewRequests.{copied, copied_page};
@@ -34,6 +34,8 @@ pub(crate) enum Change {
     Hides(Key, Keys),
     /// What stands at the second is hidden at the third, and then, if so told, what stood at the first is moved to the second.
     Replaces(Key, Keys, Keys, bool),
+    /// What stands at either is moved to the other.
+    Exchanges(Keys, Keys),
 }
 
 /// Which file may be opened.
@@ -64,6 +66,14 @@ fn closing_change(number: u64, case: Case) -> Change
         Case::Last => Change::CutsNode(number),
         Case::Plain | Case::Absent | Case::Pathless | Case::Hiding { .. } => Change::Stays,
     }
+}
+
+/// The one name, if it is one.
+fn only(names: Names) -> Option<Name>
+    ensures { (name : List ℕ) → names ≡ name ∷ [] → result ≡ Some name }
+{
+    let mut names = names.into_vec();
+    names.pop()
 }
 
 /// What the footprint of the want says in that case.
@@ -113,6 +123,7 @@ pub(crate) fn acts_of(
             name,
             new_parent,
             new_name,
+            ..
         } => Acts {
             entries: Entries::Nothing,
             change: Change::Moves(Key { parent, name }, Keys::new(new_parent, new_name, copy)),
@@ -121,6 +132,20 @@ pub(crate) fn acts_of(
                 names: beside,
                 copies,
             }),
+            opens: Opens::Nothing,
+        },
+        Want::Exchange {
+            parent,
+            name,
+            new_parent,
+            new_name,
+        } => Acts {
+            entries: Entries::Nothing,
+            change: Change::Exchanges(
+                Keys::new(parent, name, only(copies)),
+                Keys::new(new_parent, new_name, copy),
+            ),
+            candidates: None,
             opens: Opens::Nothing,
         },
         Want::Page { folder, names } => Acts {

@@ -8,17 +8,25 @@ ghost use Rattle.table_steps.specs.Steps.{Begins, IsUsable, is_cut, is_last};
 ghost use Rattle.table_steps.specs.World.{IsTally};
 ghost use Rattle.table_footprints.specs.NewRequests.{IsNewRequest};
 ghost use Rattle.table_footprints.specs.Cases.{seen_of};
-ghost use Rattle.table_footprints.specs.Footprints.{closed_change, is_same, footprint_of};
+ghost use Rattle.table_footprints.specs.Footprints.{AtName, are_same, closed_change, is_same, footprint_of};
 
 use crate::data::{Begin, Ticket};
 use crate::state::State;
 use errno::{EAGAIN, EBADF, ENFILE, ENOMEM};
+use paths::Name;
 use std::alloc::AllocError;
 use table_files::{Files, Need};
 use table_footprints::{NewRequest, new_request};
 use table_requests::{Case, Handle, Promise, RequestInFlight, Stage, Want, Work};
 
-/// Whether a name is moved to itself.
+/// Whether both are that of one name under one node.
+fn is_one_name(parent: u64, name: &Name, other_parent: u64, other: &Name) -> bool
+    ensures { result ≡ are_same (AtName parent name.now) (AtName other_parent other.now) }
+{
+    parent == other_parent && name.is(other)
+}
+
+/// Whether a name is moved to itself, or changes places with itself.
 fn is_same(want: &Want) -> bool
     ensures { result ≡ is_same (footprint_of want.now Case.Plain).done }
 {
@@ -28,7 +36,14 @@ fn is_same(want: &Want) -> bool
             name,
             new_parent,
             new_name,
-        } => parent == new_parent && name.is(new_name),
+            ..
+        } => is_one_name(*parent, name, *new_parent, new_name),
+        Want::Exchange {
+            parent,
+            name,
+            new_parent,
+            new_name,
+        } => is_one_name(*parent, name, *new_parent, new_name),
         Want::Node { .. }
         | Want::Name { .. }
         | Want::Remove { .. }
@@ -58,6 +73,7 @@ fn used_by(want: &Want) -> Option<(u64, Handle)>
         Want::Name { .. }
         | Want::Remove { .. }
         | Want::Move { .. }
+        | Want::Exchange { .. }
         | Want::Page { .. }
         | Want::Open { .. }
         | Want::Create { .. } => None,
@@ -74,6 +90,7 @@ fn closed_by(want: &Want) -> Option<u64>
         | Want::Name { .. }
         | Want::Remove { .. }
         | Want::Move { .. }
+        | Want::Exchange { .. }
         | Want::Page { .. }
         | Want::Open { .. }
         | Want::Create { .. } => None,
@@ -117,6 +134,7 @@ fn is_last(want: &Want, case: Case) -> bool
         | Want::Name { .. }
         | Want::Remove { .. }
         | Want::Move { .. }
+        | Want::Exchange { .. }
         | Want::Page { .. }
         | Want::Open { .. }
         | Want::Create { .. } => false,

@@ -82,7 +82,7 @@ impl Ticket {
         self.id
     }
 
-    /// The paths that the request is about, as they were when it began: of a move the old one and then the new one, of a page
+    /// The paths that the request is about, as they were when it began: of a move the old one and then the new one, of an exchange both, of a page
     /// that of its folder and then that of each name, and last the ten that an open file may be hidden under, if it may.
     pub fn paths(&self) -> &[Path]
         ensures { result.now ≡ self.now.paths }
@@ -90,7 +90,7 @@ impl Ticket {
         self.paths.as_slice()
     }
 
-    /// Whether it is a move of a path to itself, which changes nothing.
+    /// Whether it is a move of a path to itself, or an exchange of one with itself, which changes nothing.
     pub fn same(&self) -> bool
         ensures { result ≡ self.now.same }
     {

@@ -2,10 +2,10 @@
 
 ghost use Rattle.std.specs.Prelude.{◌≡◌, ◌≢◌, ◌⊎◌, ℤ};
 ghost use Rattle.table_steps.specs.Ending.{AreUnder, IsOver, IsUnder, KeepsChildren, change_in, loses, name_at};
-ghost use Rattle.table_steps.specs.Steps.{Alters, Cuts, Hides, Moves, Replaces};
+ghost use Rattle.table_steps.specs.Steps.{Alters, Cuts, Exchanges, Hides, Moves, Replaces};
 ghost use Rattle.table_steps.specs.Sweeping.{AreListed};
 ghost use Rattle.tree.specs.Places.{at_in, IsTree, Leads};
-ghost use Rattle.table_footprints.specs.Asked.{IsMisplaced, IsRefusedAt};
+ghost use Rattle.table_footprints.specs.Asked.{IsMisplaced, IsRefusedAt, IsRefusedBetween};
 ghost use Rattle.table_footprints.specs.Footprints.{AtNode, cuts};
 
 use crate::acts::Change;
@@ -103,6 +103,21 @@ fn replace_at(tree: &mut Tree, key: &Key, target: Keys, candidate: Keys, moved: 
     }
 }
 
+/// What stands at the two names, with all below, changes places.
+fn exchange_at(tree: &mut Tree, source: Keys, target: Keys)
+    requires tree { IsTree (at_in tree.old) }
+    requires leads { Leads (at_in tree.old) source.key.parent }
+    requires target_leads { Leads (at_in tree.old) target.key.parent }
+    requires may { (e : ℤ) → IsRefusedBetween (at_in tree.old) (name_at source.key) (name_at target.key) e → ⊥ }
+    ensures exchanges { Exchanges (at_in tree.old) (name_at source.key) (name_at target.key) (at_in tree.new) }
+    ensures children { KeepsChildren (at_in tree.old) (λ n. (n ≡ source.key.parent) ⊎ (n ≡ target.key.parent)) (at_in tree.new) }
+    ensures listed { AreListed tree.old tree.new }
+    ensures rest { tree.new ≡ record tree.old { nodes = tree.new.nodes; next = tree.new.next; newly_cut = tree.new.newly_cut } }
+    ensures tree { IsTree (at_in tree.new) }
+{
+    tree.exchange(source.key, source.copy, target.key, target.copy);
+}
+
 /// The node that may lose its last child by the change, and need not be pinned: the parent of a node that is cut by its number.
 pub(crate) fn losing(tree: &Tree, change: &Change) -> Option<u64>
     ensures { result ≡ loses (at_in tree.now) (change_in change.now) }
@@ -113,11 +128,12 @@ pub(crate) fn losing(tree: &Tree, change: &Change) -> Option<u64>
         | Change::Cuts(_)
         | Change::Moves(_, _)
         | Change::Hides(_, _)
-        | Change::Replaces(_, _, _, _) => None,
+        | Change::Replaces(_, _, _, _)
+        | Change::Exchanges(_, _) => None,
     }
 }
 
-/// Cuts, moves, hides or replaces names, with all below them.
+/// Cuts, moves, hides, replaces or exchanges names, with all below them.
 pub(crate) fn alter(tree: &mut Tree, change: Change)
     requires tree { IsTree (at_in tree.old) }
     requires leads { AreUnder (Leads (at_in tree.old)) (change_in change) }
@@ -138,5 +154,6 @@ pub(crate) fn alter(tree: &mut Tree, change: Change)
         Change::Replaces(key, target, candidate, moved) => {
             replace_at(tree, &key, target, candidate, moved);
         }
+        Change::Exchanges(source, target) => exchange_at(tree, source, target),
     }
 }

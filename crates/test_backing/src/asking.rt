@@ -7,21 +7,21 @@ use std::test::Fail;
 
 /// The path that the text spells: names with `/` between them, and `.` for the root.
 pub fn path_of(alloc: Global, text: &str) -> Result<Path, AllocError> {
-    let mut path = Path::new(alloc);
+    let mut names = Vec::new(alloc);
     if text == "." {
-        return Ok(path);
+        return Path::from_names(names);
     }
     for name in text.split('/') {
-        path.push(Name::copy_of(alloc, name)?)?;
+        names.push(Name::copy_of(alloc, name)?)?;
     }
-    Ok(path)
+    Path::from_names(names)
 }
 
 fn number(text: &str) -> u64 {
     text.parse::<u64>().unwrap_or(0)
 }
 
-/// The call of that name on the path. A rename is to the other path, and `first` and `second` are its numbers or bytes.
+/// The call of that name on the path. A rename is to the other path, with which an exchange is, and `first` and `second` are its numbers or bytes.
 fn call_of<'a>(
     name: &str,
     path: &'a Path,
@@ -40,6 +40,14 @@ fn call_of<'a>(
         "rename" => Call::Rename {
             from: path,
             to: other,
+        },
+        "rename-new" => Call::RenameNew {
+            from: path,
+            to: other,
+        },
+        "exchange" => Call::Exchange {
+            first: path,
+            second: other,
         },
         "read" => Call::Read {
             path,

@@ -21,6 +21,8 @@ enum Trick {
     Replace,
     /// A file comes into a folder right before the folder is removed.
     Enter,
+    /// A file comes to a path right before something is renamed to it.
+    Arrive,
 }
 
 /// The system, but for the trick.
@@ -38,7 +40,7 @@ impl Tricked {
                 let place = place_of(self.rt.alloc(), folder, "late")?;
                 fs::write(&self.rt, place.as_str(), "late")
             }
-            Trick::Look(_) | Trick::Replace => Ok(()),
+            Trick::Look(_) | Trick::Replace | Trick::Arrive => Ok(()),
         }
     }
 }
@@ -62,7 +64,7 @@ impl Files for Tricked {
                 fs::remove_file(&self.rt, path)?;
                 symlink(&self.rt, "e", path)?;
             }
-            Trick::Look(_) | Trick::Enter => {}
+            Trick::Look(_) | Trick::Enter | Trick::Arrive => {}
         }
         self.rt.open_file(how, path)
     }
@@ -78,7 +80,7 @@ impl Files for Tricked {
     fn symlink_metadata(&self, path: &str) -> io::Result<Metadata> {
         match self.trick {
             Trick::Look(kind) => Err(io::Error::from(kind)),
-            Trick::Replace | Trick::Enter => self.rt.symlink_metadata(path),
+            Trick::Replace | Trick::Enter | Trick::Arrive => self.rt.symlink_metadata(path),
         }
     }
 
@@ -87,6 +89,10 @@ impl Files for Tricked {
     }
 
     fn rename(&self, from: &str, to: &str) -> io::Result<()> {
+        match self.trick {
+            Trick::Arrive => fs::write(&self.rt, to, "late")?,
+            Trick::Look(_) | Trick::Replace | Trick::Enter => {}
+        }
         self.rt.rename(from, to)
     }
 
@@ -183,4 +189,11 @@ fn a_folder_is_not_removed_with_what_came_into_it(rt: HostRuntime) -> Result<(),
         ("read d/late 0 9", "bytes 6c617465"),
     ];
     tell(rt, "late", Trick::Enter, rows.as_slice(), 1)
+}
+
+// What somebody else makes between the look at a target and the move is replaced, and nobody is told.
+#[test]
+fn a_move_replaces_what_came_after_its_look(rt: HostRuntime) -> Result<(), Fail> {
+    let rows = [("rename-new a b", "done"), ("read b 0 9", "bytes 616263")];
+    tell(rt, "arrived", Trick::Arrive, rows.as_slice(), 0)
 }

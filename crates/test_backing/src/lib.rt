@@ -8,6 +8,8 @@ mod faults;
 #[cfg(test)]
 mod links;
 #[cfg(test)]
+mod moves;
+#[cfg(test)]
 mod places;
 #[cfg(test)]
 mod random;

@@ -34,7 +34,8 @@ fn links_and_sockets_are_not_shown(rt: HostRuntime) -> Result<(), Fail> {
         Step::Failed(0),
         Step::Ask("make link", "fault 17"),
         Step::Ask("rename a link", "fault 17"),
-        Step::Failed(2),
+        Step::Ask("rename-new a link", "fault 17"),
+        Step::Failed(3),
     ];
     tell(rt, "links", STEPS)
 }

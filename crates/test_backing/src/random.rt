@@ -46,21 +46,41 @@ fn path(alloc: Global, dice: &mut Dice) -> Result<String, AllocError> {
 }
 
 /// More often a call that makes something than one that removes it.
-const NAMES: [&str; 20] = [
-    "stat", "stat", "list", "list", "make", "make", "mkdir", "mkdir", "mkdir", "remove", "rmdir",
-    "rename", "rename", "rename", "read", "read", "write", "write", "write", "setlen",
+const NAMES: [&str; 22] = [
+    "stat",
+    "stat",
+    "list",
+    "list",
+    "make",
+    "make",
+    "mkdir",
+    "mkdir",
+    "mkdir",
+    "remove",
+    "rmdir",
+    "rename",
+    "rename",
+    "rename",
+    "rename-new",
+    "rename-new",
+    "read",
+    "read",
+    "write",
+    "write",
+    "write",
+    "setlen",
 ];
 
 fn call(alloc: Global, dice: &mut Dice) -> Result<String, AllocError> {
     let one = path(alloc, dice)?;
     let offset = dice.below(12);
     let size = dice.below(9);
-    let kind = dice.below(20) as usize % 20;
+    let kind = dice.below(22) as usize % 22;
     let name = NAMES[kind];
     let rest = match kind {
-        11 | 12 | 13 => path(alloc, dice)?,
-        14 | 15 => format!(in alloc; "{offset} {size}")?,
-        17 | 18 => format!(in alloc; "{offset} xyz{size}")?,
+        11 | 12 | 13 | 14 | 15 => path(alloc, dice)?,
+        16 | 17 => format!(in alloc; "{offset} {size}")?,
+        19 | 20 => format!(in alloc; "{offset} xyz{size}")?,
         _ => format!(in alloc; "{offset} ")?,
     };
     format!(in alloc; "{name} {one} {rest}")

@@ -125,6 +125,25 @@ fn folders_that_its_own_calls_change_are_forgotten(rt: HostRuntime) -> Result<()
 }
 
 #[test]
+fn folders_that_a_move_to_a_free_path_changes_are_forgotten(rt: HostRuntime) -> Result<(), Fail> {
+    const STEPS: &[Step] = &[
+        Step::Ask("mkdir d/x", "done"),
+        Step::Ask("make d/x/f", "done"),
+        Step::Ask("write d/x/f 0 one", "wrote 3"),
+        Step::Ask("rename-new d z", "done"),
+        Step::Both("stat d/x/f", "fault 2"),
+        Step::Both("read z/x/f 0 9", "bytes 6f6e65"),
+        Step::Ask("rename-new z/x/f d", "done"),
+        Step::Both("read d 0 9", "bytes 6f6e65"),
+        Step::Both("stat z/x/f", "fault 2"),
+        Step::Ask("write d 0 O", "wrote 1"),
+        Step::Both("read d 0 9", "bytes 4f6e65"),
+        Step::Failed(0),
+    ];
+    tell(rt, "own-moves", STEPS)
+}
+
+#[test]
 fn a_replaced_file_is_opened_anew(rt: HostRuntime) -> Result<(), Fail> {
     const STEPS: &[Step] = &[
         Step::Both("read a 0 9", "bytes 616263"),

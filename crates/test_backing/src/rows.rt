@@ -129,7 +129,7 @@ const GROUPS: [&[(&str, &str)]; 10] = [
 ];
 
 /// The rows on a memory tree, from the sample. No call fails.
-fn tell_tree(alloc: Global, rows: &[(&str, &str)]) -> Result<(), Fail> {
+pub fn tell_tree(alloc: Global, rows: &[(&str, &str)]) -> Result<(), Fail> {
     let mut tree = sample_tree(alloc)?;
     expect_rows(alloc, &mut tree, rows)?;
     expect_count(tree.failures(), 0)
@@ -144,7 +144,7 @@ fn rows_on_a_memory_tree(rt: HostRuntime) -> Result<(), Fail> {
 }
 
 /// The rows on the real folder there. No call is counted as a failure.
-fn tell_folder(rt: HostRuntime, root: &str, rows: &[(&str, &str)]) -> Result<(), Fail> {
+pub fn tell_folder(rt: HostRuntime, root: &str, rows: &[(&str, &str)]) -> Result<(), Fail> {
     let mut folder = Folder::open(rt, root)?;
     expect_rows(rt.alloc(), &mut folder, rows)?;
     expect_count(folder.failures(), 0)
@@ -161,7 +161,7 @@ fn rows_on_a_real_folder(rt: HostRuntime) -> Result<(), Fail> {
 }
 
 /// The rows through a hold on a memory tree, from the sample. No call fails.
-fn tell_hold<H: Wait + Drop>(alloc: Global, rt: H, rows: &[(&str, &str)]) -> Result<(), Fail> {
+pub fn tell_hold<H: Wait + Drop>(alloc: Global, rt: H, rows: &[(&str, &str)]) -> Result<(), Fail> {
     let tree = Arc::new(alloc, Mutex::new(sample_tree(alloc)?))?;
     let mut hold = Shared::new(rt, tree);
     expect_rows(alloc, &mut hold, rows)?;

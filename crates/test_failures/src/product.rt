@@ -34,9 +34,9 @@ pub struct Ran {
 }
 
 fn path_of(alloc: Global, name: &str) -> Result<Path, AllocError> {
-    let mut path = Path::new(alloc);
-    path.push(Name::copy_of(alloc, name)?)?;
-    Ok(path)
+    let mut names = Vec::new(alloc);
+    names.push(Name::copy_of(alloc, name)?)?;
+    Path::from_names(names)
 }
 
 /// Puts what stands at a name into the tree.
@@ -112,7 +112,7 @@ pub fn count_names(
 ) -> Result<usize, AllocError> {
     let path = match folder {
         Some(name) => path_of(alloc, name)?,
-        None => Path::new(alloc),
+        None => Path::joined(alloc, &[], &[])?,
     };
     Ok(match tree.call(Call::List(&path)) {
         Answer::Names(names) => names.as_slice().len(),

@@ -120,7 +120,7 @@ fn long_name(alloc: Global, len: usize) -> Result<Children, AllocError> {
     }
     let mut list = Vec::new(alloc);
     list.push(Child {
-        name: Name::new(text),
+        name: Name::new(text)?,
         kind: File,
     })?;
     Ok(Children::from_vec(list))
@@ -142,7 +142,7 @@ fn longest_name(rt: HostRuntime) -> Result<(), Fail> {
 fn many_names(alloc: Global) -> Result<Children, AllocError> {
     let mut list = Vec::new(alloc);
     for i in 0..10_000u64 {
-        let name = Name::new(format!(in alloc; "{}", 10_000 + i * 7_919 % 10_000)?);
+        let name = Name::new(format!(in alloc; "{}", 10_000 + i * 7_919 % 10_000)?)?;
         list.push(Child { name, kind: File })?;
     }
     Ok(Children::from_vec(list))

@@ -37,6 +37,10 @@ pub enum Ask {
     RemoveDir,
     /// From the path at one place to that at another.
     Rename(usize, usize),
+    /// The same, to where nothing stands.
+    RenameNew(usize, usize),
+    /// Of what stands at two places.
+    Exchange(usize, usize),
     /// To so many bytes.
     SetLen(u64),
     /// From that byte on, so many.
@@ -136,6 +140,10 @@ pub fn ask_of(call: Call<'_>, paths: &[Path]) -> Ask {
         Call::Write { path, offset, data } if path.is(first) => Ask::Write(offset, data.len()),
         Call::Sync(path) if path.is(first) => Ask::Sync,
         Call::Rename { from, to } => Ask::Rename(place_of(from, paths), place_of(to, paths)),
+        Call::RenameNew { from, to } => Ask::RenameNew(place_of(from, paths), place_of(to, paths)),
+        Call::Exchange { first, second } => {
+            Ask::Exchange(place_of(first, paths), place_of(second, paths))
+        }
         _ => Ask::Other,
     }
 }

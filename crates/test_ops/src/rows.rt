@@ -8,7 +8,7 @@ use std::test::Fail;
 use table::Seeds;
 use wire::Operation::{
     self, Create, GetAttr, Lookup, MakeDir, Open, OpenDir, Read, ReadDirPlus, Release, RemoveDir,
-    Rename, SetAttr, Sync, Unlink, Write,
+    Rename, Rename2, SetAttr, Sync, Unlink, Write,
 };
 
 /// About the root, which is open as file 1, or a name in it. Some have several scripts.
@@ -70,6 +70,24 @@ const OPERATIONS: &[Operation] = &[
     Rename {
         name: "a",
         new_parent: 1,
+        new_name: "b",
+    },
+    Rename2 {
+        name: "a",
+        new_parent: 1,
+        flags: 0,
+        new_name: "b",
+    },
+    Rename2 {
+        name: "a",
+        new_parent: 1,
+        flags: 1,
+        new_name: "b",
+    },
+    Rename2 {
+        name: "a",
+        new_parent: 1,
+        flags: 2,
         new_name: "b",
     },
     Release { fh: 1 },
@@ -148,6 +166,58 @@ const ROWS: &[Row] = &[
         operation: Rename {
             name: "a",
             new_parent: 1,
+            new_name: "a",
+        },
+        form: SAME,
+        ..REMOVED
+    },
+    // And by RENAME2, which hides with no flags alone.
+    Row {
+        operation: Rename2 {
+            name: "e",
+            new_parent: 1,
+            flags: 0,
+            new_name: "a",
+        },
+        files: 1,
+        ..REPLACED
+    },
+    Row {
+        operation: Rename2 {
+            name: "e",
+            new_parent: 1,
+            flags: 1,
+            new_name: "a",
+        },
+        form: PLAIN,
+        ..REMOVED
+    },
+    Row {
+        operation: Rename2 {
+            name: "e",
+            new_parent: 1,
+            flags: 2,
+            new_name: "a",
+        },
+        form: PLAIN,
+        ..REMOVED
+    },
+    // Onto itself, and with itself.
+    Row {
+        operation: Rename2 {
+            name: "a",
+            new_parent: 1,
+            flags: 1,
+            new_name: "a",
+        },
+        form: SAME,
+        ..REMOVED
+    },
+    Row {
+        operation: Rename2 {
+            name: "a",
+            new_parent: 1,
+            flags: 2,
             new_name: "a",
         },
         form: SAME,

@@ -2,7 +2,7 @@
 
 use crate::asks::{Ask, Ends, Form, Stands};
 use backing::{Answer, Kind};
-use errno::{EBUSY, EIO, EISDIR, ENOENT, ENOTDIR};
+use errno::{EBUSY, EEXIST, EIO, EISDIR, ENOENT, ENOTDIR};
 use ops::Found;
 use std::slice::Iter;
 use wire::Operation;
@@ -41,8 +41,12 @@ fn asks_of(operation: Operation<'_>, same: bool) -> (Option<Ask>, Option<Ask>) {
         Operation::MakeDir { .. } => (Some(Ask::MakeDir), Some(Ask::Stat(0))),
         Operation::Unlink { .. } => (Some(Ask::Remove), None),
         Operation::RemoveDir { .. } => (Some(Ask::RemoveDir), None),
-        Operation::Rename { .. } if same => (Some(Ask::Stat(0)), None),
-        Operation::Rename { .. } => (Some(Ask::Rename(0, 1)), None),
+        Operation::Rename { .. } | Operation::Rename2 { .. } if same => (Some(Ask::Stat(0)), None),
+        Operation::Rename { .. } | Operation::Rename2 { flags: 0, .. } => {
+            (Some(Ask::Rename(0, 1)), None)
+        }
+        Operation::Rename2 { flags: 1, .. } => (Some(Ask::RenameNew(0, 1)), None),
+        Operation::Rename2 { flags: 2, .. } => (Some(Ask::Exchange(0, 1)), None),
         _ => (None, None),
     }
 }
@@ -89,7 +93,8 @@ fn counts_as(ask: Ask, answer: &Answer) -> Counts {
     }
 }
 
-/// What is told at the end, by what the last answer counts as.
+/// What is told at the end, by what the last answer counts as. Of a move that replaces nothing only a look finds something: its target, which
+/// is its source.
 fn ends_with(operation: Operation<'_>, last: Counts) -> Ends {
     match (operation, last) {
         (Operation::Lookup { .. } | Operation::MakeDir { .. }, Counts::Found(found)) => {
@@ -106,6 +111,7 @@ fn ends_with(operation: Operation<'_>, last: Counts) -> Ends {
         (Operation::Read { .. }, Counts::Bytes(bytes)) => Ends::Bytes(bytes),
         (Operation::Write { .. }, Counts::Wrote(size)) => Ends::Written(size),
         (Operation::OpenDir, Counts::Names(names)) => Ends::Listed(names),
+        (Operation::Rename2 { flags: 1, .. }, Counts::Found(_)) => Ends::Error(EEXIST),
         _ => Ends::Nothing,
     }
 }
@@ -201,7 +207,9 @@ pub fn stands_after(operation: Operation<'_>, form: Form, answers: &[Answer]) ->
     match operation {
         Operation::ReadDirPlus { .. } => return page_after(answers),
         Operation::Unlink { .. } if form.hide => return standing(unlink_after(answers)),
-        Operation::Rename { .. } if form.hide => return standing(rename_after(answers)),
+        Operation::Rename { .. } | Operation::Rename2 { flags: 0, .. } if form.hide => {
+            return standing(rename_after(answers));
+        }
         Operation::Release { .. } if form.last => return standing(release_after(answers)),
         _ => {}
     }

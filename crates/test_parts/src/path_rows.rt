@@ -7,10 +7,10 @@ use std::test::Fail;
 
 /// The path of two names, the second of which is a copy.
 fn two_names(alloc: Global) -> Result<Path, AllocError> {
-    let mut path = Path::new(alloc);
-    path.push(Name::copy_of(alloc, "folder")?)?;
-    path.push(Name::copy_of(alloc, "x")?.copy()?)?;
-    Ok(path)
+    let mut names = Vec::new(alloc);
+    names.push(Name::copy_of(alloc, "folder")?)?;
+    names.push(Name::copy_of(alloc, "x")?.copy()?)?;
+    Path::from_names(names)
 }
 
 #[test]
@@ -19,6 +19,26 @@ fn two_names_make_a_path(rt: HostRuntime) -> Result<(), Fail> {
     let copy = path.copy()?;
     let told = (path.len(), path.bytes(), copy.is(&path));
     assert_eq!(rt; told, (2, Some(9), true));
-    assert!(rt; spells(copy.into_names().as_slice(), &["folder", "x"]));
+    assert!(rt; spells(copy.names(), &["folder", "x"]));
+    Ok(())
+}
+
+#[test]
+fn prefixes_and_copies_are_paths_of_their_own(rt: HostRuntime) -> Result<(), Fail> {
+    let path = two_names(rt.alloc())?;
+    let folder = path.prefix(1)?;
+    let root = folder.prefix(0)?;
+    let below = Path::joined(rt.alloc(), folder.names(), path.names())?;
+    drop(path);
+    assert_eq!(rt; (folder.len(), root.len(), below.len()), (1, 0, 3));
+    assert_eq!(rt;
+        (folder.bytes(), root.bytes(), below.bytes()),
+        (Some(7), Some(0), Some(16))
+    );
+    assert!(rt; spells(folder.names(), &["folder"]));
+    assert!(rt; spells(below.names(), &["folder", "folder", "x"]));
+    assert!(rt;
+        root.is_prefix_of(&below) && folder.is_prefix_of(&below) && !below.is_prefix_of(&folder)
+    );
     Ok(())
 }

@@ -33,7 +33,7 @@ fn path_of_a_file_in_a_folder(rt: HostRuntime) -> Result<(), Fail> {
     let path = tree.path(rt.alloc(), file)?;
     let told = (tree.len(), path.bytes(), path.len());
     assert_eq!(rt; told, (3, Some(4), 2));
-    assert!(rt; spells(path.into_names().as_slice(), &["d", "x"]));
+    assert!(rt; spells(path.names(), &["d", "x"]));
     assert!(rt; tree.reserve(1).is_err());
     Ok(())
 }
@@ -48,7 +48,7 @@ fn path_of_an_absent_name(rt: HostRuntime) -> Result<(), Fail> {
     };
     let path = tree.path_of_name(rt.alloc(), &key)?;
     assert_eq!(rt; path.bytes(), Some(9));
-    assert!(rt; spells(path.into_names().as_slice(), &["d", "absent"]));
+    assert!(rt; spells(path.names(), &["d", "absent"]));
     Ok(())
 }
 

@@ -16,6 +16,10 @@ mod entry_counts;
 #[cfg(test)]
 mod entry_lines;
 #[cfg(test)]
+mod exchange_frames;
+#[cfg(test)]
+mod exchanges;
+#[cfg(test)]
 mod file_bytes;
 #[cfg(test)]
 mod file_frames;
@@ -34,6 +38,8 @@ mod hidden_files;
 #[cfg(test)]
 mod hidden_frames;
 #[cfg(test)]
+mod kept_targets;
+#[cfg(test)]
 mod last_handles;
 #[cfg(test)]
 mod lines;
@@ -47,6 +53,8 @@ mod names;
 mod open_files;
 #[cfg(test)]
 mod recorded;
+#[cfg(test)]
+mod refused_exchanges;
 #[cfg(test)]
 mod renames;
 #[cfg(test)]

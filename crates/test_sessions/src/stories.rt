@@ -127,11 +127,11 @@ fn frames_of(alloc: Global, asks: &[(u64, Operation<'_>)]) -> Result<Vec<Vec<u8>
 }
 
 fn path_of(alloc: Global, names: &[&str]) -> Result<Path, AllocError> {
-    let mut path = Path::new(alloc);
+    let mut path = Vec::new(alloc);
     for name in names {
         path.push(Name::copy_of(alloc, name)?)?;
     }
-    Ok(path)
+    Path::from_names(path)
 }
 
 fn what_stands(alloc: Global, tree: &mut MemTree, names: &[&str]) -> Result<Stands, AllocError> {

@@ -30,6 +30,17 @@ fn open_name(image: &Image, place: usize) -> Option<(u64, &str)> {
     None
 }
 
+/// The name of a node that has no mark: of the node at that place, or of one after it.
+fn standing_name(image: &Image, place: usize) -> Option<(u64, &str)> {
+    let nodes = image.nodes.as_slice();
+    let node = nodes
+        .iter()
+        .skip(place)
+        .chain(nodes.iter())
+        .find(|node| plain_name(node).is_some())?;
+    plain_name(node)
+}
+
 /// The name of a hidden file.
 pub fn hidden_name(image: &Image) -> Option<(u64, &str)> {
     let node = image.nodes.as_slice().iter().find(|node| node.hidden)?;
@@ -110,6 +121,28 @@ impl Draws {
         Asks::Move(parent, name, new_parent, new_name)
     }
 
+    /// A move that keeps what stands at its target, which may be an open file.
+    fn keep<'a>(&mut self, image: &'a Image) -> Asks<'a> {
+        let (parent, name) = self.source(image);
+        let (new_parent, new_name) = self.target(image);
+        Asks::Keep(parent, name, new_parent, new_name)
+    }
+
+    /// The name of a node that has no mark three times out of four, or any.
+    fn standing<'a>(&mut self, image: &'a Image) -> (u64, &'a str) {
+        let place = self.place(image.nodes.as_slice().len());
+        match (standing_name(image, place), self.among(4)) {
+            (Some(name), 1..) => name,
+            _ => (self.parent(image), self.name()),
+        }
+    }
+
+    fn exchange<'a>(&mut self, image: &'a Image) -> Asks<'a> {
+        let (parent, name) = self.standing(image);
+        let (new_parent, new_name) = self.standing(image);
+        Asks::Exchange(parent, name, new_parent, new_name)
+    }
+
     /// A node and the handle of an open file, three times out of four, or any.
     fn handle(&mut self, image: &Image) -> (u64, u64) {
         let place = self.place(image.files.as_slice().len());
@@ -127,11 +160,13 @@ impl Draws {
         }
     }
 
-    /// What changes names, by a choice of 8 to 20.
+    /// What changes names, by a choice of 8 to 20, or of 38 on.
     fn change<'a>(&mut self, choice: u64, image: &'a Image) -> Asks<'a> {
         match choice {
             8..=13 => self.removal(image),
             14..=15 => self.unhiding(image),
+            38 => self.keep(image),
+            39.. => self.exchange(image),
             _ => self.move_onto(image),
         }
     }
@@ -161,9 +196,9 @@ impl Draws {
 
     /// What a request asks for.
     pub fn asks<'a>(&mut self, image: &'a Image) -> Asks<'a> {
-        let choice = self.among(38);
+        let choice = self.among(42);
         match choice {
-            8..=20 => self.change(choice, image),
+            8..=20 | 38.. => self.change(choice, image),
             _ => self.use_of(choice, image),
         }
     }
@@ -224,7 +259,7 @@ impl Draws {
             Task::Removal { hides } => self.removal_end(draw, hides),
             Task::Move { hides, .. } => self.move_end(draw, hides),
             Task::Name | Task::Create => Draws::plain_end(draw, Outcome::Entry, Outcome::Done),
-            Task::Node | Task::Open | Task::Release { .. } => {
+            Task::Node | Task::Open | Task::Exchange { .. } | Task::Release { .. } => {
                 Draws::plain_end(draw, Outcome::Done, Outcome::Entry)
             }
         }

@@ -185,6 +185,20 @@ fn moved(hides: bool, known: bool, outcome: Outcome, change: Change) -> Option<E
     }
 }
 
+/// What the end of an exchange came to, where nodes stood at so many of its names.
+fn exchanged(known: usize, outcome: Outcome, change: Change) -> Option<Event> {
+    let moved = Change {
+        moved: known,
+        ..NONE
+    };
+    match (outcome, known) {
+        (Outcome::Done, 0) => still(change, Event::ExchangedNothing),
+        (Outcome::Done, 1) => only(moved, change, Event::ExchangedOne),
+        (Outcome::Done, _) => only(moved, change, Event::Exchanged),
+        _ => still(change, Event::FailedExchange),
+    }
+}
+
 /// What the end of a release came to, which is that of the last handle of a hidden file, if so told.
 fn released(last: bool, outcome: Outcome, change: Change) -> Option<Event> {
     match (outcome, last) {
@@ -208,6 +222,8 @@ pub fn finished(task: Task, outcome: Outcome, told: Told, change: Change) -> Opt
         Task::Removal { hides } => removed(hides, outcome, change),
         Task::Move { same, .. } if same => still(change, Event::MovedToItself),
         Task::Move { hides, known, .. } => moved(hides, known, outcome, change),
+        Task::Exchange { same, .. } if same => still(change, Event::ExchangedWithItself),
+        Task::Exchange { known, .. } => exchanged(known, outcome, change),
         Task::Release { last } => released(last, outcome, change),
     }
 }

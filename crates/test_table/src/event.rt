@@ -11,11 +11,14 @@ pub enum Event {
     BusyName,
     BusyRemoval,
     BusyMove,
+    BusyExchange,
     BusyPage,
     BusyOpen,
     BusyRelease,
     /// One path of a move is a prefix of the other.
     Astray,
+    /// The same of two names that were to change places.
+    Entangled,
     /// No node may be added, or no posting, or for a file that is to be made no open file.
     Full,
     FullPage,
@@ -89,6 +92,13 @@ pub enum Event {
     HiddenAlone,
     /// Nothing is, since there is no candidate of that index.
     MisfitHiddenMove,
+    /// What stood at two names has changed places.
+    Exchanged,
+    /// What stood at one of them stands at the other.
+    ExchangedOne,
+    ExchangedNothing,
+    ExchangedWithItself,
+    FailedExchange,
     Released,
     FailedRelease,
     /// The last release of a hidden file removes it.

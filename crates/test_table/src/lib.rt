@@ -14,6 +14,8 @@ mod endings;
 #[cfg(test)]
 mod event;
 #[cfg(test)]
+mod exchange_rows;
+#[cfg(test)]
 mod givings_back;
 #[cfg(test)]
 mod handle_rows;

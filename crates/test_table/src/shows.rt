@@ -10,14 +10,14 @@ use tree::{Node, Place};
 
 /// The path of these names, with a `/` between them. The root's is empty.
 pub fn path_of(alloc: Global, text: &str) -> Result<Path, AllocError> {
-    let mut path = Path::new(alloc);
+    let mut names = Vec::new(alloc);
     if text.is_empty() {
-        return Ok(path);
+        return Path::from_names(names);
     }
     for name in text.split('/') {
-        path.push(Name::copy_of(alloc, name)?)?;
+        names.push(Name::copy_of(alloc, name)?)?;
     }
-    Ok(path)
+    Path::from_names(names)
 }
 
 impl From<&Posting> for Posted {

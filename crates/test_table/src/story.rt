@@ -51,6 +51,10 @@ pub enum Asks<'a> {
     Unlink(u64, &'a str),
     /// The move of a name under a parent to another name under another.
     Move(u64, &'a str, u64, &'a str),
+    /// The same, where what stands at the other name is kept.
+    Keep(u64, &'a str, u64, &'a str),
+    /// A name under a parent and another under another, which change places.
+    Exchange(u64, &'a str, u64, &'a str),
     /// Names in a folder.
     Page(u64, &'a [&'a str]),
     /// A node, which is read by a handle.
@@ -167,7 +171,7 @@ pub enum Step<'a> {
     LeaveShare,
     /// A ticket of another table, whose first request it is, is in hand under a unique number.
     Stranger(u64),
-    /// The ticket of that request has these paths, of a move the old one and then the new one.
+    /// The ticket of that request has these paths, of a move the old one and then the new one, of an exchange both.
     Paths(u64, &'a [&'a str]),
     /// The ticket of that request says whether its end removes a hidden file whose last opening it closed.
     Last(u64, bool),

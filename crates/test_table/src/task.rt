@@ -23,6 +23,11 @@ pub enum Task {
         same: bool,
         known: bool,
     },
+    /// Whether both names are the same, and at how many of them nodes stand.
+    Exchange {
+        same: bool,
+        known: usize,
+    },
     /// Whether it closes the last handle of a hidden file.
     Release {
         last: bool,
@@ -39,10 +44,17 @@ impl Task {
             Asks::Page(_, names) => Task::Page(names.len()),
             Asks::Open(_) => Task::Open,
             Asks::Remove(..) | Asks::Unlink(..) => Task::Removal { hides },
-            Asks::Move(parent, name, new_parent, new_name) => Task::Move {
+            Asks::Move(parent, name, new_parent, new_name)
+            | Asks::Keep(parent, name, new_parent, new_name) => Task::Move {
                 hides,
                 same: parent == new_parent && name == new_name,
                 known: node_at(before, parent, name).is_some(),
+            },
+            Asks::Exchange(parent, name, new_parent, new_name) => Task::Exchange {
+                same: parent == new_parent && name == new_name,
+                known: (node_at(before, parent, name).is_some() as usize).saturating_add(
+                    node_at(before, new_parent, new_name).is_some() as usize,
+                ),
             },
             Asks::Release(number, _) => Task::Release {
                 last: is_hidden(before, number) && openings(before, number) == 1,

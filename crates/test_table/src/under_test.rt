@@ -65,6 +65,20 @@ pub fn want_of(alloc: Global, asks: Asks) -> Result<Want, AllocError> {
             name: Name::copy_of(alloc, name)?,
             new_parent,
             new_name: Name::copy_of(alloc, new_name)?,
+            keep: false,
+        },
+        Asks::Keep(parent, name, new_parent, new_name) => Want::Move {
+            parent,
+            name: Name::copy_of(alloc, name)?,
+            new_parent,
+            new_name: Name::copy_of(alloc, new_name)?,
+            keep: true,
+        },
+        Asks::Exchange(parent, name, new_parent, new_name) => Want::Exchange {
+            parent,
+            name: Name::copy_of(alloc, name)?,
+            new_parent,
+            new_name: Name::copy_of(alloc, new_name)?,
         },
         Asks::Page(folder, names) => Want::Page {
             folder,

@@ -59,6 +59,10 @@ pub enum Ask {
     Remove(u64, Word, bool),
     /// The move of a name under a parent to a name under another.
     Move(u64, Word, u64, Word),
+    /// The same, where what stands at the other name is kept.
+    Keep(u64, Word, u64, Word),
+    /// A name under a parent and one under another, which change places.
+    Exchange(u64, Word, u64, Word),
     /// The file of a node, to be opened.
     Open(u64, Access),
     /// A file to be made at a name under a parent, and opened.

@@ -105,6 +105,19 @@ impl Draws {
         Ask::Move(parent, word, new_parent, new_word)
     }
 
+    /// A move that keeps what stands at its target, which may be an open file.
+    fn keep(&mut self, table: &ListTable) -> Ask {
+        let (parent, word) = self.source(table);
+        let (new_parent, new_word) = self.target(table);
+        Ask::Keep(parent, word, new_parent, new_word)
+    }
+
+    fn exchange(&mut self, table: &ListTable) -> Ask {
+        let (parent, word) = self.source(table);
+        let (new_parent, new_word) = self.source(table);
+        Ask::Exchange(parent, word, new_parent, new_word)
+    }
+
     /// The removal of a hidden file, which makes room for others, or of any name.
     fn unhiding(&mut self, table: &ListTable) -> Ask {
         let (parent, word) = match hidden_place(table) {
@@ -151,7 +164,7 @@ impl Draws {
 
     /// What a request asks for, mostly of what is there.
     fn ask(&mut self, table: &ListTable) -> Ask {
-        match self.among(40) {
+        match self.among(44) {
             0..=2 => Ask::Node(self.named(table), None),
             3..=7 => self.page(table),
             8..=13 => self.removal(table),
@@ -162,6 +175,8 @@ impl Draws {
             28..=31 => self.release(table),
             32 => self.use_of_handle(table),
             33 => self.any_ask(),
+            40 => self.keep(table),
+            41.. => self.exchange(table),
             _ => self.look_up(table),
         }
     }

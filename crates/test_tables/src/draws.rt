@@ -105,7 +105,7 @@ impl Draws {
 
     /// Any want.
     pub fn any_ask(&mut self) -> Ask {
-        match self.among(8) {
+        match self.among(10) {
             0 => Ask::Node(self.any_number(), self.any_handle()),
             1 => Ask::Name(self.any_number(), self.word()),
             2 => Ask::Page(self.any_number(), self.batch()),
@@ -118,6 +118,18 @@ impl Draws {
             ),
             5 => Ask::Open(self.any_number(), self.access()),
             6 => Ask::Create(self.any_number(), self.word(), self.access()),
+            7 => Ask::Keep(
+                self.any_number(),
+                self.word(),
+                self.any_number(),
+                self.word(),
+            ),
+            8 => Ask::Exchange(
+                self.any_number(),
+                self.word(),
+                self.any_number(),
+                self.word(),
+            ),
             _ => Ask::Release(self.any_number(), self.any_number()),
         }
     }

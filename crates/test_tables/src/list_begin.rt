@@ -34,15 +34,22 @@ fn conflict(one: &Plan, other: &Plan) -> bool {
     is_in_the_way(one, other) || is_in_the_way(other, one)
 }
 
-/// Why a move may not be made, if it may not: one of its paths is a proper front of the other.
+/// Why a move or an exchange may not be made, if it may not: one of its paths is a proper front of the other.
 fn astray(plan: &Plan) -> Option<i32> {
-    let (Ask::Move(..), [source, target, ..]) = (plan.ask, plan.ways.as_slice()) else {
+    let (Ask::Move(..) | Ask::Keep(..) | Ask::Exchange(..), [source, target, ..]) = (
+        plan.ask,
+        plan.ways.as_slice(),
+    ) else {
         return None;
     };
     if source.is_proper_front_of(target) {
         Some(EINVAL)
     } else if target.is_proper_front_of(source) {
-        Some(ENOTEMPTY)
+        Some(if matches!(plan.ask, Ask::Exchange(..)) {
+            EINVAL
+        } else {
+            ENOTEMPTY
+        })
     } else {
         None
     }

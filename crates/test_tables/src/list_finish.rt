@@ -110,6 +110,21 @@ impl ListTable {
         Ok(())
     }
 
+    /// What stands at either path or below stands at the other or below.
+    fn exchange(&mut self, one: &Way, two: &Way) -> Result<(), AllocError> {
+        for node in self.nodes.iter_mut() {
+            let moved = match &node.way {
+                Some(way) if one.is_front_of(way) => Some(way.with_front(one, two)?),
+                Some(way) if two.is_front_of(way) => Some(way.with_front(two, one)?),
+                _ => None,
+            };
+            if moved.is_some() {
+                node.way = moved;
+            }
+        }
+        Ok(())
+    }
+
     /// Moves what stands at the path to the candidate, and marks the node.
     fn hide(&mut self, way: &Way, candidate: &Way) -> Result<(), AllocError> {
         let hidden = self.at(way).map(|node| node.number);
@@ -162,7 +177,10 @@ impl ListTable {
         match (plan.ask, end, plan.ways.as_slice()) {
             (Ask::Remove(..), End::Done, [way, ..]) => self.cut(way),
             (Ask::Release(..), End::Done, [way, ..]) if plan.last => self.cut(way),
-            (Ask::Move(..), End::Done, [source, target, ..]) => self.relocate(source, target)?,
+            (Ask::Move(..) | Ask::Keep(..), End::Done, [source, target, ..]) => {
+                self.relocate(source, target)?;
+            }
+            (Ask::Exchange(..), End::Done, [one, two, ..]) => self.exchange(one, two)?,
             (Ask::Remove(..), End::Hidden(index), [way, ..]) => {
                 if let Some(candidate) = candidate(plan, index) {
                     self.hide(way, candidate)?;

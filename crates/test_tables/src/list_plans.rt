@@ -116,7 +116,8 @@ impl ListTable {
         Ok(plan)
     }
 
-    /// The move of the one name to the other, each under its parent's path.
+    /// The move of the one name to the other, each under its parent's path, or their exchange. A move alone may hide, and only where it
+    /// need not keep what stands at the other.
     fn move_plan(
         &self,
         ask: Ask,
@@ -139,7 +140,9 @@ impl ListTable {
         }
         let open = self.open_at(&target);
         plan.exclusive.push(target)?;
-        if let Some(bearer) = open {
+        if let Some(bearer) = open
+            && matches!(ask, Ask::Move(..))
+        {
             self.add_candidates(&mut plan, bearer, new_way)?;
         }
         Ok(plan)
@@ -235,7 +238,9 @@ impl ListTable {
     pub fn plan(&self, ask: Ask) -> Result<Option<Plan>, AllocError> {
         match ask {
             Ask::Release(number, handle) => Ok(Some(self.release_plan(ask, number, handle)?)),
-            Ask::Move(parent, word, new_parent, new_word) => {
+            Ask::Move(parent, word, new_parent, new_word)
+            | Ask::Keep(parent, word, new_parent, new_word)
+            | Ask::Exchange(parent, word, new_parent, new_word) => {
                 self.plan_of_move(ask, (parent, word), (new_parent, new_word))
             }
             Ask::Node(number, _)

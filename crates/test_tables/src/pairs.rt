@@ -25,7 +25,7 @@ pub struct Pairs {
 fn hidden_name(alloc: Global, number: u64, counter: u32) -> Result<Name, AllocError> {
     let low = number % 0x1_0000_0000;
     let text = format!(in alloc; ".fuse_hidden{low:08x}{counter:08x}")?;
-    Ok(Name::new(text))
+    Name::new(text)
 }
 
 fn plain_name(alloc: Global, letter: char, bytes: usize) -> Result<Name, AllocError> {
@@ -33,7 +33,7 @@ fn plain_name(alloc: Global, letter: char, bytes: usize) -> Result<Name, AllocEr
     for _byte in 0..bytes {
         text.push(letter)?;
     }
-    Ok(Name::new(text))
+    Name::new(text)
 }
 
 impl Pairs {
@@ -85,11 +85,11 @@ impl Pairs {
 
     /// The path as the other table has it.
     pub fn path(&self, way: &Way) -> Result<Path, AllocError> {
-        let mut path = Path::new(*self.pairs.allocator());
+        let mut names = Vec::new(*self.pairs.allocator());
         for word in &way.words {
-            path.push(self.name(*word)?)?;
+            names.push(self.name(*word)?)?;
         }
-        Ok(path)
+        Path::from_names(names)
     }
 
     /// Whether these are the paths, in order.

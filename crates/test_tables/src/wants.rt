@@ -64,6 +64,20 @@ impl<T: Ledgers> Both<T> {
                 name: self.pairs.name(word)?,
                 new_parent: self.number(new_parent),
                 new_name: self.pairs.name(new_word)?,
+                keep: false,
+            },
+            Ask::Keep(parent, word, new_parent, new_word) => Want::Move {
+                parent: self.number(parent),
+                name: self.pairs.name(word)?,
+                new_parent: self.number(new_parent),
+                new_name: self.pairs.name(new_word)?,
+                keep: true,
+            },
+            Ask::Exchange(parent, word, new_parent, new_word) => Want::Exchange {
+                parent: self.number(parent),
+                name: self.pairs.name(word)?,
+                new_parent: self.number(new_parent),
+                new_name: self.pairs.name(new_word)?,
             },
             Ask::Open(number, access) => Want::Open {
                 number: self.number(number),

@@ -7,7 +7,8 @@ use wire::WireFault::{Body, Frame, NameBad, NameLong, Opcode};
 use wire::{
     BATCH_FORGET, CREATE, DESTROY, FLUSH, FORGET, FSYNC, FSYNCDIR, GETATTR, HEADER_LEN, Header,
     INIT, INTERRUPT, LOOKUP, MKDIR, OPEN, OPENDIR, READ, READDIR, READDIRPLUS, RELEASE, RELEASEDIR,
-    RENAME, RMDIR, SETATTR, STATFS, UNLINK, WRITE, WireFault, decode, has_reply, header_of,
+    RENAME, RENAME2, RMDIR, SETATTR, STATFS, UNLINK, WRITE, WireFault, decode, has_reply,
+    header_of,
 };
 
 /// A piece of a body.
@@ -43,6 +44,11 @@ const BODIES: &[Row] = &[
     Row(RENAME, &[Each(0, 8), Bytes(b"a\0b")], Some(Body)),
     Row(RENAME, &[Each(0, 8), Bytes(b"a\0b\0c\0")], Some(Body)),
     Row(RENAME, &[Each(0, 8), Bytes(b"/\0")], Some(Body)),
+    Row(RENAME2, &[Each(0, 8), Bytes(b"a\0b\0")], Some(Body)),
+    Row(RENAME2, &[Each(0, 15)], Some(Body)),
+    Row(RENAME2, &[Each(0, 16), Bytes(b"a\0")], Some(Body)),
+    Row(RENAME2, &[Each(0, 16), Bytes(b"a\0b")], Some(Body)),
+    Row(RENAME2, &[Each(0, 16), Bytes(b"a\0b\0c\0")], Some(Body)),
     Row(STATFS, &[Each(0, 1)], Some(Body)),
     Row(INIT, &[], Some(Body)),
     Row(INIT, &[Each(7, 15)], Some(Body)),
@@ -166,6 +172,15 @@ const NAMES: &[Row] = &[
         &[Each(0, 8), Bytes(b"a\0"), Each(b'n', 256), Each(0, 1)],
         Some(NameLong),
     ),
+    Row(RENAME2, &[Each(0, 16), Bytes(b"a\0b\0")], None),
+    Row(RENAME2, &[Each(0xff, 16), Bytes(b"a\0b\0")], None),
+    Row(RENAME2, &[Each(0, 16), Bytes(b"a\0..\0")], Some(NameBad)),
+    Row(RENAME2, &[Each(0, 17), Bytes(b"b\0")], Some(NameBad)),
+    Row(
+        RENAME2,
+        &[Each(0xff, 16), Bytes(b"a\0"), Each(b'n', 256), Each(0, 1)],
+        Some(NameLong),
+    ),
     Row(
         RENAME,
         &[Each(0, 9), Each(b'n', 256), Each(0, 1)],
@@ -183,7 +198,7 @@ const OPCODES: &[Row] = &[
     Row(0, &[], Some(Opcode)),
     Row(5, &[Bytes(b"/\0")], Some(Opcode)),
     Row(31, &[Each(0, 8)], Some(Opcode)),
-    Row(45, &[Each(0, 16), Bytes(b"a\0b\0")], Some(Opcode)),
+    Row(46, &[Each(0, 16), Bytes(b"a\0b\0")], Some(Opcode)),
     Row(5, &[Each(0, 69592)], Some(Opcode)),
     Row(5, &[Each(0, 69593)], Some(Frame)),
 ];

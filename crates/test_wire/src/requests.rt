@@ -6,7 +6,7 @@ use crate::unread::READ;
 use std::test::Fail;
 use wire::Operation::{
     BatchForget, Destroy, Forget, GetAttr, Init, Interrupt, Lookup, MakeDir, OpenDir, ReadDir,
-    ReadDirPlus, ReleaseDir, RemoveDir, Rename, SetAttr, StatFs, SyncDir, Unlink,
+    ReadDirPlus, ReleaseDir, RemoveDir, Rename, Rename2, SetAttr, StatFs, SyncDir, Unlink,
 };
 
 /// Frames whose bytes that are not read are zero.
@@ -114,6 +114,36 @@ const WRITTEN: &[Row] = &[
         Rename {
             name: "a",
             new_parent: 3,
+            new_name: "long",
+        },
+    ),
+    Row(
+        &[
+            "3c000000 2d000000 0b00000000000000 0100000000000000",
+            SIXTEEN,
+            "0100000000000000 01000000 00000000 6100 6500",
+        ],
+        11,
+        1,
+        Rename2 {
+            name: "a",
+            new_parent: 1,
+            flags: 1,
+            new_name: "e",
+        },
+    ),
+    Row(
+        &[
+            "3f000000 2d000000 0c00000000000000 0200000000000000",
+            SIXTEEN,
+            "0300000000000000 04030201 00000000 6100 6c6f6e6700",
+        ],
+        12,
+        2,
+        Rename2 {
+            name: "a",
+            new_parent: 3,
+            flags: 0x01020304,
             new_name: "long",
         },
     ),

@@ -2,12 +2,12 @@
 
 use crate::frames::{ONES, Row};
 use wire::Operation::{
-    BatchForget, GetAttr, Init, Interrupt, MakeDir, OpenDir, ReadDir, SetAttr, SyncDir,
+    BatchForget, GetAttr, Init, Interrupt, MakeDir, OpenDir, ReadDir, Rename2, SetAttr, SyncDir,
 };
 
 /// Frames in which bytes that are not read are something else: uid, gid, pid and padding; of GETATTR the flags and the
 /// handle, of SETATTR its padding and what follows its size, of MKDIR the mode and the umask, of INIT what follows its
-/// flags, of INTERRUPT all, and of the requests about open folders flags and owners of locks.
+/// flags, of INTERRUPT all, of RENAME2 its padding, and of the requests about open folders flags and owners of locks.
 pub const READ: &[Row] = &[
     Row(
         &[
@@ -71,6 +71,21 @@ pub const READ: &[Row] = &[
         6,
         2,
         Interrupt,
+    ),
+    Row(
+        &[
+            "3c000000 2d000000 0b00000000000000 0100000000000000",
+            ONES,
+            "0100000000000000 02000000 ffffffff 6100 6500",
+        ],
+        11,
+        1,
+        Rename2 {
+            name: "a",
+            new_parent: 1,
+            flags: 2,
+            new_name: "e",
+        },
     ),
     Row(
         &[

@@ -130,6 +130,15 @@ module _ (old new : Slab Node) (numbered : (n : ℕ) (x : Node) → slot_at old 
       let e = sum_once (slot_at new) (λ (z : Node). z.count) (counts_of (listed new.slots)) t (counts_sum new numbered') (subst (λ (at : Lookup). IsSum at (λ (z : Node). z.count) t) (sym wrote) sum) in
       omega arith
 
+  -- two nodes change, and not their counts
+  pub counts_swapped : (n k : ℕ) (x x' y y' : Node) → (n ≡ k → ⊥) → slot_at old n ≡ Some x → slot_at old k ≡ Some y → x'.count ≡ x.count → y'.count ≡ y.count → slot_at new ≡ with_node (with_node (slot_at old) n x') k y' → counts_of (listed new.slots) ≡ counts_of (listed old.slots)
+  counts_swapped n k x x' y y' differ here here' same same' wrote =
+      let s = counts_of (listed old.slots) in
+      let mid = with_node (slot_at old) n x' in
+      let first : IsSum mid (λ (z : Node). z.count) s = sum_changed (slot_at old) (λ (z : Node). z.count) n x x' s s here (counts_sum old numbered) (omega (arith, same)) in
+      let second = sum_changed mid (λ (z : Node). z.count) k y y' s s (with_other (slot_at old) n x' k differ ∙ here') first (omega (arith, same')) in
+      sum_once (slot_at new) (λ (z : Node). z.count) (counts_of (listed new.slots)) s (counts_sum new numbered') (subst (λ (at : Lookup). IsSum at (λ (z : Node). z.count) s) (sym wrote) second)
+
   pub counts_born : (n : ℕ) (y : Node) → slot_at old n ≡ None → slot_at new ≡ with_node (slot_at old) n y → counts_of (listed new.slots) ≡ counts_of (listed old.slots) + y.count
   counts_born n y none wrote =
       let s = counts_of (listed old.slots) in

@@ -40,7 +40,7 @@ pub(crate) fn cut_leaf(store: &mut Store, number: u64)
 }
 
 /// Names the node elsewhere, at a place that is free.
-fn place_number(store: &mut Store, number: u64, key: Key, copy: Key)
+pub(crate) fn place_number(store: &mut Store, number: u64, key: Key, copy: Key)
     requires copy { copy ≡ key }
     requires not_root { number ≢ 1 }
     requires named { (p : ℕ) × (name : List ℕ) × IsNamed (slot_at store.old.nodes) number p name }

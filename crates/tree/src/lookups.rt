@@ -5,6 +5,7 @@ ghost use Rattle.std.specs.Option.{option_copied};
 ghost use Rattle.slab.specs.Slab.{get, slab_len};
 ghost use Rattle.paths.specs.Prefixes.{Names, path_bytes};
 ghost use Rattle.tree.specs.declared.nodes.Node.{Node};
+ghost use Rattle.tree.specs.declared.nodes.TreeFault.TheVariants as TreeFault;
 ghost use Rattle.tree.specs.declared.nodes.Place.TheVariants as Place;
 ghost use Rattle.tree.specs.Places.{IsAlive, IsNextAlive, IsNamed, IsPathOf, Reaches, IsBelow, IsTree, Leads, HasChild, IsFree};
 ghost use Rattle.tree.specs.Listed.{IsClimbed, IsClimbFault, IsNameTooLong, IsLeastFree};
@@ -12,7 +13,7 @@ ghost use Rattle.tree.specs.Moves.{IsFault};
 ghost use Rattle.tree.specs.Stored.{slot_at, listed};
 
 use crate::nodes::{Node, Place, TreeFault};
-use paths::Name;
+use paths::{Name, Path};
 use slab::Slab;
 use std::alloc::{AllocError, Global};
 
@@ -97,18 +98,18 @@ pub(crate) fn expect_path(nodes: &Slab<Node>, number: u64) -> Result<(), TreeFau
     }
 }
 
-/// The names from the root down to the node, and then those handed in, which run upwards and have so many bytes.
+/// The path that goes from the root down to the node, and then by the names handed in, which run upwards and have so many bytes.
 pub(crate) fn climb(
     nodes: &Slab<Node>,
     number: u64,
     below: Vec<Name>,
     below_bytes: usize,
-) -> Result<Vec<Name>, TreeFault>
+) -> Result<Path, TreeFault>
     requires tree { IsTree (slot_at nodes.now) }
     requires leads { Leads (slot_at nodes.now) number }
     requires bytes { below_bytes ≡ path_bytes below.items }
     requires few { below_bytes ≤ 4096 }
-    ensures ok { IfOk result (λ v. IsClimbed (slot_at nodes.now) number below.items v.items × (path_bytes v.items ≤ 4096)) }
+    ensures ok { IfOk result (λ p. IsClimbed (slot_at nodes.now) number below.items p × (path_bytes p ≤ 4096)) }
     ensures err { IfErr result (IsClimbFault (slot_at nodes.now) number below.items) }
 {
     let mut names = below;
@@ -117,7 +118,8 @@ pub(crate) fn climb(
     for _step in 0..nodes.len() {
         if current == 1 {
             names.reverse();
-            return Ok(names);
+            let path = path_of(names)?;
+            return Ok(path);
         }
         let Some(node) = node_in(nodes, current) else {
             unreachable!();
@@ -131,22 +133,19 @@ pub(crate) fn climb(
     unreachable!()
 }
 
-/// The names from the root down to the node, however many bytes they have.
-pub(crate) fn way_to(
-    alloc: Global,
-    nodes: &Slab<Node>,
-    number: u64,
-) -> Result<Vec<Name>, AllocError>
+/// The path that goes from the root down to the node, however many bytes it has.
+pub(crate) fn way_to(alloc: Global, nodes: &Slab<Node>, number: u64) -> Result<Path, AllocError>
     requires tree { IsTree (slot_at nodes.now) }
     requires leads { Leads (slot_at nodes.now) number }
-    ensures { IfOk result (λ v. IsPathOf (slot_at nodes.now) number v.items) }
+    ensures { IfOk result (IsPathOf (slot_at nodes.now) number) }
 {
     let mut names = Vec::new(alloc);
     let mut current = number;
     for _step in 0..nodes.len() {
         if current == 1 {
             names.reverse();
-            return Ok(names);
+            let path = Path::from_names(names)?;
+            return Ok(path);
         }
         let Some(node) = node_in(nodes, current) else {
             unreachable!();
@@ -159,6 +158,17 @@ pub(crate) fn way_to(
         current = key.parent;
     }
     unreachable!()
+}
+
+/// The path of these names.
+fn path_of(names: Vec<Name>) -> Result<Path, TreeFault>
+    ensures ok { IfOk result (λ p. p ≡ names.items) }
+    ensures err { IfErr result (λ fault. fault ≡ TreeFault.Memory) }
+{
+    match Path::from_names(names) {
+        Ok(path) => Ok(path),
+        Err(_) => Err(TreeFault::Memory),
+    }
 }
 
 /// Puts a copy of the name behind the others, which have so many bytes. The bytes of all are the result.

@@ -4,11 +4,11 @@ use Rattle.std.specs.Str.{IsUtf8}
 use Rattle.std.specs.List.{AllByRecursion}
 use Rattle.byteorder.specs.Endian.{little_number}
 use Rattle.wire.specs.declared.header.Header.{Header}
-use Rattle.wire.specs.declared.opcode.TheConstants.{LOOKUP, FORGET, GETATTR, SETATTR, MKDIR, UNLINK, RMDIR, RENAME, OPEN, READ, WRITE, STATFS, RELEASE, FSYNC, FLUSH, INIT, OPENDIR, READDIR, RELEASEDIR, FSYNCDIR, CREATE, INTERRUPT, DESTROY, BATCH_FORGET, READDIRPLUS}
+use Rattle.wire.specs.declared.opcode.TheConstants.{LOOKUP, FORGET, GETATTR, SETATTR, MKDIR, UNLINK, RMDIR, RENAME, OPEN, READ, WRITE, STATFS, RELEASE, FSYNC, FLUSH, INIT, OPENDIR, READDIR, RELEASEDIR, FSYNCDIR, CREATE, INTERRUPT, DESTROY, BATCH_FORGET, READDIRPLUS, RENAME2}
 use Rattle.wire.specs.declared.request.TheConstants.{HEADER_LEN, MAX_FRAME_LEN, MAX_READ_LEN, MAX_WRITE_LEN}
 use Rattle.wire.specs.declared.request.Request.{Request}
 use Rattle.wire.specs.declared.request.Operation.{Operation}
-use Rattle.wire.specs.declared.request.Operation.TheVariants.{Lookup, Forget, GetAttr, SetAttr, MakeDir, Unlink, RemoveDir, Rename, Open, Read, Write, StatFs, Release, Sync, Flush, Init, OpenDir, ReadDir, ReleaseDir, SyncDir, Create, Interrupt, Destroy, BatchForget, ReadDirPlus}
+use Rattle.wire.specs.declared.request.Operation.TheVariants.{Lookup, Forget, GetAttr, SetAttr, MakeDir, Unlink, RemoveDir, Rename, Open, Read, Write, StatFs, Release, Sync, Flush, Init, OpenDir, ReadDir, ReleaseDir, SyncDir, Create, Interrupt, Destroy, BatchForget, ReadDirPlus, Rename2}
 use Rattle.wire.specs.Fields.{Field, unread, text, counted, limited, anything, u32, u64, Value, num, name, bytes, Spells}
 
 -- ---- the header: the length, the opcode, unique, the node's number, and sixteen bytes that are not read
@@ -64,7 +64,8 @@ layout opcode =
     else (if opcode == DESTROY then Some []
     else (if opcode == BATCH_FORGET then Some (counted 16 4 (2 ^ 32 - 1) ∷ [])
     else (if opcode == READDIRPLUS then Some (u64 ∷ u64 ∷ limited MAX_READ_LEN ∷ unread 20 ∷ [])
-    else None))))))))))))))))))))))))
+    else (if opcode == RENAME2 then Some (u64 ∷ u32 ∷ unread 4 ∷ text ∷ text ∷ [])
+    else None)))))))))))))))))))))))))
 
 abbrev pub opcode_of : Operation → ℕ
 opcode_of (Lookup _) = LOOKUP
@@ -92,6 +93,7 @@ opcode_of Interrupt = INTERRUPT
 opcode_of Destroy = DESTROY
 opcode_of (BatchForget _) = BATCH_FORGET
 opcode_of (ReadDirPlus _ _ _) = READDIRPLUS
+opcode_of (Rename2 _ _ _ _) = RENAME2
 
 -- what an operation has in the fields of its layout
 abbrev pub values_of : Operation → List Value
@@ -120,6 +122,7 @@ values_of Interrupt = []
 values_of Destroy = []
 values_of (BatchForget pairs) = bytes pairs.now ∷ []
 values_of (ReadDirPlus fh offset size) = num fh ∷ num offset ∷ num size ∷ []
+values_of (Rename2 n new_parent flags new_name) = num new_parent ∷ num flags ∷ name n.now ∷ name new_name.now ∷ []
 
 -- the body has that layout, with these values
 abbrev pub IsLaidOut : Option (List Field) → List Value → List ℕ → Type 0

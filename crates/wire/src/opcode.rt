@@ -77,6 +77,9 @@ pub const BATCH_FORGET: u32 = 42;
 /// `FUSE_READDIRPLUS` of `fuse.h`: asks for names of an open folder, each looked up.
 pub const READDIRPLUS: u32 = 44;
 
+/// `FUSE_RENAME2` of `fuse.h`: gives a node another name, by flags.
+pub const RENAME2: u32 = 45;
+
 /// Whether a frame of this opcode is answered. One that is not gets no reply even if it is faulty.
 pub fn has_reply(opcode: u32) -> bool
     ensures { IsTrue result ↔ ((opcode ≢ FORGET) × (opcode ≢ INTERRUPT) × (opcode ≢ BATCH_FORGET)) }

@@ -10,8 +10,8 @@ use crate::fronts::{
 };
 use crate::opcode::{
     BATCH_FORGET, CREATE, DESTROY, FLUSH, FORGET, FSYNC, FSYNCDIR, GETATTR, INIT, INTERRUPT,
-    LOOKUP, MKDIR, OPEN, OPENDIR, READ, READDIR, READDIRPLUS, RELEASE, RELEASEDIR, RENAME, RMDIR,
-    SETATTR, STATFS, UNLINK, WRITE,
+    LOOKUP, MKDIR, OPEN, OPENDIR, READ, READDIR, READDIRPLUS, RELEASE, RELEASEDIR, RENAME, RENAME2,
+    RMDIR, SETATTR, STATFS, UNLINK, WRITE,
 };
 use crate::opened::{
     create, flush, open, open_dir, read, read_dir, read_dir_plus, release, release_dir, sync,
@@ -67,18 +67,42 @@ fn make_dir(body: &[u8]) -> Result<Operation<'_>, WireFault>
     Ok(Operation::MakeDir { name })
 }
 
+/// Two names, and nothing after them.
+fn two_names(body: &[u8]) -> Result<(&str, &str), WireFault>
+    ensures { Gives (λ x. name x.0.now ∷ name x.1.now ∷ []) result (fields_at (text ∷ text ∷ []) body.now) }
+{
+    let (name, rest) = text_front(body)?;
+    let (new_name, rest) = text_front(rest)?;
+    nothing_left(rest)?;
+    Ok((name_of(name)?, name_of(new_name)?))
+}
+
 #[tactic(auto, unfolding(crate::specs::Reading::operation_at))]
 fn rename(body: &[u8]) -> Result<Operation<'_>, WireFault>
     ensures { Gives told result (operation_at RENAME body.now) }
 {
     let (new_parent, rest) = u64_front(body)?;
-    let (name, rest) = text_front(rest)?;
-    let (new_name, rest) = text_front(rest)?;
-    nothing_left(rest)?;
+    let (name, new_name) = two_names(rest)?;
     Ok(Operation::Rename {
-        name: name_of(name)?,
+        name,
         new_parent,
-        new_name: name_of(new_name)?,
+        new_name,
+    })
+}
+
+#[tactic(auto, unfolding(crate::specs::Reading::operation_at))]
+fn rename2(body: &[u8]) -> Result<Operation<'_>, WireFault>
+    ensures { Gives told result (operation_at RENAME2 body.now) }
+{
+    let (new_parent, rest) = u64_front(body)?;
+    let (flags, rest) = u32_front(rest)?;
+    let rest = unread_front(rest, 4)?;
+    let (name, new_name) = two_names(rest)?;
+    Ok(Operation::Rename2 {
+        name,
+        new_parent,
+        flags,
+        new_name,
     })
 }
 
@@ -158,6 +182,7 @@ pub fn operation_of(opcode: u32, body: &[u8]) -> Result<Operation<'_>, WireFault
         DESTROY => destroy(body),
         BATCH_FORGET => batch_forget(body),
         READDIRPLUS => read_dir_plus(body),
+        RENAME2 => rename2(body),
         _ => Err(WireFault::Opcode),
     }
 }

@@ -7,8 +7,8 @@ ghost use Rattle.wire.specs.Rows.{part_bytes, parts_bytes};
 
 use crate::opcode::{
     BATCH_FORGET, CREATE, DESTROY, FLUSH, FORGET, FSYNC, FSYNCDIR, GETATTR, INIT, INTERRUPT,
-    LOOKUP, MKDIR, OPEN, OPENDIR, READ, READDIR, READDIRPLUS, RELEASE, RELEASEDIR, RENAME, RMDIR,
-    SETATTR, STATFS, UNLINK, WRITE,
+    LOOKUP, MKDIR, OPEN, OPENDIR, READ, READDIR, READDIRPLUS, RELEASE, RELEASEDIR, RENAME, RENAME2,
+    RMDIR, SETATTR, STATFS, UNLINK, WRITE,
 };
 use crate::put::{put, put_low_u32, put_text, put_u32, put_u64, put_zeros};
 use crate::request::{HEADER_LEN, Operation};
@@ -109,6 +109,21 @@ pub fn row_of<'a>(operation: &Operation<'a>) -> Row<'a>
         Operation::ReadDirPlus { fh, offset, size } => (
             READDIRPLUS,
             [U64(fh), U64(offset), U32(size), Zeros(20), end],
+        ),
+        Operation::Rename2 {
+            name,
+            new_parent,
+            flags,
+            new_name,
+        } => (
+            RENAME2,
+            [
+                U64(new_parent),
+                U32(flags),
+                Zeros(4),
+                Text(name),
+                Text(new_name),
+            ],
         ),
     };
     Row { opcode, parts }

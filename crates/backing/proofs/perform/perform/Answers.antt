@@ -20,6 +20,12 @@ returns-in-RemoveDir-clause-ends c = subst (λ (call : Call). Ends (tree_of c.ar
 pub returns-in-Rename-clause-ends : goal.returns-in-Rename-clause-ends
 returns-in-Rename-clause-ends c = subst (λ (call : Call). Ends (tree_of c.args.entries.now.items) (asked call) c.rename.result (tree_of c.rename.new.entries.items)) (sym c.in-Rename.is) c.rename.ensures.ends
 
+pub returns-in-RenameNew-clause-ends : goal.returns-in-RenameNew-clause-ends
+returns-in-RenameNew-clause-ends c = subst (λ (call : Call). Ends (tree_of c.args.entries.now.items) (asked call) c.rename_new.result (tree_of c.rename_new.new.entries.items)) (sym c.in-RenameNew.is) c.rename_new.ensures.ends
+
+pub returns-in-Exchange-clause-ends : goal.returns-in-Exchange-clause-ends
+returns-in-Exchange-clause-ends c = subst (λ (call : Call). Ends (tree_of c.args.entries.now.items) (asked call) c.exchange.result (tree_of c.exchange.new.entries.items)) (sym c.in-Exchange.is) c.exchange.ensures.ends
+
 pub returns-in-Write-clause-ends : goal.returns-in-Write-clause-ends
 returns-in-Write-clause-ends c = subst (λ (call : Call). Ends (tree_of c.args.entries.now.items) (asked call) c.write.result (tree_of c.write.new.entries.items)) (sym c.in-Write.is) c.write.ensures.ends
 

@@ -1,4 +1,4 @@
-use Rattle.std.proofs.Common.{not, refl, ap}
+use Rattle.std.proofs.Common.{◌&&◌, Bool, not, refl, ap, ◌∙◌}
 use Rattle.std.proofs.lemmas.Result.{IfErr-weaker, IfOk-weaker}
 use Rattle.table_requests.specs.declared.data.Case.TheVariants as cases
 use Rattle.table_footprints.specs.declared.refusal.Refusal.{Refusal}
@@ -7,7 +7,7 @@ use Rattle.table_footprints.specs.Gatherings.{IsWanted, refusal_errno}
 use Rattle.table_footprints.specs.NewRequests.{IsRefusedRequest}
 use Rattle.table_footprints.specs.Footprints.{name_footprint, node_footprint}
 use Rattle.table_footprints.proofs.Pathless.{closing_refused, closing_wanted}
-use Rattle.table_footprints.proofs.Wanting.{entry_there, move_refused, move_wanted, name_opened, named_wanted, node_opened, node_refused, node_wanted, refused_as, removal_refused, removal_wanted, unsound_opening}
+use Rattle.table_footprints.proofs.Wanting.{entry_there, exchange_refused, exchange_wanted, move_refused, move_wanted, name_opened, named_wanted, node_opened, node_refused, node_wanted, refused_as, removal_refused, removal_wanted, unsound_opening}
 use Rattle.table_footprints.proofs.footprints.reservation_for.Goals as goal
 
 pub returns-in-Node-clause-err : goal.returns-in-Node-clause-err
@@ -46,14 +46,24 @@ returns-in-Remove-clause-err c =
 pub returns-in-Move-clause-ok : goal.returns-in-Move-clause-ok
 returns-in-Move-clause-ok c =
     let seen = seen_of c.args.tree.now c.args.files.now c.args.counter in
-    let apart = ap not c.is.ensures in
-    IfOk-weaker c.going_reservation-in-Move.result _ (λ t. IsWanted seen c.args.want.now t) (λ t are. move_wanted seen c.args.want.now _ _ _ _ _ c.in-Move.is apart t are.fits are.reservation) c.going_reservation-in-Move.ensures.ok
+    let apart = c.may_replace.ensures ∙ ap (λ (b : Bool). not c.in-Move.keep && not b) c.is.ensures in
+    IfOk-weaker c.going_reservation-in-Move.result _ (λ t. IsWanted seen c.args.want.now t) (λ t are. move_wanted seen c.args.want.now _ _ _ _ _ _ c.in-Move.is apart t are.fits are.reservation) c.going_reservation-in-Move.ensures.ok
 
 pub returns-in-Move-clause-err : goal.returns-in-Move-clause-err
 returns-in-Move-clause-err c =
     let seen = seen_of c.args.tree.now c.args.files.now c.args.counter in
-    let apart = ap not c.is.ensures in
-    IfErr-weaker c.going_reservation-in-Move.result _ (λ (r : Refusal). IsRefusedRequest seen c.args.want.now (refusal_errno r)) (λ r bad. move_refused seen c.args.want.now _ _ _ _ _ c.in-Move.is apart (refusal_errno r) bad.case bad.fits bad.unsound) c.going_reservation-in-Move.ensures.err
+    let apart = c.may_replace.ensures ∙ ap (λ (b : Bool). not c.in-Move.keep && not b) c.is.ensures in
+    IfErr-weaker c.going_reservation-in-Move.result _ (λ (r : Refusal). IsRefusedRequest seen c.args.want.now (refusal_errno r)) (λ r bad. move_refused seen c.args.want.now _ _ _ _ _ _ c.in-Move.is apart (refusal_errno r) bad.case bad.fits bad.unsound) c.going_reservation-in-Move.ensures.err
+
+pub returns-in-Exchange-clause-ok : goal.returns-in-Exchange-clause-ok
+returns-in-Exchange-clause-ok c =
+    let seen = seen_of c.args.tree.now c.args.files.now c.args.counter in
+    IfOk-weaker c.reservation_of-in-Exchange.result _ (λ t. IsWanted seen c.args.want.now t) (λ t agreed. exchange_wanted seen c.args.want.now _ _ _ _ c.in-Exchange.is t agreed.fits agreed.reservation) c.reservation_of-in-Exchange.ensures.ok
+
+pub returns-in-Exchange-clause-err : goal.returns-in-Exchange-clause-err
+returns-in-Exchange-clause-err c =
+    let seen = seen_of c.args.tree.now c.args.files.now c.args.counter in
+    IfErr-weaker c.reservation_of-in-Exchange.result _ (λ (r : Refusal). IsRefusedRequest seen c.args.want.now (refusal_errno r)) (λ r unsound. exchange_refused seen c.args.want.now _ _ _ _ c.in-Exchange.is (refusal_errno r) (unsound cases.Plain)) c.reservation_of-in-Exchange.ensures.err
 
 pub returns-in-Open-clause-ok : goal.returns-in-Open-clause-ok
 returns-in-Open-clause-ok c =

@@ -36,5 +36,11 @@ replace_at-requires-clause-may_hide c e refused = c.requires.may e (subst (λ (c
 pub returns-in-Replaces-clause-children : goal.returns-in-Replaces-clause-children
 returns-in-Replaces-clause-children c = subst (λ (change : Change). KeepsChildren (at_in c.args.tree.now) (IsUnder (at_in c.args.tree.now) change) (at_in c.replace_at.new.tree)) (ap change_in (sym c.in-Replaces.is)) c.replace_at.ensures.children
 
+pub exchange_at-requires-clause-may : goal.exchange_at-requires-clause-may
+exchange_at-requires-clause-may c e refused = c.requires.may e (subst (λ (change : Change). IsMisplaced (at_in c.args.tree.now) change e) (ap change_in (sym c.in-Exchanges.is)) refused)
+
+pub returns-in-Exchanges-clause-children : goal.returns-in-Exchanges-clause-children
+returns-in-Exchanges-clause-children c = subst (λ (change : Change). KeepsChildren (at_in c.args.tree.now) (IsUnder (at_in c.args.tree.now) change) (at_in c.exchange_at.new.tree)) (ap change_in (sym c.in-Exchanges.is)) c.exchange_at.ensures.children
+
 pub returns-in-Stays-clause-listed : goal.returns-in-Stays-clause-listed
 returns-in-Stays-clause-listed c = listed_same c.args.tree.now

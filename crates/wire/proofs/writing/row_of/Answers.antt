@@ -1,7 +1,7 @@
 use Rattle.std.proofs.Common.{rules}
 use Rattle.wire.specs.Written.{zeros}
 use Rattle.wire.proofs.Lengths.{lengths}
-use Rattle.wire.proofs.writing.row_of.Goals.{in-Lookup, in-Forget, in-GetAttr, in-SetAttr, in-MakeDir, in-Unlink, in-RemoveDir, in-Rename, in-Open, in-Read, in-Write, in-StatFs, in-Release, in-Sync, in-Flush, in-Init, in-OpenDir, in-ReadDir, in-ReleaseDir, in-SyncDir, in-Create, in-Interrupt, in-Destroy, in-BatchForget, in-ReadDirPlus}
+use Rattle.wire.proofs.writing.row_of.Goals.{in-Lookup, in-Forget, in-GetAttr, in-SetAttr, in-MakeDir, in-Unlink, in-RemoveDir, in-Rename, in-Open, in-Read, in-Write, in-StatFs, in-Release, in-Sync, in-Flush, in-Init, in-OpenDir, in-ReadDir, in-ReleaseDir, in-SyncDir, in-Create, in-Interrupt, in-Destroy, in-BatchForget, in-ReadDirPlus, in-Rename2}
 use Rattle.wire.proofs.writing.row_of.Goals as goal
 
 -- with the operation in its place the layout is looked up by computing, not by a search over all opcodes
@@ -33,4 +33,5 @@ returns-clause-bytes c = elim c.match-operation.branch [
   | in-Destroy w ↦ rw (w.opcode-is, w.in-Destroy.is) search (rules, lengths)
   | in-BatchForget w ↦ rw (w.opcode-is, w.in-BatchForget.is) search (rules, lengths)
   | in-ReadDirPlus w ↦ rw (w.opcode-is, w.in-ReadDirPlus.is) search (rules, lengths)
+  | in-Rename2 w ↦ rw (w.opcode-is, w.in-Rename2.is) search (rules, lengths)
 ]
