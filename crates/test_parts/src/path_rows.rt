@@ -1,12 +1,16 @@
 //! A path of two names.
 
+ghost use Rattle.std.specs.Prelude.{◌≡◌, IfOk, length};
+
 use crate::spelling::spells;
 use paths::{Name, Path};
 use std::alloc::{AllocError, Global};
 use std::test::Fail;
 
 /// The path of two names, the second of which is a copy.
-fn two_names(alloc: Global) -> Result<Path, AllocError> {
+fn two_names(alloc: Global) -> Result<Path, AllocError>
+    ensures { IfOk result (λ p. length p ≡ 2) }
+{
     let mut names = Vec::new(alloc);
     names.push(Name::copy_of(alloc, "folder")?)?;
     names.push(Name::copy_of(alloc, "x")?.copy()?)?;
