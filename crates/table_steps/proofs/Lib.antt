@@ -28,6 +28,7 @@ mod Offering
 pub mod Reserving
 pub mod Entering
 pub mod Placing
+mod Ended
 pub mod Ends
 pub mod RootAlone
 pub mod Rooted
