@@ -6,6 +6,7 @@ pub mod Guarding
 pub mod Beginning
 pub mod Finishing
 pub mod Growing
+mod Recording
 pub mod Adding
 pub mod Ordered
 pub mod Booked
