@@ -2,7 +2,7 @@
 use Rattle.std.proofs.lemmas.Option.{none-some}
 use Rattle.std.proofs.lemmas.Bool.{cases_eq, eq-eqb}
 use Rattle.tree.proofs.LookupLemmas.{cases_option}
-use Rattle.std.proofs.Common.{◌≡◌, ◌==◌, ℕ, Bool, true, false, Option, Some, None, if◌then◌else◌, refl, sym, ap, ◌∙◌, inl, inr, ℤ, to_z, of_z, w32, arith}
+use Rattle.std.proofs.Common.{◌≡◌, ◌==◌, ℕ, Bool, true, false, Option, Some, None, length, if◌then◌else◌, refl, sym, ap, ◌∙◌, inl, inr, ℤ, to_z, of_z, w32, arith}
 use Rattle.table_requests.specs.declared.data.Want.{Want}
 use Rattle.table_steps.proofs.Refusing.{refusal_bits}
 use Rattle.table_steps.specs.Answers.{Claim, Answer, Settlement}
@@ -17,7 +17,9 @@ use Rattle.engine.specs.Tables.{IsIdle}
 pub record Alone (id : ℕ) (flights : RequestsInFlight) : Type 0 where
   pub flight : RequestInFlight
   pub here : flights id ≡ Some flight
-  pub stage : flight.stage ≡ Answered
+  pub before : ℕ
+  pub opened : Option ℕ
+  pub stage : flight.stage ≡ Answered before opened
   pub others : (k : ℕ) → (id == k) ≡ false → flights k ≡ None
 
 itself : (id : ℕ) (at : RequestsInFlight) (x : Option RequestInFlight) → with_entry at id x id ≡ x
@@ -40,15 +42,17 @@ finishes_one old mid fin unique want claim o a idle begins finishes =
     let f : RequestInFlight = record { unique = unique; stage = Working work; pins = goes.pins } in
     let now : (k : ℕ) → mid.flights k ≡ with_entry old.flights claim.id (Some f) k = λ k. ap (λ (w : World). w.flights k) goes.new_is in
     let ends = finishes.found f work (record { here = now claim.id ∙ itself claim.id old.flights (Some f); working = refl }) in
-    let then_is : (k : ℕ) → fin.flights k ≡ with_entry mid.flights claim.id (Some (answered f a.given)) k = λ k. ap (λ (w : World). w.flights k) ends.new_is in
+    let then_is : (k : ℕ) → fin.flights k ≡ with_entry mid.flights claim.id (Some (answered f a.given a.opened)) k = λ k. ap (λ (w : World). w.flights k) ends.new_is in
     record {
       not_lost = ends.not_lost;
       id_is = ends.answer_id;
       alone = record {
-        flight = answered f a.given;
-        here = then_is claim.id ∙ itself claim.id mid.flights (Some (answered f a.given));
+        flight = answered f a.given a.opened;
+        here = then_is claim.id ∙ itself claim.id mid.flights (Some (answered f a.given a.opened));
+        before = length f.pins;
+        opened = a.opened;
         stage = refl;
-        others = λ k e. then_is k ∙ another claim.id k mid.flights (Some (answered f a.given)) e (now k ∙ another claim.id k old.flights (Some f) e (idle k));
+        others = λ k e. then_is k ∙ another claim.id k mid.flights (Some (answered f a.given a.opened)) e (now k ∙ another claim.id k old.flights (Some f) e (idle k));
       };
     }
 
@@ -59,7 +63,7 @@ gone false id k at e none = ap (λ (b : Bool). if b then None else at k) e ∙ n
 -- Once it is settled, the table is idle.
 pub settles_one : (fin new : World) (id : ℕ) (a : Answer) (taken : Bool) (settled : Settlement) → Ended id a fin → Settles fin a taken settled new → IsIdle new
 settles_one fin new id a taken settled ended s = λ k.
-    let ends = s.found ended.not_lost (record { flight = ended.alone.flight; here = ap fin.flights ended.id_is ∙ ended.alone.here; ended = ended.alone.stage }) in
+    let ends = s.found ended.not_lost (record { flight = ended.alone.flight; here = ap fin.flights ended.id_is ∙ ended.alone.here; before = ended.alone.before; opened = ended.alone.opened; ended = ended.alone.stage }) in
     ap (λ (w : World). w.flights k) ends.new_is ∙ gone (a.id == k) a.id k fin.flights refl (λ e. ended.alone.others k (ap (λ n. n == k) (sym ended.id_is) ∙ e))
 
 -- A forget leaves it idle.

@@ -88,7 +88,7 @@ shown_at (f ∷ fs) (r ∷ rs) (suc i) d zip within = let it = shown_at fs rs i 
 -- who shows a working request has its work
 working_of : (s : flight.Stage) → stage_of s ≡ Working → (work : Work) × (s ≡ flight_stage.Working work)
 working_of (flight_stage.Working work) is = (work, refl)
-working_of flight_stage.Answered is = let never : Answered ≡ Working = is in cc
+working_of (flight_stage.Answered before opened) is = let never : Answered ≡ Working = is in cc
 
 -- a request that is worked on, as the world shows it
 at_work : (flights : RequestsInFlight) (id : ℕ) (f : RequestInFlight) (work : Work) → flights id ≡ Some f → f.stage ≡ flight_stage.Working work → IsAtWork (λ k. option_map flight_of (flights k)) id (flight_of f) (work_of work)
@@ -96,11 +96,11 @@ at_work flights id f work here working = record { here = ap (option_map flight_o
 
 stage_seen : (s : flight.Stage) → stage_of s ≡ stage_shown (seen.stage_of s)
 stage_seen (flight_stage.Working work) = refl
-stage_seen flight_stage.Answered = refl
+stage_seen (flight_stage.Answered before opened) = refl
 
 held_seen : (s : flight.Stage) → held_of s ≡ held_by (seen.stage_of s)
 held_seen (flight_stage.Working work) = refl
-held_seen flight_stage.Answered = refl
+held_seen (flight_stage.Answered before opened) = refl
 
 -- the copy of a request is the record of what the world shows of it
 record_seen : (rs : List Record) (id : ℕ) (o : Option RequestInFlight) → ((f : RequestInFlight) → o ≡ Some f → f.id ≡ id)

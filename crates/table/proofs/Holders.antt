@@ -64,12 +64,12 @@ counts_same test fs all apart at many = same_counts test fs all.flights apart ma
 pub has_shared-at : (s : flight.Stage) (k : ℕ) (d : Names) → k < length (held_of s).shared → has_shared s (get_or (held_of s).shared k d) ≡ true
 has_shared-at (flight_stage.Working work) k d within =
     contains_among work.held.shared (get_or work.held.shared k d) (k, within, get_or_default work.held.shared k (get_or work.held.shared k d) d within)
-has_shared-at flight_stage.Answered k d within = absurd (omega arith)
+has_shared-at (flight_stage.Answered before opened) k d within = absurd (omega arith)
 
 pub has_exclusive-at : (s : flight.Stage) (k : ℕ) (d : Names) → k < length (held_of s).exclusive → has_exclusive s (get_or (held_of s).exclusive k d) ≡ true
 has_exclusive-at (flight_stage.Working work) k d within =
     contains_among work.held.exclusive (get_or work.held.exclusive k d) (k, within, get_or_default work.held.exclusive k (get_or work.held.exclusive k d) d within)
-has_exclusive-at flight_stage.Answered k d within = absurd (omega arith)
+has_exclusive-at (flight_stage.Answered before opened) k d within = absurd (omega arith)
 
 unshared : (s : flight.Stage) (hs : List Hold) (path : Names) → All (IsStored hs) (held_of s).shared → All (λ (h : Hold). h.path ≢ path) hs → has_shared s path ≡ false
 unshared (flight_stage.Working work) hs path stored none = elim (cases_Bool (is_among work.held.shared path)) [
@@ -78,7 +78,7 @@ unshared (flight_stage.Working work) hs path stored none = elim (cases_Bool (is_
       absurd (stored_not_absent hs path (subst (λ (p : Names). IsStored hs p) it.2 (stored it.0 path it.1)) none)
   | inr other ↦ other
 ]
-unshared flight_stage.Answered hs path stored none = refl
+unshared (flight_stage.Answered before opened) hs path stored none = refl
 
 unowned : (s : flight.Stage) (hs : List Hold) (path : Names) → All (IsStored hs) (held_of s).exclusive → All (λ (h : Hold). h.path ≢ path) hs → has_exclusive s path ≡ false
 unowned (flight_stage.Working work) hs path stored none = elim (cases_Bool (is_among work.held.exclusive path)) [
@@ -87,7 +87,7 @@ unowned (flight_stage.Working work) hs path stored none = elim (cases_Bool (is_a
       absurd (stored_not_absent hs path (subst (λ (p : Names). IsStored hs p) it.2 (stored it.0 path it.1)) none)
   | inr other ↦ other
 ]
-unowned flight_stage.Answered hs path stored none = refl
+unowned (flight_stage.Answered before opened) hs path stored none = refl
 
 -- ---- all that is held, listed request after request
 
@@ -140,11 +140,11 @@ owned_by_some fs all i f apart at many within read k d inside =
 
 shares_same : (s : flight.Stage) (f : RequestInFlight) (r : Record) (path : Names) → f.stage ≡ s → IsCopyOf f r → shares r path ≡ has_shared f.stage path
 shares_same (flight_stage.Working work) f r path e h = rw (h.stage, h.held, e) refl
-shares_same flight_stage.Answered f r path e h = rw (h.stage, h.held, e) refl
+shares_same (flight_stage.Answered before opened) f r path e h = rw (h.stage, h.held, e) refl
 
 owns_same : (s : flight.Stage) (f : RequestInFlight) (r : Record) (path : Names) → f.stage ≡ s → IsCopyOf f r → holds_exclusively r path ≡ has_exclusive f.stage path
 owns_same (flight_stage.Working work) f r path e h = rw (h.stage, h.held, e) refl
-owns_same flight_stage.Answered f r path e h = rw (h.stage, h.held, e) refl
+owns_same (flight_stage.Answered before opened) f r path e h = rw (h.stage, h.held, e) refl
 
 zip_counts : (test : Record → Bool) (check : RequestInFlight → Bool) → ((f : RequestInFlight) (r : Record) → IsCopyOf f r → test r ≡ check f) → (fs : List RequestInFlight) (rs : List Record) → AllZip IsCopyOf fs rs → count_by test rs ≡ count_by check fs
 zip_counts test check same [] [] zip = refl

@@ -12,12 +12,12 @@ use Rattle.table_image.specs.declared.data.Stage.TheVariants.{Working, Answered}
 
 abbrev pub stage_of : kept.Stage → Stage
 stage_of (kept_stage.Working work) = Working
-stage_of kept_stage.Answered = Answered
+stage_of (kept_stage.Answered before opened) = Answered
 
 -- what the request holds: nothing once its work has ended
 abbrev pub held_of : kept.Stage → Held
 held_of (kept_stage.Working work) = work.held
-held_of kept_stage.Answered = record { given = []; shared = []; exclusive = [] }
+held_of (kept_stage.Answered before opened) = record { given = []; shared = []; exclusive = [] }
 
 -- how many of the requests that are worked on share the path
 abbrev pub sharers_in : List RequestInFlight → Names → ℕ

@@ -12,12 +12,12 @@ use Rattle.table_steps.specs.World.{Answered, RequestInFlight, Stage, Working, W
 
 abbrev pub stage_shown : Stage → Shown
 stage_shown (Working work) = shown.Working
-stage_shown Answered = shown.Answered
+stage_shown (Answered before opened) = shown.Answered
 
 -- what the request holds: nothing once its work has ended
 abbrev pub held_by : Stage → Held
 held_by (Working work) = work.held
-held_by Answered = record { given = []; shared = []; exclusive = [] }
+held_by (Answered before opened) = record { given = []; shared = []; exclusive = [] }
 
 -- the record shows the request of that id
 pub record IsRecordOf (id : ℕ) (f : RequestInFlight) (r : Record) : Type 0 where

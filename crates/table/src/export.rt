@@ -143,7 +143,7 @@ fn held_of(alloc: Global, stage: &table_requests::Stage) -> Result<Held, AllocEr
 {
     match stage {
         table_requests::Stage::Working(work) => copy_held(alloc, &work.held),
-        table_requests::Stage::Answered => Ok(nothing_held(alloc)),
+        table_requests::Stage::Answered { .. } => Ok(nothing_held(alloc)),
     }
 }
 
@@ -249,7 +249,7 @@ fn add_held(
             add_paths(holds, flights, work.held.shared.as_slice())?;
             add_paths(holds, flights, work.held.exclusive.as_slice())
         }
-        table_requests::Stage::Answered => Ok(()),
+        table_requests::Stage::Answered { .. } => Ok(()),
     }
 }
 

@@ -1,5 +1,5 @@
 -- How many entries a step posts.
-use Rattle.std.proofs.Common.{ℕ, ◌≡◌, ◌+◌, Bool, true, false, List, [], ◌∷◌, ◌++◌, Option, Some, None, inl, inr, ◌⊎◌, is_some, refl, sym, ap, ◌∙◌, arith}
+use Rattle.std.proofs.Common.{ℕ, ◌≡◌, ◌+◌, Bool, true, false, List, [], ◌∷◌, ◌++◌, drop, Option, Some, None, inl, inr, ◌⊎◌, is_some, refl, sym, ap, ◌∙◌, arith}
 use Rattle.std.proofs.lemmas.List.Sums.{sum_by-append, sum_by-cons}
 use Rattle.std.proofs.lemmas.Bool.{cases_eq}
 use Rattle.std.proofs.lemmas.Option.{none-some}
@@ -67,7 +67,7 @@ at_work flights id None e = inl (λ f work w. absurd (none-some f (sym e ∙ w.h
 at_work flights id (Some f) e = by_stage f.stage refl where
   by_stage : (s : Stage) → f.stage ≡ s → ((f' : RequestInFlight) (work : Work) → IsAtWork flights id f' work → ⊥) ⊎ ((f' : RequestInFlight) × (work : Work) × IsAtWork flights id f' work)
   by_stage (Working work) s = inr (f, work, record { here = e; working = s })
-  by_stage Answered s = inl (λ f' work w. let h = w.here in let k = w.working in absurd cc)
+  by_stage (Answered before opened) s = inl (λ f' work w. let h = w.here in let k = w.working in absurd cc)
 
 pub finished_lists : (old new : World) (id : ℕ) (outcome : Outcome) (answer : Answer) → Finishes old id outcome answer new → posted new.postings ≡ posted old.postings + entries_in answer.given
 finished_lists old new id outcome answer finishes = elim (at_work old.flights id (old.flights id) refl) [
@@ -75,12 +75,11 @@ finished_lists old new id outcome answer finishes = elim (at_work old.flights id
   | inr (f, work, here) ↦ (let ends = finishes.found f work here in enters_all _ old.at ends.entered old.postings new.postings work.footprint.entries (act_of work.footprint outcome).found answer.given ends.enters)
 ]
 
-backs_all : (at at' : Lookup) (ps ps' : List Posting) (gs : List (Option Given)) → TakesAllBack at ps gs at' ps' → posted ps' ≡ posted ps
+backs_all : (at at' : Lookup) (ps ps' : List Posting) (ns : List ℕ) → TakesAllBack at ps ns at' ps' → posted ps' ≡ posted ps
 backs_all at at' ps ps' [] h = ap posted h.1
-backs_all at at' ps ps' (None ∷ gs) h = backs_all at at' ps ps' gs h
-backs_all at at' ps ps' (Some g ∷ gs) (mid, qs, inl back, rest) =
-    backs_all mid at' qs ps' gs rest ∙ (ap posted back.postings ∙ (let a = posted_append ps (Back g.number g.generation ∷ []) in omega arith))
-backs_all at at' ps ps' (Some g ∷ gs) (mid, qs, inr none, rest) = backs_all mid at' qs ps' gs rest ∙ ap posted none.postings
+backs_all at at' ps ps' (n ∷ ns) (mid, qs, inl back, rest) =
+    backs_all mid at' qs ps' ns rest ∙ (ap posted back.postings ∙ (let a = posted_append ps (Back n back.node.generation ∷ []) in omega arith))
+backs_all at at' ps ps' (n ∷ ns) (mid, qs, inr none, rest) = backs_all mid at' qs ps' ns rest ∙ ap posted none.postings
 
 -- what goes back and what is forgotten lists no entry
 pub settled_lists : (old new : World) (answer : Answer) (taken : Bool) (settled : Settlement) → Settles old answer taken settled new → posted new.postings ≡ posted old.postings
@@ -88,7 +87,7 @@ settled_lists old new answer taken settled s = elim (cases_eq_bool answer.lost) 
   | inl lost ↦ ap (λ (w : World). posted w.postings) (s.lost lost)
   | inr kept ↦ elim (answered_or (old.flights answer.id) refl) [
     | inl unknown ↦ ap (λ (w : World). posted w.postings) (s.unknown unknown)
-    | inr known ↦ (let e = s.found kept known in backs_all old.at e.mid old.postings new.postings (untaken_of taken answer.given) e.back)
+    | inr known ↦ (let e = s.found kept known in backs_all old.at e.mid old.postings new.postings (untaken_of taken (drop known.before known.flight.pins)) e.back)
   ]
 ] where
   cases_eq_bool : (b : Bool) → (b ≡ true) ⊎ (b ≡ false)
@@ -99,7 +98,7 @@ settled_lists old new answer taken settled s = elim (cases_eq_bool answer.lost) 
   answered_or None e = inl (λ k. absurd (none-some k.flight (sym e ∙ k.here)))
   answered_or (Some f) e = by_stage f.stage refl where
     by_stage : (st : Stage) → f.stage ≡ st → (IsAnswered old.flights answer.id → ⊥) ⊎ IsAnswered old.flights answer.id
-    by_stage Answered is = inr (record { flight = f; here = e; ended = is })
+    by_stage (Answered before opened) is = inr (record { flight = f; here = e; before = before; opened = opened; ended = is })
     by_stage (Working work) is = inl (λ k. let h = k.here in let m = k.ended in absurd cc)
 
 pub forgot_lists : (old new : World) (number n amount : ℕ) → Forgets old number n amount new → posted new.postings ≡ posted old.postings

@@ -1,16 +1,18 @@
 -- How often requests pin a number, and whether they do, over each step.
-use Rattle.std.proofs.Common.{ℕ, ◌+◌, ◌-◌, ◌<◌, ◌≡◌, ◌==◌, ◌||◌, Bool, true, false, cond, nat_lt, List, [], ◌∷◌, ◌++◌, Vec, Option, Some, None, IfSome, length, get_or, set, refl, sym, ap, ◌∙◌, subst, inl, inr, arith}
+use Rattle.std.proofs.Common.{ℕ, ◌+◌, ◌-◌, ◌<◌, ◌≡◌, ◌==◌, ◌||◌, Bool, true, false, cond, nat_lt, List, [], ◌∷◌, ◌++◌, Vec, Option, Some, None, IfNone, IfSome, length, get_or, set, refl, sym, ap, ◌∙◌, subst, inl, inr, arith}
 use Rattle.std.specs.List.{remove}
 use Rattle.std.proofs.lemmas.Bool.{cases_Bool, lt-ltb, ltb-false, ltb-true}
 use Rattle.std.proofs.lemmas.List.Sums.{sum_by-cons, sum_by-remove, sum_by-set, sum_by_push}
 use Rattle.std.specs.declared.alloc.Global.{Global}
 use Rattle.table_files.proofs.Listing.{any_counted}
+use Rattle.table_requests.specs.declared.data.Ended.{Ended}
 use Rattle.table_requests.specs.declared.data.RequestInFlight.{RequestInFlight}
+use Rattle.table_requests.specs.declared.data.Work.{Work}
 use Rattle.table_requests.specs.declared.pin_counts.PinCounts.{PinCounts}
 use Rattle.table_requests.specs.Listed.{InFlight, in_flight, pinned_in, requests_of}
 use Rattle.table_requests.specs.Roomy.{Pinned}
 use Rattle.table_requests.specs.PinCounts.{AreCounted, counted_in, pins_in, times}
-use Rattle.table_requests.specs.RequestMaps.{answered, pinning, pins_number}
+use Rattle.table_requests.specs.RequestMaps.{answered, opening, pinning, pins_number}
 use Rattle.table_requests.proofs.PinCounting.{counts_as, same_totals}
 
 -- a sum is above 0 where one of two parts is
@@ -57,9 +59,19 @@ pinned_there v all is n b e = subst (λ (a : InFlight). b ≡ pinned_in a.flight
 pub pins_in-push : (fs : List RequestInFlight) (g : RequestInFlight) (n : ℕ) → pins_in fs n + times n g.pins.numbers ≡ pins_in (fs ++ g ∷ []) n
 pins_in-push fs g n = sym (sum_by_push (λ (f : RequestInFlight). times n f.pins.numbers) fs g)
 
-pub pins_in-answered : (fs gs : List RequestInFlight) (i : ℕ) → i < length fs → ((d : RequestInFlight) → gs ≡ set fs i (answered (get_or fs i d))) → (d : RequestInFlight) → (n : ℕ) → pins_in gs n ≡ pins_in fs n
+pins_in-answered : (fs gs : List RequestInFlight) (i : ℕ) → i < length fs → ((d : RequestInFlight) → gs ≡ set fs i (answered (get_or fs i d))) → (d : RequestInFlight) → (n : ℕ) → pins_in gs n ≡ pins_in fs n
 pins_in-answered fs gs i within written d n =
     let s = sum_by-set (λ (f : RequestInFlight). times n f.pins.numbers) fs i (answered (get_or fs i d)) d within in
+    let is = ap (λ (hs : List RequestInFlight). pins_in hs n) (written d) in
+    omega (arith, s, is)
+
+pub pins_ended : (fs gs : List RequestInFlight) (i : ℕ) → i < length fs → (o : Option Work) → IfNone o (gs ≡ fs) → IfSome o (λ _. (d : RequestInFlight) → gs ≡ set fs i (answered (get_or fs i d))) → (d : RequestInFlight) → (n : ℕ) → pins_in gs n ≡ pins_in fs n
+pins_ended fs gs i within None same written d n = ap (λ (hs : List RequestInFlight). pins_in hs n) same
+pins_ended fs gs i within (Some work) same written d n = pins_in-answered fs gs i within written d n
+
+pub pins_in-opening : (fs gs : List RequestInFlight) (i handle : ℕ) → i < length fs → ((d : RequestInFlight) → gs ≡ set fs i (opening (get_or fs i d) handle)) → (d : RequestInFlight) → (n : ℕ) → pins_in gs n ≡ pins_in fs n
+pins_in-opening fs gs i handle within written d n =
+    let s = sum_by-set (λ (f : RequestInFlight). times n f.pins.numbers) fs i (opening (get_or fs i d) handle) d within in
     let is = ap (λ (hs : List RequestInFlight). pins_in hs n) (written d) in
     omega (arith, s, is)
 
@@ -74,11 +86,11 @@ pins_in-pinning fs gs i number within written d n =
 pub pins_in-remove : (fs : List RequestInFlight) (i : ℕ) (d : RequestInFlight) (n : ℕ) → i < length fs → pins_in (remove fs i) n + times n (get_or fs i d).pins.numbers ≡ pins_in fs n
 pins_in-remove fs i d n within = sum_by-remove (λ (f : RequestInFlight). times n f.pins.numbers) fs i d within
 
-pub taken_pins : (fs gs : List RequestInFlight) (i : ℕ) (d : RequestInFlight) → i < length fs → (o : Option Pinned) → IfSome o (λ pins. (e : RequestInFlight) → (get_or fs i e).pins ≡ pins) → IfSome o (λ _. gs ≡ remove fs i)
-    → IfSome o (λ pins. (n : ℕ) → pins_in gs n + times n pins.numbers ≡ pins_in fs n)
+pub taken_pins : (fs gs : List RequestInFlight) (i : ℕ) (d : RequestInFlight) → i < length fs → (o : Option Ended) → IfSome o (λ ended. (e : RequestInFlight) → (get_or fs i e).pins ≡ ended.pins) → IfSome o (λ _. gs ≡ remove fs i)
+    → IfSome o (λ ended. (n : ℕ) → pins_in gs n + times n ended.pins.numbers ≡ pins_in fs n)
 taken_pins fs gs i d within None pins is = is
-taken_pins fs gs i d within (Some ps) pins is = λ n.
-    ap (λ (hs : List RequestInFlight). pins_in hs n + times n ps.numbers) is
+taken_pins fs gs i d within (Some ended) pins is = λ n.
+    ap (λ (hs : List RequestInFlight). pins_in hs n + times n ended.pins.numbers) is
     ∙ (ap (λ (p : Pinned). pins_in (remove fs i) n + times n p.numbers) (sym (pins d)) ∙ pins_in-remove fs i d n within)
 
 -- the counts, once pins were taken back

@@ -1,26 +1,35 @@
 -- Each step on the requests in flight, over their list.
-use Rattle.std.proofs.Common.{ℕ, ◌<◌, ◌≡◌, ◌==◌, ◌||◌, true, List, [], ◌∷◌, ◌++◌, Option, Some, None, IfNone, IfSome, Vec, length, slice_get, get_or, set, sym, ap, ◌∙◌, subst, arith}
+use Rattle.std.proofs.Common.{ℕ, ◌<◌, ◌≡◌, ◌==◌, ◌||◌, true, false, List, [], ◌∷◌, ◌++◌, Option, Some, None, IfNone, IfSome, Vec, length, slice_get, get_or, set, refl, sym, ap, ◌∙◌, subst, arith}
 use Rattle.std.specs.List.{remove, list_any}
 use Rattle.std.proofs.lemmas.Option.{same_Some}
-use Rattle.std.proofs.lemmas.List.{length-set, length-append, set-get_or}
+use Rattle.std.proofs.lemmas.List.{length-set, length-append}
 use Rattle.std.proofs.lemmas.List.Edits.{length-remove}
 use Rattle.std.proofs.lemmas.List.Sums.{sum_by-set, sum_by-remove, sum_by_push}
 use Rattle.std.specs.declared.alloc.Global.{Global}
+use Rattle.table_requests.specs.declared.data.Ended.{Ended}
 use Rattle.table_requests.specs.declared.data.RequestInFlight.{RequestInFlight}
 use Rattle.table_requests.specs.declared.data.Work.{Work}
 use Rattle.table_requests.specs.declared.data.Stage.{Stage}
 use Rattle.table_requests.specs.declared.data.Stage.TheVariants.{Working, Answered}
 use Rattle.table_requests.specs.Roomy.{Pinned}
-use Rattle.table_requests.specs.RequestMaps.{RequestsInFlight, with_flight, without_flight, pins_number, pinning, answered, files_promised, is_working, nodes_promised, postings_promised, HasNoneWorking, HasNoneAnswered, Adds, Answers, PinsMore, Goes}
+use Rattle.table_requests.specs.RequestMaps.{RequestsInFlight, with_flight, without_flight, pins_number, opening, pinning, answered, files_promised, is_working, nodes_promised, postings_promised, with_opened, HasNoneWorking, HasNoneAnswered, Adds, Answers, Notes, PinsMore, Goes}
 use Rattle.table_requests.specs.Listed.{AreBelow, flight_in, pinned_in, InFlight, in_flight, requests_of, HaveOwnIds}
 use Rattle.table_requests.proofs.Lookups.{alive_at, flight_in-push, flight_in-set, flight_in-remove, HaveOwnIds-set, HaveOwnIds-remove}
 use Rattle.table_requests.proofs.NextIds.{below_with, below_without}
 use Rattle.table_requests.proofs.Kept.{pinned_in-push, pinned_in-same, pinned_in-pinning, pinned_in-remove}
 
--- what follows where there is none
-pub none_then : {X : Type 0} → (o : Option X) {P Q : Type 0} → IfNone o P → (P → Q) → IfNone o Q
-none_then None h f = f h
-none_then (Some x) h f = h
+-- a file that is noted promises nothing
+nodes_noted : (st : Stage) (handle : ℕ) → nodes_promised (with_opened st handle) ≡ nodes_promised st
+nodes_noted (Working work) handle = refl
+nodes_noted (Answered before opened) handle = refl
+
+postings_noted : (st : Stage) (handle : ℕ) → postings_promised (with_opened st handle) ≡ postings_promised st
+postings_noted (Working work) handle = refl
+postings_noted (Answered before opened) handle = refl
+
+files_noted : (st : Stage) (handle : ℕ) → files_promised (with_opened st handle) ≡ files_promised st
+files_noted (Working work) handle = refl
+files_noted (Answered before opened) handle = refl
 
 pub fresh_in : (v : Vec RequestInFlight Global) (all : InFlight) → in_flight v ≡ all → (id : ℕ) → (requests_of all).at id ≡ None → flight_in v.items id ≡ None
 unfolding requests_of
@@ -70,7 +79,7 @@ module _ (fs : List RequestInFlight) (i id : ℕ) (within : i < length fs) (foun
       subst (λ (a : RequestsInFlight). AreBelow n a) (sym at) (below_with (flight_in fs) n id y all (all id x stood))
 
   -- what is taken out, if one was answered
-  pub below_taken : (gs : List RequestInFlight) (o : Option Pinned) → HaveOwnIds fs → IfNone o (gs ≡ fs) → IfSome o (λ _. gs ≡ remove fs i) → (n : ℕ) → AreBelow n (flight_in fs) → AreBelow n (flight_in gs)
+  pub below_taken : (gs : List RequestInFlight) (o : Option Ended) → HaveOwnIds fs → IfNone o (gs ≡ fs) → IfSome o (λ _. gs ≡ remove fs i) → (n : ℕ) → AreBelow n (flight_in fs) → AreBelow n (flight_in gs)
   below_taken gs None apart same is n all = subst (λ (hs : List RequestInFlight). AreBelow n (flight_in hs)) (sym same) all
   below_taken gs (Some ps) apart same is n all =
       let x = (alive_at fs i id within found).0 in
@@ -99,6 +108,40 @@ module _ (fs : List RequestInFlight) (i id : ℕ) (within : i < length fs) (foun
         files = omega (arith, q, ap files_promised (working x));
       })
 
+  -- what is ended, if it was worked on
+  pub Answers_ended : (gs : List RequestInFlight) (room room' : ℕ) (o : Option Work) → HaveOwnIds fs → IfSome o (λ work. (d : RequestInFlight) → (get_or fs i d).stage ≡ Working work) → IfSome o (λ _. (d : RequestInFlight) → gs ≡ set fs i (answered (get_or fs i d)))
+      → IfSome o (λ work. Answers (requests_of (record { flights = fs; room = room })) id work (requests_of (record { flights = gs; room = room' })))
+  Answers_ended gs room room' None apart working written = written
+  Answers_ended gs room room' (Some work) apart working written = Answers-listed gs room room' work apart working written
+
+  pub apart_ended : (gs : List RequestInFlight) (o : Option Work) → IfNone o (gs ≡ fs) → IfSome o (λ _. (d : RequestInFlight) → gs ≡ set fs i (answered (get_or fs i d))) → HaveOwnIds fs → HaveOwnIds gs
+  apart_ended gs None same written apart = subst HaveOwnIds (sym same) apart
+  apart_ended gs (Some work) same written apart = apart_changed gs answered (λ f. refl) written apart
+
+  pub below_ended : (gs : List RequestInFlight) (o : Option Work) → IfNone o (gs ≡ fs) → IfSome o (λ _. (d : RequestInFlight) → gs ≡ set fs i (answered (get_or fs i d))) → HaveOwnIds fs → (n : ℕ) → AreBelow n (flight_in fs) → AreBelow n (flight_in gs)
+  below_ended gs None same written apart n all = subst (λ (hs : List RequestInFlight). AreBelow n (flight_in hs)) (sym same) all
+  below_ended gs (Some work) same written apart n all = below_changed gs answered (λ f. refl) written apart n all
+
+  pub Notes-listed : (gs : List RequestInFlight) (room room' handle : ℕ) (f : RequestInFlight) → HaveOwnIds fs → flight_in fs id ≡ Some f → ((d : RequestInFlight) → gs ≡ set fs i (opening (get_or fs i d) handle))
+      → Notes (requests_of (record { flights = fs; room = room })) id f handle (requests_of (record { flights = gs; room = room' }))
+  unfolding requests_of
+  Notes-listed gs room room' handle f apart there written =
+      let x = (alive_at fs i id within found).0 in
+      let same : get_or fs i x ≡ f = read x ∙ same_Some x f (sym stood ∙ there) in
+      let y : RequestInFlight = opening (get_or fs i x) handle in
+      let s = sum_by-set (λ (g : RequestInFlight). nodes_promised g.stage) fs i y x within in
+      let p = sum_by-set (λ (g : RequestInFlight). postings_promised g.stage) fs i y x within in
+      let q = sum_by-set (λ (g : RequestInFlight). files_promised g.stage) fs i y x within in
+      let st = (get_or fs i x).stage in
+      rw (written x) (record {
+        at = changed y apart (ap (λ (g : RequestInFlight). g.id) (read x) ∙ id_here) ∙ ap (λ (g : RequestInFlight). with_flight (flight_in fs) id (opening g handle)) same;
+        pinned = pinned_in-same fs i y within (λ k. ap (λ (g : RequestInFlight). pins_number g k) (read x ∙ sym (read y)));
+        many = length-set fs i y;
+        nodes = omega (arith, s, nodes_noted st handle);
+        postings = omega (arith, p, postings_noted st handle);
+        files = omega (arith, q, files_noted st handle);
+      })
+
   pub PinsMore-listed : (gs : List RequestInFlight) (room room' n : ℕ) (f : RequestInFlight) → HaveOwnIds fs → flight_in fs id ≡ Some f → ((d : RequestInFlight) → gs ≡ set fs i (pinning (get_or fs i d) n))
       → PinsMore (requests_of (record { flights = fs; room = room })) id f n (requests_of (record { flights = gs; room = room' }))
   unfolding requests_of
@@ -118,10 +161,10 @@ module _ (fs : List RequestInFlight) (i id : ℕ) (within : i < length fs) (foun
         files = omega (arith, q);
       })
 
-  pub Goes-listed : (gs : List RequestInFlight) (room room' : ℕ) (numbers : List ℕ) → HaveOwnIds fs → ((d : RequestInFlight) → (get_or fs i d).stage ≡ Answered) → ((d : RequestInFlight) → (get_or fs i d).pins.numbers ≡ numbers) → gs ≡ remove fs i
-      → Goes (requests_of (record { flights = fs; room = room })) id numbers (requests_of (record { flights = gs; room = room' }))
+  pub Goes-listed : (gs : List RequestInFlight) (room room' : ℕ) (ended : Ended) → HaveOwnIds fs → ((d : RequestInFlight) → (get_or fs i d).stage ≡ Answered ended.before ended.opened) → ((d : RequestInFlight) → (get_or fs i d).pins ≡ ended.pins) → gs ≡ remove fs i
+      → Goes (requests_of (record { flights = fs; room = room })) id ended (requests_of (record { flights = gs; room = room' }))
   unfolding requests_of
-  Goes-listed gs room room' numbers apart stage pins is =
+  Goes-listed gs room room' ended apart stage pins is =
       let x = (alive_at fs i id within found).0 in
       let n = sum_by-remove (λ (f : RequestInFlight). nodes_promised f.stage) fs i x within in
       let p = sum_by-remove (λ (f : RequestInFlight). postings_promised f.stage) fs i x within in
@@ -130,9 +173,9 @@ module _ (fs : List RequestInFlight) (i id : ℕ) (within : i < length fs) (foun
         flight = x;
         here = stood;
         answered = ap (λ (f : RequestInFlight). f.stage) (sym (read x)) ∙ stage x;
-        pins = sym (pins x) ∙ ap (λ (f : RequestInFlight). f.pins.numbers) (read x);
+        pins = sym (pins x) ∙ ap (λ (f : RequestInFlight). f.pins) (read x);
         at = flight_in-remove fs i x apart within ∙ ap (without_flight (flight_in fs)) (ap (λ (f : RequestInFlight). f.id) (read x) ∙ id_here);
-        pinned = λ k. pinned_in-remove fs i x k within ∙ ap (λ (ms : List ℕ). pinned_in (remove fs i) k || list_any (λ m. m == k) ms) (pins x);
+        pinned = λ k. pinned_in-remove fs i x k within ∙ ap (λ (ps : Pinned). pinned_in (remove fs i) k || list_any (λ m. m == k) ps.numbers) (pins x);
         many = omega (arith, length-remove fs i within);
         nodes = omega (arith, n, ap nodes_promised (stage x));
         postings = omega (arith, p, ap postings_promised (stage x));
@@ -140,24 +183,18 @@ module _ (fs : List RequestInFlight) (i id : ℕ) (within : i < length fs) (foun
       })
 
   -- the one under the id is at another stage
-  pub none_working : ((d : RequestInFlight) → (get_or fs i d).stage ≡ Answered) → HasNoneWorking (flight_in fs) id
-  none_working stage f there = ap (λ (g : RequestInFlight). is_working g.stage) (same_Some f (alive_at fs i id within found).0 (sym there ∙ stood) ∙ sym (read f)) ∙ ap is_working (stage f)
+  pub none_working : ((d : RequestInFlight) → is_working (get_or fs i d).stage ≡ false) → HasNoneWorking (flight_in fs) id
+  none_working stage f there = ap (λ (g : RequestInFlight). is_working g.stage) (same_Some f (alive_at fs i id within found).0 (sym there ∙ stood) ∙ sym (read f)) ∙ stage f
 
   pub none_answered : ((d : RequestInFlight) → is_working (get_or fs i d).stage ≡ true) → HasNoneAnswered (flight_in fs) id
   none_answered stage f there = ap (λ (g : RequestInFlight). is_working g.stage) (same_Some f (alive_at fs i id within found).0 (sym there ∙ stood) ∙ sym (read f)) ∙ stage f
 
-  -- an answered request is answered again
-  pub answered_again : (gs : List RequestInFlight) → ((d : RequestInFlight) → (get_or fs i d).stage ≡ Answered) → ((d : RequestInFlight) → gs ≡ set fs i (answered (get_or fs i d))) → gs ≡ fs
-  answered_again gs stage written =
-      let x = (alive_at fs i id within found).0 in
-      written x ∙ (ap (λ (s : Stage). set fs i (record (get_or fs i x) { stage = s })) (sym (stage x)) ∙ set-get_or fs i x)
-
   -- what is taken out, if one was answered
-  pub Goes_taken : (gs : List RequestInFlight) (room room' : ℕ) (o : Option Pinned) → HaveOwnIds fs → IfSome o (λ _. (d : RequestInFlight) → (get_or fs i d).stage ≡ Answered) → IfSome o (λ pins. (d : RequestInFlight) → (get_or fs i d).pins ≡ pins) → IfSome o (λ _. gs ≡ remove fs i)
-      → IfSome o (λ pins. Goes (requests_of (record { flights = fs; room = room })) id pins.numbers (requests_of (record { flights = gs; room = room' })))
+  pub Goes_taken : (gs : List RequestInFlight) (room room' : ℕ) (o : Option Ended) → HaveOwnIds fs → IfSome o (λ ended. (d : RequestInFlight) → (get_or fs i d).stage ≡ Answered ended.before ended.opened) → IfSome o (λ ended. (d : RequestInFlight) → (get_or fs i d).pins ≡ ended.pins) → IfSome o (λ _. gs ≡ remove fs i)
+      → IfSome o (λ ended. Goes (requests_of (record { flights = fs; room = room })) id ended (requests_of (record { flights = gs; room = room' })))
   Goes_taken gs room room' None apart stage pins is = is
-  Goes_taken gs room room' (Some ps) apart stage pins is = Goes-listed gs room room' ps.numbers apart stage (λ d. ap (λ (p : Pinned). p.numbers) (pins d)) is
+  Goes_taken gs room room' (Some ended) apart stage pins is = Goes-listed gs room room' ended apart stage pins is
 
-pub taken_apart : (fs gs : List RequestInFlight) (i : ℕ) → i < length fs → (o : Option Pinned) → HaveOwnIds fs → IfNone o (gs ≡ fs) → IfSome o (λ _. gs ≡ remove fs i) → HaveOwnIds gs
+pub taken_apart : (fs gs : List RequestInFlight) (i : ℕ) → i < length fs → (o : Option Ended) → HaveOwnIds fs → IfNone o (gs ≡ fs) → IfSome o (λ _. gs ≡ remove fs i) → HaveOwnIds gs
 taken_apart fs gs i within None apart same is = subst HaveOwnIds (sym same) apart
 taken_apart fs gs i within (Some ps) apart same is = subst HaveOwnIds (sym is) (HaveOwnIds-remove fs i within apart)

@@ -1,10 +1,11 @@
 -- The requests in flight, as contracts see them: by their ids.
-use Rattle.std.specs.Prelude.{ℕ, ◌+◌, ◌-◌, ◌≡◌, ◌==◌, ◌||◌, ◌↔◌, Bool, true, false, if◌then◌else◌, List, [], ◌∷◌, ◌++◌, Option, Some, None, Contains}
+use Rattle.std.specs.Prelude.{ℕ, ◌+◌, ◌-◌, ◌≡◌, ◌==◌, ◌||◌, ◌↔◌, Bool, true, false, if◌then◌else◌, [], ◌∷◌, ◌++◌, Option, Some, None, Contains, length}
 use Rattle.std.specs.List.{list_any}
 use Rattle.paths.specs.Prefixes.{Names}
 use Rattle.holds.specs.Conflicts.{Conflict, is_among}
 use Rattle.holds.specs.declared.held.Held.{Held}
 use Rattle.sums.specs.Sum.{IsSum}
+use Rattle.table_requests.specs.declared.data.Ended.{Ended}
 use Rattle.table_requests.specs.declared.data.RequestInFlight.{RequestInFlight}
 use Rattle.table_requests.specs.declared.data.Stage.{Stage}
 use Rattle.table_requests.specs.declared.data.Stage.TheVariants.{Working, Answered}
@@ -28,34 +29,34 @@ pins_number f n = list_any (λ m. m == n) f.pins.numbers
 
 abbrev pub is_working : Stage → Bool
 is_working (Working work) = true
-is_working Answered = false
+is_working (Answered before opened) = false
 
 -- the nodes, postings and open files that are promised
 abbrev pub nodes_promised : Stage → ℕ
 nodes_promised (Working work) = work.promise.nodes
-nodes_promised Answered = 0
+nodes_promised (Answered before opened) = 0
 
 abbrev pub postings_promised : Stage → ℕ
 postings_promised (Working work) = work.promise.postings
-postings_promised Answered = 0
+postings_promised (Answered before opened) = 0
 
 abbrev pub files_promised : Stage → ℕ
 files_promised (Working work) = work.promise.files
-files_promised Answered = 0
+files_promised (Answered before opened) = 0
 
 -- what the request holds while it is worked on conflicts with these names
 abbrev pub IsInTheWay : Stage → Held → Type 0
 IsInTheWay (Working work) wanted = Conflict work.held wanted
-IsInTheWay Answered wanted = ⊥
+IsInTheWay (Answered before opened) wanted = ⊥
 
 -- whether the request is worked on and has the path among these names
 abbrev pub has_shared : Stage → Names → Bool
 has_shared (Working work) path = is_among work.held.shared path
-has_shared Answered path = false
+has_shared (Answered before opened) path = false
 
 abbrev pub has_exclusive : Stage → Names → Bool
 has_exclusive (Working work) path = is_among work.held.exclusive path
-has_exclusive Answered path = false
+has_exclusive (Answered before opened) path = false
 
 -- some request that is worked on holds a name that is in the way of these
 pub record HoldsUp (at : RequestsInFlight) (wanted : Held) : Type 0 where
@@ -67,7 +68,7 @@ pub record HoldsUp (at : RequestsInFlight) (wanted : Held) : Type 0 where
 -- the request is worked on, and holds the path for itself
 abbrev pub HoldsExclusively : Stage → Names → Type 0
 HoldsExclusively (Working work) path = Contains work.held.exclusive path
-HoldsExclusively Answered path = ⊥
+HoldsExclusively (Answered before opened) path = ⊥
 
 -- some request that is worked on holds the path for itself
 pub record HasExclusiveHolder (at : RequestsInFlight) (path : Names) : Type 0 where
@@ -113,9 +114,18 @@ HasNoneWorking at id = (f : RequestInFlight) → at id ≡ Some f → is_working
 abbrev pub HasNoneAnswered : RequestsInFlight → ℕ → Type 0
 HasNoneAnswered at id = (f : RequestInFlight) → at id ≡ Some f → is_working f.stage ≡ true
 
--- the same request, answered
+-- the same request, answered: it has given no node yet, and opened no file
 abbrev pub answered : RequestInFlight → RequestInFlight
-answered f = record f { stage = Answered }
+answered f = record f { stage = Answered (length f.pins.numbers) None }
+
+-- the same stage, with the file that was opened
+abbrev pub with_opened : Stage → ℕ → Stage
+with_opened (Working work) handle = Working work
+with_opened (Answered before opened) handle = Answered before (Some handle)
+
+-- the same request, with the file that it opened
+abbrev pub opening : RequestInFlight → ℕ → RequestInFlight
+opening f handle = record f { stage = with_opened f.stage handle }
 
 -- the same request, with one more pin
 abbrev pub pinning : RequestInFlight → ℕ → RequestInFlight
@@ -155,14 +165,23 @@ pub record PinsMore (old : RequestMaps) (id : ℕ) (f : RequestInFlight) (n : �
   pub postings : new.postings ≡ old.postings
   pub files : new.files ≡ old.files
 
+-- the file that a request opened is noted
+pub record Notes (old : RequestMaps) (id : ℕ) (f : RequestInFlight) (handle : ℕ) (new : RequestMaps) : Type 0 where
+  pub at : new.at ≡ with_flight old.at id (opening f handle)
+  pub pinned : new.pinned ≡ old.pinned
+  pub many : new.many ≡ old.many
+  pub nodes : new.nodes ≡ old.nodes
+  pub postings : new.postings ≡ old.postings
+  pub files : new.files ≡ old.files
+
 -- an answered request goes, with its pins
-pub record Goes (old : RequestMaps) (id : ℕ) (numbers : List ℕ) (new : RequestMaps) : Type 0 where
+pub record Goes (old : RequestMaps) (id : ℕ) (ended : Ended) (new : RequestMaps) : Type 0 where
   pub flight : RequestInFlight
   pub here : old.at id ≡ Some flight
-  pub answered : flight.stage ≡ Answered
-  pub pins : numbers ≡ flight.pins.numbers
+  pub answered : flight.stage ≡ Answered ended.before ended.opened
+  pub pins : ended.pins ≡ flight.pins
   pub at : new.at ≡ without_flight old.at id
-  pub pinned : (n : ℕ) → old.pinned n ≡ (new.pinned n || list_any (λ m. m == n) numbers)
+  pub pinned : (n : ℕ) → old.pinned n ≡ (new.pinned n || list_any (λ m. m == n) ended.pins.numbers)
   pub many : new.many + 1 ≡ old.many
   pub nodes : new.nodes ≡ old.nodes
   pub postings : new.postings ≡ old.postings

@@ -250,7 +250,12 @@ pub enum Stage {
     /// It was begun, and its work goes on.
     Working(Work),
     /// Its work has ended, and its reply is not settled yet.
-    Answered,
+    Answered {
+        /// How many numbers it pinned before its end gave any: those after them are of the nodes that it gave, in order.
+        before: usize,
+        /// The handle of the file that it opened.
+        opened: Option<u64>,
+    },
 }
 
 impl Stage {
@@ -263,7 +268,7 @@ impl Stage {
     {
         match self {
             Stage::Working(work) => work.held.conflicts_with(wanted),
-            Stage::Answered => false,
+            Stage::Answered { .. } => false,
         }
     }
 
@@ -273,7 +278,7 @@ impl Stage {
     {
         match self {
             Stage::Working(work) => work.held.shared.contains(path),
-            Stage::Answered => false,
+            Stage::Answered { .. } => false,
         }
     }
 
@@ -283,7 +288,7 @@ impl Stage {
     {
         match self {
             Stage::Working(work) => work.held.exclusive.contains(path),
-            Stage::Answered => false,
+            Stage::Answered { .. } => false,
         }
     }
 
@@ -302,7 +307,7 @@ impl Stage {
     {
         match self {
             Stage::Working(work) => work.promise,
-            Stage::Answered => Promise::NONE,
+            Stage::Answered { .. } => Promise::NONE,
         }
     }
 }
@@ -317,4 +322,15 @@ pub struct RequestInFlight {
     pub stage: Stage,
     /// The nodes that may not go before it is settled.
     pub pins: Pins,
+}
+
+/// What an answered request leaves as it goes.
+#[derive(Drop)]
+pub struct Ended {
+    /// The nodes that it pinned.
+    pub pins: Pins,
+    /// How many of them it pinned before its end gave any.
+    pub before: usize,
+    /// The handle of the file that it opened.
+    pub opened: Option<u64>,
 }

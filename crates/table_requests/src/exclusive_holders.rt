@@ -43,7 +43,7 @@ fn holds_name_exclusively(stage: &Stage, parent: &Path, name: &Name) -> bool
 {
     match stage {
         Stage::Working(work) => has_name(work.held.exclusive.as_slice(), parent, name),
-        Stage::Answered => false,
+        Stage::Answered { .. } => false,
     }
 }
 

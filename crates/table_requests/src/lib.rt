@@ -8,6 +8,8 @@ mod names;
 mod pin_counts;
 mod request_maps;
 
-pub use data::{Case, Given, Givens, Handle, Pins, Promise, RequestInFlight, Stage, Want, Work};
+pub use data::{
+    Case, Ended, Given, Givens, Handle, Pins, Promise, RequestInFlight, Stage, Want, Work,
+};
 pub use names::Names;
 pub use request_maps::RequestsInFlight;

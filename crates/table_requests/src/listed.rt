@@ -4,11 +4,11 @@ ghost use Rattle.std.specs.Prelude.{true, false, ◌≡◌, nat_eq, if◌then◌
 ghost use Rattle.std.specs.List.{remove};
 ghost use Rattle.table_requests.specs.declared.data.RequestInFlight.{RequestInFlight};
 ghost use Rattle.table_requests.specs.declared.data.Stage.TheVariants as Stage;
-ghost use Rattle.table_requests.specs.RequestMaps.{is_working, answered, pinning, HasNoneWorking, HasNoneAnswered, Answers, PinsMore, Goes, HoldsUp, has_exclusive, has_shared};
+ghost use Rattle.table_requests.specs.RequestMaps.{is_working, answered, opening, pinning, HasNoneWorking, HasNoneAnswered, Answers, Notes, PinsMore, Goes, HoldsUp, has_exclusive, has_shared};
 ghost use Rattle.table_requests.specs.Listed.{flight_in, in_flight, requests_of, AreBelow, HaveOwnIds};
 ghost use Rattle.table_requests.specs.PinCounts.{pins_in, times};
 
-use crate::data::{Pins, RequestInFlight, Stage, Work};
+use crate::data::{Ended, RequestInFlight, Stage, Work};
 use holds::Held;
 use paths::Path;
 use std::mem;
@@ -81,19 +81,27 @@ pub fn exclusive_on(flights: &[RequestInFlight], path: &Path) -> u64
     count
 }
 
-/// Ends the work on the request at that place, and gives it back.
+/// Ends the work on the request at that place, if it is worked on, and gives it back.
 fn end_work_at(flights: &mut Vec<RequestInFlight>, i: usize) -> Option<Work>
     requires { i < vec_len flights.old }
-    ensures none { IfNone result ((d : RequestInFlight) → (slice_index_or flights.old.items i d).stage ≡ Stage.Answered) }
+    ensures none { IfNone result ((d : RequestInFlight) → is_working (slice_index_or flights.old.items i d).stage ≡ false) }
+    ensures same { IfNone result (flights.new.items ≡ flights.old.items) }
     ensures some { IfSome result (λ work. (d : RequestInFlight) → (slice_index_or flights.old.items i d).stage ≡ Stage.Working work) }
-    ensures items { (d : RequestInFlight) → flights.new.items ≡ slice_set flights.old.items i (answered (slice_index_or flights.old.items i d)) }
+    ensures items { IfSome result (λ _. (d : RequestInFlight) → flights.new.items ≡ slice_set flights.old.items i (answered (slice_index_or flights.old.items i d))) }
     ensures len { vec_len flights.new ≡ vec_len flights.old }
     ensures capacity { vec_capacity flights.new ≡ vec_capacity flights.old }
 {
     let flight = &mut flights[i];
-    match mem::replace(&mut flight.stage, Stage::Answered) {
+    if !flight.stage.is_working() {
+        return None;
+    }
+    let stage = Stage::Answered {
+        before: flight.pins.as_slice().len(),
+        opened: None,
+    };
+    match mem::replace(&mut flight.stage, stage) {
         Stage::Working(work) => Some(work),
-        Stage::Answered => None,
+        Stage::Answered { .. } => unreachable!(),
     }
 }
 
@@ -142,31 +150,68 @@ pub fn pin_for(flights: &mut Vec<RequestInFlight>, id: u64, number: u64)
     }
 }
 
-/// Takes the request at that place out if it was answered, and gives its pins.
-fn take_at(flights: &mut Vec<RequestInFlight>, i: usize) -> Option<Pins>
+/// Notes the file that the request at that place opened, if its work has ended.
+fn note_at(flights: &mut Vec<RequestInFlight>, i: usize, handle: u64)
+    requires { i < vec_len flights.old }
+    ensures items { (d : RequestInFlight) → flights.new.items ≡ slice_set flights.old.items i (opening (slice_index_or flights.old.items i d) handle) }
+    ensures len { vec_len flights.new ≡ vec_len flights.old }
+    ensures capacity { vec_capacity flights.new ≡ vec_capacity flights.old }
+{
+    let flight = &mut flights[i];
+    match &mut flight.stage {
+        Stage::Working(_) => {}
+        Stage::Answered { before: _, opened } => *opened = Some(handle),
+    }
+}
+
+/// Notes the file that the request opened, if its work has ended.
+pub fn note_for(flights: &mut Vec<RequestInFlight>, id: u64, handle: u64)
+    requires apart { HaveOwnIds flights.old.items }
+    requires here { (f : RequestInFlight) × (flight_in flights.old.items id ≡ Some f) }
+    ensures notes { (f : RequestInFlight) → flight_in flights.old.items id ≡ Some f → Notes (requests_of (in_flight flights.old)) id f handle (requests_of (in_flight flights.new)) }
+    ensures pinned { (n : ℕ) → pins_in flights.new.items n ≡ pins_in flights.old.items n }
+    ensures apart { HaveOwnIds flights.new.items }
+    ensures below { (n : ℕ) → AreBelow n (flight_in flights.old.items) → AreBelow n (flight_in flights.new.items) }
+    ensures len { vec_len flights.new ≡ vec_len flights.old }
+    ensures capacity { vec_capacity flights.new ≡ vec_capacity flights.old }
+{
+    match index_of(flights.as_slice(), id) {
+        Some(i) => note_at(flights, i, handle),
+        None => unreachable!(),
+    }
+}
+
+/// Takes the request at that place out if it was answered, and gives what it leaves.
+fn take_at(flights: &mut Vec<RequestInFlight>, i: usize) -> Option<Ended>
     requires { i < vec_len flights.old }
     ensures none { IfNone result ((d : RequestInFlight) → is_working (slice_index_or flights.old.items i d).stage ≡ true) }
     ensures same { IfNone result (flights.new.items ≡ flights.old.items) }
-    ensures answered { IfSome result (λ _. (d : RequestInFlight) → (slice_index_or flights.old.items i d).stage ≡ Stage.Answered) }
-    ensures pins { IfSome result (λ pins. (d : RequestInFlight) → (slice_index_or flights.old.items i d).pins ≡ pins) }
+    ensures answered { IfSome result (λ ended. (d : RequestInFlight) → (slice_index_or flights.old.items i d).stage ≡ Stage.Answered ended.before ended.opened) }
+    ensures pins { IfSome result (λ ended. (d : RequestInFlight) → (slice_index_or flights.old.items i d).pins ≡ ended.pins) }
     ensures items { IfSome result (λ _. flights.new.items ≡ remove flights.old.items i) }
     ensures capacity { vec_capacity flights.new ≡ vec_capacity flights.old }
 {
     let flight = &flights[i];
-    if flight.stage.is_working() {
+    let Stage::Answered { before, opened } = &flight.stage else {
         return None;
-    }
+    };
+    let before = *before;
+    let opened = *opened;
     let flight = flights.remove(i);
-    Some(flight.pins)
+    Some(Ended {
+        pins: flight.pins,
+        before,
+        opened,
+    })
 }
 
-/// Takes an answered request out, and gives its pins.
-pub fn take_answered(flights: &mut Vec<RequestInFlight>, id: u64) -> Option<Pins>
+/// Takes an answered request out, and gives what it leaves.
+pub fn take_answered(flights: &mut Vec<RequestInFlight>, id: u64) -> Option<Ended>
     requires { HaveOwnIds flights.old.items }
     ensures none { IfNone result (HasNoneAnswered (flight_in flights.old.items) id) }
     ensures same { IfNone result (flights.new.items ≡ flights.old.items) }
-    ensures some { IfSome result (λ pins. Goes (requests_of (in_flight flights.old)) id pins.numbers (requests_of (in_flight flights.new))) }
-    ensures pinned { IfSome result (λ pins. (n : ℕ) → pins_in flights.new.items n + times n pins.numbers ≡ pins_in flights.old.items n) }
+    ensures some { IfSome result (λ ended. Goes (requests_of (in_flight flights.old)) id ended (requests_of (in_flight flights.new))) }
+    ensures pinned { IfSome result (λ ended. (n : ℕ) → pins_in flights.new.items n + times n ended.pins.numbers ≡ pins_in flights.old.items n) }
     ensures apart { HaveOwnIds flights.new.items }
     ensures below { (n : ℕ) → AreBelow n (flight_in flights.old.items) → AreBelow n (flight_in flights.new.items) }
     ensures capacity { vec_capacity flights.new ≡ vec_capacity flights.old }

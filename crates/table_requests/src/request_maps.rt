@@ -2,13 +2,14 @@
 
 ghost use Rattle.std.specs.Prelude.{true, false, ◌≡◌, ◌≢◌, ◌<◌, ◌≤◌, ◌+◌, ◌^◌, ◌++◌, ◌∷◌, [], ℕ, None, Some, IfNone, IfSome, IsOk, OnOk, IsTrue, AllPairs, ◌↔◌, option_copied, count_by, length};
 ghost use Rattle.table_requests.specs.declared.data.RequestInFlight.{RequestInFlight};
-ghost use Rattle.table_requests.specs.RequestMaps.{files_promised, no_requests, nodes_promised, postings_promised, AreLawfulRequests, IsTallied, HasNoneWorking, HasNoneAnswered, Adds, Answers, PinsMore, Goes, HoldsUp, HasExclusiveHolder, has_exclusive, has_shared};
+ghost use Rattle.table_requests.specs.RequestMaps.{files_promised, no_requests, nodes_promised, postings_promised, AreLawfulRequests, IsTallied, HasNoneWorking, HasNoneAnswered, Adds, Answers, Notes, PinsMore, Goes, HoldsUp, HasExclusiveHolder, has_exclusive, has_shared};
 ghost use Rattle.table_requests.specs.Listed.{requests_of, flight_in, pinned_in};
 
-use crate::data::{Pins, Promise, RequestInFlight, Work};
+use crate::data::{Ended, Promise, RequestInFlight, Work};
 use crate::exclusive_holders::is_held_exclusively;
 use crate::listed::{
-    end_work, exclusive_on, holds_up, least_free, next_after, pin_for, shared_on, take_answered,
+    end_work, exclusive_on, holds_up, least_free, next_after, note_for, pin_for, shared_on,
+    take_answered,
 };
 use crate::pin_counts::{PinCounts, count, count_all, count_of, make_room, no_pins, uncount_all};
 use holds::Held;
@@ -190,17 +191,27 @@ impl RequestsInFlight {
         count(&mut self.pinned, number);
     }
 
-    /// Takes the request out and gives its pins, if one was answered under the id.
-    pub fn take(&mut self, id: u64) -> Option<Pins>
+    /// Notes the file that the end of the request's work opened.
+    pub fn note_file(&mut self, id: u64, handle: u64)
+        requires { (f : RequestInFlight) × ((requests_of self.old).at id ≡ Some f) }
+        ensures notes { (f : RequestInFlight) → (requests_of self.old).at id ≡ Some f → Notes (requests_of self.old) id f handle (requests_of self.new) }
+        ensures room { (requests_of self.new).room ≡ (requests_of self.old).room }
+        ensures law { AreLawfulRequests (requests_of self.new) }
+    {
+        note_for(&mut self.flights, id, handle);
+    }
+
+    /// Takes the request out and gives what it leaves, if one was answered under the id.
+    pub fn take(&mut self, id: u64) -> Option<Ended>
         ensures none { IfNone result (HasNoneAnswered (requests_of self.old).at id) }
         ensures same { IfNone result (self.new ≡ self.old) }
-        ensures some { IfSome result (λ pins. Goes (requests_of self.old) id pins.numbers (requests_of self.new)) }
+        ensures some { IfSome result (λ ended. Goes (requests_of self.old) id ended (requests_of self.new)) }
         ensures room { (requests_of self.old).room ≤ (requests_of self.new).room }
         ensures law { AreLawfulRequests (requests_of self.new) }
     {
-        let pins = take_answered(&mut self.flights, id)?;
-        uncount_all(&mut self.pinned, pins.as_slice());
-        Some(pins)
+        let ended = take_answered(&mut self.flights, id)?;
+        uncount_all(&mut self.pinned, ended.pins.as_slice());
+        Some(ended)
     }
 
     /// All of them, in some order.

@@ -96,17 +96,17 @@ cases_flight : (o : Option RequestInFlight) → (o ≡ None) ⊎ ((f : RequestIn
 cases_flight None = inl refl
 cases_flight (Some f) = inr (f, refl)
 
-cases_stage : (s : Stage) → (s ≡ Answered) ⊎ ((work : Work) × (s ≡ Working work))
-cases_stage Answered = inl refl
+cases_stage : (s : Stage) → ((before : ℕ) × (opened : Option ℕ) × (s ≡ Answered before opened)) ⊎ ((work : Work) × (s ≡ Working work))
+cases_stage (Answered before opened) = inl (before, opened, refl)
 cases_stage (Working work) = inr (work, refl)
 
 idle_or_not : (flights : RequestsInFlight) (id : ℕ) → ((f : RequestInFlight) (work : Work) → IsAtWork flights id f work → ⊥) ⊎ ((f : RequestInFlight) × ((work : Work) × IsAtWork flights id f work))
 idle_or_not flights id = elim (cases_flight (flights id)) [
   | inl none ↦ inl (λ f work it. none-some f (sym none ∙ it.here))
   | inr (g, here) ↦ elim (cases_stage g.stage) [
-    | inl idle ↦ inl (λ f work it.
+    | inl (before, opened, idle) ↦ inl (λ f work it.
         let one : g ≡ f = same_Some g f (sym here ∙ it.here) in
-        let bad : Answered ≡ Working work = sym idle ∙ (ap (λ (x : RequestInFlight). x.stage) one ∙ it.working) in absurd (cc))
+        let bad : Answered before opened ≡ Working work = sym idle ∙ (ap (λ (x : RequestInFlight). x.stage) one ∙ it.working) in absurd (cc))
     | inr (work, working) ↦ inr (g, (work, record { here = here; working = working }))
   ]
 ]
@@ -123,15 +123,15 @@ settles_stays old answer taken settled new s k f work it = elim (cases_Bool answ
   | inr held ↦ elim (cases_flight (old.flights answer.id)) [
     | inl none ↦ stays_same old new k (s.unknown (λ a. none-some a.flight (sym none ∙ a.here))) f work it
     | inr (g, there) ↦ elim (cases_stage g.stage) [
-      | inl idle ↦
-          let e = s.found held (record { flight = g; here = there; ended = idle }) in
+      | inl (before, opened, idle) ↦
+          let e = s.found held (record { flight = g; here = there; before = before; opened = opened; ended = idle }) in
           let ne : answer.id ≢ k = λ same.
           let one : g ≡ f = same_Some g f (sym there ∙ (ap old.flights same ∙ it.here)) in
-          let bad : Answered ≡ Working work = sym idle ∙ (ap (λ (x : RequestInFlight). x.stage) one ∙ it.working) in absurd (cc) in
+          let bad : Answered before opened ≡ Working work = sym idle ∙ (ap (λ (x : RequestInFlight). x.stage) one ∙ it.working) in absurd (cc) in
           ap (λ (x : World). x.flights k) e.new_is ∙ (entry_other old.flights answer.id None k ne ∙ it.here)
       | inr (busy, working) ↦ stays_same old new k (s.unknown (λ a.
           let one : g ≡ a.flight = same_Some g a.flight (sym there ∙ a.here) in
-          let bad : Working busy ≡ Answered = sym working ∙ (ap (λ (x : RequestInFlight). x.stage) one ∙ a.ended) in absurd (cc))) f work it
+          let bad : Working busy ≡ Answered a.before a.opened = sym working ∙ (ap (λ (x : RequestInFlight). x.stage) one ∙ a.ended) in absurd (cc))) f work it
     ]
   ]
 ]

@@ -1,5 +1,5 @@
 -- The end of the work on a request: it holds nothing any more, and what it was promised is free for its end.
-use Rattle.std.proofs.Common.{ℕ, ◌≡◌, ◌==◌, Bool, true, List, [], append-nil, Some, None, refl, sym, ap, ◌∙◌, subst, inl, inr, arith}
+use Rattle.std.proofs.Common.{ℕ, ◌≡◌, ◌==◌, Bool, true, List, [], append-nil, length, Some, None, refl, sym, ap, ◌∙◌, subst, inl, inr, arith}
 use Rattle.std.proofs.lemmas.Bool.{cond-true, eq-eqb, true≢false}
 use Rattle.std.proofs.lemmas.Option.{same_Some}
 use Rattle.tree.specs.Places.{at_in}
@@ -86,7 +86,7 @@ module _ (s : State) (kept : IsKept s) (flights : InFlight) (id : ℕ) (work : R
       let it = recorded_at (requests_of flights) up.id up.flight up.work up.here in
       let other : up.id ≡ id → ⊥ = λ e.
       let same : it.flight ≡ flying.answered a.flight = same_Some it.flight (flying.answered a.flight) (sym it.here ∙ (ap (requests_of flights).at e ∙ here_now)) in
-      let bad : recorded.Working it.work_record ≡ recorded.Answered = sym it.working ∙ ap (λ (f : Recorded). f.stage) same in
+      let bad : recorded.Working it.work_record ≡ recorded.Answered (length a.flight.pins.numbers) None = sym it.working ∙ ap (λ (f : Recorded). f.stage) same in
       cc in
       kept.held.apart up.id id up.flight (flight_of a.flight) up.work (work_of work) was was_at_work other up.conflict
 
@@ -119,16 +119,18 @@ module _ (s : State) (kept : IsKept s) (flights : InFlight) (id : ℕ) (work : R
   }
 
   -- the world in which it is answered
-  mid_is : world_of (record s { flights = flights }) ≡ record (world_of s) { flights = with_entry (flights_in (requests_of s.flights)) id (Some (answered (flight_of a.flight) [])) }
+  mid_is : world_of (record s { flights = flights }) ≡ record (world_of s) { flights = with_entry (flights_in (requests_of s.flights)) id (Some (answered (flight_of a.flight) [] None)) }
   mid_is =
-      let one : flight_of (flying.answered a.flight) ≡ answered (flight_of a.flight) [] = ap (λ (ns : List ℕ). let f : RequestInFlight = record { unique = a.flight.unique; stage = Answered; pins = ns } in f) (sym (append-nil a.flight.pins.numbers)) in
+      let one : flight_of (flying.answered a.flight) ≡ answered (flight_of a.flight) [] None =
+      ap (λ (ns : List ℕ). let f : RequestInFlight = record { unique = a.flight.unique; stage = Answered (length a.flight.pins.numbers) None; pins = ns } in f) (sym (append-nil a.flight.pins.numbers)) in
       ap (λ (fs : RequestsInFlight). let w : World = record (world_of s) { flights = fs } in w)
       (flights_with (requests_of s.flights) (requests_of flights) id (flying.answered a.flight) a.at ∙ ap (λ (f : RequestInFlight). with_entry (flights_in (requests_of s.flights)) id (Some f)) one)
 
   module _ (o : Outcome) (answer : Answer) (new : World) (e : Ends (world_of (record s { flights = flights })) id (flight_of (flying.answered a.flight)) (act_of (footprint_in work) o) (footprint_in work).entries answer new) where
     first : Ends (world_of s) id (flight_of a.flight) (act_of (footprint_in work) o) (footprint_in work).entries answer new
     first =
-        let one : flight_of (flying.answered a.flight) ≡ answered (flight_of a.flight) [] = ap (λ (ns : List ℕ). let f : RequestInFlight = record { unique = a.flight.unique; stage = Answered; pins = ns } in f) (sym (append-nil a.flight.pins.numbers)) in
+        let one : flight_of (flying.answered a.flight) ≡ answered (flight_of a.flight) [] None =
+        ap (λ (ns : List ℕ). let f : RequestInFlight = record { unique = a.flight.unique; stage = Answered (length a.flight.pins.numbers) None; pins = ns } in f) (sym (append-nil a.flight.pins.numbers)) in
         ends_answered (world_of s) (world_of (record s { flights = flights })) new id (flight_of a.flight) (act_of (footprint_in work) o) (footprint_in work).entries answer mid_is
         (subst (λ (f : RequestInFlight). Ends (world_of (record s { flights = flights })) id f (act_of (footprint_in work) o) (footprint_in work).entries answer new) one e)
 

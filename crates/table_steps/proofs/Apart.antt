@@ -26,7 +26,7 @@ use Rattle.table_steps.proofs.Viewed.{at_work, recorded_at}
 
 in_the_way : (st : Recording) (wanted : Held) → flying.IsInTheWay st wanted → (v : RecordedWork) × (st ≡ recorded.Working v) × Conflict v.held wanted
 in_the_way (recorded.Working v) wanted conflict = (v, refl, conflict)
-in_the_way recorded.Answered wanted bad = absurd bad
+in_the_way (recorded.Answered before opened) wanted bad = absurd bad
 
 pub held_up_seen : (all : flying.RequestMaps) (wanted : Held) → flying.HoldsUp all.at wanted → HoldsUp (flights_in all) wanted
 held_up_seen all wanted up =

@@ -1,14 +1,13 @@
 -- Entries that are taken back one after another.
-use Rattle.std.proofs.Common.{ℕ, ◌+◌, ◌-◌, ◌<◌, ◌≡◌, suc, zero, Bool, List, [], ◌∷◌, ◌++◌, Option, Some, None, length, get_or, drop, drop-cons, add-one, refl, sym, ap, ◌∙◌, subst, ◌⊎◌, inl, inr, arith}
+use Rattle.std.proofs.Common.{ℕ, ◌+◌, ◌-◌, ◌<◌, ◌≤◌, ◌≡◌, suc, zero, Bool, List, [], ◌∷◌, ◌++◌, Some, length, get_or, drop, drop-cons, add-one, refl, sym, ◌∙◌, subst, ◌⊎◌, inl, inr, arith}
 use Rattle.ledger.specs.declared.postings.Posting.{Posting}
 use Rattle.ledger.specs.declared.postings.Posting.TheVariants.{Back}
 use Rattle.ledger.specs.Postings.{Postings}
 use Rattle.tree.specs.declared.nodes.Node.{Node}
 use Rattle.tree.specs.Places.{Lookup, Nodes, with_node, IsTree}
-use Rattle.table_requests.specs.declared.data.Given.{Given}
 use Rattle.table_steps.specs.Entries.{TakesBack, TakesNone, TakesAllBack}
 use Rattle.table_steps.specs.Sweeping.{IsAmong, HaveReasonsBut, IsNearly, IsTakenBack}
-use Rattle.table_steps.specs.Steps.{numbers_of}
+use Rattle.std.proofs.lemmas.List.{drop_all}
 use Rattle.table_steps.proofs.Lawful.{booked_back}
 use Rattle.table_steps.proofs.Reasons.{HaveReasons-write, HaveReasons-more}
 
@@ -26,28 +25,24 @@ nearly_back at new ps qs pinned but n x nearly stood some among is made tree = r
 }
 
 -- once the rest is taken back, all is
-pub record Continues (old : Lookup) (ps : List Posting) (given : List (Option Given)) (at : Lookup) (qs : List Posting) (rest : List (Option Given)) : Type 0 where
+pub record Continues (old : Lookup) (ps : List Posting) (given : List ℕ) (at : Lookup) (qs : List Posting) (rest : List ℕ) : Type 0 where
   pub then : (new : Lookup) (rs : List Posting) → TakesAllBack at qs rest new rs → TakesAllBack old ps given new rs
 
-pub continues-none : (old : Lookup) (ps : List Posting) (given : List (Option Given)) (at : Lookup) (qs : List Posting) (i : ℕ) → i < length given → get_or given i None ≡ None
-    → Continues old ps given at qs (drop i given) → Continues old ps given at qs (drop (i + 1) given)
-continues-none old ps given at qs i within is so_far = record {
-  then = λ new rs h. so_far.then new rs (rw (drop-cons given i None within, is) (rw add-one at h));
+pub continues-one : (old : Lookup) (ps : List Posting) (given pins : List ℕ) (at : Lookup) (qs : List Posting) (i n : ℕ) (mid : Lookup) (ms : List Posting) → i < length pins → get_or pins i 0 ≡ n
+    → TakesBack at qs n mid ms ⊎ TakesNone at qs n mid ms → Continues old ps given at qs (drop i pins) → Continues old ps given mid ms (drop (i + 1) pins)
+continues-one old ps given pins at qs i n mid ms within is back so_far = record {
+  then = λ new rs h. so_far.then new rs (rw (drop-cons pins i 0 within, is) (mid, ms, back, rw add-one at h));
 }
 
-pub continues-some : (old : Lookup) (ps : List Posting) (given : List (Option Given)) (at : Lookup) (qs : List Posting) (i : ℕ) (g : Given) (mid : Lookup) (ms : List Posting) → i < length given → get_or given i None ≡ Some g
-    → TakesBack at qs g mid ms ⊎ TakesNone at qs g mid ms → Continues old ps given at qs (drop i given) → Continues old ps given mid ms (drop (i + 1) given)
-continues-some old ps given at qs i g mid ms within is back so_far = record {
-  then = λ new rs h. so_far.then new rs (rw (drop-cons given i None within, is) (mid, ms, back, rw add-one at h));
-}
+-- where none is left, all is taken back
+pub continues-end : (old : Lookup) (ps : List Posting) (given pins : List ℕ) (at : Lookup) (qs : List Posting) (i : ℕ) → length pins ≤ i → Continues old ps given at qs (drop i pins) → TakesAllBack old ps given at qs
+continues-end old ps given pins at qs i all so_far = so_far.then at qs (subst (λ (ns : List ℕ). TakesAllBack at qs ns at qs) (sym (drop_all i pins all)) (refl, refl))
 
--- who is given is among the numbers given
-pub among_given : (given : List (Option Given)) (more : List ℕ) (i : ℕ) (g : Given) → i < length given → get_or given i None ≡ Some g → IsAmong g.number (numbers_of given ++ more)
-among_given [] more i g within is = absurd (omega arith)
-among_given (None ∷ gs) more zero g within is = absurd (cc)
-among_given (Some h ∷ gs) more zero g within is = inl (let same : h ≡ g = cc in ap (λ (k : Given). k.number) (sym same))
-among_given (None ∷ gs) more (suc i) g within is = among_given gs more i g (omega arith) is
-among_given (Some h ∷ gs) more (suc i) g within is = inr (among_given gs more i g (omega arith) is)
+-- a number of a list is among its numbers
+pub among_at : (ns : List ℕ) (i n : ℕ) → i < length ns → get_or ns i 0 ≡ n → IsAmong n ns
+among_at [] i n within is = absurd (omega arith)
+among_at (m ∷ ns) zero n within is = inl (sym is)
+among_at (m ∷ ns) (suc i) n within is = inr (among_at ns i n (omega arith) is)
 
 pub IsTakenBack-refl : (t : Nodes) (l : Postings) → IsTakenBack t l t l
 IsTakenBack-refl t l = record { living = refl; room = refl; limit = refl; postings = omega arith; posting_room = omega arith; posting_limit = refl }

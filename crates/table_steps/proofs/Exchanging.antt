@@ -1,10 +1,10 @@
 -- What an exchange of two names makes of a tree.
-use Rattle.std.proofs.Common.{ℕ, ℤ, ◌≡◌, ◌≢◌, true, [], ◌∷◌, ◌++◌, refl, sym, ap, ◌∙◌, ◌⊎◌, inl, inr}
+use Rattle.std.proofs.Common.{ℤ, ◌≡◌, ◌≢◌, true, [], ◌∷◌, ◌++◌, refl, sym, ap, ◌∙◌, ◌⊎◌, inl, inr}
 use Rattle.std.proofs.lemmas.Bool.{cases_Bool, cases_eq, true≢false}
 use Rattle.paths.specs.Prefixes.{Names, is_prefix}
 use Rattle.paths.proofs.PrefixLemmas.{is_prefix-both, is_prefix-same}
 use Rattle.tree.specs.declared.nodes.Key.{Key}
-use Rattle.tree.specs.Places.{Lookup, IsPathOf, Leads}
+use Rattle.tree.specs.Places.{Lookup, Leads}
 use Rattle.tree.specs.Moves.{CanExchange, Exchanges}
 use Rattle.tree.proofs.Climbing.{named_same, path_of_lead}
 use Rattle.table_footprints.specs.Asked.{IsProperPrefix, IsRefusedBetween, IsRefusedExchange}

@@ -89,12 +89,11 @@ module _ (files : Files) where
   nodes_entered at ps parent name g new qs (inr born) have =
       subst (λ a. HaveNodes a files) (sym born.nodes) (nodes_born at g.number (newborn g parent name) born.fresh have)
 
-  pub nodes_back : (gs : List (Option Given)) (at new : Lookup) (ps qs : List Posting) → TakesAllBack at ps gs new qs → HaveNodes at files → HaveNodes new files
+  pub nodes_back : (ns : List ℕ) (at new : Lookup) (ps qs : List Posting) → TakesAllBack at ps ns new qs → HaveNodes at files → HaveNodes new files
   nodes_back [] at new ps qs h have = subst (λ a. HaveNodes a files) (sym h.0) have
-  nodes_back (None ∷ gs) at new ps qs h have = nodes_back gs at new ps qs h have
-  nodes_back (Some g ∷ gs) at new ps qs (mid, ms, inl back, rest) have =
-      nodes_back gs mid new ms qs rest (subst (λ a. HaveNodes a files) (sym back.nodes) (nodes_written at g.number back.node (record back.node { count = back.node.count - 1 }) back.here refl have))
-  nodes_back (Some g ∷ gs) at new ps qs (mid, ms, inr none, rest) have = nodes_back gs mid new ms qs rest (subst (λ a. HaveNodes a files) (sym none.nodes) have)
+  nodes_back (n ∷ ns) at new ps qs (mid, ms, inl back, rest) have =
+      nodes_back ns mid new ms qs rest (subst (λ a. HaveNodes a files) (sym back.nodes) (nodes_written at n back.node (record back.node { count = back.node.count - 1 }) back.here refl have))
+  nodes_back (n ∷ ns) at new ps qs (mid, ms, inr none, rest) have = nodes_back ns mid new ms qs rest (subst (λ a. HaveNodes a files) (sym none.nodes) have)
 
 -- nodes that nothing keeps are dropped
 pub nodes_swept : (flights : InFlight) (files : Filing) → AreOpenEntries (files_of files) → (old new : Lookup) → IsSwept (kept_by flights files) old new → HaveNodes old (files_of files).at → HaveNodes new (files_of files).at

@@ -22,13 +22,14 @@ use Rattle.tree.proofs.Climbing.{path_same}
 use Rattle.table_image.specs.Law.{HaveReasons}
 use Rattle.table_footprints.specs.Footprints.{page_keys, stays}
 use Rattle.table_steps.specs.declared.state.State.{State}
-use Rattle.table_steps.specs.Ending.{EntersName, GivesAll, MayEnter, MayFill}
-use Rattle.table_steps.specs.Kept.{flight_of, flights_in, stage_of, work_of, world_of}
+use Rattle.table_steps.specs.Ending.{EntersName, GivesAll, MayEnter, MayFill, giving}
+use Rattle.table_steps.specs.Kept.{flight_of, flights_in, work_of, world_of}
 use Rattle.table_steps.specs.Steps.{Ends, EntersAll, HasExclusiveHolder, answered, none_found, numbers_of}
-use Rattle.table_steps.specs.World.{AreKept, Answered, RequestInFlight, RequestsInFlight, IsAtWork, Work, Working, World, with_entry}
+use Rattle.table_steps.specs.World.{AreKept, Answered, RequestInFlight, RequestsInFlight, IsAtWork, Work, World, with_entry}
 use Rattle.table_footprints.proofs.Members.{first_in, later_in, only_in}
-use Rattle.table_steps.proofs.Ends.{answered_same, entry_same, entry_twice, none_entered, none_numbered, nothing_for, working_else}
+use Rattle.table_steps.proofs.Ends.{answered_same, entry_same, entry_twice, giving_answered, giving_same, none_entered, none_numbered, nothing_for, working_else}
 use Rattle.table_steps.proofs.Reasons.{IsSwept-refl}
+use Rattle.table_steps.proofs.Ended.{ended_seen, has_ended, not_ended}
 use Rattle.table_steps.proofs.Viewed.{at_work, recorded_at}
 
 -- ---- one name more
@@ -56,19 +57,18 @@ entries_owners f g same at at' ps ps' [] [] [] is = is
 entries_owners f g same at at' ps ps' keys found given bad = absurd bad
 
 -- who is worked on is not answered
-still_working : (flights : RequestsInFlight) (id : ℕ) (f : RequestInFlight) (x : Option RequestInFlight) → flights id ≡ Some f → f.stage ≡ Answered → (k : ℕ) (g : RequestInFlight) (work : Work) → IsAtWork flights k g work → IsAtWork (with_entry flights id x) k g work
+still_working : (flights : RequestsInFlight) (id : ℕ) (f : RequestInFlight) (x : Option RequestInFlight) → flights id ≡ Some f → has_ended f.stage ≡ true → (k : ℕ) (g : RequestInFlight) (work : Work) → IsAtWork flights k g work → IsAtWork (with_entry flights id x) k g work
 still_working flights id f x here idle k g work at = elim (cases_eq id k) [
   | inl e ↦
       let same : f ≡ g = same_Some f g (sym here ∙ (ap flights e ∙ at.here)) in
-      let bad : Answered ≡ Working work = sym idle ∙ (ap (λ (w : RequestInFlight). w.stage) same ∙ at.working) in
-      absurd (cc)
+      absurd (not_ended f work (ap (λ (w : RequestInFlight). w.stage) same ∙ at.working) idle)
   | inr ne ↦ record { here = cond-false (id == k) x (flights k) (ne_eqb id k ne) ∙ at.here; working = at.working }
 ]
 
-owned_same : (flights : RequestsInFlight) (id : ℕ) (f : RequestInFlight) (given : List (Option Given)) → flights id ≡ Some f → f.stage ≡ Answered → (at : Lookup) (key : Key) → HasExclusiveHolder at (with_entry flights id (Some (answered f given))) key ↔ HasExclusiveHolder at flights key
+owned_same : (flights : RequestsInFlight) (id : ℕ) (f : RequestInFlight) (given : List (Option Given)) → flights id ≡ Some f → has_ended f.stage ≡ true → (at : Lookup) (key : Key) → HasExclusiveHolder at (with_entry flights id (Some (giving f given))) key ↔ HasExclusiveHolder at flights key
 owned_same flights id f given here idle at key = (
-  λ o. record { path = o.path; leads = o.leads; id = o.id; flight = o.flight; work = o.work; here = working_else flights id f given o.id o.flight o.work o.here; exclusive = o.exclusive },
-  λ o. record { path = o.path; leads = o.leads; id = o.id; flight = o.flight; work = o.work; here = still_working flights id f (Some (answered f given)) here idle o.id o.flight o.work o.here; exclusive = o.exclusive },
+  λ o. record { path = o.path; leads = o.leads; id = o.id; flight = o.flight; work = o.work; here = working_else flights id (giving f given) idle o.id o.flight o.work o.here; exclusive = o.exclusive },
+  λ o. record { path = o.path; leads = o.leads; id = o.id; flight = o.flight; work = o.work; here = still_working flights id f (Some (giving f given)) here idle o.id o.flight o.work o.here; exclusive = o.exclusive },
 )
 
 numbers_push : (given : List (Option Given)) (g : Option Given) → numbers_of (given ++ g ∷ []) ≡ numbers_of given ++ numbers_of (g ∷ [])
@@ -76,27 +76,27 @@ numbers_push [] g = refl
 numbers_push (None ∷ given) g = numbers_push given g
 numbers_push (Some h ∷ given) g = ap (λ (ns : List ℕ). h.number ∷ ns) (numbers_push given g)
 
-answered_push : (f : RequestInFlight) (given : List (Option Given)) (g : Option Given) → answered (answered f given) (g ∷ []) ≡ answered f (given ++ g ∷ [])
-answered_push f given g = ap (λ (ps : List ℕ). let r : RequestInFlight = record f { stage = Answered; pins = ps } in r)
+giving_push : (f : RequestInFlight) (given : List (Option Given)) (g : Option Given) → giving (giving f given) (g ∷ []) ≡ giving f (given ++ g ∷ [])
+giving_push f given g = ap (λ (ps : List ℕ). let r : RequestInFlight = record f { pins = ps } in r)
     (append_assoc f.pins (numbers_of given) (numbers_of (g ∷ [])) ∙ ap (λ (ns : List ℕ). f.pins ++ ns) (sym (numbers_push given g)))
 
-pub gives_push : (old mid new : World) (id : ℕ) (f h : RequestInFlight) (keys : List Key) (found : List Bool) (given : List (Option Given)) (key : Key) (b : Bool) (g : Option Given) → old.flights id ≡ Some f → f.stage ≡ Answered → mid.flights id ≡ Some h
+pub gives_push : (old mid new : World) (id : ℕ) (f h : RequestInFlight) (keys : List Key) (found : List Bool) (given : List (Option Given)) (key : Key) (b : Bool) (g : Option Given) → old.flights id ≡ Some f → has_ended f.stage ≡ true → mid.flights id ≡ Some h
     → GivesAll old id f keys found given mid → GivesAll mid id h (key ∷ []) (b ∷ []) (g ∷ []) new → GivesAll old id f (keys ++ key ∷ []) (found ++ b ∷ []) (given ++ g ∷ []) new
 gives_push old mid new id f h keys found given key b g here idle there before one =
-    let now : mid.flights ≡ with_entry old.flights id (Some (answered f given)) = ap (λ (w : World). w.flights) before.new_is in
-    let at_id : with_entry old.flights id (Some (answered f given)) id ≡ Some (answered f given) = cond-true (id == id) (Some (answered f given)) (old.flights id) (eq-eqb id id refl) in
-    let same : h ≡ answered f given = same_Some h (answered f given) (sym there ∙ (ap (λ (fs : RequestsInFlight). fs id) now ∙ at_id)) in
+    let now : mid.flights ≡ with_entry old.flights id (Some (giving f given)) = ap (λ (w : World). w.flights) before.new_is in
+    let at_id : with_entry old.flights id (Some (giving f given)) id ≡ Some (giving f given) = cond-true (id == id) (Some (giving f given)) (old.flights id) (eq-eqb id id refl) in
+    let same : h ≡ giving f given = same_Some h (giving f given) (sym there ∙ (ap (λ (fs : RequestsInFlight). fs id) now ∙ at_id)) in
     let owners : (at : Lookup) (k : Key) → HasExclusiveHolder at mid.flights k ↔ HasExclusiveHolder at old.flights k = subst (λ (fs : RequestsInFlight). (at : Lookup) (k : Key) → HasExclusiveHolder at fs k ↔ HasExclusiveHolder at old.flights k) (sym now) (owned_same old.flights id f given here idle) in
-    let last : with_entry mid.flights id (Some (answered h (g ∷ []))) ≡ with_entry old.flights id (Some (answered f (given ++ g ∷ []))) =
-    ap (λ (r : RequestInFlight). with_entry mid.flights id (Some (answered r (g ∷ [])))) same
-    ∙ (ap (λ (fs : RequestsInFlight). with_entry fs id (Some (answered (answered f given) (g ∷ [])))) now
-    ∙ (entry_twice old.flights id (Some (answered f given)) (Some (answered (answered f given) (g ∷ [])))
-    ∙ ap (λ (r : RequestInFlight). with_entry old.flights id (Some r)) (answered_push f given g))) in
+    let last : with_entry mid.flights id (Some (giving h (g ∷ []))) ≡ with_entry old.flights id (Some (giving f (given ++ g ∷ []))) =
+    ap (λ (r : RequestInFlight). with_entry mid.flights id (Some (giving r (g ∷ [])))) same
+    ∙ (ap (λ (fs : RequestsInFlight). with_entry fs id (Some (giving (giving f given) (g ∷ [])))) now
+    ∙ (entry_twice old.flights id (Some (giving f given)) (Some (giving (giving f given) (g ∷ [])))
+    ∙ ap (λ (r : RequestInFlight). with_entry old.flights id (Some r)) (giving_push f given g))) in
     record {
       enters = entries_push old.flights old.at mid.at new.at old.postings mid.postings new.postings keys found given key b g before.enters
           (entries_owners mid.flights old.flights owners mid.at new.at mid.postings new.postings (key ∷ []) (b ∷ []) (g ∷ []) one.enters);
       new_is = one.new_is
-          ∙ (ap (λ (w : World). let v : World = record w { at = new.at; postings = new.postings; flights = with_entry mid.flights id (Some (answered h (g ∷ []))) } in v) before.new_is
+          ∙ (ap (λ (w : World). let v : World = record w { at = new.at; postings = new.postings; flights = with_entry mid.flights id (Some (giving h (g ∷ []))) } in v) before.new_is
           ∙ ap (λ (fs : RequestsInFlight). let v : World = record old { at = new.at; postings = new.postings; flights = fs } in v) last);
     }
 
@@ -106,25 +106,26 @@ pub gives_one : (old new : World) (id : ℕ) (f : RequestInFlight) (key : Key) (
 gives_one old new id f key g free one = record { enters = (free, (new.at, new.postings, one.enters, (refl, refl))); new_is = one.new_is }
 
 -- the same world, where nothing is given
-same_world : (w : World) (id : ℕ) (f : RequestInFlight) (given : List (Option Given)) → w.flights id ≡ Some f → f.stage ≡ Answered → numbers_of given ≡ [] → w ≡ record w { flights = with_entry w.flights id (Some (answered f given)) }
-same_world w id f given here idle none =
-    let same : with_entry w.flights id (Some (answered f given)) ≡ w.flights =
-    ap (λ (g : RequestInFlight). with_entry w.flights id (Some g)) (answered_same f given idle none) ∙ entry_same w.flights id (Some f) here in
+same_world : (w : World) (id : ℕ) (f : RequestInFlight) (given : List (Option Given)) → w.flights id ≡ Some f → numbers_of given ≡ [] → w ≡ record w { flights = with_entry w.flights id (Some (giving f given)) }
+same_world w id f given here none =
+    let same : with_entry w.flights id (Some (giving f given)) ≡ w.flights =
+    ap (λ (g : RequestInFlight). with_entry w.flights id (Some g)) (giving_same f given none) ∙ entry_same w.flights id (Some f) here in
     ap (λ (fs : RequestsInFlight). let v : World = record w { flights = fs } in v) (sym same)
 
-pub gives_none : (w : World) (id : ℕ) (f : RequestInFlight) (keys : List Key) → w.flights id ≡ Some f → f.stage ≡ Answered → GivesAll w id f keys (none_found keys) (nothing_for keys) w
-gives_none w id f keys here idle = record { enters = none_entered w.flights w.at w.postings keys; new_is = same_world w id f (nothing_for keys) here idle (none_numbered keys) }
+pub gives_none : (w : World) (id : ℕ) (f : RequestInFlight) (keys : List Key) → w.flights id ≡ Some f → GivesAll w id f keys (none_found keys) (nothing_for keys) w
+gives_none w id f keys here = record { enters = none_entered w.flights w.at w.postings keys; new_is = same_world w id f (nothing_for keys) here (none_numbered keys) }
 
-pub gives_owned : (w : World) (id : ℕ) (f : RequestInFlight) (key : Key) → w.flights id ≡ Some f → f.stage ≡ Answered → HasExclusiveHolder w.at w.flights key → GivesAll w id f (key ∷ []) (true ∷ []) (None ∷ []) w
-gives_owned w id f key here idle owned = record { enters = (owned, (refl, refl)); new_is = same_world w id f (None ∷ []) here idle refl }
+pub gives_owned : (w : World) (id : ℕ) (f : RequestInFlight) (key : Key) → w.flights id ≡ Some f → HasExclusiveHolder w.at w.flights key → GivesAll w id f (key ∷ []) (true ∷ []) (None ∷ []) w
+gives_owned w id f key here owned = record { enters = (owned, (refl, refl)); new_is = same_world w id f (None ∷ []) here refl }
 
 -- entries alone are the end of a request
-pub ends_given : (old new : World) (id : ℕ) (f : RequestInFlight) (keys : List Key) (found : List Bool) (given : List (Option Given)) (kept : ℕ → Bool) → old.flights id ≡ Some f → f.stage ≡ Answered → AreKept new.flights new.files kept → HaveReasons new.at kept
+pub ends_given : (old new : World) (id : ℕ) (f : RequestInFlight) (keys : List Key) (found : List Bool) (given : List (Option Given)) (kept : ℕ → Bool) → old.flights id ≡ Some f → f.stage ≡ Answered (length f.pins) None → AreKept new.flights new.files kept → HaveReasons new.at kept
     → GivesAll old id f keys found given new → Ends old id f (record { found = found; change = stays; opens = None }) keys (record { id = id; given = given; lost = false; opened = None }) new
 ends_given old new id f keys found given kept here idle keeps reasons gives =
-    let owners : with_entry old.flights id (Some (answered f [])) ≡ old.flights =
+    let owners : with_entry old.flights id (Some (answered f [] None)) ≡ old.flights =
     ap (λ (g : RequestInFlight). with_entry old.flights id (Some g)) (answered_same f [] idle refl) ∙ entry_same old.flights id (Some f) here in
-    let now = with_entry old.flights id (Some (answered f given)) in
+    let now = with_entry old.flights id (Some (answered f given None)) in
+    let pinned : with_entry old.flights id (Some (giving f given)) ≡ now = ap (λ (g : RequestInFlight). with_entry old.flights id (Some g)) (giving_answered f given idle) in
     let files : new.files ≡ old.files = ap (λ (w : World). w.files) gives.new_is in
     let last : new.last_handle ≡ old.last_handle = ap (λ (w : World). w.last_handle) gives.new_is in
     record {
@@ -137,15 +138,16 @@ ends_given old new id f keys found given kept here idle keeps reasons gives =
       opens = (refl, files, last);
       sweeps = record { kept = kept; keeps = keeps; swept = IsSwept-refl kept new.at; reasons = reasons };
       new_is = gives.new_is
+          ∙ (ap (λ (fs : RequestsInFlight). let w : World = record old { at = new.at; postings = new.postings; flights = fs } in w) pinned
           ∙ (ap (λ (fs : Files). let w : World = record old { at = new.at; postings = new.postings; flights = now; files = fs } in w) (sym files)
-          ∙ ap (λ (n : ℕ). let w : World = record old { at = new.at; postings = new.postings; flights = now; files = new.files; last_handle = n } in w) (sym last));
+          ∙ ap (λ (n : ℕ). let w : World = record old { at = new.at; postings = new.postings; flights = now; files = new.files; last_handle = n } in w) (sym last)));
     }
 
 -- ---- who holds a name exclusively
 
 owner_in : (st : Recording) (path : Names) → flying.HoldsExclusively st path → (v : RecordedWork) × (st ≡ recorded.Working v) × Contains v.held.exclusive path
 owner_in (recorded.Working v) path exclusive = (v, refl, exclusive)
-owner_in recorded.Answered path bad = absurd bad
+owner_in (recorded.Answered before opened) path bad = absurd bad
 
 pub owned_seen : (at : Lookup) (all : flying.RequestMaps) (parent : ℕ) (name : Name) (folder : Names) → IsPathOf at parent folder → flying.HasExclusiveHolder all.at (folder ++ name ∷ []) → HasExclusiveHolder at (flights_in all) (record { parent = parent; name = name })
 owned_seen at all parent name folder leads o =
@@ -232,12 +234,12 @@ nothing_more keys i within =
 
 -- ---- a request whose work has ended
 
-module _ (s : State) (id : ℕ) (x : Recorded) (there : (requests_of s.flights).at id ≡ Some x) (idle : x.stage ≡ recorded.Answered) (f : Recorded) (here : (requests_of s.flights).at id ≡ Some f) where
+module _ (s : State) (id : ℕ) (x : Recorded) (there : (requests_of s.flights).at id ≡ Some x) (idle : flying.is_working x.stage ≡ false) (f : Recorded) (here : (requests_of s.flights).at id ≡ Some f) where
   pub seen_here : (world_of s).flights id ≡ Some (flight_of f)
   seen_here = ap (λ o. option_map flight_of o) here
 
-  pub seen_idle : (flight_of f).stage ≡ Answered
-  seen_idle = ap stage_of (subst (λ (r : Recorded). r.stage ≡ recorded.Answered) (same_Some x f (sym there ∙ here)) idle)
+  pub seen_idle : has_ended (flight_of f).stage ≡ true
+  seen_idle = ended_seen f.stage (subst (λ (r : Recorded). flying.is_working r.stage ≡ false) (same_Some x f (sym there ∙ here)) idle)
 
   pub none_given : (keys : List Key) → GivesAll (world_of s) id (flight_of f) keys (none_found keys) (nothing_for keys) (world_of s)
-  none_given keys = gives_none (world_of s) id (flight_of f) keys seen_here seen_idle
+  none_given keys = gives_none (world_of s) id (flight_of f) keys seen_here

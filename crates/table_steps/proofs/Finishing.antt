@@ -36,7 +36,7 @@ module _ (old new : World) (id : ℕ) (f : RequestInFlight) (work : Work) (outco
   keeps : (k : ℕ) (g : RequestInFlight) (v : Work) → IsAtWork (with_entry old.flights id None) k g v → KeepsPaths old.at new.at g.pins v.held
   keeps k g v here n pin q prefixes h =
       let altered : IsPathOf e.altered n q = path_stays e.entered (with_entry old.flights id None) work.footprint work.held holds clear ready.below k g v here q prefixes (act_of work.footprint outcome).change e.altered (act_own work.footprint footprint outcome) e.alters n (entered n q h) in
-      let there : new.flights k ≡ Some g = ap (λ (w : World). w.flights k) e.new_is ∙ entry_other old.flights id k (Some (answered f answer.given)) g here.here in
+      let there : new.flights k ≡ Some g = ap (λ (w : World). w.flights k) e.new_is ∙ entry_other old.flights id k (Some (answered f answer.given answer.opened)) g here.here in
       let held : e.sweeps.kept n ≡ true = (e.sweeps.keeps n).1 (inl (record { id = k; flight = g; here = there; pin = pin })) in
       reaches_swept e.sweeps.kept e.altered new.at e.sweeps.swept n (reverse q) (λ x was none. none-some x (sym none ∙ stays_pinned e.sweeps.kept e.altered new.at n x e.sweeps.swept was held)) altered
 

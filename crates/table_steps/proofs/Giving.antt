@@ -1,5 +1,5 @@
 -- What is kept of a table when a request gives an entry, and pins its node.
-use Rattle.std.proofs.Common.{ℕ, ◌+◌, ◌<◌, ◌≤◌, ◌≡◌, ◌==◌, ◌||◌, Bool, List, [], ◌∷◌, ◌++◌, Some, Contains, refl, sym, ap, ◌∙◌, subst, inl, inr, arith}
+use Rattle.std.proofs.Common.{ℕ, ◌+◌, ◌<◌, ◌≤◌, ◌≡◌, ◌==◌, ◌||◌, Bool, List, [], ◌∷◌, Some, Contains, refl, sym, ap, ◌∙◌, subst, inl, inr, arith}
 use Rattle.std.proofs.lemmas.Bool.{cond-true, eq-eqb, or_cases, or_left, eqb-true}
 use Rattle.std.proofs.lemmas.Option.{same_Some}
 use Rattle.ledger.specs.Postings.{Postings}
@@ -13,12 +13,11 @@ use Rattle.table_requests.specs.Listed.{InFlight, requests_of}
 use Rattle.table_image.specs.Law.{IsLawful}
 use Rattle.table_steps.specs.Keeping.{kept_by}
 use Rattle.table_steps.specs.declared.state.State.{State}
-use Rattle.table_steps.specs.Ending.{EntersName, MayEnter, MayFill}
+use Rattle.table_steps.specs.Ending.{EntersName, MayEnter, MayFill, giving}
 use Rattle.table_steps.specs.Entries.{Enters, newborn}
-use Rattle.table_steps.specs.Kept.{IsKept, flight_of, flights_in, stage_of, world_of}
-use Rattle.table_steps.specs.Steps.{answered}
+use Rattle.table_steps.specs.Kept.{IsKept, flight_of, flights_in, world_of}
 use Rattle.table_steps.specs.Sweeping.{IsEntered}
-use Rattle.table_steps.specs.World.{AreReady, RequestInFlight, RequestsInFlight, World, with_entry}
+use Rattle.table_steps.specs.World.{AreReady, RequestsInFlight, World, with_entry}
 use Rattle.table_footprints.proofs.Members.{first_in, later_in}
 use Rattle.table_steps.proofs.Filing.{cases_kept, keeps_open, keeps_pinned, kept_more, nodes_entered}
 use Rattle.table_steps.proofs.Entering.{alive_written}
@@ -104,13 +103,8 @@ module _ (s : State) (id : ℕ) (key : Key) (may : MayEnter s id (key ∷ [])) w
         }
 
     -- the same request, with one more pin
-    pinned_one : flight_of (pinning may.flight g.number) ≡ answered (flight_of may.flight) (Some g ∷ [])
-    pinned_one = ap (λ st. let f : RequestInFlight = record { unique = may.flight.unique; stage = stage_of st; pins = may.flight.pins.numbers ++ g.number ∷ [] } in f) may.answered
-
-    flights_are : flights_in (requests_of flights) ≡ with_entry (flights_in (requests_of s.flights)) id (Some (answered (flight_of may.flight) (Some g ∷ [])))
-    flights_are =
-        flights_with (requests_of s.flights) (requests_of flights) id (pinning may.flight g.number) pins.at
-        ∙ ap (λ (f : RequestInFlight). with_entry (flights_in (requests_of s.flights)) id (Some f)) pinned_one
+    flights_are : flights_in (requests_of flights) ≡ with_entry (flights_in (requests_of s.flights)) id (Some (giving (flight_of may.flight) (Some g ∷ [])))
+    flights_are = flights_with (requests_of s.flights) (requests_of flights) id (pinning may.flight g.number) pins.at
 
     enters_one : EntersName (world_of s) id (flight_of may.flight) key g (world_of (record s { tree = tree; ledger = ledger; flights = flights; counts = s.counts + 1 }))
     enters_one = record {

@@ -1,5 +1,5 @@
 -- Each step only adds to the ledger.
-use Rattle.std.proofs.Common.{ℕ, zero, suc, ◌≡◌, ◌⊎◌, Bool, true, false, List, [], ◌∷◌, ◌++◌, append_assoc, append-nil, Option, Some, None, refl, sym, ap, ◌∙◌, subst, inl, inr, arith}
+use Rattle.std.proofs.Common.{ℕ, zero, suc, ◌≡◌, ◌⊎◌, Bool, true, false, List, [], ◌∷◌, ◌++◌, drop, append_assoc, append-nil, Option, Some, None, refl, sym, ap, ◌∙◌, subst, inl, inr, arith}
 use Rattle.std.proofs.lemmas.Option.{none-some, same_Some}
 use Rattle.table_requests.specs.declared.data.Given.{Given}
 use Rattle.ledger.specs.declared.postings.Posting.{Posting}
@@ -47,14 +47,13 @@ entered_more owners at at' ps qs (key ∷ keys) (false ∷ found) (None ∷ give
 entered_more owners at at' ps qs [] [] [] same = subst (λ rs. IsMore ps rs) (sym same.1) (same_more ps)
 entered_more owners at at' ps qs keys found given bad = absurd bad
 
-one_back : (at : Lookup) (ps : List Posting) (g : Given) (at' : Lookup) (qs : List Posting) → TakesBack at ps g at' qs ⊎ TakesNone at ps g at' qs → IsMore ps qs
-one_back at ps g at' qs (inl back) = more_is ps qs (posting.Back g.number g.generation ∷ []) back.postings
-one_back at ps g at' qs (inr none) = subst (λ rs. IsMore ps rs) (sym none.postings) (same_more ps)
+one_back : (at : Lookup) (ps : List Posting) (n : ℕ) (at' : Lookup) (qs : List Posting) → TakesBack at ps n at' qs ⊎ TakesNone at ps n at' qs → IsMore ps qs
+one_back at ps n at' qs (inl back) = more_is ps qs (posting.Back n back.node.generation ∷ []) back.postings
+one_back at ps n at' qs (inr none) = subst (λ rs. IsMore ps rs) (sym none.postings) (same_more ps)
 
-back_more : (at at' : Lookup) (ps qs : List Posting) (given : List (Option Given)) → TakesAllBack at ps given at' qs → IsMore ps qs
+back_more : (at at' : Lookup) (ps qs : List Posting) (given : List ℕ) → TakesAllBack at ps given at' qs → IsMore ps qs
 back_more at at' ps qs [] same = subst (λ rs. IsMore ps rs) (sym same.1) (same_more ps)
-back_more at at' ps qs (None ∷ given) more = back_more at at' ps qs given more
-back_more at at' ps qs (Some g ∷ given) (mid, rs, one, more) = then_more ps rs qs (one_back at ps g mid rs one) (back_more mid at' rs qs given more)
+back_more at at' ps qs (n ∷ given) (mid, rs, one, more) = then_more ps rs qs (one_back at ps n mid rs one) (back_more mid at' rs qs given more)
 
 grows : (old new : World) → IsMore old.postings new.postings → Grows old new
 unfolding IsMore
@@ -92,9 +91,9 @@ module _ (old new : World) (id : ℕ) where
   finish_stage outcome answer fin f here (Working work) is =
       let e = fin.found f work (record { here = here; working = is }) in
       grows old new (entered_more _ old.at e.entered old.postings new.postings work.footprint.entries _ answer.given e.enters)
-  finish_stage outcome answer fin f here Answered is = grows_none old new (fin.lost (λ g work at.
+  finish_stage outcome answer fin f here (Answered before opened) is = grows_none old new (fin.lost (λ g work at.
       let same : g ≡ f = same_Some g f (sym at.here ∙ here) in
-      let bad : Working work ≡ Answered = sym at.working ∙ (ap (λ (x : RequestInFlight). x.stage) same ∙ is) in
+      let bad : Working work ≡ Answered before opened = sym at.working ∙ (ap (λ (x : RequestInFlight). x.stage) same ∙ is) in
       absurd (cc))).1
 
   finish_grows : (outcome : Outcome) (answer : Answer) → Finishes old id outcome answer new → Grows old new
@@ -108,11 +107,11 @@ module _ (old new : World) (answer : Answer) (taken : Bool) (settled : Settlemen
   settle_stage true is f here stage at = grows_none old new (s.lost is)
   settle_stage false is f here (Working work) at = grows_none old new (s.unknown (λ a.
       let same : a.flight ≡ f = same_Some a.flight f (sym a.here ∙ here) in
-      let bad : Answered ≡ Working work = sym a.ended ∙ (ap (λ (x : RequestInFlight). x.stage) same ∙ at) in
+      let bad : Answered a.before a.opened ≡ Working work = sym a.ended ∙ (ap (λ (x : RequestInFlight). x.stage) same ∙ at) in
       absurd (cc)))
-  settle_stage false is f here Answered at =
-      let e = s.found is (record { flight = f; here = here; ended = at }) in
-      grows old new (back_more old.at e.mid old.postings new.postings (untaken_of taken answer.given) e.back)
+  settle_stage false is f here (Answered before opened) at =
+      let e = s.found is (record { flight = f; here = here; before = before; opened = opened; ended = at }) in
+      grows old new (back_more old.at e.mid old.postings new.postings (untaken_of taken (drop before f.pins)) e.back)
 
   settle_grows : Grows old new
   settle_grows = elim (cases_flight (old.flights answer.id)) [

@@ -6,6 +6,7 @@ pub mod Guarding
 pub mod Beginning
 pub mod Finishing
 pub mod Growing
+mod Recording
 pub mod Adding
 pub mod Ordered
 pub mod Booked
@@ -28,6 +29,7 @@ mod Offering
 pub mod Reserving
 pub mod Entering
 pub mod Placing
+mod Ended
 pub mod Ends
 pub mod RootAlone
 pub mod Rooted

@@ -6,11 +6,16 @@ use Rattle.table_files.specs.declared.data.Access.{Access}
 use Rattle.table_files.specs.declared.data.OpenFile.{OpenFile}
 use Rattle.table_files.specs.OpenEntry.{Filing, files_of}
 use Rattle.table_files.specs.Handles.{Files, AreOpenEntries, IsOpen, Opened, after_open}
-use Rattle.table_image.specs.Law.{HasNode, HaveReasons}
+use Rattle.table_image.specs.Law.{HasNode, HaveReasons, IsLawful}
 use Rattle.tree.specs.declared.nodes.Node.{Node}
 use Rattle.tree.specs.declared.nodes.Key.{Key}
 use Rattle.tree.specs.Places.{at_in, IsAlive}
-use Rattle.std.proofs.Common.{List}
+use Rattle.std.proofs.Common.{Contains, List}
+use Rattle.table_requests.specs.declared.data.RequestInFlight.{RequestInFlight as Recorded}
+use Rattle.table_requests.specs.declared.data.Stage.{Stage as Recording}
+use Rattle.table_requests.specs.declared.data.Stage.TheVariants as recorded
+use Rattle.table_requests.specs.RequestMaps.{AreLawfulRequests, Notes, is_working, opening, with_opened}
+use Rattle.table_requests.specs.Listed.{InFlight, requests_of}
 use Rattle.table_footprints.specs.Asked.{IsThere}
 use Rattle.table_footprints.specs.Footprints.{Opening}
 use Rattle.table_steps.specs.declared.state.State.{State}
@@ -18,12 +23,14 @@ use Rattle.table_steps.specs.Answers.{Answer}
 use Rattle.table_steps.specs.Ending.{HasFileRoom}
 use Rattle.table_steps.specs.Keeping.{kept_by}
 use Rattle.table_steps.specs.Kept.{IsKept}
-use Rattle.table_steps.specs.Steps.{Act, Ends, Opens}
+use Rattle.table_steps.specs.Steps.{Act, Ends, Opens, answered}
 use Rattle.table_steps.specs.Swept.{IsSwept}
-use Rattle.table_steps.specs.World.{AreKept, RequestInFlight, HaveNodes, World, with_entry}
-use Rattle.table_steps.proofs.Filing.{cases_kept, keeps_open, keeps_pinned}
+use Rattle.table_steps.specs.World.{AreKept, RequestInFlight, RequestsInFlight, HaveNodes, IsPinned, World, with_entry}
+use Rattle.table_steps.proofs.Ends.{entry_twice}
+use Rattle.table_steps.proofs.Filing.{cases_kept, keeps_open, keeps_pinned, kept_same}
 use Rattle.table_steps.proofs.Lawful.{lawful_pins}
 use Rattle.table_steps.proofs.Reasons.{reasons_kept}
+use Rattle.table_steps.proofs.Viewed.{IsFewer, fewer_held, fewer_idle, fewer_provided, fewer_ready}
 
 -- ---- one file more
 
@@ -80,18 +87,83 @@ module _ (s : State) (files : Filing) (number : ℕ) (node : Node) (access : Acc
     files = nodes;
   }
 
+-- ---- who opened it notes it
+
+working_noted : (st : Recording) (handle : ℕ) → is_working (with_opened st handle) ≡ is_working st
+working_noted (recorded.Working work) handle = refl
+working_noted (recorded.Answered before opened) handle = refl
+
+module _ (s : State) (kept : IsKept s) (flights : InFlight) (id handle : ℕ) (x : Recorded) (ended : is_working x.stage ≡ false) (notes : Notes (requests_of s.flights) id x handle (requests_of flights)) (law : AreLawfulRequests (requests_of flights)) where
+  fewer : IsFewer (requests_of s.flights) (requests_of flights)
+  fewer = fewer_idle (requests_of s.flights) (requests_of flights) id (opening x handle) notes.at (working_noted x.stage handle ∙ ended)
+
+  pub note_kept : IsKept (record s { flights = flights })
+  note_kept = record {
+    law = subst (λ (keeps : ℕ → Bool). IsLawful (at_in s.tree) s.ledger.made keeps) (sym (kept_same s.flights flights s.files s.files notes.pinned refl)) kept.law;
+    flying = law;
+    held = fewer_held (requests_of s.flights) (requests_of flights) fewer (at_in s.tree) kept.held;
+    ready = fewer_ready (requests_of s.flights) (requests_of flights) fewer (at_in s.tree) kept.ready;
+    provided = fewer_provided (requests_of s.flights) (requests_of flights) fewer kept.provided;
+    reserved = record { nodes = omega (arith, notes.nodes, kept.reserved.nodes); postings = omega (arith, notes.postings, kept.reserved.postings); files = omega (arith, notes.files, kept.reserved.files) };
+    limited = record {
+      nodes = omega (arith, notes.nodes, kept.limited.nodes);
+      postings = omega (arith, notes.postings, kept.limited.postings);
+      flights = omega (arith, notes.many, kept.limited.flights);
+      files = omega (arith, notes.files, kept.limited.files);
+      handles = omega (arith, notes.files, kept.limited.handles);
+      node_limit = kept.limited.node_limit;
+      posting_limit = kept.limited.posting_limit;
+      short = kept.limited.short;
+    };
+    counts = kept.counts;
+    filed = kept.filed;
+    files = kept.files;
+  }
+
+-- the same pins under the id pin the same
+module _ (flights : RequestsInFlight) (id : ℕ) (x y : RequestInFlight) (here : flights id ≡ Some x) (same : y.pins ≡ x.pins) (n : ℕ) where
+  pinned_forth : IsPinned flights n → IsPinned (with_entry flights id (Some y)) n
+  pinned_forth p = elim (cases_eq id p.id) [
+    | inl e ↦
+        let one : x ≡ p.flight = same_Some x p.flight (sym here ∙ (ap flights e ∙ p.here)) in
+        record {
+          id = id;
+          flight = y;
+          here = cond-true (id == id) (Some y) (flights id) (eq-eqb id id refl);
+          pin = subst (λ (ns : List ℕ). Contains ns n) (sym (same ∙ ap (λ (f : RequestInFlight). f.pins) one)) p.pin;
+        }
+    | inr ne ↦ record { id = p.id; flight = p.flight; here = cond-false (id == p.id) (Some y) (flights p.id) (ne_eqb id p.id ne) ∙ p.here; pin = p.pin }
+  ]
+
+  pinned_back : IsPinned (with_entry flights id (Some y)) n → IsPinned flights n
+  pinned_back p = elim (cases_eq id p.id) [
+    | inl e ↦
+        let one : y ≡ p.flight = same_Some y p.flight (sym (cond-true (id == p.id) (Some y) (flights p.id) (eq-eqb id p.id e)) ∙ p.here) in
+        record { id = id; flight = x; here = here; pin = subst (λ (ns : List ℕ). Contains ns n) (sym (ap (λ (f : RequestInFlight). f.pins) one) ∙ same) p.pin }
+    | inr ne ↦ record { id = p.id; flight = p.flight; here = sym (cond-false (id == p.id) (Some y) (flights p.id) (ne_eqb id p.id ne)) ∙ p.here; pin = p.pin }
+  ]
+
 -- ---- the end with a file that is opened
 
-module _ (old mid : World) (id : ℕ) (f : RequestInFlight) (act : Act) (keys : List Key) (answer : Answer) (opening : Opening) (e : Ends old id f act keys answer mid) (none : act.opens ≡ None) (number : ℕ) (node : Node)
-    (there : IsThere e.altered opening.target number) (here : mid.at number ≡ Some node) (fresh : mid.files (mid.last_handle + 1) ≡ None) where
+module _ (old mid : World) (id : ℕ) (f : RequestInFlight) (act : Act) (keys : List Key) (answer : Answer) (wanted : Opening) (e : Ends old id f act keys answer mid) (none : act.opens ≡ None) (number : ℕ) (node : Node)
+    (there : IsThere e.altered wanted.target number) (here : mid.at number ≡ Some node) (fresh : mid.files (mid.last_handle + 1) ≡ None) where
   abbrev handle : ℕ
   handle = mid.last_handle + 1
 
   abbrev file : OpenFile
-  file = record { number = number; generation = node.generation; access = opening.access }
+  file = record { number = number; generation = node.generation; access = wanted.access }
 
-  abbrev pub with_opened : World
-  with_opened = record mid { files = with_entry mid.files handle (Some file); last_handle = handle }
+  abbrev first : RequestInFlight
+  first = answered f answer.given answer.opened
+
+  abbrev last : RequestInFlight
+  last = answered f answer.given (Some handle)
+
+  abbrev pub with_file : World
+  with_file = record mid { flights = with_entry mid.flights id (Some last); files = with_entry mid.files handle (Some file); last_handle = handle }
+
+  pub first_here : mid.flights id ≡ Some first
+  first_here = ap (λ (w : World). w.flights id) e.new_is ∙ cond-true (id == id) (Some first) (old.flights id) (eq-eqb id id refl)
 
   was : Opens e.altered None old answer.opened mid.files mid.last_handle
   was = subst (λ (o : Option Opening). Opens e.altered o old answer.opened mid.files mid.last_handle) none e.opens
@@ -99,7 +171,7 @@ module _ (old mid : World) (id : ℕ) (f : RequestInFlight) (act : Act) (keys : 
   abbrev kept : ℕ → Bool
   kept n = e.sweeps.kept n || number == n
 
-  open_forth : (n : ℕ) → IsOpen mid.files n → IsOpen with_opened.files n
+  open_forth : (n : ℕ) → IsOpen mid.files n → IsOpen with_file.files n
   open_forth n it = record {
     handle = it.handle;
     file = it.file;
@@ -107,20 +179,20 @@ module _ (old mid : World) (id : ℕ) (f : RequestInFlight) (act : Act) (keys : 
     node = it.node;
   }
 
-  open_own : IsOpen with_opened.files number
+  open_own : IsOpen with_file.files number
   open_own = record { handle = handle; file = file; here = cond-true (handle == handle) (Some file) (mid.files handle) (eq-eqb handle handle refl); node = refl }
 
-  keeps : AreKept with_opened.flights with_opened.files kept
+  keeps : AreKept with_file.flights with_file.files kept
   keeps n = (
     λ h. elim (or_cases (e.sweeps.kept n) (number == n) h) [
       | inl before ↦ elim ((e.sweeps.keeps n).0 before) [
-        | inl pin ↦ inl pin
+        | inl pin ↦ inl (pinned_forth mid.flights id first last first_here refl n pin)
         | inr opened ↦ inr (open_forth n opened)
       ]
-      | inr same ↦ inr (subst (λ k. IsOpen with_opened.files k) (eqb-true number n same) open_own)
+      | inr same ↦ inr (subst (λ k. IsOpen with_file.files k) (eqb-true number n same) open_own)
     ],
     λ h. elim h [
-      | inl pin ↦ or_left (e.sweeps.kept n) (number == n) ((e.sweeps.keeps n).1 (inl pin))
+      | inl pin ↦ or_left (e.sweeps.kept n) (number == n) ((e.sweeps.keeps n).1 (inl (pinned_back mid.flights id first last first_here refl n pin)))
       | inr it ↦ elim (cases_eq handle it.handle) [
         | inl same ↦
             let one = same_Some file it.file (sym (cond-true (handle == it.handle) (Some file) (mid.files it.handle) (eq-eqb handle it.handle same)) ∙ it.here) in
@@ -150,7 +222,7 @@ module _ (old mid : World) (id : ℕ) (f : RequestInFlight) (act : Act) (keys : 
   reasons : HaveReasons mid.at kept
   reasons = reasons_kept mid.at e.sweeps.kept kept (λ n h. or_left (e.sweeps.kept n) (number == n) h) e.sweeps.reasons
 
-  pub ends_opened : Ends old id f (record act { opens = Some opening }) keys (record answer { opened = Some handle }) with_opened
+  pub ends_opened : Ends old id f (record act { opens = Some wanted }) keys (record answer { opened = Some handle }) with_file
   ends_opened = record {
     answer_id = e.answer_id;
     not_lost = e.not_lost;
@@ -168,5 +240,6 @@ module _ (old mid : World) (id : ℕ) (f : RequestInFlight) (act : Act) (keys : 
       files_are = ap (λ (fs : Files). with_entry fs handle (Some file)) was.1;
     };
     sweeps = record { kept = kept; keeps = keeps; swept = swept; reasons = reasons };
-    new_is = ap (λ (w : World). let v : World = record w { files = with_entry mid.files handle (Some file); last_handle = handle } in v) e.new_is;
+    new_is = ap (λ (w : World). let v : World = record w { flights = with_entry w.flights id (Some last); files = with_entry mid.files handle (Some file); last_handle = handle } in v) e.new_is
+        ∙ ap (λ (fs : RequestsInFlight). let v : World = record old { at = mid.at; postings = mid.postings; flights = fs; files = with_entry mid.files handle (Some file); last_handle = handle } in v) (entry_twice old.flights id (Some first) (Some last));
   }

@@ -1,5 +1,5 @@
 -- Who has a reason to stay after a node was dropped or changed, and what a sweep leaves.
-use Rattle.std.proofs.Common.{ℕ, zero, suc, ◌≤◌, ◌≡◌, ◌≢◌, Bool, true, List, [], ◌∷◌, ◌++◌, Contains, Option, Some, None, MatchOption, refl, sym, ap, ◌∙◌, subst, ◌⊎◌, inl, inr, arith}
+use Rattle.std.proofs.Common.{ℕ, zero, suc, ◌≡◌, ◌≢◌, Bool, true, List, [], ◌∷◌, ◌++◌, Contains, Option, Some, None, MatchOption, refl, sym, ap, ◌∙◌, subst, ◌⊎◌, inl, inr, arith}
 use Rattle.std.proofs.lemmas.Bool.{cases_eq}
 use Rattle.std.proofs.lemmas.List.Elements.{Contains-append_cases}
 use Rattle.std.proofs.lemmas.Option.{none-some, same_Some}
@@ -7,7 +7,7 @@ use Rattle.tree.specs.declared.nodes.Key.{Key}
 use Rattle.tree.specs.declared.nodes.Node.{Node}
 use Rattle.tree.specs.declared.nodes.Place.{Place}
 use Rattle.tree.specs.declared.nodes.Place.TheVariants.{Root, Named, Cut}
-use Rattle.tree.specs.Places.{Lookup, Nodes, with_node, without, IsAlive, IsNamed, HasChild, IsTree}
+use Rattle.tree.specs.Places.{Lookup, Nodes, with_node, without, IsNamed, HasChild, IsTree}
 use Rattle.tree.proofs.LookupLemmas.{without_some, without_other, with_other, with_same, with_some, cases_option}
 use Rattle.table_image.specs.Law.{HasReason, HaveReasons}
 use Rattle.table_steps.specs.Swept.{IsNeedless, IsSwept}

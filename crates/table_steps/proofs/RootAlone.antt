@@ -1,5 +1,5 @@
 -- The law of a table of the root alone, in which no request is in flight.
-use Rattle.std.proofs.Common.{ℕ, ◌≡◌, ◌∙◌, Bool, false, List, [], None, ap, rules, sym}
+use Rattle.std.proofs.Common.{ℕ, ◌≡◌, ◌∙◌, false, List, [], ap, rules, sym}
 use Rattle.std.proofs.lemmas.Option.{none-some}
 use Rattle.std.specs.Prelude.{option_map}
 use Rattle.ledger.specs.declared.postings.Posting.{Posting}

@@ -19,6 +19,7 @@ use Rattle.table_requests.specs.declared.data.Want.{Want}
 use Rattle.table_requests.specs.declared.data.Want.TheVariants as wants
 use Rattle.table_requests.specs.declared.data.Work.{Work as RecordedWork}
 use Rattle.table_requests.specs.Listed.{requests_of}
+use Rattle.table_requests.specs.RequestMaps.{is_working}
 use Rattle.tree.specs.declared.nodes.Key.{Key}
 use Rattle.tree.specs.Places.{Lookup, IsNamed, IsPathOf, Leads, at_in}
 use Rattle.table_footprints.specs.Asked.{Holds, IsPrefixAt, promise_of}
@@ -207,7 +208,7 @@ module _ (s : State) (id : ℕ) (work : RecordedWork) (kept : IsKept s) (e : IsE
   may_enter = record {
     flight = e.flight;
     here = e.here;
-    answered = e.answered;
+    answered = ap is_working e.answered;
     pin_room = e.provided.pin_room;
     leads = λ key h. given_leads (at_in s.tree) footprint work.held e.ready.holds key.parent (entries_under work.want work.case key h);
     promise = work.promise;
@@ -226,7 +227,7 @@ module _ (s : State) (id : ℕ) (work : RecordedWork) (kept : IsKept s) (e : IsE
       record {
         flight = e.flight;
         here = e.here;
-        answered = e.answered;
+        answered = ap is_working e.answered;
         pin_room = e.provided.pin_room;
         leads = λ key h. given_leads (at_in s.tree) footprint work.held e.ready.holds key.parent (entries_under work.want work.case key h);
         room = record {

@@ -37,15 +37,15 @@ module _ {X Y : Type 0} where
 module _ (all : RequestMaps) (provided : AreProvided all) where
   same_nodes : (id : ℕ) (f : Recorded) → all.at id ≡ Some f → (st : Recording) → f.stage ≡ st → nodes_promised st ≡ (promised_to (stage_of st)).nodes
   same_nodes id f here (recorded.Working work) is = ap (λ (p : Promise). p.nodes) (provided id f work here is).promise
-  same_nodes id f here recorded.Answered is = refl
+  same_nodes id f here (recorded.Answered before opened) is = refl
 
   same_postings : (id : ℕ) (f : Recorded) → all.at id ≡ Some f → (st : Recording) → f.stage ≡ st → postings_promised st ≡ (promised_to (stage_of st)).postings
   same_postings id f here (recorded.Working work) is = ap (λ (p : Promise). p.postings) (provided id f work here is).promise
-  same_postings id f here recorded.Answered is = refl
+  same_postings id f here (recorded.Answered before opened) is = refl
 
   same_files : (id : ℕ) (f : Recorded) → all.at id ≡ Some f → (st : Recording) → f.stage ≡ st → files_promised st ≡ (promised_to (stage_of st)).files
   same_files id f here (recorded.Working work) is = ap (λ (p : Promise). p.files) (provided id f work here is).promise
-  same_files id f here recorded.Answered is = refl
+  same_files id f here (recorded.Answered before opened) is = refl
 
 pub tallied : (s : State) → IsCensus (at_in s.tree) s.tree.living s.tree.counts → IsTallied (requests_of s.flights) → AreProvided (requests_of s.flights) → AreOpenEntries (files_of s.files) → IsTally (world_of s) (tally_of s)
 tallied s census totals provided filed =

@@ -1,5 +1,5 @@
 -- Requests in flight as the world sees them, and what is kept where some of them are no longer worked on.
-use Rattle.std.proofs.Common.{ℕ, ◌≡◌, ◌↔◌, ◌==◌, Bool, true, false, if◌then◌else◌, List, [], ◌∷◌, Contains, Option, Some, None, refl, sym, ap, ◌∙◌, subst, ◌⊎◌, inl, inr}
+use Rattle.std.proofs.Common.{ℕ, ◌≡◌, ◌↔◌, ◌==◌, Bool, true, false, if◌then◌else◌, List, [], ◌∷◌, Contains, Option, Some, None, refl, sym, ap, ◌∙◌, subst, inl, inr}
 use Rattle.std.specs.Prelude.{option_map}
 use Rattle.std.specs.List.{list_any}
 use Rattle.std.proofs.lemmas.Bool.{or_cases, or_left, or_right, true≢false, eqb-true, eq-eqb, cases_eq, ne_eqb, cond-true, cond-false}
@@ -12,7 +12,7 @@ use Rattle.table_requests.specs.declared.data.RequestInFlight.{RequestInFlight a
 use Rattle.table_requests.specs.declared.data.Stage.{Stage as Recording}
 use Rattle.table_requests.specs.declared.data.Stage.TheVariants as recorded
 use Rattle.table_requests.specs.declared.data.Work.{Work as RecordedWork}
-use Rattle.table_requests.specs.RequestMaps.{RequestsInFlight as Recordeds, RequestMaps, AreLawfulRequests, with_flight, without_flight}
+use Rattle.table_requests.specs.RequestMaps.{RequestsInFlight as Recordeds, RequestMaps, AreLawfulRequests, is_working, with_flight, without_flight}
 use Rattle.tree.specs.Places.{Lookup}
 use Rattle.table_steps.specs.Kept.{AreProvided, flight_of, flights_in, stage_of, work_of}
 use Rattle.table_steps.specs.World.{AreHeld, AreKept, AreReady, RequestInFlight, IsAtWork, IsPinned, Work, Working, with_entry}
@@ -42,13 +42,9 @@ pub found_in : (o : Option Recorded) (f : RequestInFlight) → option_map flight
 found_in None f e = absurd (cc)
 found_in (Some r) f e = (r, refl, same_Some (flight_of r) f e)
 
-pub cases_stage : (s : Recording) → (s ≡ recorded.Answered) ⊎ ((work : RecordedWork) × (s ≡ recorded.Working work))
-cases_stage recorded.Answered = inl refl
-cases_stage (recorded.Working work) = inr (work, refl)
-
 work_in : (s : Recording) (work : Work) → stage_of s ≡ Working work → (r : RecordedWork) × (s ≡ recorded.Working r) × (work_of r ≡ work)
 work_in (recorded.Working r) work e = (r, refl, (let same : work_of r ≡ work = cc in same))
-work_in recorded.Answered work e = absurd (cc)
+work_in (recorded.Answered before opened) work e = absurd (cc)
 
 -- a request that is worked on, and its record
 pub record IsRecorded (all : RequestMaps) (id : ℕ) (f : RequestInFlight) (work : Work) : Type 0 where
@@ -111,15 +107,14 @@ flights_without old new id is = fun_ext (λ k. ap (λ (at : Recordeds). option_m
 pub record IsFewer (old new : RequestMaps) : Type 0 where
   pub was : (id : ℕ) (f : Recorded) (work : RecordedWork) → new.at id ≡ Some f → f.stage ≡ recorded.Working work → old.at id ≡ Some f
 
-pub fewer_idle : (old new : RequestMaps) (id : ℕ) (g : Recorded) → new.at ≡ with_flight old.at id g → g.stage ≡ recorded.Answered → IsFewer old new
+pub fewer_idle : (old new : RequestMaps) (id : ℕ) (g : Recorded) → new.at ≡ with_flight old.at id g → is_working g.stage ≡ false → IsFewer old new
 fewer_idle old new id g is idle = record {
   was = λ k f work here working.
       let there : with_flight old.at id g k ≡ Some f = ap (λ (at : Recordeds). at k) (sym is) ∙ here in
       elim (cases_eq id k) [
         | inl e ↦
             let same : g ≡ f = same_Some g f (sym (cond-true (id == k) (Some g) (old.at k) (eq-eqb id k e)) ∙ there) in
-            let bad : recorded.Answered ≡ recorded.Working work = sym idle ∙ (ap (λ (w : Recorded). w.stage) same ∙ working) in
-            absurd (cc)
+            absurd (true≢false (sym (ap is_working (ap (λ (w : Recorded). w.stage) same ∙ working)) ∙ idle))
         | inr ne ↦ sym (cond-false (id == k) (Some g) (old.at k) (ne_eqb id k ne)) ∙ there
       ];
 }

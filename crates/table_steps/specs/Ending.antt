@@ -1,5 +1,5 @@
 -- What the end of a request's work rests on, and what it does.
-use Rattle.std.specs.Prelude.{ℕ, ℤ, ◌+◌, ◌*◌, ◌^◌, ◌<◌, ◌≡◌, ◌≤◌, ◌⊎◌, Bool, true, false, if◌then◌else◌, List, [], ◌∷◌, Option, Some, None, Contains, length}
+use Rattle.std.specs.Prelude.{ℕ, ℤ, ◌+◌, ◌*◌, ◌^◌, ◌<◌, ◌≡◌, ◌≤◌, ◌⊎◌, Bool, true, false, if◌then◌else◌, List, [], ◌∷◌, ◌++◌, Option, Some, None, Contains, length}
 use Rattle.table_files.specs.declared.data.Access.{Access}
 use Rattle.table_files.specs.OpenEntry.{files_of}
 use Rattle.table_files.specs.Handles.{AreOpenEntries, after_open}
@@ -9,6 +9,7 @@ use Rattle.table_requests.specs.declared.data.Promise.{Promise}
 use Rattle.table_requests.specs.declared.data.Stage.TheVariants as recorded
 use Rattle.table_requests.specs.declared.data.Work.{Work as RecordedWork}
 use Rattle.table_requests.specs.Listed.{requests_of}
+use Rattle.table_requests.specs.RequestMaps.{Notes, is_working}
 use Rattle.holds.specs.declared.held.GivenPath.{GivenPath}
 use Rattle.holds.specs.declared.held.Held.{Held}
 use Rattle.tree.specs.declared.nodes.Key.{Key}
@@ -33,7 +34,7 @@ use Rattle.table_steps.specs.Kept.{IsRoomFor, flight_of, flights_in, work_of}
 use Rattle.table_steps.specs.Laws.{IsPlaced}
 use Rattle.paths.specs.Prefixes.{Name}
 use Rattle.table_steps.specs.Sweeping.{parent_at}
-use Rattle.table_steps.specs.Steps.{Alters, EntersAll, HoldsUp, HasExclusiveHolder, Sweeps, answered}
+use Rattle.table_steps.specs.Steps.{Alters, EntersAll, HoldsUp, HasExclusiveHolder, Sweeps, numbers_of}
 use Rattle.table_steps.specs.World.{RequestInFlight, IsReady, World, with_entry}
 
 -- ---- the acts of a footprint
@@ -98,38 +99,45 @@ pub record HasFileRoom (s : State) : Type 0 where
   pub within : (files_of s.files).many + (requests_of s.flights).files + 1 ≤ s.limits.files
   pub handles : (files_of s.files).last + (requests_of s.flights).files + 1 < 2 ^ 64
 
+-- a request whose work has ended is recorded under the id
+pub record HasEnded (s : State) (id : ℕ) : Type 0 where
+  pub flight : Recorded
+  pub here : (requests_of s.flights).at id ≡ Some flight
+  pub ended : is_working flight.stage ≡ false
+
 -- the file may be opened, if there is one
-abbrev pub MayOpen : State → Opens → Type 0
-MayOpen s opens.Nothing = Unit {0}
-MayOpen s (opens.Node number access) = IsAlive (at_in s.tree) number × HasFileRoom s
-MayOpen s (opens.Entry access) = Unit {0}
+abbrev pub MayOpen : State → ℕ → Opens → Type 0
+MayOpen s id opens.Nothing = Unit {0}
+MayOpen s id (opens.Node number access) = IsAlive (at_in s.tree) number × HasFileRoom s × HasEnded s id
+MayOpen s id (opens.Entry access) = Unit {0}
 
-abbrev pub MayOpenGiven : State → Opens → Option Given → Type 0
-MayOpenGiven s opens.Nothing entered = Unit {0}
-MayOpenGiven s (opens.Node number access) entered = Unit {0}
-MayOpenGiven s (opens.Entry access) None = Unit {0}
-MayOpenGiven s (opens.Entry access) (Some g) = IsAlive (at_in s.tree) g.number × HasFileRoom s
+abbrev pub MayOpenGiven : State → ℕ → Opens → Option Given → Type 0
+MayOpenGiven s id opens.Nothing entered = Unit {0}
+MayOpenGiven s id (opens.Node number access) entered = Unit {0}
+MayOpenGiven s id (opens.Entry access) None = Unit {0}
+MayOpenGiven s id (opens.Entry access) (Some g) = IsAlive (at_in s.tree) g.number × HasFileRoom s × HasEnded s id
 
--- the files with one of that node more
-pub record OpensAt (s : State) (number : ℕ) (access : Access) (new : State) : Type 0 where
+-- the files with one of that node more, which the request under the id notes
+pub record OpensAt (s : State) (id number : ℕ) (access : Access) (new : State) : Type 0 where
   pub node : Node
   pub here : at_in s.tree number ≡ Some node
-  pub rest : new ≡ record s { files = new.files }
+  pub rest : new ≡ record s { flights = new.flights; files = new.files }
+  pub notes : (f : Recorded) → (requests_of s.flights).at id ≡ Some f → Notes (requests_of s.flights) id f ((files_of s.files).last + 1) (requests_of new.flights)
   pub files : files_of new.files ≡ after_open (files_of s.files) (record { number = number; generation = node.generation; access = access })
   pub filed : AreOpenEntries (files_of new.files)
 
 -- the file of the node is opened, if one may be
-abbrev pub OpensNode : State → Opens → Option ℕ → State → Type 0
-OpensNode s opens.Nothing opened new = (opened ≡ None) × (new ≡ s)
-OpensNode s (opens.Node number access) opened new = (opened ≡ Some ((files_of s.files).last + 1)) × OpensAt s number access new
-OpensNode s (opens.Entry access) opened new = (opened ≡ None) × (new ≡ s)
+abbrev pub OpensNode : State → ℕ → Opens → Option ℕ → State → Type 0
+OpensNode s id opens.Nothing opened new = (opened ≡ None) × (new ≡ s)
+OpensNode s id (opens.Node number access) opened new = (opened ≡ Some ((files_of s.files).last + 1)) × OpensAt s id number access new
+OpensNode s id (opens.Entry access) opened new = (opened ≡ None) × (new ≡ s)
 
 -- that of the node that was given is, if one may be
-abbrev pub OpensGiven : State → Opens → Option Given → Option ℕ → State → Type 0
-OpensGiven s opens.Nothing entered opened new = (opened ≡ None) × (new ≡ s)
-OpensGiven s (opens.Node number access) entered opened new = (opened ≡ None) × (new ≡ s)
-OpensGiven s (opens.Entry access) None opened new = (opened ≡ None) × (new ≡ s)
-OpensGiven s (opens.Entry access) (Some g) opened new = (opened ≡ Some ((files_of s.files).last + 1)) × OpensAt s g.number access new
+abbrev pub OpensGiven : State → ℕ → Opens → Option Given → Option ℕ → State → Type 0
+OpensGiven s id opens.Nothing entered opened new = (opened ≡ None) × (new ≡ s)
+OpensGiven s id (opens.Node number access) entered opened new = (opened ≡ None) × (new ≡ s)
+OpensGiven s id (opens.Entry access) None opened new = (opened ≡ None) × (new ≡ s)
+OpensGiven s id (opens.Entry access) (Some g) opened new = (opened ≡ Some ((files_of s.files).last + 1)) × OpensAt s id g.number access new
 
 -- what was given for the one name, if there is one
 abbrev pub IsGivenFor : State → Entries → List (Option Given) → Option Given → Type 0
@@ -139,11 +147,11 @@ IsGivenFor new (Page keys) given entered = entered ≡ None
 
 -- ---- what its end rests on
 
--- a request whose work has ended still has what it relied on
+-- a request whose work has ended still has what it relied on, and gave and opened nothing yet
 pub record IsEnding (s : State) (id : ℕ) (work : RecordedWork) : Type 0 where
   pub flight : Recorded
   pub here : (requests_of s.flights).at id ≡ Some flight
-  pub answered : flight.stage ≡ recorded.Answered
+  pub answered : flight.stage ≡ recorded.Answered (length flight.pins.numbers) None
   pub provided : IsProvided work flight.pins
   pub ready : IsReady (at_in s.tree) (flight_of flight) (work_of work)
   -- no request that is still worked on is in its way
@@ -154,7 +162,7 @@ pub record IsEnding (s : State) (id : ℕ) (work : RecordedWork) : Type 0 where
 pub record MayEnter (s : State) (id : ℕ) (keys : List Key) : Type 0 where
   pub flight : Recorded
   pub here : (requests_of s.flights).at id ≡ Some flight
-  pub answered : flight.stage ≡ recorded.Answered
+  pub answered : is_working flight.stage ≡ false
   pub pin_room : length keys ≤ flight.pins.room
   pub leads : (key : Key) → Contains keys key → Leads (at_in s.tree) key.parent
   pub promise : Promise
@@ -171,7 +179,7 @@ AreUnowned s keys = (key : Key) → Contains keys key → HasExclusiveHolder (at
 pub record MayFill (s : State) (id : ℕ) (keys : List Key) : Type 0 where
   pub flight : Recorded
   pub here : (requests_of s.flights).at id ≡ Some flight
-  pub answered : flight.stage ≡ recorded.Answered
+  pub answered : is_working flight.stage ≡ false
   pub pin_room : length keys ≤ flight.pins.room
   pub leads : (key : Key) → Contains keys key → Leads (at_in s.tree) key.parent
   pub room : IsRoomFor s (record { nodes = length keys; postings = 3 * length keys; files = 0 })
@@ -228,13 +236,17 @@ loses at (hides l candidate) = None
 loses at (replaces source target candidate moved) = None
 loses at (exchanges source target) = None
 
+-- the same request, which pins what it gives
+abbrev pub giving : RequestInFlight → List (Option Given) → RequestInFlight
+giving f given = record f { pins = f.pins ++ numbers_of given }
+
 -- an entry of the name is given, and the request pins its node
 pub record EntersName (old : World) (id : ℕ) (f : RequestInFlight) (key : Key) (g : Given) (new : World) : Type 0 where
   pub enters : Enters old.at old.postings key.parent key.name g new.at new.postings
   pub new_is : new ≡ record old {
     at = new.at;
     postings = new.postings;
-    flights = with_entry old.flights id (Some (answered f (Some g ∷ [])));
+    flights = with_entry old.flights id (Some (giving f (Some g ∷ [])));
   }
 
 -- entries of these names are given as they were found, and the request pins what it gave
@@ -243,7 +255,7 @@ pub record GivesAll (old : World) (id : ℕ) (f : RequestInFlight) (keys : List 
   pub new_is : new ≡ record old {
     at = new.at;
     postings = new.postings;
-    flights = with_entry old.flights id (Some (answered f given));
+    flights = with_entry old.flights id (Some (giving f given));
   }
 
 -- names change, and what nothing keeps any more goes

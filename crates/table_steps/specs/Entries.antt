@@ -1,5 +1,5 @@
 -- Entries that are given to the client, and that are taken back.
-use Rattle.std.specs.Prelude.{ℕ, ◌-◌, ◌+◌, ◌<◌, ◌≡◌, ◌⊎◌, Bool, true, false, List, [], ◌∷◌, ◌++◌, Option, Some, None}
+use Rattle.std.specs.Prelude.{ℕ, ◌-◌, ◌+◌, ◌<◌, ◌≡◌, ◌⊎◌, Bool, true, false, List, [], ◌∷◌, ◌++◌, Some, None}
 use Rattle.ledger.specs.declared.postings.Posting.{Posting}
 use Rattle.ledger.specs.declared.postings.Posting.TheVariants.{Born, Entry, Back}
 use Rattle.ledger.specs.Sums.{births_of}
@@ -35,28 +35,26 @@ pub record Bears (at : Lookup) (ps : List Posting) (parent : ℕ) (name : List �
 abbrev pub Enters : Lookup → List Posting → ℕ → List ℕ → Given → Lookup → List Posting → Type 0
 Enters at ps parent name g at' ps' = EntersAgain at ps parent name g at' ps' ⊎ Bears at ps parent name g at' ps'
 
--- one entry goes back, if there is one to take
-pub record TakesBack (at : Lookup) (ps : List Posting) (g : Given) (at' : Lookup) (ps' : List Posting) : Type 0 where
+-- one entry of the node goes back, if there is one to take
+pub record TakesBack (at : Lookup) (ps : List Posting) (n : ℕ) (at' : Lookup) (ps' : List Posting) : Type 0 where
   pub node : Node
-  pub here : at g.number ≡ Some node
-  pub generation : node.generation ≡ g.generation
+  pub here : at n ≡ Some node
   pub counted : 0 < node.count
-  pub nodes : at' ≡ with_node at g.number (record node { count = node.count - 1 })
-  pub postings : ps' ≡ ps ++ Back g.number g.generation ∷ []
+  pub nodes : at' ≡ with_node at n (record node { count = node.count - 1 })
+  pub postings : ps' ≡ ps ++ Back n node.generation ∷ []
 
-pub record TakesNone (at : Lookup) (ps : List Posting) (g : Given) (at' : Lookup) (ps' : List Posting) : Type 0 where
-  pub uncounted : (x : Node) → at g.number ≡ Some x → x.generation ≡ g.generation → x.count ≡ 0
+pub record TakesNone (at : Lookup) (ps : List Posting) (n : ℕ) (at' : Lookup) (ps' : List Posting) : Type 0 where
+  pub uncounted : (x : Node) → at n ≡ Some x → x.count ≡ 0
   pub nodes : at' ≡ at
   pub postings : ps' ≡ ps
 
 -- each entry in turn
-abbrev pub TakesAllBack : Lookup → List Posting → List (Option Given) → Lookup → List Posting → Type 0
+abbrev pub TakesAllBack : Lookup → List Posting → List ℕ → Lookup → List Posting → Type 0
 TakesAllBack at ps [] at' ps' = (at' ≡ at) × (ps' ≡ ps)
-TakesAllBack at ps (None ∷ gs) at' ps' = TakesAllBack at ps gs at' ps'
-TakesAllBack at ps (Some g ∷ gs) at' ps' =
-    (mid : Lookup) × (qs : List Posting) × (TakesBack at ps g mid qs ⊎ TakesNone at ps g mid qs) × TakesAllBack mid qs gs at' ps'
+TakesAllBack at ps (n ∷ ns) at' ps' =
+    (mid : Lookup) × (qs : List Posting) × (TakesBack at ps n mid qs ⊎ TakesNone at ps n mid qs) × TakesAllBack mid qs ns at' ps'
 
 -- what goes back: nothing where the reply was taken
-abbrev pub untaken_of : Bool → List (Option Given) → List (Option Given)
-untaken_of true gs = []
-untaken_of false gs = gs
+abbrev pub untaken_of : Bool → List ℕ → List ℕ
+untaken_of true ns = []
+untaken_of false ns = ns

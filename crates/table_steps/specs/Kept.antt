@@ -24,7 +24,7 @@ work_of work = record { want = work.want; footprint = footprint_in work; held = 
 
 abbrev pub stage_of : Recording → Stage
 stage_of (recorded.Working work) = Working (work_of work)
-stage_of recorded.Answered = Answered
+stage_of (recorded.Answered before opened) = Answered before opened
 
 abbrev pub flight_of : Recorded → RequestInFlight
 flight_of f = record { unique = f.unique; stage = stage_of f.stage; pins = f.pins.numbers }

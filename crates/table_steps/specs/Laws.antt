@@ -1,5 +1,5 @@
 -- What is proved of the steps, whatever the want.
-use Rattle.std.specs.Prelude.{ℕ, ◌≡◌, Bool, List, Option, None, Contains, ◌++◌}
+use Rattle.std.specs.Prelude.{ℕ, ◌≡◌, Bool, List, Option, None, Contains, ◌++◌, false, drop}
 use Rattle.table_files.specs.Handles.{Files}
 use Rattle.table_requests.specs.declared.data.Case.{Case}
 use Rattle.table_requests.specs.declared.data.Given.{Given}
@@ -16,7 +16,7 @@ use Rattle.table_footprints.specs.Footprints.{Change, Footprint, Location, AtNod
 use Rattle.table_steps.specs.declared.data.Begin.{Begin}
 use Rattle.table_steps.specs.declared.data.Outcome.{Outcome}
 use Rattle.table_steps.specs.Answers.{Answer, Claim, Settlement}
-use Rattle.table_steps.specs.Steps.{Alters, Begins, Ends, EntersAll, Finishes, Forgets, GoesOn, HoldsUp, MayBegin, Settles, act_of}
+use Rattle.table_steps.specs.Steps.{Alters, Begins, Ends, EntersAll, Finishes, Forgets, GoesOn, HoldsUp, IsAnswered, MayBegin, Settles, act_of, numbers_of}
 use Rattle.table_steps.specs.Swept.{IsSwept}
 use Rattle.table_steps.specs.World.{AreKept, RequestInFlight, RequestsInFlight, IsAtWork, IsReady, IsTally, Tally, Work, Working, World, seen_in, with_entry}
 
@@ -60,6 +60,18 @@ AreEndsHarmless = (old new : World) (id : ℕ) (f : RequestInFlight) (work : Wor
     → (HoldsUp (with_entry old.flights id None) work.held → ⊥)
     → (e : Ends old id f (act_of work.footprint outcome) work.footprint.entries answer new) → IsTree e.entered → IsTree new.at
     → LeavesWork old.at new.at (with_entry old.flights id None)
+
+-- ---- what was given and opened
+
+-- what the record of a request says that it gave and opened is what the end of its work told
+pub record IsRecorded (answer : Answer) (new : World) : Type 0 where
+  pub answered : IsAnswered new.flights answer.id
+  pub given : drop answered.before answered.flight.pins ≡ numbers_of answer.given
+  pub opened : answered.opened ≡ answer.opened
+
+-- so what a settle takes back of it is what its client was told
+abbrev pub AreAnswersRecorded : Type 0
+AreAnswersRecorded = (old new : World) (id : ℕ) (outcome : Outcome) (answer : Answer) → Finishes old id outcome answer new → answer.lost ≡ false → IsRecorded answer new
 
 -- ---- worlds and steps
 

@@ -345,16 +345,16 @@ numbers_of [] = []
 numbers_of (None ∷ given) = numbers_of given
 numbers_of (Some g ∷ given) = g.number ∷ numbers_of given
 
--- the same request, answered: it holds nothing, keeps its pins, and pins what it gave
-abbrev pub answered : RequestInFlight → List (Option Given) → RequestInFlight
-answered f given = record f { stage = Answered; pins = f.pins ++ numbers_of given }
+-- the same request, answered: it holds nothing, keeps its pins, pins what it gave, and tells the file that it opened
+abbrev pub answered : RequestInFlight → List (Option Given) → Option ℕ → RequestInFlight
+answered f given opened = record f { stage = Answered (length f.pins) opened; pins = f.pins ++ numbers_of given }
 
 -- the act comes about: entries, then changes of names, and then the file; what nothing keeps any more goes
 pub record Ends (old : World) (id : ℕ) (f : RequestInFlight) (act : Act) (entries : List Key) (answer : Answer) (new : World) : Type 0 where
   pub answer_id : answer.id ≡ id
   pub not_lost : answer.lost ≡ false
   pub entered : Lookup
-  pub enters : EntersAll (with_entry old.flights id (Some (answered f []))) old.at old.postings entries act.found answer.given entered new.postings
+  pub enters : EntersAll (with_entry old.flights id (Some (answered f [] None))) old.at old.postings entries act.found answer.given entered new.postings
   pub altered : Lookup
   pub alters : Alters entered act.change altered
   pub opens : Opens altered act.opens old answer.opened new.files new.last_handle
@@ -362,7 +362,7 @@ pub record Ends (old : World) (id : ℕ) (f : RequestInFlight) (act : Act) (entr
   pub new_is : new ≡ record old {
     at = new.at;
     postings = new.postings;
-    flights = with_entry old.flights id (Some (answered f answer.given));
+    flights = with_entry old.flights id (Some (answered f answer.given answer.opened));
     files = new.files;
     last_handle = new.last_handle;
   }
@@ -379,26 +379,29 @@ abbrev pub untaken_file : Bool → Option ℕ → Option ℕ
 untaken_file true opened = None
 untaken_file false opened = opened
 
--- the request goes with its pins; what was not taken goes back, entries in order, and the file that it opened is closed, if it still is open
-pub record EndsFor (old : World) (answer : Answer) (taken : Bool) (new : World) : Type 0 where
-  pub mid : Lookup
-  pub back : TakesAllBack old.at old.postings (untaken_of taken answer.given) mid new.postings
-  pub sweeps : Sweeps mid new
-  pub new_is : new ≡ record old {
-    at = new.at;
-    postings = new.postings;
-    flights = with_entry old.flights answer.id None;
-    files = files_without (untaken_file taken answer.opened) old.files;
-  }
-
 -- a request whose work has ended is in flight under the id
 pub record IsAnswered (flights : RequestsInFlight) (id : ℕ) : Type 0 where
   pub flight : RequestInFlight
   pub here : flights id ≡ Some flight
-  pub ended : flight.stage ≡ Answered
+  pub before : ℕ
+  pub opened : Option ℕ
+  pub ended : flight.stage ≡ Answered before opened
+
+-- the request goes with its pins; what was not taken goes back, an entry of each node that it gave, in order, and the file that it opened is
+-- closed, if it still is open: what it gave and opened is what the table recorded of it, whatever the answer says that ends it
+pub record EndsFor (old : World) (id : ℕ) (a : IsAnswered old.flights id) (taken : Bool) (new : World) : Type 0 where
+  pub mid : Lookup
+  pub back : TakesAllBack old.at old.postings (untaken_of taken (drop a.before a.flight.pins)) mid new.postings
+  pub sweeps : Sweeps mid new
+  pub new_is : new ≡ record old {
+    at = new.at;
+    postings = new.postings;
+    flights = with_entry old.flights id None;
+    files = files_without (untaken_file taken a.opened) old.files;
+  }
 
 pub record Settles (old : World) (answer : Answer) (taken : Bool) (settled : Settlement) (new : World) : Type 0 where
   pub settled_is : settled ≡ record { id = answer.id; entries = entries_in answer.given; taken = taken }
   pub lost : answer.lost ≡ true → new ≡ old
   pub unknown : (IsAnswered old.flights answer.id → ⊥) → new ≡ old
-  pub found : answer.lost ≡ false → IsAnswered old.flights answer.id → EndsFor old answer taken new
+  pub found : answer.lost ≡ false → (a : IsAnswered old.flights answer.id) → EndsFor old answer.id a taken new

@@ -28,7 +28,8 @@ pub record Work : Type 0 where
 
 pub data Stage : Type 0 where
   Working : Work → Stage
-  Answered : Stage
+  -- how many numbers it pinned before its end gave any, and the handle of the file that it opened
+  Answered : ℕ → Option ℕ → Stage
 
 pub record RequestInFlight : Type 0 where
   -- the number that the client gave the request
@@ -86,7 +87,7 @@ no_promise = record { nodes = 0; postings = 0; files = 0 }
 -- what is promised to a request that is worked on
 abbrev pub promised_to : Stage → Promise
 promised_to (Working work) = promise_of work.footprint
-promised_to Answered = no_promise
+promised_to (Answered before opened) = no_promise
 
 pub record Tally : Type 0 where
   -- living nodes with the root, and their lookup counts

@@ -1,11 +1,9 @@
 //! Files that are closed.
 
-ghost use Rattle.std.specs.Prelude.{◌++◌};
 ghost use Rattle.table_files.specs.OpenEntry.{files_of};
 ghost use Rattle.table_steps.specs.Beginning.{ClosesFile};
 ghost use Rattle.table_steps.specs.Keeping.{kept_by};
 ghost use Rattle.table_steps.specs.Kept.{IsKept, world_of};
-ghost use Rattle.table_steps.specs.Steps.{numbers_of};
 ghost use Rattle.table_steps.specs.Sweeping.{IsClosed, IsPruned, IsSameRest};
 ghost use Rattle.table_steps.specs.Swept.{IsSwept};
 ghost use Rattle.tree.specs.Places.{at_in};
@@ -13,7 +11,7 @@ ghost use Rattle.tree.specs.Places.{at_in};
 use crate::state::State;
 use crate::sweep::sweep;
 use table_files::Files;
-use table_requests::{Given, RequestsInFlight};
+use table_requests::RequestsInFlight;
 use tree::Tree;
 
 /// Closes the file, if it still is open, and drops its node if nothing keeps it any more, and then its parent, and so on.
@@ -22,11 +20,10 @@ pub(crate) fn close(
     flights: &RequestsInFlight,
     files: &mut Files,
     handle: Option<u64>,
-    given: &[Option<Given>],
     pins: &[u64],
 )
-    requires { IsPruned (at_in tree.old) (kept_by flights.now files.old) (numbers_of given.now ++ pins.now) }
-    ensures pruned { IsPruned (at_in tree.new) (kept_by flights.now files.new) (numbers_of given.now ++ pins.now) }
+    requires { IsPruned (at_in tree.old) (kept_by flights.now files.old) pins.now }
+    ensures pruned { IsPruned (at_in tree.new) (kept_by flights.now files.new) pins.now }
     ensures swept { IsSwept (kept_by flights.now files.new) (at_in tree.old) (at_in tree.new) }
     ensures rest { IsSameRest tree.old tree.new }
     ensures closed { IsClosed (files_of files.old) handle (files_of files.new) }
@@ -38,7 +35,7 @@ pub(crate) fn close(
     let Some(file) = files.close(handle) else {
         return;
     };
-    sweep(tree, flights, files, file.number, given, pins);
+    sweep(tree, flights, files, file.number, pins);
 }
 
 impl State {
@@ -55,7 +52,6 @@ impl State {
                     &self.flights,
                     &mut self.files,
                     Some(handle),
-                    &[],
                     &[],
                 );
             }

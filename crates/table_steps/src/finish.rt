@@ -77,12 +77,12 @@ impl State {
             Outcome::Failed => give_none(id, &entries, answer, None),
             Outcome::Done => {
                 self.change(change);
-                let opened = self.open_node(opens);
+                let opened = self.open_node(id, opens);
                 give_none(id, &entries, answer, opened)
             }
             Outcome::Entry => {
                 let (answered, entered) = self.give_entry(id, entries, answer);
-                let opened = self.open_given(opens, entered);
+                let opened = self.open_given(id, opens, entered);
                 with_file(answered, opened)
             }
             Outcome::Entries(found) => self.give_entries(id, &held, entries, &found, answer),

@@ -30,7 +30,7 @@ impl State {
             generation,
             amount,
         });
-        sweep(&mut self.tree, &self.flights, &self.files, number, &[], &[]);
+        sweep(&mut self.tree, &self.flights, &self.files, number, &[]);
         amount
     }
 }

@@ -1,6 +1,6 @@
 //! What is proved of the steps, whatever the want: each law on a function that does nothing.
 
-ghost use Rattle.table_steps.specs.Laws.{AreActsOwn, AreOthersLeft, AreEntriesHarmless, AreSweepsHarmless, AreEndsHarmless, AreLedgersGrown, AreBegunReady, AreTalliesFixed};
+ghost use Rattle.table_steps.specs.Laws.{AreActsOwn, AreOthersLeft, AreEntriesHarmless, AreSweepsHarmless, AreEndsHarmless, AreLedgersGrown, AreAnswersRecorded, AreBegunReady, AreTalliesFixed};
 
 /// Whatever the outcome, a request changes no names but those that its footprint holds exclusively.
 pub fn acts_are_own()
@@ -25,6 +25,11 @@ pub fn sweeps_are_harmless()
 /// So does the end of another request's work.
 pub fn ends_are_harmless()
     ensures { AreEndsHarmless }
+{}
+
+/// What the record of a request says that it gave and opened is what the end of its work told.
+pub fn answers_are_recorded()
+    ensures { AreAnswersRecorded }
 {}
 
 /// A request that goes on has what it relies on.

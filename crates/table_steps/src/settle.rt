@@ -1,9 +1,9 @@
 //! The end of a request whose reply was sent, or was not.
 
-ghost use Rattle.std.specs.Prelude.{◌≡◌, ◌≤◌, ◌+◌, ◌⊎◌, ◌++◌};
+ghost use Rattle.std.specs.Prelude.{◌≡◌, ◌≤◌, ◌+◌, ◌⊎◌, drop};
 ghost use Rattle.table_steps.specs.Entries.{TakesAllBack, TakesBack, TakesNone, untaken_of};
 ghost use Rattle.table_steps.specs.Keeping.{kept_by};
-ghost use Rattle.table_steps.specs.Steps.{Settles, numbers_of, untaken_file};
+ghost use Rattle.table_steps.specs.Steps.{Settles, untaken_file};
 ghost use Rattle.table_steps.specs.Sweeping.{IsAmong, IsNearly, IsTakenBack};
 ghost use Rattle.table_steps.specs.Kept.{IsKept, world_of};
 ghost use Rattle.tree.specs.Places.{at_in};
@@ -11,83 +11,72 @@ ghost use Rattle.tree.specs.Places.{at_in};
 use crate::closing::close;
 use crate::data::{Answered, Settled};
 use crate::state::State;
-use crate::sweep::{sweep_given, sweep_pins};
+use crate::sweep::sweep_pins;
 use ledger::{Ledger, Posting};
 use table_files::Files;
-use table_requests::{Given, Givens, RequestsInFlight};
+use table_requests::{Ended, RequestsInFlight};
 use tree::Tree;
 
-/// Takes an entry back, if its count is above 0.
+/// Takes an entry of the node back, if its count is above 0.
 fn take_back(
     tree: &mut Tree,
     ledger: &mut Ledger,
     counts: &mut u64,
     _flights: &RequestsInFlight,
     _files: &Files,
-    entry: Given,
-    _given: &[Option<Given>],
+    number: u64,
     _pins: &[u64],
 )
     requires counts { counts.old ≡ tree.old.counts }
-    requires nearly { IsNearly (at_in tree.old) ledger.old.made (kept_by _flights.now _files.now) (numbers_of _given.now ++ _pins.now) }
-    requires suspect { IsAmong entry.number (numbers_of _given.now ++ _pins.now) }
+    requires nearly { IsNearly (at_in tree.old) ledger.old.made (kept_by _flights.now _files.now) _pins.now }
+    requires suspect { IsAmong number _pins.now }
     requires room { tree.old.counts ≤ ledger.old.room }
-    ensures back { TakesBack (at_in tree.old) ledger.old.made entry (at_in tree.new) ledger.new.made ⊎ TakesNone (at_in tree.old) ledger.old.made entry (at_in tree.new) ledger.new.made }
-    ensures nearly { IsNearly (at_in tree.new) ledger.new.made (kept_by _flights.now _files.now) (numbers_of _given.now ++ _pins.now) }
+    ensures back { TakesBack (at_in tree.old) ledger.old.made number (at_in tree.new) ledger.new.made ⊎ TakesNone (at_in tree.old) ledger.old.made number (at_in tree.new) ledger.new.made }
+    ensures nearly { IsNearly (at_in tree.new) ledger.new.made (kept_by _flights.now _files.now) _pins.now }
     ensures rest { IsTakenBack tree.old ledger.old tree.new ledger.new }
     ensures counts { counts.new ≡ tree.new.counts }
 {
-    let Some(node) = tree.at(entry.number) else {
+    let Some(node) = tree.at(number) else {
         return;
     };
-    if node.generation != entry.generation {
-        return;
-    }
     if node.count == 0 {
         return;
     }
+    let generation = node.generation;
     let count = node.count - 1;
-    tree.set_count(entry.number, count);
+    tree.set_count(number, count);
     *counts -= 1;
-    ledger.post(Posting::Back {
-        number: entry.number,
-        generation: entry.generation,
-    });
+    ledger.post(Posting::Back { number, generation });
 }
 
-/// Takes each entry back in turn.
+/// Takes an entry of each of the nodes back in turn, from that place on.
 fn take_all_back(
     tree: &mut Tree,
     ledger: &mut Ledger,
     counts: &mut u64,
     flights: &RequestsInFlight,
     files: &Files,
-    given: &[Option<Given>],
     pins: &[u64],
+    from: usize,
 )
     requires counts { counts.old ≡ tree.old.counts }
-    requires nearly { IsNearly (at_in tree.old) ledger.old.made (kept_by flights.now files.now) (numbers_of given.now ++ pins.now) }
+    requires nearly { IsNearly (at_in tree.old) ledger.old.made (kept_by flights.now files.now) pins.now }
     requires room { tree.old.counts ≤ ledger.old.room }
-    ensures back { TakesAllBack (at_in tree.old) ledger.old.made given.now (at_in tree.new) ledger.new.made }
-    ensures nearly { IsNearly (at_in tree.new) ledger.new.made (kept_by flights.now files.now) (numbers_of given.now ++ pins.now) }
+    ensures back { TakesAllBack (at_in tree.old) ledger.old.made (drop from pins.now) (at_in tree.new) ledger.new.made }
+    ensures nearly { IsNearly (at_in tree.new) ledger.new.made (kept_by flights.now files.now) pins.now }
     ensures rest { IsTakenBack tree.old ledger.old tree.new ledger.new }
     ensures counts { counts.new ≡ tree.new.counts }
 {
-    for entry in given {
-        match entry {
-            Some(entry) => {
-                take_back(tree, ledger, counts, flights, files, *entry, given, pins);
-            }
-            None => {}
-        }
+    for i in from..pins.len() {
+        take_back(tree, ledger, counts, flights, files, pins[i], pins);
     }
 }
 
-/// The entries that go back: none where the reply was taken.
-fn untaken(given: &Givens, taken: bool) -> &[Option<Given>]
-    ensures { result.now ≡ untaken_of taken given.now.items }
+/// From where on the entries go back, of those that a request gave after it pinned so many: from the end where the reply was taken.
+fn untaken_from(pins: &[u64], before: usize, taken: bool) -> usize
+    ensures { drop result pins.now ≡ untaken_of taken (drop before pins.now) }
 {
-    if taken { &[] } else { given.as_slice() }
+    if taken { pins.len() } else { before }
 }
 
 /// The handle that is closed: none where the reply was taken.
@@ -98,7 +87,8 @@ fn untaken_file(opened: Option<u64>, taken: bool) -> Option<u64>
 }
 
 impl State {
-    /// Ends a request: its record goes, and what was not taken is taken back.
+    /// Ends a request: its record goes, and what it gave and opened is taken back if the reply was not taken. What that is
+    /// its record says, not the answer.
     pub fn settle(&mut self, answered: Answered, taken: bool) -> Settled
         requires { IsKept self.old }
         ensures settles { Settles (world_of self.old) answered taken result (world_of self.new) }
@@ -108,7 +98,7 @@ impl State {
             id,
             given,
             lost,
-            opened,
+            opened: _,
         } = answered;
         let settled = Settled {
             id,
@@ -118,29 +108,32 @@ impl State {
         if lost {
             return settled;
         }
-        let Some(pins) = self.flights.take(id) else {
+        let Some(ended) = self.flights.take(id) else {
             return settled;
         };
-        let untaken = untaken(&given, taken);
+        let Ended {
+            pins,
+            before,
+            opened,
+        } = ended;
         let pins = pins.as_slice();
+        let from = untaken_from(pins, before, taken);
         take_all_back(
             &mut self.tree,
             &mut self.ledger,
             &mut self.counts,
             &self.flights,
             &self.files,
-            untaken,
             pins,
+            from,
         );
         close(
             &mut self.tree,
             &self.flights,
             &mut self.files,
             untaken_file(opened, taken),
-            untaken,
             pins,
         );
-        sweep_given(&mut self.tree, &self.flights, &self.files, untaken, pins);
         sweep_pins(&mut self.tree, &self.flights, &self.files, pins);
         settled
     }

@@ -5,11 +5,10 @@ ghost use Rattle.table_image.specs.Law.{HasReason, HaveReasons};
 ghost use Rattle.table_steps.specs.Keeping.{kept_by};
 ghost use Rattle.table_steps.specs.Swept.{IsNeedless, IsSwept};
 ghost use Rattle.table_steps.specs.Sweeping.{HaveReasonsAside, HaveReasonsBut, IsPruned, IsSameRest, listed, parent_at, parent_in};
-ghost use Rattle.table_steps.specs.Steps.{numbers_of};
 ghost use Rattle.tree.specs.Places.{at_in, IsTree};
 
 use table_files::Files;
-use table_requests::{Given, RequestsInFlight};
+use table_requests::RequestsInFlight;
 use tree::{Node, Place, Tree};
 
 #[tactic(auto, unfolding(crate::specs::Keeping::kept_by))]
@@ -72,11 +71,10 @@ fn drop_needless(
     flights: &RequestsInFlight,
     files: &Files,
     number: u64,
-    _given: &[Option<Given>],
     _pins: &[u64],
 ) -> Option<u64>
-    requires { IsPruned (at_in tree.old) (kept_by flights.now files.now) (number ∷ (numbers_of _given.now ++ _pins.now)) }
-    ensures pruned { MatchOption result (IsPruned (at_in tree.new) (kept_by flights.now files.now) (numbers_of _given.now ++ _pins.now)) (λ p. IsPruned (at_in tree.new) (kept_by flights.now files.now) (p ∷ (numbers_of _given.now ++ _pins.now))) }
+    requires { IsPruned (at_in tree.old) (kept_by flights.now files.now) (number ∷ _pins.now) }
+    ensures pruned { MatchOption result (IsPruned (at_in tree.new) (kept_by flights.now files.now) _pins.now) (λ p. IsPruned (at_in tree.new) (kept_by flights.now files.now) (p ∷ _pins.now)) }
     ensures swept { IsSwept (kept_by flights.now files.now) (at_in tree.old) (at_in tree.new) }
     ensures fewer { IfSome result (λ p. tree.new.living < tree.old.living) }
     ensures rest { IsSameRest tree.old tree.new }
@@ -92,46 +90,16 @@ fn drop_needless(
     parent
 }
 
-/// Drops the node if nothing keeps it, then its parent, and so on. The nodes given and pinned may lack a reason.
-pub fn sweep(
-    tree: &mut Tree,
-    flights: &RequestsInFlight,
-    files: &Files,
-    number: u64,
-    given: &[Option<Given>],
-    pins: &[u64],
-)
-    requires { IsPruned (at_in tree.old) (kept_by flights.now files.now) (number ∷ (numbers_of given.now ++ pins.now)) }
-    ensures pruned { IsPruned (at_in tree.new) (kept_by flights.now files.now) (numbers_of given.now ++ pins.now) }
-    ensures swept { IsSwept (kept_by flights.now files.now) (at_in tree.old) (at_in tree.new) }
-    ensures rest { IsSameRest tree.old tree.new }
-{
-    let mut number = number;
-    while let Some(parent) = drop_needless(tree, flights, files, number, given, pins) {
-        number = parent;
-    }
-}
-
-/// Drops what nothing keeps of the nodes given, and then of their parents.
-pub fn sweep_given(
-    tree: &mut Tree,
-    flights: &RequestsInFlight,
-    files: &Files,
-    given: &[Option<Given>],
-    pins: &[u64],
-)
-    requires { IsPruned (at_in tree.old) (kept_by flights.now files.now) (numbers_of given.now ++ pins.now) }
+/// Drops the node if nothing keeps it, then its parent, and so on. The nodes pinned may lack a reason.
+pub fn sweep(tree: &mut Tree, flights: &RequestsInFlight, files: &Files, number: u64, pins: &[u64])
+    requires { IsPruned (at_in tree.old) (kept_by flights.now files.now) (number ∷ pins.now) }
     ensures pruned { IsPruned (at_in tree.new) (kept_by flights.now files.now) pins.now }
     ensures swept { IsSwept (kept_by flights.now files.now) (at_in tree.old) (at_in tree.new) }
     ensures rest { IsSameRest tree.old tree.new }
 {
-    let mut left = given;
-    while let Some((entry, rest)) = left.split_first() {
-        match entry {
-            Some(entry) => sweep(tree, flights, files, entry.number, rest, pins),
-            None => {}
-        }
-        left = rest;
+    let mut number = number;
+    while let Some(parent) = drop_needless(tree, flights, files, number, pins) {
+        number = parent;
     }
 }
 
@@ -144,7 +112,7 @@ pub fn sweep_pins(tree: &mut Tree, flights: &RequestsInFlight, files: &Files, pi
 {
     let mut left = pins;
     while let Some((number, rest)) = left.split_first() {
-        sweep(tree, flights, files, *number, &[], rest);
+        sweep(tree, flights, files, *number, rest);
         left = rest;
     }
 }
@@ -204,7 +172,7 @@ pub fn sweep_change(tree: &mut Tree, flights: &RequestsInFlight, files: &Files, 
 {
     sweep_cut(tree, flights, files, losing);
     match losing {
-        Some(number) => sweep(tree, flights, files, number, &[], &[]),
+        Some(number) => sweep(tree, flights, files, number, &[]),
         None => {}
     }
 }

@@ -66,6 +66,8 @@ mod story;
 #[cfg(test)]
 mod stranger_rows;
 #[cfg(test)]
+mod strangers;
+#[cfg(test)]
 mod tallies;
 #[cfg(test)]
 mod task;

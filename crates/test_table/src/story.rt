@@ -171,6 +171,9 @@ pub enum Step<'a> {
     LeaveShare,
     /// A ticket of another table, whose first request it is, is in hand under a unique number.
     Stranger(u64),
+    /// An answer of another table is in hand under a unique number. There a name was looked up so many times, and then a file was
+    /// made: it opened the first handle, and gave an entry of the node 3, or of 2 where nothing was looked up.
+    StrangersAnswer(u64, u64),
     /// The ticket of that request has these paths, of a move the old one and then the new one, of an exchange both.
     Paths(u64, &'a [&'a str]),
     /// The ticket of that request says whether its end removes a hidden file whose last opening it closed.

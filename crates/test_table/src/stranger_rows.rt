@@ -1,9 +1,9 @@
-//! Outcomes that do not fit, and tickets of another table.
+//! Outcomes that do not fit, and tickets and answers of another table.
 
-use crate::story::Asks::Name;
-use crate::story::Posted::{Born, Entry};
+use crate::story::Asks::{Create, Name, Open};
+use crate::story::Posted::{Back, Born, Entry};
 use crate::story::Spot::At;
-use crate::story::Told::{Given, Go, Lost, NotGiven, Settled};
+use crate::story::Told::{Ended, Given, Go, Lost, NotGiven, Settled};
 use crate::story::{DEFAULT, Flying, Living, Outcome, ROOT, Reply, Step, Story, Sum, TOP};
 use crate::teller::run;
 use std::test::Fail;
@@ -74,4 +74,93 @@ const STRANGER_OF_A_LIKE_ID: Story = Story {
 #[test]
 fn foreign_ticket_on_a_like_id(rt: HostRuntime) -> Result<(), Fail> {
     run(&rt, &STRANGER_OF_A_LIKE_ID)
+}
+
+/// An answer of another table comes to one whose request of the same id gave and opened nothing. It names the node 3 and the
+/// handle 1, which are there: both stay, and what the answer was made for is that request's end.
+const ANSWER_TO_NOTHING: Story = Story {
+    limits: DEFAULT,
+    steps: &[
+        Step::LookUp(ROOT, "a", Given(2, 0)),
+        Step::Begin(1, Open(2), Go),
+        Step::Finish(1, Outcome::Done, Ended),
+        Step::Settle(1, Reply::Taken, Settled(0)),
+        Step::LookUp(ROOT, "b", Given(3, 0)),
+        Step::Begin(2, Name(ROOT, "c"), Go),
+        Step::Finish(2, Outcome::Failed, NotGiven),
+        Step::StrangersAnswer(9, 3),
+        Step::Lists(9, &[Some((3, 0))]),
+        Step::Settle(9, Reply::Untaken, Settled(1)),
+        Step::Requests(&[]),
+        Step::File(1, Some(2)),
+        Step::Nodes(&[
+            TOP,
+            Living(2, 0, At(ROOT, "a"), 1),
+            Living(3, 0, At(ROOT, "b"), 1),
+        ]),
+        Step::Ledger(&[Born(2, 0), Entry(2, 0), Born(3, 0), Entry(3, 0)]),
+        Step::Settle(2, Reply::Untaken, Settled(0)),
+        Step::File(1, Some(2)),
+        Step::Ledger(&[Born(2, 0), Entry(2, 0), Born(3, 0), Entry(3, 0)]),
+    ],
+    gathers: Sum::All(2, 2, 0, 0),
+};
+
+/// The same where that request made a file of its own: its entry goes back and its file is closed, and no others.
+const ANSWER_TO_ANOTHER: Story = Story {
+    limits: DEFAULT,
+    steps: &[
+        Step::LookUp(ROOT, "a", Given(2, 0)),
+        Step::Begin(1, Open(2), Go),
+        Step::Finish(1, Outcome::Done, Ended),
+        Step::Settle(1, Reply::Taken, Settled(0)),
+        Step::LookUp(ROOT, "b", Given(3, 0)),
+        Step::Begin(2, Create(ROOT, "c"), Go),
+        Step::Finish(2, Outcome::Entry, Given(4, 0)),
+        Step::File(2, Some(4)),
+        Step::StrangersAnswer(9, 3),
+        Step::Settle(9, Reply::Untaken, Settled(1)),
+        Step::Requests(&[]),
+        Step::File(1, Some(2)),
+        Step::File(2, None),
+        Step::Nodes(&[
+            TOP,
+            Living(2, 0, At(ROOT, "a"), 1),
+            Living(3, 0, At(ROOT, "b"), 1),
+        ]),
+        Step::Ledger(&[
+            Born(2, 0),
+            Entry(2, 0),
+            Born(3, 0),
+            Entry(3, 0),
+            Born(4, 0),
+            Entry(4, 0),
+            Back(4, 0),
+        ]),
+    ],
+    gathers: Sum::All(3, 3, 1, 0),
+};
+
+/// An answer that gave and opened something comes to the first request of a table, which gave something else, as taken: all stays.
+const TAKEN_ANSWER: Story = Story {
+    limits: DEFAULT,
+    steps: &[
+        Step::Begin(1, Name(ROOT, "b"), Go),
+        Step::Finish(1, Outcome::Entry, Given(2, 0)),
+        Step::StrangersAnswer(9, 0),
+        Step::Settle(9, Reply::Taken, Settled(1)),
+        Step::Requests(&[]),
+        Step::File(1, None),
+        Step::Nodes(&[TOP, Living(2, 0, At(ROOT, "b"), 1)]),
+        Step::Ledger(&[Born(2, 0), Entry(2, 0)]),
+    ],
+    gathers: Sum::All(1, 1, 0, 0),
+};
+
+#[test]
+fn foreign_answers(rt: HostRuntime) -> Result<(), Fail> {
+    for story in [&ANSWER_TO_NOTHING, &ANSWER_TO_ANOTHER, &TAKEN_ANSWER] {
+        run(&rt, story)?;
+    }
+    Ok(())
 }

@@ -5,18 +5,18 @@ ghost use Rattle.std.specs.Prelude.{◌≡◌, ◌≤◌};
 use crate::shows::{
     are_paths, lists, shows_holds, shows_ledger, shows_nodes, shows_paths, shows_requests,
 };
-use crate::story::{Asks, DEFAULT, Outcome, ROOT, Reply, Step, Story, Sum, Told};
-use crate::under_test::{Begun, TestTable};
+use crate::story::{Asks, Outcome, Reply, Step, Story, Sum, Told};
+use crate::under_test::TestTable;
 use ledger::{Blanks, Ledgers};
 use std::alloc::{AllocError, Global};
 use std::marker::Brand;
 use std::random::RandomSource;
 use std::test::Fail;
-use table::{Limits, Seeds, Table, Ticket};
+use table::{Limits, Seeds, Table};
 use table_image::Image;
 
 /// The unique number of each LOOKUP that is one step.
-const LOOKUP: u64 = 0;
+pub const LOOKUP: u64 = 0;
 
 /// The step at that place, from 0, told something else, which is this.
 pub fn mistold(place: usize, told: Told) -> Fail {
@@ -65,7 +65,7 @@ fn shows(alloc: Global, image: &Image, step: &Step) -> Result<bool, AllocError> 
 
 impl<T: Ledgers> TestTable<T> {
     /// A LOOKUP from its begin to its settle as taken: what its finish told, or its begin where that refused it.
-    fn look_up(&mut self, parent: u64, name: &str) -> Result<Told, AllocError> {
+    pub fn look_up(&mut self, parent: u64, name: &str) -> Result<Told, AllocError> {
         let begun = self.begin(LOOKUP, Asks::Name(parent, name))?;
         if begun != Told::Go {
             return Ok(begun);
@@ -74,18 +74,6 @@ impl<T: Ledgers> TestTable<T> {
         match self.settle(LOOKUP, Reply::Taken) {
             Told::Settled(_) => Ok(told),
             settled => Ok(settled),
-        }
-    }
-
-    /// Takes a ticket of another table.
-    fn take_stranger(&mut self, unique: u64) -> Result<Told, AllocError> {
-        self.tickets.reserve(1)?;
-        match stranger(self.alloc, self.seeds)? {
-            Some(ticket) => {
-                self.tickets.push_reserved(Begun { unique, ticket });
-                Ok(Told::Shown)
-            }
-            None => Ok(Told::Otherwise),
         }
     }
 
@@ -144,6 +132,7 @@ impl<T: Ledgers> TestTable<T> {
             Step::Forget(number, n, _) => Ok(self.forget(number, n)),
             Step::LookUp(parent, name, _) => self.look_up(parent, name),
             Step::Stranger(unique) => self.take_stranger(unique),
+            Step::StrangersAnswer(unique, after) => self.take_answer(unique, after),
             Step::Worker(worker) => Ok(self.pass(worker).into()),
             Step::LeaveShare => Ok(self.leave_share().into()),
             _ => Ok(self.is_as(step)?.into()),
@@ -224,23 +213,4 @@ pub fn run<R: RandomSource + AllocGlobal>(rt: &R, story: &Story) -> Result<(), F
         return Err(misgathered(sum));
     }
     Ok(())
-}
-
-fn stranger_on<T: Ledgers>(
-    alloc: Global,
-    seeds: Seeds,
-    blanks: Blanks,
-) -> Result<Option<Ticket>, AllocError>
-    requires names { blanks ≡ T.names }
-    requires shares { T.names.parts ≡ 1 }
-{
-    let (table, shares) = Table::<T>::open(alloc, DEFAULT, seeds, blanks, 1)?;
-    let mut under_test = TestTable::new(alloc, seeds, table, shares);
-    let _told = under_test.begin(LOOKUP, Asks::Name(ROOT, "a"));
-    Ok(under_test.leave_with_ticket())
-}
-
-/// The ticket of the first request of a table, which asks for `a` in the root.
-fn stranger(alloc: Global, seeds: Seeds) -> Result<Option<Ticket>, AllocError> {
-    stranger_on::<Brand>(alloc, seeds, Blanks::new(1))
 }

@@ -265,6 +265,17 @@ impl<T: Ledgers> TestTable<T> {
         Some(ticket)
     }
 
+    /// Takes the last answer along, and ends the rest.
+    pub fn leave_with_answer(mut self) -> Option<Answered> {
+        let last = self.answers.pop();
+        let _sum = self.end();
+        let Ended {
+            unique: _,
+            answered,
+        } = last?;
+        Some(answered)
+    }
+
     /// Ends all that is in flight without an entry, and gathers the shares.
     pub fn end(self) -> Sum {
         let TestTable {

@@ -1,7 +1,6 @@
-use Rattle.std.proofs.Common.{ℕ, ◌++◌, Option, sym, subst}
+use Rattle.std.proofs.Common.{ℕ, Option, sym, subst}
 use Rattle.table_files.specs.OpenEntry.{Filing, files_of}
 use Rattle.tree.specs.Places.{at_in}
-use Rattle.table_steps.specs.Steps.{numbers_of}
 use Rattle.table_steps.specs.Sweeping.{IsClosed}
 use Rattle.table_steps.proofs.Filing.{closed_none, closed_pruned}
 use Rattle.table_steps.proofs.closing.close.Goals as goal
@@ -16,4 +15,4 @@ returns-in_default-close-clause-closed c =
 pub sweep-requires : goal.sweep-requires
 sweep-requires c =
     closed_pruned c.args.flights.now c.args.files.now c.close.new.self c.in-Some.handle c.in-Some-close.file c.len-law.ensures.law c.close.ensures.law
-    (sym c.in-Some-close.ensures.file) c.in-Some-close.ensures.new_is (at_in c.args.tree.now) (numbers_of c.args.given.now ++ c.args.pins.now) c.requires
+    (sym c.in-Some-close.ensures.file) c.in-Some-close.ensures.new_is (at_in c.args.tree.now) c.args.pins.now c.requires

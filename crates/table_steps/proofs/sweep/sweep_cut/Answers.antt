@@ -2,7 +2,7 @@ use Rattle.std.proofs.Common.{ap, sym, subst}
 use Rattle.tree.specs.Places.{Lookup, at_in}
 use Rattle.table_steps.specs.Keeping.{kept_by}
 use Rattle.table_steps.specs.Swept.{IsSwept}
-use Rattle.table_steps.specs.Sweeping.{HaveReasonsAside, IsSameRest}
+use Rattle.table_steps.specs.Sweeping.{HaveReasonsAside}
 use Rattle.table_steps.proofs.Reasons.{IsSwept-trans, IsSameRest-trans, aside_all, rest_taken}
 use Rattle.table_steps.proofs.sweep.sweep_cut.Goals as goal
 

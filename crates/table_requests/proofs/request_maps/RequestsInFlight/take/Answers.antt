@@ -8,14 +8,14 @@ use Rattle.table_requests.proofs.request_maps.RequestsInFlight.take.Goals as goa
 pub returns-clause-law : goal.returns-clause-law
 returns-clause-law c = IsFlying_kept c.take_answered.new.flights c.take_answered.ensures.apart
 
-pub returns-in_err-pins-clause-law : goal.returns-in_err-pins-clause-law
-returns-in_err-pins-clause-law c = IsFlying_kept c.take_answered.new.flights c.take_answered.ensures.apart
+pub returns-in_err-ended-clause-law : goal.returns-in_err-ended-clause-law
+returns-in_err-ended-clause-law c = IsFlying_kept c.take_answered.new.flights c.take_answered.ensures.apart
 
 pub invariant_of-self-2 : goal.invariant_of-self-2
 unfolding requests_of
 invariant_of-self-2 c =
     let old = c.self.invariant in
-    let took = c.in_ok-pins.ensures in
+    let took = c.in_ok-ended.ensures in
     let step = took.some in
     let fs = c.self.inside.flights.items in
     let gs = c.take_answered.new.flights.items in

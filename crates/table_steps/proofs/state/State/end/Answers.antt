@@ -1,8 +1,9 @@
-use Rattle.std.proofs.Common.{ℕ, ◌≡◌, Contains, List, Bool, Option, Some, None, false, refl, sym, ap, ◌∙◌, subst}
+use Rattle.std.proofs.Common.{ℕ, ◌≡◌, Contains, List, length, Bool, Option, Some, None, false, refl, sym, ap, ◌∙◌, subst}
 use Rattle.std.specs.Prelude.{option_map}
 use Rattle.table_requests.specs.declared.data.RequestInFlight.{RequestInFlight as Recorded}
 use Rattle.table_requests.specs.declared.data.Given.{Given}
 use Rattle.table_requests.specs.Listed.{requests_of}
+use Rattle.table_requests.specs.RequestMaps.{is_working}
 use Rattle.tree.specs.declared.nodes.Key.{Key}
 use Rattle.table_footprints.specs.NewRequests.{footprint_in}
 use Rattle.table_footprints.specs.Footprints.{Change, Footprint, Location, Opening, stays}
@@ -19,7 +20,7 @@ use Rattle.table_steps.specs.Steps.{Act, Ends, act_of, hiding_at, replacing_at, 
 use Rattle.table_steps.specs.World.{Answered}
 use Rattle.table_steps.proofs.Ends.{ends_changed, nothing_changes, nothing_for}
 use Rattle.table_steps.proofs.Filling.{ends_given}
-use Rattle.table_steps.proofs.Offering.{ends_alone, ends_entry, may_given, may_open}
+use Rattle.table_steps.proofs.Offering.{ended_gave, ends_alone, ends_entry, may_given, may_open}
 use Rattle.table_steps.proofs.Marking.{may_hide, may_replace}
 use Rattle.table_steps.proofs.Rooted.{are_unowned, folder_leads, may_alter, may_enter, may_fill}
 use Rattle.table_steps.proofs.Viewed.{are_kept}
@@ -84,6 +85,7 @@ open_given-opened-requires-clause-may c =
     let r = c.give_entry-answered in
     may_given c.args.self.now c.args.id work c.requires.kept c.requires.ending r.new.self r.ensures.files r.ensures.limits r.ensures.promised
     c.acts_of-entries.result.opens c.acts_of-entries.result.entries r.result.0.given r.result.1 c.acts_of-entries.ensures.entered r.ensures.given
+    (ended_gave c.args.self.now r.new.self c.args.id c.requires.ending.flight _ _ _ (ap is_working c.requires.ending.answered) (r.ensures.gives c.requires.ending.flight c.requires.ending.here))
 
 pub give_entries-requires-clause-may : goal.give_entries-requires-clause-may
 give_entries-requires-clause-may c =
@@ -103,7 +105,7 @@ give_entries-requires-clause-leads c n h =
     folder_leads c.args.self.now c.args.id work c.requires.kept c.requires.ending n (subst (λ ns. Contains ns n) folders h)
 
 -- the end of a request, by the entries that it gave
-ends_by : (s new : State) → IsKept new → (id : ℕ) (x : Recorded) → (requests_of s.flights).at id ≡ Some x → stage_of x.stage ≡ Answered → (keys : List Key) (found : List Bool) (answer : Answer) → answer ≡ record { id = id; given = answer.given; lost = false; opened = None }
+ends_by : (s new : State) → IsKept new → (id : ℕ) (x : Recorded) → (requests_of s.flights).at id ≡ Some x → stage_of x.stage ≡ Answered (length x.pins.numbers) None → (keys : List Key) (found : List Bool) (answer : Answer) → answer ≡ record { id = id; given = answer.given; lost = false; opened = None }
     → GivesAll (world_of s) id (flight_of x) keys found answer.given (world_of new)
     → Ends (world_of s) id (flight_of x) (record { found = found; change = stays; opens = None }) keys answer (world_of new)
 ends_by s new kept id x here idle keys found answer is gives =

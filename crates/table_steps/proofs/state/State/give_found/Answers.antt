@@ -5,7 +5,7 @@ use Rattle.tree.specs.Places.{at_in}
 use Rattle.table_steps.specs.Ending.{GivesAll}
 use Rattle.table_steps.specs.Kept.{flight_of, flights_in, world_of}
 use Rattle.table_steps.specs.Steps.{HasExclusiveHolder}
-use Rattle.table_steps.proofs.Filling.{fill_less, gives_one, gives_owned, none_given, owned_recorded, owned_seen, seen_here, seen_idle}
+use Rattle.table_steps.proofs.Filling.{fill_less, gives_one, gives_owned, none_given, owned_recorded, owned_seen, seen_here}
 use Rattle.table_steps.proofs.Guarding.{entered_path}
 use Rattle.table_steps.proofs.state.State.give_found.Goals as goal
 
@@ -27,7 +27,7 @@ returns-then-holds_exclusively-clause-gives c f here =
     let key = c.args.keys.key in
     let owned : HasExclusiveHolder (at_in s.tree) (flights_in (requests_of s.flights)) key = owned_seen (at_in s.tree) (requests_of s.flights) key.parent key.name c.args.folder.now c.requires.leads (c.holds_exclusively.ensures.owned.0 c.if-holds_exclusively.true) in
     subst (λ (b : Bool). GivesAll (world_of s) c.args.id (flight_of f) (key ∷ []) (b ∷ []) (None ∷ []) (world_of s)) (sym c.if-not-found.false)
-    (gives_owned (world_of s) c.args.id (flight_of f) key (seen_here s c.args.id may.flight may.here may.answered f here) (seen_idle s c.args.id may.flight may.here may.answered f here) owned)
+    (gives_owned (world_of s) c.args.id (flight_of f) key (seen_here s c.args.id may.flight may.here may.answered f here) owned)
 
 pub returns-then-holds_exclusively-clause-more : goal.returns-then-holds_exclusively-clause-more
 returns-then-holds_exclusively-clause-more c rest fill = fill_less c.args.self.now c.args.id c.args.keys.key rest fill
