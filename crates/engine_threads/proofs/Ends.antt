@@ -1,12 +1,12 @@
 -- How a reader ends.
-use Rattle.std.proofs.Common.{◌≡◌, ℕ, Bool, List, Option, None, Some, ⊥, ◌≢◌, sym, subst}
+use Rattle.std.proofs.Common.{◌≡◌, ℕ, Bool, List, Option, None, Some, ◌≢◌, sym, subst}
 use Rattle.engine.specs.Links.{Heard, Piece, Ended, Broke}
 use Rattle.engine.specs.declared.ends.SessionEnd.{SessionEnd}
 use Rattle.engine.specs.declared.ends.SessionEnd.TheVariants as ends
 use Rattle.engine_reader.specs.Verdicts.{Queued, Reading, ReadsAll, ReadsAs, Stops, by_receive, by_writer}
 
 -- some workers served
-Serves : SessionEnd → Type 0
+abbrev Serves : SessionEnd → Type 0
 Serves (ends.Closed rest) = Unit {0}
 Serves ends.Destroyed = Unit {0}
 Serves (ends.BadLength len) = Unit {0}
@@ -14,7 +14,7 @@ Serves ends.LinkBroken = Unit {0}
 Serves ends.Memory = Unit {0}
 Serves ends.NoWorkers = ⊥
 
-ServesIn : Option SessionEnd → Type 0
+abbrev ServesIn : Option SessionEnd → Type 0
 ServesIn None = Unit {0}
 ServesIn (Some end) = Serves end
 
