@@ -1,0 +1,31 @@
+-- Lists that are taken apart in step.
+use Rattle.std.proofs.Common.{◌≡◌, ℕ, zero, suc, ◌+◌, List, [], ◌∷◌, ◌++◌, length, map, refl, sym, ap, ◌∙◌, subst, append_assoc, append-nil, arith}
+use Rattle.std.specs.List.{All, range_with_len}
+use Rattle.std.proofs.lemmas.List.Elements.{All-head, All-push, All-rest, All-same}
+use Rattle.engine_queues.proofs.Numbers.{map_snoc}
+
+module _ {X Y : Type 0} (f : X → ℕ) (h : Y → ℕ) where
+  -- one more was made of the next
+  pub more_made : (made : List X) (x : X) (y : Y) (rest : List Y) (whole : List ℕ) → f x ≡ h y → map f made ++ map h (y ∷ rest) ≡ whole → map f (made ++ x ∷ []) ++ map h rest ≡ whole
+  more_made made x y rest whole same e = ap (λ (l : List ℕ). l ++ map h rest) (map_snoc f made x) ∙ (append_assoc (map f made) (f x ∷ []) (map h rest) ∙ (ap (λ (n : ℕ). map f made ++ n ∷ map h rest) same ∙ e))
+
+  -- the same, where the lists are known by equations
+  pub numbers_made : (made new : List X) (x : X) (y : Y) (from rest : List Y) (whole : List ℕ) → new ≡ made ++ x ∷ [] → from ≡ y ∷ rest → f x ≡ h y → map f made ++ map h from ≡ whole → map f new ++ map h rest ≡ whole
+  numbers_made made new x y from rest whole n s same e =
+      ap (λ (l : List X). map f l ++ map h rest) n
+      ∙ more_made made x y rest whole same (ap (λ (l : List Y). map f made ++ map h l) (sym s) ∙ e)
+
+module _ {X : Type 0} (P : X → Type 0) where
+  -- the first of what is left
+  pub first_of : (x : X) (from rest : List X) → from ≡ x ∷ rest → All P from → P x
+  first_of x from rest s all = All-head P x rest (All-same P (x ∷ rest) from (sym s) all)
+
+  pub others_of : (x : X) (from rest : List X) → from ≡ x ∷ rest → All P from → All P rest
+  others_of x from rest s all = All-rest P x rest from s all
+
+  pub one_more : (made new : List X) (x : X) → new ≡ made ++ x ∷ [] → All P made → P x → All P new
+  one_more made new x n all this = All-same P new (made ++ x ∷ []) n (All-push P made x all this)
+
+pub range_more : (a n : ℕ) → range_with_len a (suc n) ≡ range_with_len a n ++ (a + n) ∷ []
+range_more a zero = let e : a ≡ a + 0 = omega arith in ap (λ k. k ∷ []) e
+range_more a (suc n) = let e : (a + 1) + n ≡ a + suc n = omega arith in ap (λ l. a ∷ l) (range_more (a + 1) n ∙ ap (λ k. range_with_len (a + 1) n ++ k ∷ []) e)

@@ -1,0 +1,138 @@
+//! The ends and passes of a number of workers, and of the one who starts them.
+
+ghost use Rattle.std.specs.Prelude.{◌≡◌, ◌<◌, ◌≤◌, ◌+◌, [], length, map, true, IfSome, vec_len, vec_capacity};
+ghost use Rattle.std.specs.List.{All, range_with_len};
+ghost use Rattle.crossbeam_channel.specs.Claims.{view, IsSeatAt};
+ghost use Rattle.crossbeam_channel.specs.Ends.{sends_on, receives_on};
+
+use crate::places::{Kept, Shares};
+use crate::working::Staff;
+use backing::Calls;
+use engine::Settings;
+use engine_jobs::Job;
+use engine_queues::jobs::{Cut, JobPass, JobReceiver, JobSender};
+use engine_queues::letters::{ReplyPass, ReplySender, Roles};
+use engine_queues::passes::Passes;
+use engine_workers::{Reply, Worker};
+use ledger::Ledgers;
+use std::alloc::Global;
+
+/// The passes of the next worker.
+pub fn cut_passes(
+    jobs: &JobSender<Job>,
+    replies: &ReplySender<Reply>,
+    read: &mut JobPass<Job>,
+    written: &mut ReplyPass<Reply>,
+    number: u64,
+) -> Passes<Job, Reply>
+    requires read { IsSeatAt (sends_on jobs.now) read.old }
+    requires parts { 1 < (view read.old).parts }
+    requires written { IsSeatAt (sends_on replies.now) written.old }
+    requires gets { (view written.old).gets ≡ true }
+    requires made { (view written.old).made ≡ number }
+    ensures read { IsSeatAt (sends_on jobs.now) read.new }
+    ensures parts { (view read.new).parts + 1 ≡ (view read.old).parts }
+    ensures reads { ((view read.new).put ≡ (view read.old).put) × ((view read.new).taken ≡ (view read.old).taken) }
+    ensures written { IsSeatAt (sends_on replies.now) written.new }
+    ensures writes { ((view written.new).gets ≡ true) × ((view written.new).made ≡ number + 1) × ((view written.new).known ≡ (view written.old).known) }
+    ensures seats { IsSeatAt (sends_on jobs.now) result.job_pass × IsSeatAt (sends_on replies.now) result.reply_pass }
+    ensures number { result.number ≡ number }
+{
+    let job_pass = jobs.another::<Cut>(read);
+    let reply_pass = replies.another::<Roles>(written);
+    Passes {
+        number,
+        count: 0,
+        job_pass,
+        reply_pass,
+    }
+}
+
+/// A worker with these passes and ends of its own. None is want of memory.
+pub fn hire(
+    alloc: Global,
+    settings: Settings,
+    work: &JobReceiver<Job>,
+    replies: &ReplySender<Reply>,
+    passes: Passes<Job, Reply>,
+) -> Option<Worker>
+    requires seats { IsSeatAt (receives_on work.now) passes.job_pass × IsSeatAt (sends_on replies.now) passes.reply_pass }
+    ensures { IfSome result (λ w. (receives_on w.jobs ≡ receives_on work.now) × (sends_on w.replies ≡ sends_on replies.now) × (w.number ≡ passes.number)) }
+{
+    let jobs = work.try_clone().ok()?;
+    let replies = replies.try_clone().ok()?;
+    Some(Worker::new(alloc, settings, jobs, replies, passes))
+}
+
+/// So many workers, by their numbers.
+pub fn hire_all(
+    alloc: Global,
+    settings: Settings,
+    jobs: &JobSender<Job>,
+    work: &JobReceiver<Job>,
+    replies: &ReplySender<Reply>,
+    read: &mut JobPass<Job>,
+    written: &mut ReplyPass<Reply>,
+    count: u64,
+) -> Option<Vec<Worker>>
+    requires few { count ≤ 4 }
+    requires ring { receives_on work.now ≡ sends_on jobs.now }
+    requires read { IsSeatAt (sends_on jobs.now) read.old }
+    requires parts { (view read.old).parts ≡ 8 }
+    requires none { length (view read.old).taken ≡ 0 }
+    requires written { IsSeatAt (sends_on replies.now) written.old }
+    requires writes { ((view written.old).gets ≡ true) × ((view written.old).made ≡ 0) }
+    ensures read { IsSeatAt (sends_on jobs.now) read.new }
+    ensures parts { IfSome result (λ v. (view read.new).parts + count ≡ 8) }
+    ensures reads { ((view read.new).put ≡ (view read.old).put) × ((view read.new).taken ≡ (view read.old).taken) }
+    ensures none { length (view read.new).taken ≡ 0 }
+    ensures written { IsSeatAt (sends_on replies.now) written.new }
+    ensures writes { IfSome result (λ v. ((view written.new).gets ≡ true) × ((view written.new).made ≡ count)) }
+    ensures known { (view written.new).known ≡ (view written.old).known }
+    ensures hired { IfSome result (λ v. All (λ w. (receives_on w.jobs ≡ sends_on jobs.now) × (sends_on w.replies ≡ sends_on replies.now)) v.items) }
+    ensures numbers { IfSome result (λ v. map (λ w. w.number) v.items ≡ range_with_len 0 count) }
+    ensures len { IfSome result (λ v. vec_len v ≡ count) }
+{
+    let mut workers = Vec::with_capacity(alloc, 4).ok()?;
+    for number in 0..count {
+        let passes = cut_passes(jobs, replies, read, written, number);
+        workers.push_reserved(hire(alloc, settings, work, replies, passes)?);
+    }
+    Some(workers)
+}
+
+fn staffed<T: Ledgers, C: Calls + Drop>(worker: Worker, kept: Kept<T>, calls: C) -> Staff<T, C>
+    ensures { result.worker ≡ worker }
+{
+    Staff {
+        worker,
+        kept,
+        calls,
+    }
+}
+
+/// A share and a directory for each worker. None where one is missing.
+pub fn staff_all<T: Ledgers, C: Calls + Drop>(
+    jobs: &JobSender<Job>,
+    replies: &ReplySender<Reply>,
+    workers: Vec<Worker>,
+    shares: &mut Shares<T>,
+    trees: Vec<C>,
+    staff: Vec<Staff<T, C>>,
+) -> Option<Vec<Staff<T, C>>>
+    requires hired { All (λ w. (receives_on w.jobs ≡ sends_on jobs.now) × (sends_on w.replies ≡ sends_on replies.now)) workers.items }
+    requires room { vec_len workers ≤ vec_capacity staff }
+    requires empty { staff.items ≡ [] }
+    ensures hired { IfSome result (λ v. All (λ s. (receives_on s.worker.jobs ≡ sends_on jobs.now) × (sends_on s.worker.replies ≡ sends_on replies.now)) v.items) }
+    ensures numbers { IfSome result (λ v. map (λ s. s.worker.number) v.items ≡ map (λ w. w.number) workers.items) }
+    ensures len { IfSome result (λ v. vec_len v ≡ vec_len workers) }
+{
+    let mut staff = staff;
+    let mut trees = trees.into_iter();
+    for worker in workers {
+        let kept = shares.take()?;
+        let calls = trees.next()?;
+        staff.push_reserved(staffed(worker, kept, calls));
+    }
+    Some(staff)
+}

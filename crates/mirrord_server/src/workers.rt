@@ -1,0 +1,77 @@
+//! A folder of the system, served by threads.
+
+ghost use Rattle.std.specs.Prelude.{◌≡◌, IfOk, vec_len};
+ghost use Rattle.mirrord_server.specs.Folders.{ServesWorkers};
+
+use crate::folder::{Unserved, open_folder};
+use crate::socket::RECEIVED;
+use backing_folder::{Folder, System};
+use engine::{SessionEnd, Settings};
+use engine_streams::StreamLink;
+use engine_threads::serve_threads;
+use std::fs::File;
+use std::io;
+use std::io::BufReader;
+use std::os::unix::net::UnixStream;
+use std::rt::Files;
+use std::sync::Wait;
+use std::thread::Threads;
+use table::{Limits, Seeds};
+
+/// A folder for each worker, all on the same root.
+pub(crate) fn open_folders<H: Files<File = File> + AllocGlobal + Clone + Drop>(
+    rt: &H,
+    root: &str,
+    workers: u8,
+) -> Result<Vec<Folder<System<H>>>, Unserved>
+    ensures { IfOk result (λ folders. vec_len folders ≡ workers) }
+{
+    let Ok(mut folders) = Vec::with_capacity(rt.alloc(), usize::from(workers)) else {
+        return Err(Unserved::Memory);
+    };
+    for _ in 0..workers {
+        folders.push_reserved(open_folder(rt, root)?);
+    }
+    Ok(folders)
+}
+
+/// Serves the client at the other end of a socket by as many workers as there are folders.
+pub(crate) fn serve_workers<
+    H: Threads
+        + Wait
+        + Files<File = File>
+        + AllocGlobal
+        + Clone
+        + Send
+        + Sync
+        + Drop
+        + 'static,
+>(
+    rt: &H,
+    folders: Vec<Folder<System<H>>>,
+    seeds: Seeds,
+    settings: Settings,
+    stream: UnixStream,
+) -> Result<SessionEnd, Unserved>
+    ensures { ServesWorkers (vec_len folders) result }
+{
+    let Ok(heard) = stream.try_clone() else {
+        return Err(Unserved::NoSocket);
+    };
+    let Ok(input) = BufReader::with_capacity(rt.alloc(), RECEIVED, heard) else {
+        return Err(Unserved::Memory);
+    };
+    let link_in = StreamLink::new(input, io::sink());
+    let link_out = StreamLink::new(io::empty(), stream);
+    let ended = serve_threads(
+        rt,
+        rt.alloc(),
+        link_in,
+        link_out,
+        folders,
+        Limits::default(),
+        seeds,
+        settings,
+    );
+    Ok(ended.end)
+}

@@ -1,0 +1,9 @@
+//! Sessions on threads, beside what a session on one thread would come to.
+#![tactic(auto)]
+
+#[cfg(test)]
+mod client;
+#[cfg(test)]
+mod rows;
+#[cfg(test)]
+mod teller;

@@ -1,0 +1,205 @@
+//! Sessions by 1, 2 and 4 workers, and by none and five.
+
+use crate::teller::{Story, check};
+use engine::{Sent, SessionEnd};
+use std::test::Fail;
+use wire::Operation;
+use wire::Operation::{Destroy, Forget, Lookup};
+
+/// Eight entries of one node.
+const EIGHT: &[(u64, Operation<'static>)] = &[
+    (1, Lookup { name: "a" }),
+    (1, Lookup { name: "a" }),
+    (1, Lookup { name: "a" }),
+    (1, Lookup { name: "a" }),
+    (1, Lookup { name: "a" }),
+    (1, Lookup { name: "a" }),
+    (1, Lookup { name: "a" }),
+    (1, Lookup { name: "a" }),
+];
+
+/// INIT and eight entries, by one worker.
+const NINE: Story = Story {
+    says: "nine frames by one worker",
+    workers: 1,
+    asks: EIGHT,
+    rest: &[],
+    declined: 0,
+    fate: Sent::Untaken,
+    end: SessionEnd::Closed { rest: 0 },
+    offers: 9,
+    last: 0,
+    taken: 9,
+    totals: Some((8, 0, 0)),
+};
+
+const BY_ANY: &[Story] = &[
+    NINE,
+    Story {
+        says: "nine frames by two workers",
+        workers: 2,
+        ..NINE
+    },
+    Story {
+        says: "nine frames by four workers",
+        workers: 4,
+        ..NINE
+    },
+];
+
+#[test]
+fn one_table_for_all_workers(rt: HostRuntime) -> Result<(), Fail> {
+    for story in BY_ANY {
+        check(&rt, rt.alloc(), story)?;
+    }
+    Ok(())
+}
+
+const BY_NONE: &[Story] = &[
+    Story {
+        says: "no worker",
+        workers: 0,
+        end: SessionEnd::NoWorkers,
+        offers: 0,
+        taken: 0,
+        totals: None,
+        ..NINE
+    },
+    Story {
+        says: "five workers",
+        workers: 5,
+        end: SessionEnd::NoWorkers,
+        offers: 0,
+        taken: 0,
+        totals: None,
+        ..NINE
+    },
+];
+
+#[test]
+fn none_and_five_serve_nobody(rt: HostRuntime) -> Result<(), Fail> {
+    for story in BY_NONE {
+        check(&rt, rt.alloc(), story)?;
+    }
+    Ok(())
+}
+
+/// Eight entries, the end by the client, and one more request.
+const FAREWELL: &[(u64, Operation<'static>)] = &[
+    (1, Lookup { name: "a" }),
+    (1, Lookup { name: "a" }),
+    (1, Lookup { name: "a" }),
+    (1, Lookup { name: "a" }),
+    (1, Lookup { name: "a" }),
+    (1, Lookup { name: "a" }),
+    (1, Lookup { name: "a" }),
+    (1, Lookup { name: "a" }),
+    (0, Destroy),
+    (1, Lookup { name: "a" }),
+];
+
+/// The reply to DESTROY is the last, whatever was queued before it.
+const DESTROYED: Story = Story {
+    says: "the end by the client, one worker",
+    asks: FAREWELL,
+    end: SessionEnd::Destroyed,
+    offers: 10,
+    last: 10,
+    ..NINE
+};
+
+const ENDS: &[Story] = &[
+    DESTROYED,
+    Story {
+        says: "the end by the client, two workers",
+        workers: 2,
+        ..DESTROYED
+    },
+    Story {
+        says: "the end by the client, four workers",
+        workers: 4,
+        ..DESTROYED
+    },
+    Story {
+        says: "the link breaks at the reply to the end",
+        workers: 2,
+        declined: 10,
+        fate: Sent::Broken,
+        end: SessionEnd::LinkBroken,
+        last: 0,
+        ..DESTROYED
+    },
+    Story {
+        says: "bytes that are no whole frame",
+        workers: 2,
+        rest: &[50, 0, 0],
+        end: SessionEnd::Closed { rest: 3 },
+        ..NINE
+    },
+    Story {
+        says: "a bad length: all that was queued is answered first",
+        workers: 4,
+        rest: &[7, 0, 0, 0],
+        end: SessionEnd::BadLength { len: 7 },
+        ..NINE
+    },
+    Story {
+        says: "the link breaks, and a bad length",
+        workers: 1,
+        rest: &[7, 0, 0, 0],
+        declined: 9,
+        fate: Sent::Broken,
+        end: SessionEnd::LinkBroken,
+        totals: Some((8, 1, 0)),
+        ..NINE
+    },
+    Story {
+        says: "an entry that is forgotten",
+        asks: &[(1, Lookup { name: "a" }), (2, Forget { nlookup: 1 })],
+        offers: 2,
+        taken: 3,
+        totals: Some((1, 0, 1)),
+        ..NINE
+    },
+];
+
+#[test]
+fn ends(rt: HostRuntime) -> Result<(), Fail> {
+    for story in ENDS {
+        check(&rt, rt.alloc(), story)?;
+    }
+    Ok(())
+}
+
+/// The entry of a reply that is not taken is given back.
+#[test]
+fn each_reply_is_declined_in_turn(rt: HostRuntime) -> Result<(), Fail> {
+    for declined in 2..10 {
+        let story = Story {
+            says: "a reply that is not taken",
+            declined,
+            totals: Some((8, 1, 0)),
+            ..NINE
+        };
+        check(&rt, rt.alloc(), &story)?;
+    }
+    Ok(())
+}
+
+/// Nothing is offered once the link broke, and the entries of all replies from there on are given back.
+#[test]
+fn the_link_breaks_at_each_reply(rt: HostRuntime) -> Result<(), Fail> {
+    for declined in 2u32..10 {
+        let story = Story {
+            says: "the link breaks",
+            declined,
+            fate: Sent::Broken,
+            end: SessionEnd::LinkBroken,
+            offers: declined,
+            totals: Some((8, (10 - declined) as u64, 0)),
+            ..NINE
+        };
+        check(&rt, rt.alloc(), &story)?;
+    }
+    Ok(())
+}

@@ -1,0 +1,243 @@
+//! Tells a session on threads as data.
+
+ghost use Rattle.std.specs.Prelude.{◌≡◌};
+
+use crate::client::{Asks, Heard, Hears};
+use backing::{MemTree, Shared};
+use engine::{Sent, SessionEnd, Settings};
+use engine_threads::{Ended, serve_threads};
+use paths::{Name, Path};
+use std::alloc::{AllocError, Global};
+use std::random::RandomSource;
+use std::sync::{Arc, Mutex, Wait};
+use std::test::Fail;
+use std::thread::Threads;
+use table::{Limits, Seeds};
+use wire::{Operation, Request, encode_request};
+
+/// A session over a tree with the file `a` of three bytes.
+#[derive(Clone, Copy)]
+pub struct Story<'a> {
+    pub says: &'a str,
+    pub workers: usize,
+    /// What is asked of which node after INIT.
+    pub asks: &'a [(u64, Operation<'a>)],
+    /// Bytes that come after all frames.
+    pub rest: &'a [u8],
+    /// The reply that is not taken, counted from 1, and what becomes of it.
+    pub declined: u32,
+    pub fate: Sent,
+    pub end: SessionEnd,
+    /// How many replies are offered.
+    pub offers: u32,
+    /// The number of the request that the last reply answers, where it is a header alone, or 0.
+    pub last: u64,
+    /// How many jobs all workers took.
+    pub taken: u64,
+    /// Entries, give-backs and what was forgotten, where the table was gathered. How often the node is born is a matter of time.
+    pub totals: Option<(u64, u64, u64)>,
+}
+
+/// What came of it.
+#[derive(Clone, Copy, Debug, PartialEq, Eq)]
+pub struct Came {
+    pub end: SessionEnd,
+    pub is_read: bool,
+    pub offers: u32,
+    pub last: u64,
+    pub workers: usize,
+    pub taken: u64,
+    pub totals: Option<(u64, u64, u64)>,
+}
+
+const INIT: (u64, Operation<'static>) = (
+    0,
+    Operation::Init {
+        major: 7,
+        minor: 31,
+        max_readahead: 131072,
+        flags: 0,
+    },
+);
+
+fn put_request(
+    out: &mut Vec<u8>,
+    unique: u64,
+    node: u64,
+    operation: Operation<'_>,
+) -> Result<(), AllocError> {
+    let request = Request {
+        unique,
+        node,
+        operation,
+    };
+    encode_request(&request, out)?;
+    Ok(())
+}
+
+/// All frames in one piece, so that one receive brings them.
+fn pieces_of(alloc: Global, story: &Story<'_>) -> Result<Vec<Vec<u8>>, AllocError> {
+    let mut piece = Vec::new(alloc);
+    let (node, operation) = INIT;
+    put_request(&mut piece, 1, node, operation)?;
+    let mut unique = 1u64;
+    for (node, operation) in story.asks {
+        unique = unique.saturating_add(1);
+        put_request(&mut piece, unique, *node, *operation)?;
+    }
+    piece.extend_from_slice(story.rest)?;
+    let mut pieces = Vec::new(alloc);
+    pieces.push(piece)?;
+    Ok(pieces)
+}
+
+fn tree_of(alloc: Global) -> Result<MemTree, AllocError> {
+    let mut tree = MemTree::new(alloc);
+    let mut path = Path::new(alloc);
+    path.push(Name::copy_of(alloc, "a")?)?;
+    match tree.put_file(&path, b"abc") {
+        Ok(()) => Ok(tree),
+        Err(_) => Err(AllocError),
+    }
+}
+
+/// A hold on one tree for each worker.
+fn holds_of<H: Wait + Clone + Drop>(
+    rt: &H,
+    alloc: Global,
+    workers: usize,
+) -> Result<Vec<Shared<H>>, AllocError> {
+    let tree = Arc::new(alloc, Mutex::new(tree_of(alloc)?))?;
+    let mut holds = Vec::new(alloc);
+    for _ in 0..workers {
+        let Ok(own) = rt.clone() else {
+            return Err(AllocError);
+        };
+        holds.push(Shared::new(own, Arc::try_clone(&tree)?))?;
+    }
+    Ok(holds)
+}
+
+fn summed(counts: &[u64]) -> u64 {
+    let mut sum = 0u64;
+    for count in counts {
+        sum = sum.saturating_add(*count);
+    }
+    sum
+}
+
+/// The number in the header that comes last.
+fn last_of(bytes: &[u8]) -> u64 {
+    let Some(from) = bytes.len().checked_sub(16) else {
+        return 0;
+    };
+    let mut number = 0u64;
+    for i in 0..8 {
+        let byte = bytes[from + 15 - i];
+        number = number.wrapping_mul(256).wrapping_add(byte as u64);
+    }
+    number
+}
+
+fn came_of(ended: &Ended, heard: &Heard, wanted: u64) -> Came {
+    let totals = match &ended.totals {
+        Some(sums) => {
+            let totals = sums.totals();
+            Some((totals.entries, totals.backs, totals.forgotten))
+        }
+        None => None,
+    };
+    Came {
+        end: ended.end,
+        is_read: heard.receives > 0,
+        offers: heard.offers,
+        last: if wanted == 0 {
+            0
+        } else {
+            last_of(heard.bytes.as_slice())
+        },
+        workers: ended.taken.len(),
+        taken: summed(ended.taken.as_slice()),
+        totals,
+    }
+}
+
+/// Serves a story, and says what came of it.
+pub fn tell<H: Threads + Wait + RandomSource + Clone + Send + Sync + Drop + 'static>(
+    rt: &H,
+    alloc: Global,
+    story: &Story<'_>,
+) -> Result<Came, AllocError> {
+    let heard = Arc::new(
+        alloc,
+        Mutex::new(Heard {
+            receives: 0,
+            offers: 0,
+            bytes: Vec::new(alloc),
+        }),
+    )?;
+    let Ok(own) = rt.clone() else {
+        return Err(AllocError);
+    };
+    let asks = Asks {
+        rt: own,
+        heard: Arc::try_clone(&heard)?,
+        pieces: pieces_of(alloc, story)?,
+        given: 0,
+        failures: 0,
+    };
+    let Ok(own) = rt.clone() else {
+        return Err(AllocError);
+    };
+    let hears = Hears {
+        rt: own,
+        heard: Arc::try_clone(&heard)?,
+        declined: story.declined,
+        fate: story.fate,
+        failures: 0,
+    };
+    let holds = holds_of(rt, alloc, story.workers)?;
+    let Ok(seeds) = Seeds::new(rt) else {
+        return Err(AllocError);
+    };
+    let settings = Settings { uid: 0, gid: 0 };
+    let ended = serve_threads(
+        rt,
+        alloc,
+        asks,
+        hears,
+        holds,
+        Limits::default(),
+        seeds,
+        settings,
+    );
+    let heard = heard.lock(rt);
+    Ok(came_of(&ended, &heard, story.last))
+}
+
+/// Serves a story, and fails where it came otherwise.
+pub fn check<H: Threads + Wait + RandomSource + Clone + Send + Sync + Drop + 'static>(
+    rt: &H,
+    alloc: Global,
+    story: &Story<'_>,
+) -> Result<(), Fail> {
+    let came = tell(rt, alloc, story)?;
+    let workers = match story.totals {
+        Some(_) => story.workers,
+        None => 0,
+    };
+    let wanted = Came {
+        end: story.end,
+        is_read: story.end != SessionEnd::NoWorkers,
+        offers: story.offers,
+        last: story.last,
+        workers,
+        taken: story.taken,
+        totals: story.totals,
+    };
+    if came == wanted {
+        Ok(())
+    } else {
+        Err(Fail::from((story.says, came)))
+    }
+}
