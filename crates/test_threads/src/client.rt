@@ -39,6 +39,17 @@ impl<H: Wait + Drop> LinkIn for Asks<H> {
     }
 }
 
+/// The reply that is not taken, counted from 1.
+#[derive(Clone, Copy)]
+pub enum Declined {
+    /// None is.
+    Never,
+    /// Of all replies.
+    Reply(u32),
+    /// Of those with an entry, whose frame has 144 bytes.
+    Entry(u32),
+}
+
 /// What a client was asked for, and offered.
 #[derive(Drop)]
 pub struct Heard {
@@ -46,6 +57,8 @@ pub struct Heard {
     pub receives: u32,
     /// How many replies.
     pub offers: u32,
+    /// How many of them with an entry.
+    pub entries: u32,
     /// Those that were taken, one after another.
     pub bytes: Vec<u8>,
 }
@@ -55,8 +68,7 @@ pub struct Heard {
 pub struct Hears<H: Wait + Drop> {
     pub rt: H,
     pub heard: Arc<Mutex<Heard>>,
-    /// The reply that is not taken, counted from 1, or 0.
-    pub declined: u32,
+    pub declined: Declined,
     /// What becomes of it.
     pub fate: Sent,
     pub failures: u64,
@@ -67,9 +79,18 @@ impl Heard {
         self.receives = self.receives.saturating_add(1);
     }
 
-    fn hear(&mut self, declined: u32, fate: Sent, frame: &[u8]) -> Sent {
+    fn hear(&mut self, declined: Declined, fate: Sent, frame: &[u8]) -> Sent {
         self.offers = self.offers.saturating_add(1);
-        if self.offers == declined {
+        let is_entry = frame.len() == 144;
+        if is_entry {
+            self.entries = self.entries.saturating_add(1);
+        }
+        let is_declined = match declined {
+            Declined::Never => false,
+            Declined::Reply(count) => self.offers == count,
+            Declined::Entry(count) => is_entry && self.entries == count,
+        };
+        if is_declined {
             return fate;
         }
         match self.bytes.extend_from_slice(frame) {

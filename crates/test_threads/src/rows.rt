@@ -1,5 +1,6 @@
 //! Sessions by 1, 2 and 4 workers, and by none and five.
 
+use crate::client::Declined;
 use crate::teller::{Story, check};
 use engine::{Sent, SessionEnd};
 use std::test::Fail;
@@ -24,7 +25,7 @@ const NINE: Story = Story {
     workers: 1,
     asks: EIGHT,
     rest: &[],
-    declined: 0,
+    declined: Declined::Never,
     fate: Sent::Untaken,
     end: SessionEnd::Closed { rest: 0 },
     offers: 9,
@@ -123,7 +124,7 @@ const ENDS: &[Story] = &[
     Story {
         says: "the link breaks at the reply to the end",
         workers: 2,
-        declined: 10,
+        declined: Declined::Reply(10),
         fate: Sent::Broken,
         end: SessionEnd::LinkBroken,
         last: 0,
@@ -147,7 +148,7 @@ const ENDS: &[Story] = &[
         says: "the link breaks, and a bad length",
         workers: 1,
         rest: &[7, 0, 0, 0],
-        declined: 9,
+        declined: Declined::Reply(9),
         fate: Sent::Broken,
         end: SessionEnd::LinkBroken,
         totals: Some((8, 1, 0)),
@@ -174,14 +175,17 @@ fn ends(rt: HostRuntime) -> Result<(), Fail> {
 /// The entry of a reply that is not taken is given back.
 #[test]
 fn each_reply_is_declined_in_turn(rt: HostRuntime) -> Result<(), Fail> {
-    for declined in 2..10 {
-        let story = Story {
-            says: "a reply that is not taken",
-            declined,
-            totals: Some((8, 1, 0)),
-            ..NINE
-        };
-        check(&rt, rt.alloc(), &story)?;
+    for declined in 1..9 {
+        for workers in [1, 2, 4] {
+            let story = Story {
+                says: "an entry that is not taken",
+                workers,
+                declined: Declined::Entry(declined),
+                totals: Some((8, 1, 0)),
+                ..NINE
+            };
+            check(&rt, rt.alloc(), &story)?;
+        }
     }
     Ok(())
 }
@@ -192,7 +196,7 @@ fn the_link_breaks_at_each_reply(rt: HostRuntime) -> Result<(), Fail> {
     for declined in 2u32..10 {
         let story = Story {
             says: "the link breaks",
-            declined,
+            declined: Declined::Reply(declined),
             fate: Sent::Broken,
             end: SessionEnd::LinkBroken,
             offers: declined,

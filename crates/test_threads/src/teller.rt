@@ -2,7 +2,7 @@
 
 ghost use Rattle.std.specs.Prelude.{◌≡◌};
 
-use crate::client::{Asks, Heard, Hears};
+use crate::client::{Asks, Declined, Heard, Hears};
 use backing::{MemTree, Shared};
 use engine::{Sent, SessionEnd, Settings};
 use engine_threads::{Ended, serve_threads};
@@ -24,8 +24,8 @@ pub struct Story<'a> {
     pub asks: &'a [(u64, Operation<'a>)],
     /// Bytes that come after all frames.
     pub rest: &'a [u8],
-    /// The reply that is not taken, counted from 1, and what becomes of it.
-    pub declined: u32,
+    /// The reply that is not taken, and what becomes of it.
+    pub declined: Declined,
     pub fate: Sent,
     pub end: SessionEnd,
     /// How many replies are offered.
@@ -93,9 +93,9 @@ fn pieces_of(alloc: Global, story: &Story<'_>) -> Result<Vec<Vec<u8>>, AllocErro
 
 fn tree_of(alloc: Global) -> Result<MemTree, AllocError> {
     let mut tree = MemTree::new(alloc);
-    let mut path = Path::new(alloc);
-    path.push(Name::copy_of(alloc, "a")?)?;
-    match tree.put_file(&path, b"abc") {
+    let mut names = Vec::new(alloc);
+    names.push(Name::copy_of(alloc, "a")?)?;
+    match tree.put_file(&Path::from_names(names)?, b"abc") {
         Ok(()) => Ok(tree),
         Err(_) => Err(AllocError),
     }
@@ -173,6 +173,7 @@ pub fn tell<H: Threads + Wait + RandomSource + Clone + Send + Sync + Drop + 'sta
         Mutex::new(Heard {
             receives: 0,
             offers: 0,
+            entries: 0,
             bytes: Vec::new(alloc),
         }),
     )?;
