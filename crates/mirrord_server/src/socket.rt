@@ -135,13 +135,7 @@ pub fn serve_socket_by<
         + Sync
         + Drop
         + 'static,
->(
-    rt: &H,
-    root: &str,
-    path: &str,
-    workers: u8,
-    settings: Settings,
-) -> Result<SessionEnd, Unserved>
+>(rt: &H, root: &str, path: &str, workers: u8, settings: Settings) -> Result<SessionEnd, Unserved>
     ensures { ServesWorkers workers result }
 {
     let folders = open_folders(rt, root, workers)?;

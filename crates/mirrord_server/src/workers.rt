@@ -37,15 +37,7 @@ pub(crate) fn open_folders<H: Files<File = File> + AllocGlobal + Clone + Drop>(
 
 /// Serves the client at the other end of a socket by as many workers as there are folders.
 pub(crate) fn serve_workers<
-    H: Threads
-        + Wait
-        + Files<File = File>
-        + AllocGlobal
-        + Clone
-        + Send
-        + Sync
-        + Drop
-        + 'static,
+    H: Threads + Wait + Files<File = File> + AllocGlobal + Clone + Send + Sync + Drop + 'static,
 >(
     rt: &H,
     folders: Vec<Folder<System<H>>>,

@@ -94,18 +94,8 @@ const FOUR_WORKERS: Serving = ["--workers", "4"];
 fn be_server(rt: &impl Host, root: &str, path: &str, threads: Serving, fault: &str) -> (u8, bool) {
     let [first, second] = threads;
     let words = [
-        "mirrord",
-        "serve",
-        first,
-        second,
-        "--socket",
-        path,
-        "--root",
-        root,
-        "--uid",
-        "1000",
-        "--gid",
-        "100",
+        "mirrord", "serve", first, second, "--socket", path, "--root", root, "--uid", "1000",
+        "--gid", "100",
     ];
     let mut faults = Vec::new(rt.alloc());
     let ended = run(
