@@ -4,6 +4,8 @@
 #[cfg(test)]
 mod client;
 #[cfg(test)]
+mod overlap;
+#[cfg(test)]
 mod rows;
 #[cfg(test)]
 mod teller;

@@ -3,7 +3,7 @@
 ghost use Rattle.std.specs.Prelude.{◌≡◌};
 
 use crate::client::{Asks, Declined, Heard, Hears};
-use backing::{MemTree, Shared};
+use backing::{Calls, MemTree, Shared};
 use engine::{Sent, SessionEnd, Settings};
 use engine_threads::{Ended, serve_threads};
 use paths::{Name, Path};
@@ -102,7 +102,7 @@ fn tree_of(alloc: Global) -> Result<MemTree, AllocError> {
 }
 
 /// A hold on one tree for each worker.
-fn holds_of<H: Wait + Clone + Drop>(
+pub fn holds_of<H: Wait + Clone + Drop>(
     rt: &H,
     alloc: Global,
     workers: usize,
@@ -162,12 +162,11 @@ fn came_of(ended: &Ended, heard: &Heard, wanted: u64) -> Came {
     }
 }
 
-/// Serves a story, and says what came of it.
-pub fn tell<H: Threads + Wait + RandomSource + Clone + Send + Sync + Drop + 'static>(
-    rt: &H,
-    alloc: Global,
-    story: &Story<'_>,
-) -> Result<Came, AllocError> {
+/// Serves a story by these directories, and says what came of it.
+fn tell<
+    H: Threads + Wait + RandomSource + Clone + Send + Sync + Drop + 'static,
+    C: Calls + Send + Drop + 'static,
+>(rt: &H, alloc: Global, story: &Story<'_>, trees: Vec<C>) -> Result<Came, AllocError> {
     let heard = Arc::new(
         alloc,
         Mutex::new(Heard {
@@ -197,7 +196,6 @@ pub fn tell<H: Threads + Wait + RandomSource + Clone + Send + Sync + Drop + 'sta
         fate: story.fate,
         failures: 0,
     };
-    let holds = holds_of(rt, alloc, story.workers)?;
     let Ok(seeds) = Seeds::new(rt) else {
         return Err(AllocError);
     };
@@ -207,7 +205,7 @@ pub fn tell<H: Threads + Wait + RandomSource + Clone + Send + Sync + Drop + 'sta
         alloc,
         asks,
         hears,
-        holds,
+        trees,
         Limits::default(),
         seeds,
         settings,
@@ -216,13 +214,22 @@ pub fn tell<H: Threads + Wait + RandomSource + Clone + Send + Sync + Drop + 'sta
     Ok(came_of(&ended, &heard, story.last))
 }
 
-/// Serves a story, and fails where it came otherwise.
+/// Serves a story by holds on one tree, and fails where it came otherwise.
 pub fn check<H: Threads + Wait + RandomSource + Clone + Send + Sync + Drop + 'static>(
     rt: &H,
     alloc: Global,
     story: &Story<'_>,
 ) -> Result<(), Fail> {
-    let came = tell(rt, alloc, story)?;
+    let holds = holds_of(rt, alloc, story.workers)?;
+    check_by(rt, alloc, story, holds)
+}
+
+/// The same by these directories.
+pub fn check_by<
+    H: Threads + Wait + RandomSource + Clone + Send + Sync + Drop + 'static,
+    C: Calls + Send + Drop + 'static,
+>(rt: &H, alloc: Global, story: &Story<'_>, trees: Vec<C>) -> Result<(), Fail> {
+    let came = tell(rt, alloc, story, trees)?;
     let workers = match story.totals {
         Some(_) => story.workers,
         None => 0,

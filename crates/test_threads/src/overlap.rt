@@ -1,0 +1,101 @@
+//! Two workers are in calls of the directory at once.
+
+use crate::client::Declined;
+use crate::teller::{Story, check_by, holds_of};
+use backing::{Answer, Call, Calls, Shared};
+use engine::{Sent, SessionEnd};
+use std::alloc::{AllocError, Global};
+use std::sync::atomic::{AtomicU32, Ordering};
+use std::sync::{Arc, Wait};
+use std::test::Fail;
+use std::thread;
+use wire::Operation::Lookup;
+
+/// How often a first call looks whether another has come.
+const LOOKS: u32 = 10_000_000;
+
+/// A hold on a tree whose first call waits for the first call of another hold.
+#[derive(Drop)]
+struct Meets<H: Wait + Drop> {
+    tree: Shared<H>,
+    has_called: bool,
+    /// How many first calls came.
+    came: Arc<AtomicU32>,
+    /// How many of them saw another one.
+    met: Arc<AtomicU32>,
+}
+
+impl<H: Wait + Drop> Meets<H> {
+    fn meet(&mut self) {
+        if self.has_called {
+            return;
+        }
+        self.has_called = true;
+        self.came.fetch_add(1, Ordering::SeqCst);
+        for _look in 0..LOOKS {
+            if self.came.load(Ordering::SeqCst) > 1 {
+                self.met.fetch_add(1, Ordering::SeqCst);
+                return;
+            }
+            thread::yield_now();
+        }
+    }
+}
+
+impl<H: Wait + Drop> Calls for Meets<H> {
+    ghost use Rattle.backing.specs.Known.{shared_counts};
+    ghost use Rattle.backing.specs.SharedTree.{Shows};
+
+    ghost gives = { λ old call answer new. Shows old.tree call answer new.tree };
+
+    ghost faults = { λ meets. meets.tree };
+
+    ghost counts = { λ old new call answer shown. shared_counts old.tree new.tree call answer shown };
+
+    fn call(&mut self, call: Call<'_>) -> Answer {
+        self.meet();
+        self.tree.call(call)
+    }
+}
+
+/// Each hold meets the others.
+fn meeting<H: Wait + Drop>(
+    alloc: Global,
+    holds: Vec<Shared<H>>,
+    met: &Arc<AtomicU32>,
+) -> Result<Vec<Meets<H>>, AllocError> {
+    let came = Arc::new(alloc, AtomicU32::new(0))?;
+    let mut trees = Vec::new(alloc);
+    for tree in holds {
+        trees.push(Meets {
+            tree,
+            has_called: false,
+            came: Arc::try_clone(&came)?,
+            met: Arc::try_clone(met)?,
+        })?;
+    }
+    Ok(trees)
+}
+
+const TWO: Story = Story {
+    says: "two entries by two workers at once",
+    workers: 2,
+    asks: &[(1, Lookup { name: "a" }), (1, Lookup { name: "a" })],
+    rest: &[],
+    declined: Declined::Never,
+    fate: Sent::Untaken,
+    end: SessionEnd::Closed { rest: 0 },
+    offers: 3,
+    last: 0,
+    taken: 3,
+    totals: Some((2, 0, 0)),
+};
+
+#[test]
+fn two_workers_overlap(rt: HostRuntime) -> Result<(), Fail> {
+    let met = Arc::new(rt.alloc(), AtomicU32::new(0))?;
+    let holds = holds_of(&rt, rt.alloc(), TWO.workers)?;
+    check_by(&rt, rt.alloc(), &TWO, meeting(rt.alloc(), holds, &met)?)?;
+    assert_eq!(rt; met.load(Ordering::SeqCst), 2);
+    Ok(())
+}
