@@ -4,7 +4,7 @@ import subprocess
 import fuse_client as fuse
 
 
-def start(program, root, path):
-    """The server's process, and a client of it."""
-    server = subprocess.Popen([program, "serve", "--root", root, "--socket", path])
+def start(program, root, path, words=()):
+    """The server's process, with further words for it, and a client of it."""
+    server = subprocess.Popen([program, "serve", "--root", root, "--socket", path, *words])
     return server, fuse.Client.connect(path)
