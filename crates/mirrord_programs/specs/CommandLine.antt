@@ -27,17 +27,13 @@ number_rule id least most default = record (new_rule id) {
 abbrev pub user : Text → Rule
 user id = number_rule id 0 4294967295 (codes "0")
 
--- a flag
-abbrev pub flag_rule : Text → Rule
-flag_rule id = record (new_rule id) { long = Some id; action = Some SetTrue }
-
--- the flag `--single`, which is `-s` too
-abbrev pub single_rule : Rule
-single_rule = record (flag_rule (codes "single")) { short = Some 115 }
+-- the flag `--sample`
+abbrev pub sample_rule : Rule
+sample_rule = record (new_rule (codes "sample")) { long = Some (codes "sample"); action = Some SetTrue }
 
 -- the subcommands
 abbrev pub hex_app : App
-hex_app = with_rule (new_app (codes "hex")) (flag_rule (codes "sample"))
+hex_app = with_rule (new_app (codes "hex")) sample_rule
 
 -- told a user and a group, too
 abbrev pub owned : App → App
@@ -48,8 +44,8 @@ pipe_app = owned (with_rule (new_app (codes "pipe")) (text_rule (codes "root")))
 
 abbrev pub serve_app : App
 serve_app =
-    owned (with_rule (with_rule (with_rule (with_rule (new_app (codes "serve"))
-    (text_rule (codes "root"))) (text_rule (codes "socket"))) (number_rule (codes "workers") 1 4 (codes "2"))) single_rule)
+    owned (with_rule (with_rule (with_rule (new_app (codes "serve"))
+    (text_rule (codes "root"))) (text_rule (codes "socket"))) (number_rule (codes "workers") 1 4 (codes "2")))
 
 -- the program, whose version can be asked for, without its subcommands
 abbrev pub bare_app : App
@@ -92,9 +88,9 @@ IsFlag id rows = FlagReads (one_of id rows)
 
 -- what is asked for by the subcommand of that name, which was met with these rows
 abbrev pub IsAskedBy : Text → List Row → Options → Type 0
-IsAskedBy name rows (Serve root socket workers single uid gid) =
+IsAskedBy name rows (Serve root socket workers uid gid) =
     (name ≡ codes "serve") × IsText (codes "root") rows root.now × IsText (codes "socket") rows socket.now
-    × IsNumber 8 (codes "workers") rows workers × IsFlag (codes "single") rows single × IsNumber 32 (codes "uid") rows uid × IsNumber 32 (codes "gid") rows gid
+    × IsNumber 8 (codes "workers") rows workers × IsNumber 32 (codes "uid") rows uid × IsNumber 32 (codes "gid") rows gid
 IsAskedBy name rows (Pipe root uid gid) =
     (name ≡ codes "pipe") × IsText (codes "root") rows root.now × IsNumber 32 (codes "uid") rows uid × IsNumber 32 (codes "gid") rows gid
 IsAskedBy name rows (Hex sample) = (name ≢ codes "serve") × (name ≢ codes "pipe") × IsFlag (codes "sample") rows sample

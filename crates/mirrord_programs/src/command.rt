@@ -3,7 +3,7 @@
 ghost use Rattle.std.specs.Prelude.{◌≡◌, codes, false, IfOk, pos};
 ghost use Rattle.clap.specs.Words.{app_of, rule_of};
 ghost use Rattle.clap.specs.declared.builder.command.Command.TheViews.{out-Command as fields_of};
-ghost use Rattle.mirrord_programs.specs.CommandLine.{bare_app, flag_rule, hex_app, mirrord_app, owned, number_rule, pipe_app, serve_app, single_rule, text_rule, user};
+ghost use Rattle.mirrord_programs.specs.CommandLine.{bare_app, hex_app, mirrord_app, owned, number_rule, pipe_app, sample_rule, serve_app, text_rule, user};
 
 use clap::builder::ValueParser;
 use clap::{Arg, ArgAction, Command};
@@ -41,10 +41,7 @@ const ROOT: &str = "The folder that is served";
 
 const SOCKET: &str = "Where the socket is made; nothing may stand there";
 
-const WORKERS: &str =
-    "How many threads work on requests, from 1 to 4, beside one that reads and one that writes";
-
-const SINGLE: &str = "One thread does all, whatever --workers says: the least time for each reply";
+const WORKERS: &str = "How many threads serve, from 1 to 4. Today one does, whatever this says";
 
 const UID: &str = "The user that each file and folder is told to belong to";
 
@@ -95,23 +92,14 @@ fn owner_option<'a>(alloc: Global, name: &'a str, help: &'a str) -> Arg<'a>
     number_option(alloc, name, 0, u32::MAX, "0", help)
 }
 
-/// A flag.
-fn flag<'a>(alloc: Global, name: &'a str, help: &'a str) -> Arg<'a>
-    ensures rule { rule_of result ≡ flag_rule name.entry.now }
+fn sample_flag<'a>(alloc: Global) -> Arg<'a>
+    ensures rule { rule_of result ≡ sample_rule }
     ensures local { result.global ≡ false }
 {
-    Arg::new(alloc, name)
-        .long(name)
+    Arg::new(alloc, "sample")
+        .long("sample")
         .action(ArgAction::SetTrue)
-        .help(help)
-}
-
-/// The flag of one thread.
-fn single_flag<'a>(alloc: Global) -> Arg<'a>
-    ensures rule { rule_of result ≡ single_rule }
-    ensures local { result.global ≡ false }
-{
-    flag(alloc, "single", SINGLE).short('s')
+        .help(SAMPLE)
 }
 
 fn hex_command<'a>(alloc: Global) -> Result<Command<'a>, AllocError>
@@ -121,7 +109,7 @@ fn hex_command<'a>(alloc: Global) -> Result<Command<'a>, AllocError>
     Command::new(alloc, "hex")
         .about(HEX)
         .after_help(HEX_EXAMPLE)
-        .arg(flag(alloc, "sample", SAMPLE))
+        .arg(sample_flag(alloc))
 }
 
 /// A command that is also told a user and a group.
@@ -154,8 +142,7 @@ fn serve_command<'a>(alloc: Global) -> Result<Command<'a>, AllocError>
         .after_help(SERVE_EXAMPLE)
         .arg(text_option(alloc, "root", "DIR", ROOT))?
         .arg(text_option(alloc, "socket", "PATH", SOCKET))?
-        .arg(number_option(alloc, "workers", 1, 4, "2", WORKERS))?
-        .arg(single_flag(alloc))?;
+        .arg(number_option(alloc, "workers", 1, 4, "2", WORKERS))?;
     with_owner(alloc, placed)
 }
 

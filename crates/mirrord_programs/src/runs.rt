@@ -6,7 +6,7 @@ ghost use Rattle.mirrord_programs.specs.Runs.{IsUnserved, RunsHex, RunsSeeded, R
 
 use crate::ended::{Ended, failure_of, status_after, tell_any};
 use crate::faults::{Failure, Fault, tell};
-use crate::folders::{Serving, pipe_run, serve_run};
+use crate::folders::{pipe_run, serve_run};
 use crate::hexadecimal::HexLink;
 use crate::options::{Options, read_options};
 use crate::samples::new_tree;
@@ -21,7 +21,6 @@ use std::net::Net;
 use std::random::RandomSource;
 use std::rt::Files;
 use std::sync::Wait;
-use std::thread::Threads;
 use table::Seeds;
 
 /// Nobody owns what is mirrored.
@@ -121,17 +120,7 @@ fn explain<O: Write + Drop, F: Write>(
 
 /// The program `mirrord`, whose first word names it.
 pub fn run<
-    H: Threads
-        + Wait
-        + Net
-        + RandomSource
-        + Files<File = File>
-        + AllocGlobal
-        + Clone
-        + Send
-        + Sync
-        + Drop
-        + 'static,
+    H: Wait + Net + RandomSource + Files<File = File> + AllocGlobal + Clone + Drop,
     S: AsStr,
     I: BufRead + Drop,
     O: Write + Drop,
@@ -144,16 +133,11 @@ pub fn run<
             Options::Serve {
                 root,
                 socket,
-                workers,
-                single,
+                workers: _,
                 uid,
                 gid,
             },
-        ) => {
-            let threads = Serving { workers, single };
-            let settings = Settings { uid, gid };
-            serve_run(rt, root, socket, threads, settings, output, faults)
-        }
+        ) => serve_run(rt, root, socket, Settings { uid, gid }, output, faults),
         Ok(Options::Pipe { root, uid, gid }) => {
             pipe_run(rt, root, Settings { uid, gid }, input, output, faults)
         }

@@ -5,11 +5,9 @@ use std::net::Net;
 use std::random::RandomSource;
 use std::rt::{Clock, Env, Files};
 use std::sync::Wait;
-use std::thread::Threads;
 
 /// The runtime of a test.
-pub trait Host: Threads
-    + Wait
+pub trait Host: Wait
     + Net
     + RandomSource
     + Files<File = File>
@@ -17,23 +15,8 @@ pub trait Host: Threads
     + Clock
     + AllocGlobal
     + Clone
-    + Send
-    + Sync
-    + Drop
-    + 'static {}
+    + Drop {}
 
 impl<
-    H: Threads
-        + Wait
-        + Net
-        + RandomSource
-        + Files<File = File>
-        + Env
-        + Clock
-        + AllocGlobal
-        + Clone
-        + Send
-        + Sync
-        + Drop
-        + 'static,
+    H: Wait + Net + RandomSource + Files<File = File> + Env + Clock + AllocGlobal + Clone + Drop,
 > Host for H {}

@@ -83,19 +83,21 @@ fn be_client(rt: &impl Host, root: &str, path: &str, turns: &[Turn]) -> u64 {
     right
 }
 
-/// Which threads serve: the words for it.
-type Serving = [&'static str; 2];
-
-const ONE_THREAD: Serving = ["--workers=3", "-s"];
-
-const FOUR_WORKERS: Serving = ["--workers", "4"];
-
 /// Runs `serve`: its status, and whether it wrote just that line.
-fn be_server(rt: &impl Host, root: &str, path: &str, threads: Serving, fault: &str) -> (u8, bool) {
-    let [first, second] = threads;
+fn be_server(rt: &impl Host, root: &str, path: &str, fault: &str) -> (u8, bool) {
     let words = [
-        "mirrord", "serve", first, second, "--socket", path, "--root", root, "--uid", "1000",
-        "--gid", "100",
+        "mirrord",
+        "serve",
+        "--workers",
+        "4",
+        "--socket",
+        path,
+        "--root",
+        root,
+        "--uid",
+        "1000",
+        "--gid",
+        "100",
     ];
     let mut faults = Vec::new(rt.alloc());
     let ended = run(
@@ -270,33 +272,34 @@ const WHOLE: &[Meeting] = &[Meeting {
     ],
 }];
 
-/// A server and a client meet as the row says.
-fn meet(rt: &impl Host, there: &str, threads: Serving, row: &Meeting) -> Result<(), Fail> {
-    let path = place_of(rt.alloc(), there, "socket")?;
-    let place = path.as_str();
-    let (served, right) = thread::join(
-        rt,
-        || be_server(rt, there, place, threads, row.fault),
-        || be_client(rt, there, place, row.turns),
-    );
-    judge(rt, there, row, served, right)
-}
-
 #[test]
 fn clients_over_a_socket(rt: HostRuntime) -> Result<(), Fail> {
     for row in MEETINGS {
-        let (one, four) = (new_folder(&rt, "alone")?, new_folder(&rt, "meeting")?);
-        meet(&rt, one.as_str(), ONE_THREAD, row)?;
-        meet(&rt, four.as_str(), FOUR_WORKERS, row)?;
+        let root = new_folder(&rt, "meeting")?;
+        let path = place_of(rt.alloc(), root.as_str(), "socket")?;
+        let (there, place) = (root.as_str(), path.as_str());
+        let (served, right) = thread::join(
+            &rt,
+            || be_server(&rt, there, place, row.fault),
+            || be_client(&rt, there, place, row.turns),
+        );
+        judge(&rt, there, row, served, right)?;
     }
     Ok(())
 }
 
-// With workers a request may overtake a FORGET before it, so that no reply tells of it.
 #[test]
 fn whole_session_over_a_socket(rt: HostRuntime) -> Result<(), Fail> {
     for row in WHOLE {
-        meet(&rt, new_folder(&rt, "whole")?.as_str(), ONE_THREAD, row)?;
+        let root = new_folder(&rt, "whole")?;
+        let path = place_of(rt.alloc(), root.as_str(), "socket")?;
+        let (there, place) = (root.as_str(), path.as_str());
+        let (served, right) = thread::join(
+            &rt,
+            || be_server(&rt, there, place, row.fault),
+            || be_client(&rt, there, place, row.turns),
+        );
+        judge(&rt, there, row, served, right)?;
     }
     Ok(())
 }
