@@ -25,20 +25,19 @@ struct Meets<H: Wait + Drop> {
     met: Arc<AtomicU32>,
 }
 
-impl<H: Wait + Drop> Meets<H> {
-    fn meet(&mut self) {
-        if self.has_called {
+/// Waits for the first call of another hold, unless it was waited for before.
+fn meet(has_called: &mut bool, came: &AtomicU32, met: &AtomicU32) {
+    if *has_called {
+        return;
+    }
+    *has_called = true;
+    came.fetch_add(1, Ordering::SeqCst);
+    for _look in 0..LOOKS {
+        if came.load(Ordering::SeqCst) > 1 {
+            met.fetch_add(1, Ordering::SeqCst);
             return;
         }
-        self.has_called = true;
-        self.came.fetch_add(1, Ordering::SeqCst);
-        for _look in 0..LOOKS {
-            if self.came.load(Ordering::SeqCst) > 1 {
-                self.met.fetch_add(1, Ordering::SeqCst);
-                return;
-            }
-            thread::yield_now();
-        }
+        thread::yield_now();
     }
 }
 
@@ -53,7 +52,7 @@ impl<H: Wait + Drop> Calls for Meets<H> {
     ghost counts = { λ old new call answer shown. shared_counts old.tree new.tree call answer shown };
 
     fn call(&mut self, call: Call<'_>) -> Answer {
-        self.meet();
+        meet(&mut self.has_called, &self.came, &self.met);
         self.tree.call(call)
     }
 }
