@@ -17,50 +17,66 @@ PROGRAM = os.path.join(os.path.dirname(TOOLS), "crates/mirrord/out/mirrord")
 WAIT = 20
 MEMORY, LINK = b"mirrord: out of memory\n", b"mirrord: the link failed\n"
 
-# A request of each sort; and the session whose calls and replies fail in turn in the tests.
-EACH_SORT = [
-    fuse.init(1),
-    fuse.lookup(2, fuse.ROOT, "a"),
-    fuse.getattr_of(3, 2),
-    fuse.open_file(4, 2, os.O_RDWR),
-    fuse.write(5, 2, 1, 3, b"de"),
-    fuse.read(6, 2, 1, 0, 10),
-    fuse.fsync(7, 2, 1),
-    fuse.flush(8, 2, 1),
-    fuse.mkdir(9, fuse.ROOT, "m"),
-    fuse.rename(10, fuse.ROOT, "a", 3, "b"),
-    fuse.create(11, 3, "n", os.O_RDWR),
-    fuse.unlink(12, 3, "b"),
-    fuse.read(13, 2, 1, 0, 10),
-    fuse.lookup(14, fuse.ROOT, "e"),
-    fuse.opendir(15, fuse.ROOT),
-    fuse.readdir(16, fuse.ROOT, 1, 0, 4096),
-    fuse.readdirplus(17, fuse.ROOT, 1, 0, 4096),
-    fuse.releasedir(18, fuse.ROOT, 1),
-    fuse.release(19, 2, 1),
-    fuse.unlink(20, fuse.ROOT, "e"),
-    fuse.rmdir(21, fuse.ROOT, "d"),
-    fuse.statfs(22, fuse.ROOT),
-    fuse.lookup(23, fuse.ROOT, "zz"),
-    fuse.destroy(24),
-]
-FIXED = [
-    fuse.init(1),
-    fuse.lookup(2, fuse.ROOT, "a"),
-    fuse.open_file(3, 2, os.O_RDWR),
-    fuse.write(4, 2, 1, 3, b"de"),
-    fuse.unlink(5, fuse.ROOT, "a"),
-    fuse.lookup(6, fuse.ROOT, "e"),
-    fuse.rename(7, fuse.ROOT, "e", fuse.ROOT, "b"),
-    fuse.mkdir(8, fuse.ROOT, "m"),
-    fuse.rmdir(9, fuse.ROOT, "m"),
-    fuse.opendir(10, fuse.ROOT),
-    fuse.readdirplus(11, fuse.ROOT, 1, 0, 4096),
-    fuse.release(12, 2, 1),
-    fuse.releasedir(13, fuse.ROOT, 1),
-    fuse.destroy(14),
-]
-SESSIONS = {"the session of each sort": EACH_SORT, "the fixed session": FIXED}
+
+def sessions(program):
+    """The sessions by their names: a request of each sort, and the one whose calls and replies fail in turn in the tests."""
+    handle = first_handle(program)
+    return {"the session of each sort": each_sort(handle), "the fixed session": fixed(handle)}
+
+
+def first_handle(program):
+    """The handle that this program gives the first folder that is opened in a session."""
+    lines = b"".join(frame.hex().encode() + b"\n" for frame in (fuse.init(1), fuse.opendir(2, fuse.ROOT)))
+    output = subprocess.run([program, "hex"], input=lines, stdout=subprocess.PIPE, timeout=WAIT, check=True).stdout
+    return fuse.handle_of(bytes.fromhex(output.split()[1].decode())[16:])
+
+
+def each_sort(folder):
+    return [
+        fuse.init(1),
+        fuse.lookup(2, fuse.ROOT, "a"),
+        fuse.getattr_of(3, 2),
+        fuse.open_file(4, 2, os.O_RDWR),
+        fuse.write(5, 2, 1, 3, b"de"),
+        fuse.read(6, 2, 1, 0, 10),
+        fuse.fsync(7, 2, 1),
+        fuse.flush(8, 2, 1),
+        fuse.mkdir(9, fuse.ROOT, "m"),
+        fuse.rename(10, fuse.ROOT, "a", 3, "b"),
+        fuse.create(11, 3, "n", os.O_RDWR),
+        fuse.unlink(12, 3, "b"),
+        fuse.read(13, 2, 1, 0, 10),
+        fuse.lookup(14, fuse.ROOT, "e"),
+        fuse.opendir(15, fuse.ROOT),
+        fuse.readdir(16, fuse.ROOT, folder, 0, 4096),
+        fuse.readdirplus(17, fuse.ROOT, folder, 0, 4096),
+        fuse.releasedir(18, fuse.ROOT, folder),
+        fuse.release(19, 2, 1),
+        fuse.unlink(20, fuse.ROOT, "e"),
+        fuse.rmdir(21, fuse.ROOT, "d"),
+        fuse.statfs(22, fuse.ROOT),
+        fuse.lookup(23, fuse.ROOT, "zz"),
+        fuse.destroy(24),
+    ]
+
+
+def fixed(folder):
+    return [
+        fuse.init(1),
+        fuse.lookup(2, fuse.ROOT, "a"),
+        fuse.open_file(3, 2, os.O_RDWR),
+        fuse.write(4, 2, 1, 3, b"de"),
+        fuse.unlink(5, fuse.ROOT, "a"),
+        fuse.lookup(6, fuse.ROOT, "e"),
+        fuse.rename(7, fuse.ROOT, "e", fuse.ROOT, "b"),
+        fuse.mkdir(8, fuse.ROOT, "m"),
+        fuse.rmdir(9, fuse.ROOT, "m"),
+        fuse.opendir(10, fuse.ROOT),
+        fuse.readdirplus(11, fuse.ROOT, folder, 0, 4096),
+        fuse.release(12, 2, 1),
+        fuse.releasedir(13, fuse.ROOT, folder),
+        fuse.destroy(14),
+    ]
 
 
 class Ran(NamedTuple):

@@ -1,8 +1,6 @@
 -- What came of one frame, by its class.
 use Rattle.std.proofs.Common.{ℕ, ◌≡◌, pos, Bool, true, false, List, [], Option, Some, None, inl, inr, refl, sym, ap, subst, ◌∙◌, arith}
 use Rattle.errno.specs.declared.TheConstants.{EIO, ENOMEM}
-use Rattle.backing.specs.Calls.{Asked}
-use Rattle.backing.specs.declared.call.Answer.{Answer as Told}
 use Rattle.wire.specs.Faults.{fault_errno}
 use Rattle.wire.specs.Requests.{IsRequest, opcode_in, opcode_of, unique_in}
 use Rattle.wire.specs.Written.{le, body_bytes, reply_bytes}
@@ -17,9 +15,11 @@ use Rattle.engine.specs.declared.classes.Class.{Class}
 use Rattle.engine.specs.declared.classes.Class.TheVariants.{Ignored, Unexpected, InitFrame, DestroyFrame, Asking}
 use Rattle.engine.specs.declared.ends.SessionEnd.{SessionEnd}
 use Rattle.engine.specs.declared.links.Sent.{Sent}
+use Rattle.engine.specs.declared.served.Served.{Served}
 use Rattle.engine.specs.Classes.{class}
 use Rattle.engine.specs.Reference.{AtReply, HandlesFrame, Turn, agrees, ending, init_reply_of, negotiated_by, sent_in}
 use Rattle.engine.specs.Replies.{done_reply, refusal, TakesMemory}
+use Rattle.engine.specs.Serving.{Behaviour}
 use Rattle.engine.specs.Tables.{Table}
 use Rattle.engine.specs.Walks.{HandlesInitFrame, IsHandled, HandlesDestroy, Stand, RepliesInit, RepliesInitBy, WorkedOff}
 use Rattle.engine.proofs.Turns.{answering, silent}
@@ -48,94 +48,94 @@ module _ {L : Type 0} (sends : L → List ℕ → Sent → L → Type 0) where
 
 -- ---- one frame
 
-module _ {W L C : Type 0} (table : Table W) (settings : Settings) (sends : L → List ℕ → Sent → L → Type 0) (gives : C → Asked → Told → C → Type 0) where
+module _ {W L C D : Type 0} (table : Table W) (settings : Settings) (sends : L → List ℕ → Sent → L → Type 0) (does : Behaviour C D) where
   -- a frame of this class
   met_as : (class' : Class) (frame : List ℕ) (turn : Turn) (old new : Stand W) → turn.frame ≡ frame → class' ≡ class old.agreed (opcode_in frame) → HandlesFrame table settings old.agreed class' old.world turn new.world new.agreed
       → HandlesFrame table settings old.agreed (class old.agreed (opcode_in turn.frame)) old.world turn new.world new.agreed
   met_as class' frame turn old new same is m = subst (λ (k : Class). HandlesFrame table settings old.agreed k old.world turn new.world new.agreed) (is ∙ ap (λ f. class old.agreed (opcode_in f)) (sym same)) m
 
-  pub ignored : (frame : List ℕ) (link : L) (calls : C) (s : Stand W) → Ignored ≡ class s.agreed (opcode_in frame) → IsHandled table settings sends gives frame link calls s None link calls s
-  ignored frame link calls s is = record {
+  pub ignored : (frame : List ℕ) (link : L) (served : Served C D) (s : Stand W) → Ignored ≡ class s.agreed (opcode_in frame) → IsHandled table settings sends does frame link served s None link served s
+  ignored frame link served s is = record {
     turn = silent frame;
     frame_is = refl;
     end_is = refl;
     meets = met_as Ignored frame (silent frame) s s refl is (record { no_offer = refl; no_call = refl; no_folder = refl; no_place = refl }, refl, record { lives = refl; agreed = refl });
-    makes = refl;
+    draws = record { makes = refl; keeps = refl };
     passes = refl;
   }
 
-  pub unexpected : (frame : List ℕ) (link link' : L) (calls : C) (s : Stand W) (sent : Sent) (end : Option SessionEnd) → Unexpected ≡ class s.agreed (opcode_in frame) → sends link (reply_bytes (refusal (unique_in frame) EIO)) sent link' → end ≡ ending (Some sent) false
-      → IsHandled table settings sends gives frame link calls s end link' calls s
-  unexpected frame link link' calls s sent end is offer ends =
+  pub unexpected : (frame : List ℕ) (link link' : L) (served : Served C D) (s : Stand W) (sent : Sent) (end : Option SessionEnd) → Unexpected ≡ class s.agreed (opcode_in frame) → sends link (reply_bytes (refusal (unique_in frame) EIO)) sent link' → end ≡ ending (Some sent) false
+      → IsHandled table settings sends does frame link served s end link' served s
+  unexpected frame link link' served s sent end is offer ends =
       let turn = answering frame None [] (unique_in frame) (Failed EIO) sent in
       record {
         turn = turn;
         frame_is = refl;
         end_is = ends;
         meets = met_as Unexpected frame turn s s refl is ((Failed EIO, refl, record { offers = refl; no_call = refl; folders_are = refl; same = refl }), record { lives = refl; agreed = refl });
-        makes = refl;
+        draws = record { makes = refl; keeps = refl };
         passes = offer;
       }
 
-  welcomed_by : (frame : List ℕ) (q : Request) (answer : Option Negotiated) (link link' : L) (calls : C) (old new : Stand W) (sent : Sent) (end : Option SessionEnd) → InitFrame ≡ class old.agreed (opcode_in frame) → new.world ≡ old.world → IsRequest frame q → answer ≡ negotiated_by q.operation
+  welcomed_by : (frame : List ℕ) (q : Request) (answer : Option Negotiated) (link link' : L) (served : Served C D) (old new : Stand W) (sent : Sent) (end : Option SessionEnd) → InitFrame ≡ class old.agreed (opcode_in frame) → new.world ≡ old.world → IsRequest frame q → answer ≡ negotiated_by q.operation
       → RepliesInitBy sends q.unique answer old.agreed link sent link' new.agreed → end ≡ ending (Some sent) false
-      → IsHandled table settings sends gives frame link calls old end link' calls new
-  welcomed_by frame q None link link' calls old new sent end is same request by w ends = absurd w
-  welcomed_by frame q (Some answer) link link' calls old new sent end is same request by w ends =
+      → IsHandled table settings sends does frame link served old end link' served new
+  welcomed_by frame q None link link' served old new sent end is same request by w ends = absurd w
+  welcomed_by frame q (Some answer) link link' served old new sent end is same request by w ends =
       let turn = answering frame w.told.refused [] q.unique w.told.said sent in
       record {
         turn = turn;
         frame_is = refl;
         end_is = ends;
         meets = met_as InitFrame frame turn old new refl is (refl, inl (q, request, rw (← by) ((w.told.said, w.told.said_is, record { offers = refl; no_call = refl; folders_are = refl; same = same }), w.agreed)));
-        makes = refl;
+        draws = record { makes = refl; keeps = refl };
         passes = w.told.offer;
       }
 
-  pub greeted : (frame : List ℕ) (link link' : L) (calls : C) (old new : Stand W) (sent : Sent) (end : Option SessionEnd) → InitFrame ≡ class old.agreed (opcode_in frame) → new.world ≡ old.world → HandlesInitFrame sends frame old.agreed link sent link' new.agreed → end ≡ ending (Some sent) false
-      → IsHandled table settings sends gives frame link calls old end link' calls new
-  greeted frame link link' calls old new sent end is same (inl w) ends = welcomed_by frame w.0 (negotiated_by w.0.operation) link link' calls old new sent end is same w.1 refl w.2 ends
-  greeted frame link link' calls old new sent end is same (inr (f, keeps)) ends =
+  pub greeted : (frame : List ℕ) (link link' : L) (served : Served C D) (old new : Stand W) (sent : Sent) (end : Option SessionEnd) → InitFrame ≡ class old.agreed (opcode_in frame) → new.world ≡ old.world → HandlesInitFrame sends frame old.agreed link sent link' new.agreed → end ≡ ending (Some sent) false
+      → IsHandled table settings sends does frame link served old end link' served new
+  greeted frame link link' served old new sent end is same (inl w) ends = welcomed_by frame w.0 (negotiated_by w.0.operation) link link' served old new sent end is same w.1 refl w.2 ends
+  greeted frame link link' served old new sent end is same (inr (f, keeps)) ends =
       let turn = answering frame None [] (unique_in frame) (Failed (fault_errno f.fault)) sent in
       record {
         turn = turn;
         frame_is = refl;
         end_is = ends;
         meets = met_as InitFrame frame turn old new refl is (refl, inr (f.fault, f.first, (Failed (fault_errno f.fault), refl, record { offers = refl; no_call = refl; folders_are = refl; same = same }), keeps));
-        makes = refl;
+        draws = record { makes = refl; keeps = refl };
         passes = f.offer;
       }
 
-  pub parted : (frame : List ℕ) (link link' : L) (calls : C) (s : Stand W) (sent : Sent) (destroyed : Bool) (end : Option SessionEnd) → DestroyFrame ≡ class s.agreed (opcode_in frame) → HandlesDestroy sends frame link sent destroyed link' → end ≡ ending (Some sent) destroyed
-      → IsHandled table settings sends gives frame link calls s end link' calls s
-  parted frame link link' calls s sent destroyed end is (inl w) ends =
+  pub parted : (frame : List ℕ) (link link' : L) (served : Served C D) (s : Stand W) (sent : Sent) (destroyed : Bool) (end : Option SessionEnd) → DestroyFrame ≡ class s.agreed (opcode_in frame) → HandlesDestroy sends frame link sent destroyed link' → end ≡ ending (Some sent) destroyed
+      → IsHandled table settings sends does frame link served s end link' served s
+  parted frame link link' served s sent destroyed end is (inl w) ends =
       let turn = record (answering frame None [] w.0.unique Done sent) { destroyed = true } in
       record {
         turn = turn;
         frame_is = refl;
         end_is = ends ∙ ap (λ d. ending (Some sent) d) w.3;
         meets = met_as DestroyFrame frame turn s s refl is (refl, inl (w.0, w.1, (Done, refl, record { offers = refl; no_call = refl; folders_are = refl; same = refl }), refl));
-        makes = refl;
+        draws = record { makes = refl; keeps = refl };
         passes = w.2;
       }
-  parted frame link link' calls s sent destroyed end is (inr (f, on)) ends =
+  parted frame link link' served s sent destroyed end is (inr (f, on)) ends =
       let turn = answering frame None [] (unique_in frame) (Failed (fault_errno f.fault)) sent in
       record {
         turn = turn;
         frame_is = refl;
         end_is = ends ∙ ap (λ d. ending (Some sent) d) on;
         meets = met_as DestroyFrame frame turn s s refl is (refl, inr (f.fault, f.first, (Failed (fault_errno f.fault), refl, record { offers = refl; no_call = refl; folders_are = refl; same = refl }), refl));
-        makes = refl;
+        draws = record { makes = refl; keeps = refl };
         passes = f.offer;
       }
 
-  pub asked : (frame : List ℕ) (link link' : L) (calls calls' : C) (old new : Stand W) (sent : Option Sent) (end : Option SessionEnd) → Asking ≡ class old.agreed (opcode_in frame) → new.agreed ≡ old.agreed → WorkedOff table settings sends gives frame link calls old.world sent link' calls' new.world → end ≡ ending sent false
-      → IsHandled table settings sends gives frame link calls old end link' calls' new
-  asked frame link link' calls calls' old new sent end is same w ends = record {
+  pub asked : (frame : List ℕ) (link link' : L) (served served' : Served C D) (old new : Stand W) (sent : Option Sent) (end : Option SessionEnd) → Asking ≡ class old.agreed (opcode_in frame) → new.agreed ≡ old.agreed → WorkedOff table settings sends does frame link served old.world sent link' served' new.world → end ≡ ending sent false
+      → IsHandled table settings sends does frame link served old end link' served' new
+  asked frame link link' served served' old new sent end is same w ends = record {
     turn = w.turn;
     frame_is = w.frame_is;
     end_is = ends ∙ ap (λ x. ending x false) (sym w.sent_is) ∙ ap (λ d. ending (sent_in w.turn.offer) d) (sym w.lives);
     meets = met_as Asking frame w.turn old new w.frame_is is (w.asks, record { lives = w.lives; agreed = same });
-    makes = w.makes;
+    draws = w.draws;
     passes = w.passes;
   }

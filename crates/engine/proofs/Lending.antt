@@ -12,7 +12,9 @@ use Rattle.ops.specs.Pages.{Paged}
 use Rattle.ops.specs.declared.intents.FolderUse.TheVariants.{ReadEntries}
 use Rattle.engine.specs.declared.entries.Lends.{Lends}
 use Rattle.engine.specs.declared.entries.Lends.TheVariants as lends
-use Rattle.engine.specs.Folders.{FolderCall, Lend, IsLentPage, IsUsed, LendsPage, PagesOf, Uses, on_node}
+use Rattle.handles.specs.Calls.{FolderCall, Lend}
+use Rattle.engine.specs.Chain.{Chain}
+use Rattle.engine.specs.Folders.{ByCalls, IsLentPage, IsUsed, LendsPage, PagesOf, Uses, on_node}
 
 on : (node : ℕ) (folder : OpenFolder) → folder.number ≡ node → on_node node (Some folder) ≡ Some folder
 on node folder e = ap (λ (b : Bool). if b then Some folder else None) (eq-eqb folder.number node e)
@@ -20,48 +22,58 @@ on node folder e = ap (λ (b : Bool). if b then Some folder else None) (eq-eqb f
 off : (node : ℕ) (folder : OpenFolder) → folder.number ≢ node → on_node node (Some folder) ≡ None
 off node folder e = ap (λ (b : Bool). if b then Some folder else None) (ne_eqb folder.number node e)
 
--- nothing is lent
-pub unlent : (node fh : ℕ) (usage : FolderUse) → (folders : List FolderCall) × IsUsed node fh usage folders (Failed EBADF)
-unlent node fh usage = (Lend fh None ∷ [], record { lent = None; is_lent = tt; more = []; folders_are = refl; uses = (refl, refl) })
+module _ {D : Type 0} (keeps : D → FolderCall → D → Type 0) (node fh : ℕ) where
+  -- nothing is lent
+  pub unlent : (usage : FolderUse) (old new : D) → keeps old (Lend fh None) new → ByCalls keeps old new (λ folders. IsUsed node fh usage folders (Failed EBADF))
+  unlent usage old new step = record {
+    folders = Lend fh None ∷ [];
+    chain = (new, step, refl);
+    so = record { lent = None; is_lent = tt; more = []; folders_are = refl; uses = (refl, refl) };
+  }
 
--- the folder of another node is lent
-pub elsewhere : (node fh : ℕ) (usage : FolderUse) (folder : OpenFolder) → IsLent fh folder → folder.number ≢ node → (folders : List FolderCall) × IsUsed node fh usage folders (Failed EBADF)
-elsewhere node fh usage folder lent other = (
-  Lend fh (Some folder) ∷ [],
-  record {
-    lent = Some folder;
-    is_lent = lent;
-    more = [];
-    folders_are = refl;
-    uses = subst (λ (f : Option OpenFolder). Uses f usage [] (Failed EBADF)) (sym (off node folder other)) (refl, refl);
-  },
-)
+  -- the folder of another node is lent
+  pub elsewhere : (usage : FolderUse) (folder : OpenFolder) (old new : D) → keeps old (Lend fh (Some folder)) new → IsLent fh folder → folder.number ≢ node → ByCalls keeps old new (λ folders. IsUsed node fh usage folders (Failed EBADF))
+  elsewhere usage folder old new step lent other = record {
+    folders = Lend fh (Some folder) ∷ [];
+    chain = (new, step, refl);
+    so = record {
+      lent = Some folder;
+      is_lent = lent;
+      more = [];
+      folders_are = refl;
+      uses = subst (λ (f : Option OpenFolder). Uses f usage [] (Failed EBADF)) (sym (off node folder other)) (refl, refl);
+    };
+  }
 
--- the folder of the node is lent
-pub here : (node fh : ℕ) (usage : FolderUse) (folder : OpenFolder) (more : List FolderCall) (meant : ReplyBody) → IsLent fh folder → folder.number ≡ node → Uses (Some folder) usage more meant → (folders : List FolderCall) × IsUsed node fh usage folders meant
-here node fh usage folder more meant lent same uses = (
-  Lend fh (Some folder) ∷ more,
-  record {
-    lent = Some folder;
-    is_lent = lent;
-    more = more;
-    folders_are = refl;
-    uses = subst (λ (f : Option OpenFolder). Uses f usage more meant) (sym (on node folder same)) uses;
-  },
-)
+  -- the folder of the node is lent
+  pub here : (usage : FolderUse) (folder : OpenFolder) (more : List FolderCall) (meant : ReplyBody) (old mid new : D) → keeps old (Lend fh (Some folder)) mid → Chain keeps mid more new → IsLent fh folder → folder.number ≡ node → Uses (Some folder) usage more meant
+      → ByCalls keeps old new (λ folders. IsUsed node fh usage folders meant)
+  here usage folder more meant old mid new step then' lent same uses = record {
+    folders = Lend fh (Some folder) ∷ more;
+    chain = (mid, step, then');
+    so = record {
+      lent = Some folder;
+      is_lent = lent;
+      more = more;
+      folders_are = refl;
+      uses = subst (λ (f : Option OpenFolder). Uses f usage more meant) (sym (on node folder same)) uses;
+    };
+  }
 
--- ---- a page of the folder of the node
+  -- ---- a page of the folder of the node
 
-pub page_lent : (node fh offset size : ℕ) (folder : OpenFolder) (page : Paged) → IsLent fh folder → folder.number ≡ node → IsPaged true folder.entries offset size (Some page.entries) → page.from ≡ offset
-    → (folders : List FolderCall) × LendsPage node fh offset size folders page
-page_lent node fh offset size folder page lent same paged from = (
-  Lend fh (Some folder) ∷ [],
-  record { folder = folder; is_lent = lent; on_node = same; paged = paged; from = from; folders_are = refl },
-)
+  pub page_lent : (offset size : ℕ) (folder : OpenFolder) (page : Paged) (old new : D) → keeps old (Lend fh (Some folder)) new → IsLent fh folder → folder.number ≡ node → IsPaged true folder.entries offset size (Some page.entries) → page.from ≡ offset
+      → ByCalls keeps old new (λ folders. LendsPage node fh offset size folders page)
+  page_lent offset size folder page old new step lent same paged from = record {
+    folders = Lend fh (Some folder) ∷ [];
+    chain = (new, step, refl);
+    so = record { folder = folder; is_lent = lent; on_node = same; paged = paged; from = from; folders_are = refl };
+  }
 
-pub pages_lent : (node fh offset size : ℕ) (folder : OpenFolder) (what : Lends) → IsLent fh folder → folder.number ≡ node → PagesOf folder.entries offset size what → IsLentPage node fh offset size what
-pages_lent node fh offset size folder (lends.Page page) lent same (paged, from) = page_lent node fh offset size folder page lent same paged from
-pages_lent node fh offset size folder (lends.Nothing meant) lent same (small, is) = here node fh (ReadEntries offset size) folder [] meant lent same (refl, small, is)
+  pub pages_lent : (offset size : ℕ) (folder : OpenFolder) (what : Lends) (old new : D) → keeps old (Lend fh (Some folder)) new → IsLent fh folder → folder.number ≡ node → PagesOf folder.entries offset size what
+      → ByCalls keeps old new (λ folders. IsLentPage node fh offset size folders what)
+  pages_lent offset size folder (lends.Page page) old new step lent same (paged, from) = page_lent offset size folder page old new step lent same paged from
+  pages_lent offset size folder (lends.Nothing meant) old new step lent same (small, is) = here (ReadEntries offset size) folder [] meant old new new step refl lent same (refl, small, is)
 
 -- ---- results
 

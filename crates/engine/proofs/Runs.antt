@@ -6,7 +6,9 @@ use Rattle.backing.specs.declared.call.Answer.{Answer}
 use Rattle.engine.specs.Chain.{Chain}
 use Rattle.engine.specs.Playing.{Played, Playing}
 use Rattle.ops.specs.Scripts.{Plan, Ask, Over, End, Made, Follows, next_of, after}
-use Rattle.engine.specs.Serving.{Gives}
+use Rattle.engine.specs.Serving.{Behaviour, Draws, Gives}
+use Rattle.engine.specs.declared.served.Served.{Served}
+use Rattle.handles.specs.Calls.{FolderCall}
 
 pub chain_append : {S E : Type 0} (step : S → E → S → Type 0) (old mid new : S) (es fs : List E) → Chain step old es mid → Chain step mid fs new → Chain step old (es ++ fs) new
 chain_append {S = S} {E = E} step old mid new [] fs a b = subst (λ (s : S). Chain step s fs new) a b
@@ -14,6 +16,12 @@ chain_append step old mid new (e ∷ es) fs a b = (a.0, a.1, chain_append step a
 
 pub chain_one : {S E : Type 0} (step : S → E → S → Type 0) (old new : S) (e : E) → step old e new → Chain step old (e ∷ []) new
 chain_one step old new e a = (new, a, refl)
+
+pub draws_on : {C D : Type 0} (does : Behaviour C D) (old mid new : Served C D) (made more : List Made) (folders rest : List FolderCall) → Draws does old made folders mid → Draws does mid more rest new → Draws does old (made ++ more) (folders ++ rest) new
+draws_on does old mid new made more folders rest a b = record {
+  makes = chain_append (Gives does.gives) old.calls mid.calls new.calls made more a.makes b.makes;
+  keeps = chain_append does.keeps old.dirs mid.dirs new.dirs folders rest a.keeps b.keeps;
+}
 
 -- a plan that asks goes on after the answer
 asks_on : (now : Plan) (call : Asked) (answer : Answer) → next_of now ≡ Some call → (rest : List Made) (end : End) → Follows (after now answer) rest end → Follows now (record { call = call; answer = answer } ∷ rest) end

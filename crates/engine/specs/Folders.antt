@@ -1,7 +1,8 @@
--- The open folders of a session: their calls with their answers, and what requests make of them.
+-- What requests make of the open folders.
 use Rattle.std.specs.Prelude.{ℕ, ◌≡◌, ◌==◌, Bool, true, false, if◌then◌else◌, List, [], ◌∷◌, Option, Some, None, Ok, Err}
 use Rattle.errno.specs.declared.TheConstants.{EBADF, EINVAL}
 use Rattle.backing.specs.declared.call.Child.{Child}
+use Rattle.handles.specs.Calls.{FolderCall, Put, Lend, Retire, IsLentFor}
 use Rattle.handles.specs.Listings.{IsLent, IsMade, OpenFolder}
 use Rattle.handles.specs.declared.listing.ListingFault.TheVariants.{Memory}
 use Rattle.ops.specs.Folders.{IsPaged, names_reply}
@@ -10,26 +11,19 @@ use Rattle.ops.specs.declared.findings.ScriptResult.{ScriptResult}
 use Rattle.ops.specs.declared.findings.ScriptResult.TheVariants as findings
 use Rattle.ops.specs.declared.intents.FolderUse.{FolderUse}
 use Rattle.ops.specs.declared.intents.FolderUse.TheVariants.{ReadNames, ReadEntries, GiveUp, Sync}
+use Rattle.engine.specs.Chain.{Chain}
 use Rattle.engine.specs.declared.entries.Lends.{Lends}
 use Rattle.engine.specs.declared.entries.Lends.TheVariants as lends
 use Rattle.wire.specs.declared.reply.ReplyBody.{ReplyBody}
 use Rattle.wire.specs.declared.reply.ReplyBody.TheVariants.{Failed, Done}
 
--- A call of the open folders, with its answer, which is an input of the session.
-pub data FolderCall : Type 0 where
-  -- a listing is put, under a handle unless there is no room for it
-  Put : (folder : OpenFolder) → (fh : Option ℕ) → FolderCall
-  -- the folder of a handle is lent, if it is there
-  Lend : (fh : ℕ) → (lent : Option OpenFolder) → FolderCall
-  -- a handle is given up, if it was there
-  Retire : (fh : ℕ) → (gone : Bool) → FolderCall
+-- these calls, of which that holds, made each once and in order
+pub record ByCalls {D : Type 0} (keeps : D → FolderCall → D → Type 0) (old new : D) (holds : List FolderCall → Type 0) : Type 0 where
+  pub folders : List FolderCall
+  pub chain : Chain keeps old folders new
+  pub so : holds folders
 
 -- ---- requests that use an open folder
-
--- what is lent bears the handle, and is a listing
-abbrev pub IsLentFor : ℕ → Option OpenFolder → Type 0
-IsLentFor fh None = Unit {0}
-IsLentFor fh (Some folder) = IsLent fh folder
 
 -- the folder, if it is one of the node
 abbrev pub on_node : ℕ → Option OpenFolder → Option OpenFolder
@@ -76,9 +70,9 @@ abbrev pub PagesOf : List Child → (offset size : ℕ) → Lends → Type 0
 PagesOf entries offset size (lends.Page page) = IsPaged true entries offset size (Some page.entries) × (page.from ≡ offset)
 PagesOf entries offset size (lends.Nothing meant) = IsPaged true entries offset size None × (meant ≡ Failed EINVAL)
 
-abbrev pub IsLentPage : (node fh offset size : ℕ) → Lends → Type 0
-IsLentPage node fh offset size (lends.Page page) = (folders : List FolderCall) × LendsPage node fh offset size folders page
-IsLentPage node fh offset size (lends.Nothing meant) = (folders : List FolderCall) × IsUsed node fh (ReadEntries offset size) folders meant
+abbrev pub IsLentPage : (node fh offset size : ℕ) → List FolderCall → Lends → Type 0
+IsLentPage node fh offset size folders (lends.Page page) = LendsPage node fh offset size folders page
+IsLentPage node fh offset size folders (lends.Nothing meant) = IsUsed node fh (ReadEntries offset size) folders meant
 
 -- ---- OPENDIR
 

@@ -30,7 +30,8 @@ use Rattle.engine.specs.declared.ends.SessionEnd.{SessionEnd}
 use Rattle.engine.specs.declared.ends.SessionEnd.TheVariants as ends
 use Rattle.engine.specs.Chain.{Chain}
 use Rattle.engine.specs.Classes.{class, is_unanswered}
-use Rattle.engine.specs.Folders.{FolderCall, IsUsed, GivesUp, LacksListing, LendsPage, PutsListing}
+use Rattle.handles.specs.Calls.{FolderCall}
+use Rattle.engine.specs.Folders.{IsUsed, GivesUp, LacksListing, LendsPage, PutsListing}
 use Rattle.ops.specs.declared.findings.ScriptResult.{ScriptResult}
 use Rattle.ops.specs.declared.findings.ScriptResult.TheVariants as findings
 use Rattle.ops.specs.declared.intents.FolderUse.{FolderUse}

@@ -1,4 +1,4 @@
--- What a server does: a session as it ought to go, over a link and a directory.
+-- What a server does: a session as it ought to go, over a link, on a directory and open folders.
 use Rattle.std.specs.Prelude.{ℕ, ◌≡◌, ◌⊎◌, List, [], ◌∷◌, ◌++◌, map, Option, Some, None, option_to_list}
 use Rattle.paths.specs.Prefixes.{Names}
 use Rattle.backing.specs.Calls.{Asked, AskRemove}
@@ -8,6 +8,8 @@ use Rattle.wire.specs.Stream.{IsPartial}
 use Rattle.wire.specs.Written.{reply_bytes}
 use Rattle.engine.specs.declared.ends.SessionEnd.{SessionEnd}
 use Rattle.engine.specs.declared.links.Sent.{Sent}
+use Rattle.engine.specs.declared.served.Served.{Served}
+use Rattle.handles.specs.Calls.{FolderCall}
 use Rattle.ops.specs.declared.replies.Settings.{Settings}
 use Rattle.engine.specs.Chain.{Chain}
 use Rattle.engine.specs.Links.{Heard, Piece, Ended, Broke, Event, In, Out, Happens}
@@ -31,6 +33,11 @@ turns_of (Works turn ∷ steps) = turn ∷ turns_of steps
 abbrev pub made_of : List Turn → List Made
 made_of [] = []
 made_of (turn ∷ turns) = turn.made ++ made_of turns
+
+-- the calls of the open folders, with their answers
+abbrev pub folders_of : List Turn → List FolderCall
+folders_of [] = []
+folders_of (turn ∷ turns) = turn.folders ++ folders_of turns
 
 -- the replies, with what became of each
 abbrev pub sent_of : Option Offer → List Event
@@ -91,14 +98,29 @@ Gives gives old made new = gives old made.call made.answer new
 abbrev pub Makes : {C : Type 0} → (C → Asked → Answer → C → Type 0) → C → List Made → C → Type 0
 Makes gives = Chain (Gives gives)
 
+-- ---- calls of all that a session serves on
+
+-- what a directory and what open folders may answer to each call, and what they are then
+pub record Behaviour (C D : Type 0) : Type 1 where
+  pub gives : C → Asked → Answer → C → Type 0
+  pub keeps : D → FolderCall → D → Type 0
+
+abbrev pub does : {C D : Type 0} → (C → Asked → Answer → C → Type 0) → (D → FolderCall → D → Type 0) → Behaviour C D
+does gives keeps = record { gives = gives; keeps = keeps }
+
+-- these calls of both, of each in order and each once
+pub record Draws {C D : Type 0} (does : Behaviour C D) (old : Served C D) (made : List Made) (folders : List FolderCall) (new : Served C D) : Type 0 where
+  pub makes : Makes does.gives old.calls made new.calls
+  pub keeps : Chain does.keeps old.dirs folders new.dirs
+
 -- ---- what serving promises
 
 -- The client was served as it ought to be: the bytes are those that the link gave; its replies were offered, and the calls made, each once
 -- and in order.
-pub record IsClientRun {W L C : Type 0} (table : Table W) (settings : Settings) (receives : L → Heard → L → Type 0) (sends : L → List ℕ → Sent → L → Type 0) (gives : C → Asked → Answer → C → Type 0) (link : L) (calls : C) (world : W) (link' : L) (calls' : C) (world' : W) (end : SessionEnd) : Type 0 where
+pub record IsClientRun {W L C D : Type 0} (table : Table W) (settings : Settings) (receives : L → Heard → L → Type 0) (sends : L → List ℕ → Sent → L → Type 0) (does : Behaviour C D) (link : L) (served : Served C D) (world : W) (link' : L) (served' : Served C D) (world' : W) (end : SessionEnd) : Type 0 where
   pub steps : List Step
   pub passes : Chain (Happens receives sends) link (events_of steps) link'
-  pub makes : Makes gives calls (made_of (turns_of steps)) calls'
+  pub draws : Draws does served (made_of (turns_of steps)) (folders_of (turns_of steps)) served'
   pub kept : List ℕ
   pub paces : Paces [] steps kept
   pub stop : Option Stop
@@ -125,7 +147,8 @@ pub record RemovesLeft {W C : Type 0} (table : Table W) (gives : C → Asked →
   pub makes : Makes gives calls removals calls'
 
 -- a client was served, and then what it left hidden was removed
-pub record IsSessionRun {W L C : Type 0} (table : Table W) (settings : Settings) (receives : L → Heard → L → Type 0) (sends : L → List ℕ → Sent → L → Type 0) (gives : C → Asked → Answer → C → Type 0) (link : L) (calls : C) (world : W) (link' : L) (calls' : C) (world' : W) (end : SessionEnd) : Type 0 where
-  pub left : C
-  pub client : IsClientRun table settings receives sends gives link calls world link' left world' end
-  pub removal : RemovesLeft table gives left world' calls'
+pub record IsSessionRun {W L C D : Type 0} (table : Table W) (settings : Settings) (receives : L → Heard → L → Type 0) (sends : L → List ℕ → Sent → L → Type 0) (does : Behaviour C D) (link : L) (served : Served C D) (world : W) (link' : L) (served' : Served C D) (world' : W) (end : SessionEnd) : Type 0 where
+  pub left : Served C D
+  pub client : IsClientRun table settings receives sends does link served world link' left world' end
+  pub removal : RemovesLeft table does.gives left.calls world' served'.calls
+  pub dirs_are : served'.dirs ≡ left.dirs

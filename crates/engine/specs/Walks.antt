@@ -26,7 +26,8 @@ use Rattle.engine.specs.declared.links.Sent.{Sent}
 use Rattle.ops.specs.declared.replies.Settings.{Settings}
 use Rattle.engine.specs.Chain.{Chain}
 use Rattle.engine.specs.Classes.{class}
-use Rattle.engine.specs.Folders.{FolderCall, GivesUp, IsUsed, LendsPage}
+use Rattle.handles.specs.Calls.{FolderCall}
+use Rattle.engine.specs.Folders.{ByCalls, GivesUp, IsUsed, LendsPage}
 use Rattle.ops.specs.declared.intents.FolderUse.{FolderUse}
 use Rattle.ops.specs.declared.intents.FolderUse.TheVariants.{ReadEntries}
 use Rattle.ops.specs.Pages.{Paged, page_want}
@@ -35,13 +36,14 @@ use Rattle.engine.specs.Reference.{At, Place, Turn, Offer, IsSaid, IsTold, IsTur
 use Rattle.engine.specs.Replies.{done_reply, refusal}
 use Rattle.ops.specs.Replies.{reply_to}
 use Rattle.ops.specs.Scripts.{End, Made}
-use Rattle.engine.specs.Serving.{Step, Hears, Works, Makes}
+use Rattle.engine.specs.Serving.{Behaviour, Draws, Step, Hears, Works, Makes}
+use Rattle.engine.specs.declared.served.Served.{Served}
 use Rattle.engine.specs.Tables.{Table}
 
--- the link, the directory, the table and the bytes kept
-pub record Side (W L C : Type 0) : Type 0 where
+-- the link, what is served on, the table and the bytes kept
+pub record Side (W L C D : Type 0) : Type 0 where
   pub link : L
-  pub calls : C
+  pub served : Served C D
   pub at : At W
   pub kept : List ℕ
 
@@ -56,37 +58,37 @@ stand world agreed = record { world = world; agreed = agreed }
 abbrev pub standing : {W : Type 0} → Stand W → Option SessionEnd → At W
 standing s end = record { world = s.world; agreed = s.agreed; end = end }
 
-abbrev pub side : {W L C : Type 0} → L → C → Stand W → List ℕ → Side W L C
-side link calls s kept = record { link = link; calls = calls; at = standing s None; kept = kept }
+abbrev pub side : {W L C D : Type 0} → L → Served C D → Stand W → List ℕ → Side W L C D
+side link served s kept = record { link = link; served = served; at = standing s None; kept = kept }
 
 -- what is offered, if anything
 abbrev pub Passes : {L : Type 0} → (L → List ℕ → Sent → L → Type 0) → L → Option Offer → L → Type 0
 Passes sends old None new = new ≡ old
 Passes sends old (Some offer) new = sends old (reply_bytes offer.reply) offer.sent new
 
-module _ {W L C : Type 0} (table : Table W) (settings : Settings) (receives : L → Heard → L → Type 0) (sends : L → List ℕ → Sent → L → Type 0) (gives : C → Asked → Answer → C → Type 0) where
+module _ {W L C D : Type 0} (table : Table W) (settings : Settings) (receives : L → Heard → L → Type 0) (sends : L → List ℕ → Sent → L → Type 0) (does : Behaviour C D) where
   -- a piece is heard
-  pub record HearsPiece (old : Side W L C) (bytes : List ℕ) (new : Side W L C) : Type 0 where
+  pub record HearsPiece (old : Side W L C D) (bytes : List ℕ) (new : Side W L C D) : Type 0 where
     pub goes : old.at.end ≡ None
     pub partial : IsPartial old.kept
     pub brought : receives old.link (Piece bytes) new.link
     pub rest : new ≡ record old { link = new.link; kept = old.kept ++ bytes }
 
   -- a frame is worked off
-  pub record WorksFrame (old : Side W L C) (turn : Turn) (new : Side W L C) : Type 0 where
+  pub record WorksFrame (old : Side W L C D) (turn : Turn) (new : Side W L C D) : Type 0 where
     pub is_turn : IsTurn table settings old.at turn new.at
     pub front : old.kept ≡ turn.frame ++ new.kept
     pub framed : IsFramed turn.frame
-    pub makes : Makes gives old.calls turn.made new.calls
+    pub draws : Draws does old.served turn.made turn.folders new.served
     pub passes : Passes sends old.link turn.offer new.link
 
-  abbrev pub IsStep : Side W L C → Step → Side W L C → Type 0
+  abbrev pub IsStep : Side W L C D → Step → Side W L C D → Type 0
   IsStep old (Hears (Piece bytes)) new = HearsPiece old bytes new
   IsStep old (Hears Ended) new = ⊥
   IsStep old (Hears Broke) new = ⊥
   IsStep old (Works turn) new = WorksFrame old turn new
 
-  pub record Walks (old new : Side W L C) : Type 0 where
+  pub record Walks (old new : Side W L C D) : Type 0 where
     pub steps : List Step
     pub chain : Chain IsStep old steps new
 
@@ -102,9 +104,9 @@ Stops None (Some ends.Memory) kept = Unit {0}
 Stops None (Some ends.NoWorkers) kept = ⊥
 
 -- the frames that stand whole are worked off
-pub record WorksOffFrames {W L C : Type 0} (table : Table W) (settings : Settings) (receives : L → Heard → L → Type 0) (sends : L → List ℕ → Sent → L → Type 0) (gives : C → Asked → Answer → C → Type 0) (old : Side W L C) (link : L) (calls : C) (s : Stand W) (kept : List ℕ) (end : Option SessionEnd) : Type 0 where
+pub record WorksOffFrames {W L C D : Type 0} (table : Table W) (settings : Settings) (receives : L → Heard → L → Type 0) (sends : L → List ℕ → Sent → L → Type 0) (does : Behaviour C D) (old : Side W L C D) (link : L) (served : Served C D) (s : Stand W) (kept : List ℕ) (end : Option SessionEnd) : Type 0 where
   pub reached : Option SessionEnd
-  pub walks : Walks table settings receives sends gives old (record { link = link; calls = calls; at = standing s reached; kept = kept })
+  pub walks : Walks table settings receives sends does old (record { link = link; served = served; at = standing s reached; kept = kept })
   pub stops : Stops reached end kept
 
 -- an OPENDIR that found these names
@@ -133,10 +135,9 @@ pub record IsAnswered {L : Type 0} (sends : L → List ℕ → Sent → L → Ty
   pub offer : sends old (reply_bytes (record { unique = meant.unique; body = said })) sent new
 
 -- a request that uses an open folder
-pub record IsUsedBy {L : Type 0} (sends : L → List ℕ → Sent → L → Type 0) (q : Request) (fh : ℕ) (usage : FolderUse) (old : L) (sent : Sent) (new : L) : Type 0 where
-  pub folders : List FolderCall
+pub record IsUsedBy {L D : Type 0} (sends : L → List ℕ → Sent → L → Type 0) (keeps : D → FolderCall → D → Type 0) (q : Request) (fh : ℕ) (usage : FolderUse) (old : L) (dirs : D) (sent : Sent) (new : L) (dirs' : D) : Type 0 where
   pub meant : ReplyBody
-  pub used : IsUsed q.node fh usage folders meant
+  pub uses : ByCalls keeps dirs dirs' (λ folders. IsUsed q.node fh usage folders meant)
   pub told : IsAnswered sends (record { unique = q.unique; body = meant }) old sent new
 
 -- an INIT that is answered, and whether a version is agreed on then
@@ -175,8 +176,8 @@ pub record Settled {W L : Type 0} (table : Table W) (sends : L → List ℕ → 
   pub taken_is : taken ≡ taken_of refused (Some (record { reply = record { unique = unique; body = said }; sent = sent }))
   pub settles : table.settles finished answer put taken world'
 
--- a request whose script has made these calls and come to an end is finished, answered and settled
-pub record Concludes {W L : Type 0} (table : Table W) (settings : Settings) (sends : L → List ℕ → Sent → L → Type 0) (q : Request) (page : Paged) (ticket : Claim) (made : List Made) (end : End) (link : L) (begun : W) (sent : Sent) (link' : L) (world' : W) : Type 0 where
+-- a request whose script has made these calls and come to an end is finished, answered and settled, with these calls of the open folders
+pub record Concludes {W L : Type 0} (table : Table W) (settings : Settings) (sends : L → List ℕ → Sent → L → Type 0) (q : Request) (page : Paged) (ticket : Claim) (made : List Made) (end : End) (folders : List FolderCall) (link : L) (begun : W) (sent : Sent) (link' : L) (world' : W) : Type 0 where
   pub refused : Option Place
   pub script : Plays refused q.operation ticket made end
   pub answer : Given
@@ -191,57 +192,63 @@ pub record Concludes {W L : Type 0} (table : Table W) (settings : Settings) (sen
   pub settles : table.settles finished answer put (taken_of refused (Some (record { reply = record { unique = q.unique; body = said }; sent = sent }))) world'
   pub last : List FolderCall
   pub gives_up : GivesUp (taken_of refused (Some (record { reply = record { unique = q.unique; body = said }; sent = sent }))) put last
+  pub folders_are : folders ≡ first ++ last
 
-module _ {W L C : Type 0} (table : Table W) (settings : Settings) (sends : L → List ℕ → Sent → L → Type 0) (gives : C → Asked → Answer → C → Type 0) where
+module _ {W L C D : Type 0} (table : Table W) (settings : Settings) (sends : L → List ℕ → Sent → L → Type 0) (does : Behaviour C D) where
   -- what came of one frame
-  pub record IsHandled (frame : List ℕ) (link : L) (calls : C) (old : Stand W) (end : Option SessionEnd) (link' : L) (calls' : C) (new : Stand W) : Type 0 where
+  pub record IsHandled (frame : List ℕ) (link : L) (served : Served C D) (old : Stand W) (end : Option SessionEnd) (link' : L) (served' : Served C D) (new : Stand W) : Type 0 where
     pub turn : Turn
     pub frame_is : turn.frame ≡ frame
     pub end_is : end ≡ ending (sent_in turn.offer) turn.destroyed
     pub meets : HandlesFrame table settings old.agreed (class old.agreed (opcode_in turn.frame)) old.world turn new.world new.agreed
-    pub makes : Makes gives calls turn.made calls'
+    pub draws : Draws does served turn.made turn.folders served'
     pub passes : Passes sends link turn.offer link'
 
   -- what came of a request of a session that has agreed on a version
-  pub record WorkedOff (frame : List ℕ) (link : L) (calls : C) (world : W) (sent : Option Sent) (link' : L) (calls' : C) (world' : W) : Type 0 where
+  pub record WorkedOff (frame : List ℕ) (link : L) (served : Served C D) (world : W) (sent : Option Sent) (link' : L) (served' : Served C D) (world' : W) : Type 0 where
     pub turn : Turn
     pub frame_is : turn.frame ≡ frame
     pub sent_is : sent_in turn.offer ≡ sent
     pub lives : turn.destroyed ≡ false
     pub asks : Asks table settings world turn world'
-    pub makes : Makes gives calls turn.made calls'
+    pub draws : Draws does served turn.made turn.folders served'
     pub passes : Passes sends link turn.offer link'
 
   -- a request that has begun is played, and concluded
-  pub record RunsScript (q : Request) (page : Paged) (ticket : Claim) (link : L) (calls : C) (begun : W) (sent : Sent) (link' : L) (calls' : C) (world' : W) : Type 0 where
+  pub record RunsScript (q : Request) (page : Paged) (ticket : Claim) (link : L) (served : Served C D) (begun : W) (sent : Sent) (link' : L) (served' : Served C D) (world' : W) : Type 0 where
     pub made : List Made
     pub end : End
-    pub makes : Makes gives calls made calls'
-    pub concludes : Concludes table settings sends q page ticket made end link begun sent link' world'
+    pub makes : Makes does.gives served.calls made served'.calls
+    pub concludes : ByCalls does.keeps served.dirs served'.dirs (λ folders. Concludes table settings sends q page ticket made end folders link begun sent link' world')
 
   -- a request that is begun, whatever frame it stands in, after these calls of the open folders
-  pub record RunsOut (q : Request) (want : Want) (lends : List FolderCall) (page : Paged) (link : L) (calls : C) (world : W) (sent : Sent) (link' : L) (calls' : C) (world' : W) : Type 0 where
+  pub record RunsOut (q : Request) (want : Want) (lends : List FolderCall) (page : Paged) (link : L) (served : Served C D) (world : W) (sent : Sent) (link' : L) (served' : Served C D) (world' : W) : Type 0 where
     pub refused : Option Place
     pub made : List Made
-    pub folders : List FolderCall
+    pub more : List FolderCall
     pub said : ReplyBody
-    pub makes : Makes gives calls made calls'
+    pub draws : Draws does served made more served'
     pub offer : sends link (reply_bytes (record { unique = q.unique; body = said })) sent link'
-    pub works : (frame : List ℕ) → WorksOff table settings refused q want lends page world (record { frame = frame; refused = refused; made = made; folders = folders; offer = Some (record { reply = record { unique = q.unique; body = said }; sent = sent }); destroyed = false }) world'
+    pub works : (frame : List ℕ) → WorksOff table settings refused q want lends page world (record { frame = frame; refused = refused; made = made; folders = lends ++ more; offer = Some (record { reply = record { unique = q.unique; body = said }; sent = sent }); destroyed = false }) world'
 
   -- entries of an open folder are told by a request that begins
-  abbrev pub TellsOut : Request → (fh : ℕ) → FolderUse → L → C → W → Sent → L → C → W → Type 0
-  TellsOut q fh (ReadEntries offset size) link calls world sent link' calls' world' =
-      (lends : List FolderCall) × (page : Paged) × LendsPage q.node fh offset size lends page × RunsOut q (page_want q.node page.entries) lends page link calls world sent link' calls' world'
-  TellsOut q fh usage link calls world sent link' calls' world' = ⊥
+  pub record TellsPage (q : Request) (fh offset size : ℕ) (link : L) (served : Served C D) (world : W) (sent : Sent) (link' : L) (served' : Served C D) (world' : W) : Type 0 where
+    pub page : Paged
+    pub lent : D
+    pub lends : ByCalls does.keeps served.dirs lent (λ folders. LendsPage q.node fh offset size folders page)
+    pub runs : RunsOut q (page_want q.node page.entries) lends.folders page link (record { calls = served.calls; dirs = lent }) world sent link' served' world'
+
+  abbrev pub TellsOut : Request → (fh : ℕ) → FolderUse → L → Served C D → W → Sent → L → Served C D → W → Type 0
+  TellsOut q fh (ReadEntries offset size) link served world sent link' served' world' = TellsPage q fh offset size link served world sent link' served' world'
+  TellsOut q fh usage link served world sent link' served' world' = ⊥
 
   -- an open folder is used, whatever frame the request stands in
-  abbrev pub UsesOut : Request → (fh : ℕ) → FolderUse → L → C → W → Sent → L → C → W → Type 0
-  UsesOut q fh usage link calls world sent link' calls' world' =
-      (IsUsedBy sends q fh usage link sent link' × (calls' ≡ calls) × (world' ≡ world)) ⊎ TellsOut q fh usage link calls world sent link' calls' world'
+  abbrev pub UsesOut : Request → (fh : ℕ) → FolderUse → L → Served C D → W → Sent → L → Served C D → W → Type 0
+  UsesOut q fh usage link served world sent link' served' world' =
+      (IsUsedBy sends does.keeps q fh usage link served.dirs sent link' served'.dirs × (served'.calls ≡ served.calls) × (world' ≡ world)) ⊎ TellsOut q fh usage link served world sent link' served' world'
 
 -- another request was in the way: nothing was done
-pub record IsUntouched {W L C : Type 0} (link : L) (calls : C) (world : W) (link' : L) (calls' : C) (world' : W) : Type 0 where
+pub record IsUntouched {W L S : Type 0} (link : L) (served : S) (world : W) (link' : L) (served' : S) (world' : W) : Type 0 where
   pub link_is : link' ≡ link
-  pub calls_are : calls' ≡ calls
+  pub served_is : served' ≡ served
   pub world_is : world' ≡ world

@@ -1,13 +1,13 @@
 //! A request whose script has come to an end: it is finished, answered and settled.
 
-ghost use Rattle.std.specs.Prelude.{◌≡◌, List, Err, Ok, IfSome, IfNone};
+ghost use Rattle.std.specs.Prelude.{◌≡◌, [], List, Err, Ok, IfSome, IfNone};
 ghost use Rattle.backing.specs.declared.call.Child.{Child};
 ghost use Rattle.handles.specs.Listings.{IsMade};
 ghost use Rattle.handles.specs.declared.listing.ListingFault.TheVariants.{Memory};
 ghost use Rattle.ops.specs.Ahead.{end_of};
 ghost use Rattle.ops.specs.Pages.{Paged};
 ghost use Rattle.ops.specs.Scripts.{listed_end, plan_of, Follows, Made};
-ghost use Rattle.engine.specs.Folders.{FolderCall, GivesUp};
+ghost use Rattle.engine.specs.Folders.{ByCalls, GivesUp};
 ghost use Rattle.engine.specs.Walks.{listing_found, Concludes, IsPlain, Settled};
 
 use crate::links::Sent;
@@ -16,23 +16,22 @@ use crate::reach::Reach;
 use crate::requests::{Session, is_taken, refuse};
 use backing::Children;
 use errno::{EIO, ENOMEM};
-use handles::{Dirs, Listing, ListingFault};
+use handles::{Folders, Listing, ListingFault};
 use ledger::{Ledgers, Share};
 use ops::{ScriptResult, opened_reply, reply_to};
-use std::sync::Wait;
 use table::{Answered, Outcome, Ticket};
 use wire::{Reply, ReplyBody, Request};
 
-/// Gives up a listing that was stored for a reply that was not taken.
-fn give_up<H: Wait>(rt: &H, dirs: &Dirs, put: Option<u64>, taken: bool)
-    ensures { (last : List FolderCall) × GivesUp taken put last }
+/// Gives up a listing that was stored for a reply, where that was not taken.
+pub fn give_up<D: Folders>(dirs: &mut D, put: Option<u64>, taken: bool)
+    ensures { ByCalls D.keeps dirs.old dirs.new (λ last. GivesUp taken put last) }
 {
     if taken {
         return;
     }
     match put {
         Some(fh) => {
-            dirs.retire(rt, fh);
+            dirs.retire(fh);
         }
         None => {}
     }
@@ -81,7 +80,7 @@ impl Session {
     ) -> Sent
         requires free { R.steps.is_free (R.world table.old) }
         requires plain { IsPlain found }
-        ensures concludes { (page : Paged) (made : List Made) → Follows (plan_of request.entry.operation ticket) made (end_of found) → Concludes R.steps self.old.settings L.sends request.entry page ticket made (end_of found)
+        ensures concludes { (page : Paged) (made : List Made) → Follows (plan_of request.entry.operation ticket) made (end_of found) → Concludes R.steps self.old.settings L.sends request.entry page ticket made (end_of found) []
             link.old (R.world table.old) result link.new (R.world table.new) }
         ensures gains { R.steps.gains (R.world table.old) share.old (R.world table.new) share.new }
         ensures settings { self.new.settings ≡ self.old.settings }
@@ -95,10 +94,9 @@ impl Session {
     }
 
     /// Finishes an OPENDIR that found this listing: it is stored, and given up again where the reply was not taken.
-    fn open<H: Wait, T: Ledgers, R: Reach<T>, L: Outlet>(
+    fn open<T: Ledgers, R: Reach<T>, L: Outlet, D: Folders>(
         &mut self,
-        rt: &H,
-        dirs: &Dirs,
+        dirs: &mut D,
         link: &mut L,
         table: &mut R,
         share: &mut Share<T>,
@@ -107,21 +105,21 @@ impl Session {
         listing: Listing,
     ) -> Sent
         requires free { R.steps.is_free (R.world table.old) }
-        ensures concludes { (page : Paged) (made : List Made) (children : List Child) → IsMade request.entry.node children (Ok listing) → Follows (plan_of request.entry.operation ticket) made (listing_found children)
-            → Concludes R.steps self.old.settings L.sends request.entry page ticket made (listing_found children)
-            link.old (R.world table.old) result link.new (R.world table.new) }
+        ensures concludes { ByCalls D.keeps dirs.old dirs.new (λ folders. (page : Paged) (made : List Made) (children : List Child) → IsMade request.entry.node children (Ok listing)
+            → Follows (plan_of request.entry.operation ticket) made (listing_found children) → Concludes R.steps self.old.settings L.sends request.entry page ticket made (listing_found children) folders
+            link.old (R.world table.old) result link.new (R.world table.new)) }
         ensures gains { R.steps.gains (R.world table.old) share.old (R.world table.new) share.new }
         ensures settings { self.new.settings ≡ self.old.settings }
         ensures agreed { self.new.agreed ≡ self.old.agreed }
     {
-        let put = dirs.put(rt, listing).ok();
+        let put = dirs.put(listing);
         let answered = table.finish(share, ticket, Outcome::Done);
         let reply = Reply {
             unique: request.unique,
             body: opened_reply(put),
         };
         let (sent, taken) = self.settle(link, table, share, answered, put, reply);
-        give_up(rt, dirs, put, taken);
+        give_up(dirs, put, taken);
         sent
     }
 
@@ -136,7 +134,7 @@ impl Session {
     ) -> Sent
         requires free { R.steps.is_free (R.world table.old) }
         ensures concludes { (page : Paged) (made : List Made) (children : List Child) → IsMade request.entry.node children (Err Memory) → Follows (plan_of request.entry.operation ticket) made (listing_found children)
-            → Concludes R.steps self.old.settings L.sends request.entry page ticket made (listing_found children)
+            → Concludes R.steps self.old.settings L.sends request.entry page ticket made (listing_found children) []
             link.old (R.world table.old) result link.new (R.world table.new) }
         ensures gains { R.steps.gains (R.world table.old) share.old (R.world table.new) share.new }
         ensures settings { self.new.settings ≡ self.old.settings }
@@ -146,11 +144,11 @@ impl Session {
         table.settle(share, answered, None, false);
         refuse(link, request.unique, ENOMEM)
     }
+
     /// Finishes an OPENDIR that found these names.
-    pub fn list<H: Wait, T: Ledgers, R: Reach<T>, L: Outlet>(
+    pub fn list<T: Ledgers, R: Reach<T>, L: Outlet, D: Folders>(
         &mut self,
-        rt: &H,
-        dirs: &Dirs,
+        dirs: &mut D,
         link: &mut L,
         table: &mut R,
         share: &mut Share<T>,
@@ -159,14 +157,15 @@ impl Session {
         children: Children,
     ) -> Sent
         requires free { R.steps.is_free (R.world table.old) }
-        ensures concludes { (page : Paged) (made : List Made) → Follows (plan_of request.entry.operation ticket) made (listed_end children) → Concludes R.steps self.old.settings L.sends request.entry page ticket made (listed_end children)
-            link.old (R.world table.old) result link.new (R.world table.new) }
+        ensures concludes { ByCalls D.keeps dirs.old dirs.new (λ folders. (page : Paged) (made : List Made) → Follows (plan_of request.entry.operation ticket) made (listed_end children)
+            → Concludes R.steps self.old.settings L.sends request.entry page ticket made (listed_end children) folders
+            link.old (R.world table.old) result link.new (R.world table.new)) }
         ensures gains { R.steps.gains (R.world table.old) share.old (R.world table.new) share.new }
         ensures settings { self.new.settings ≡ self.old.settings }
         ensures agreed { self.new.agreed ≡ self.old.agreed }
     {
         match Listing::new(self.alloc, request.node, children) {
-            Ok(listing) => self.open(rt, dirs, link, table, share, request, ticket, listing),
+            Ok(listing) => self.open(dirs, link, table, share, request, ticket, listing),
             Err(ListingFault::Lawless) => {
                 let found = ScriptResult::Error { errno: EIO };
                 self.tell(link, table, share, request, ticket, found)

@@ -5,7 +5,7 @@ ghost use Rattle.ops.specs.Ahead.{LooksAtEach};
 ghost use Rattle.ops.specs.Folders.{IsPaged};
 ghost use Rattle.ops.specs.Pages.{Paged as Told};
 ghost use Rattle.ops.specs.Scripts.{plan_of, Follows, Made};
-ghost use Rattle.engine.specs.Folders.{FolderCall, IsLentPage, LendsPage, PagesOf};
+ghost use Rattle.engine.specs.Folders.{ByCalls, IsLentPage, LendsPage, PagesOf};
 ghost use Rattle.engine.specs.Walks.{entries_found, no_memory, Concludes};
 
 use crate::links::Sent;
@@ -13,11 +13,10 @@ use crate::outlet::Outlet;
 use crate::reach::Reach;
 use crate::requests::{Session, refuse};
 use errno::{EBADF, EINVAL, ENOMEM};
-use handles::{Dirs, Listing, PageFault};
+use handles::{Folders, Listing, Loan, PageFault};
 use ledger::{Ledgers, Share};
 use ops::{Looked, Paged, entries_reply};
 use std::alloc::{AllocError, Global};
-use std::sync::Wait;
 use table::{Outcome, Ticket};
 use wire::{Reply, ReplyBody, Request};
 
@@ -43,19 +42,18 @@ fn take_page(alloc: Global, listing: &Listing, offset: u64, size: u32) -> Result
 
 /// A page of the folder under a handle, if it is one of the node. The folder is given back when this returns. An error says that there was
 /// no memory to copy the page.
-pub(crate) fn lend_page<H: Wait>(
-    rt: &H,
+pub(crate) fn lend_page<D: Folders>(
     alloc: Global,
-    dirs: &Dirs,
+    dirs: &mut D,
     node: u64,
     fh: u64,
     offset: u64,
     size: u32,
 ) -> Result<Lends, AllocError>
-    ensures ok { IfOk result (IsLentPage node fh offset size) }
-    ensures err { OnErr result ((folders : List FolderCall) × (page : Told) × LendsPage node fh offset size folders page) }
+    ensures ok { IfOk result (λ what. ByCalls D.keeps dirs.old dirs.new (λ folders. IsLentPage node fh offset size folders what)) }
+    ensures err { OnErr result (ByCalls D.keeps dirs.old dirs.new (λ folders. (page : Told) × LendsPage node fh offset size folders page)) }
 {
-    let Some(lent) = dirs.lend(rt, fh) else {
+    let Some(lent) = dirs.lend(fh) else {
         return Ok(Lends::Nothing(ReplyBody::Failed { errno: EBADF }));
     };
     if lent.listing().number() != node {
@@ -77,7 +75,7 @@ impl Session {
         looked: Looked,
     ) -> Sent
         requires free { R.steps.is_free (R.world table.old) }
-        ensures concludes { (made : List Made) → Follows (plan_of request.entry.operation ticket) made (entries_found looked) → Concludes R.steps self.old.settings L.sends request.entry page.now ticket made (entries_found looked)
+        ensures concludes { (made : List Made) → Follows (plan_of request.entry.operation ticket) made (entries_found looked) → Concludes R.steps self.old.settings L.sends request.entry page.now ticket made (entries_found looked) []
             link.old (R.world table.old) result link.new (R.world table.new) }
         ensures gains { R.steps.gains (R.world table.old) share.old (R.world table.new) share.new }
         ensures settings { self.new.settings ≡ self.old.settings }
@@ -115,7 +113,7 @@ impl Session {
         ticket: Ticket,
     ) -> Sent
         requires free { R.steps.is_free (R.world table.old) }
-        ensures concludes { (page : Told) → LooksAtEach request.entry.operation → Concludes R.steps self.old.settings L.sends request.entry page ticket [] no_memory
+        ensures concludes { (page : Told) → LooksAtEach request.entry.operation → Concludes R.steps self.old.settings L.sends request.entry page ticket [] no_memory []
             link.old (R.world table.old) result link.new (R.world table.new) }
         ensures gains { R.steps.gains (R.world table.old) share.old (R.world table.new) share.new }
         ensures settings { self.new.settings ≡ self.old.settings }

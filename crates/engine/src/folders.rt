@@ -4,15 +4,14 @@ ghost use Rattle.std.specs.Prelude.{◌≡◌, List, Some, IfOk, OnErr};
 ghost use Rattle.backing.specs.declared.call.Child.{Child};
 ghost use Rattle.handles.specs.Listings.{OpenFolder};
 ghost use Rattle.ops.specs.Folders.{IsPaged, names_reply};
-ghost use Rattle.engine.specs.Folders.{given_up, FolderCall, IsAtOnce, IsUsed, Uses};
+ghost use Rattle.engine.specs.Folders.{given_up, ByCalls, IsAtOnce, IsUsed, Uses};
 ghost use Rattle.engine.specs.Replies.{TakesMemory};
 ghost use Rattle.wire.specs.declared.reply.ReplyBody.{ReplyBody};
 
 use errno::EBADF;
-use handles::{Dirs, Listing};
+use handles::{Folders, Loan};
 use ops::{FolderUse, names_reply};
 use std::alloc::{AllocError, Global};
-use std::sync::Wait;
 use wire::ReplyBody;
 
 /// What a RELEASEDIR is answered.
@@ -28,19 +27,18 @@ fn given_up(gone: bool) -> ReplyBody
 
 /// What a request is answered at once that uses the folder under a handle, if it is one of the node. An error says that there was no
 /// memory for the reply.
-pub(crate) fn use_folder<H: Wait>(
-    rt: &H,
+pub(crate) fn use_folder<D: Folders>(
     alloc: Global,
-    dirs: &Dirs,
+    dirs: &mut D,
     node: u64,
     fh: u64,
     usage: FolderUse,
 ) -> Result<ReplyBody, AllocError>
     requires { IsAtOnce usage }
-    ensures ok { IfOk result (λ body. (folders : List FolderCall) × IsUsed node fh usage folders body) }
-    ensures err { OnErr result ((folders : List FolderCall) × (meant : ReplyBody) × IsUsed node fh usage folders meant × TakesMemory meant) }
+    ensures ok { IfOk result (λ body. ByCalls D.keeps dirs.old dirs.new (λ folders. IsUsed node fh usage folders body)) }
+    ensures err { OnErr result (ByCalls D.keeps dirs.old dirs.new (λ folders. (meant : ReplyBody) × IsUsed node fh usage folders meant × TakesMemory meant)) }
 {
-    let Some(lent) = dirs.lend(rt, fh) else {
+    let Some(lent) = dirs.lend(fh) else {
         return Ok(ReplyBody::Failed { errno: EBADF });
     };
     if lent.listing().number() != node {
@@ -49,7 +47,7 @@ pub(crate) fn use_folder<H: Wait>(
     match usage {
         FolderUse::ReadNames { offset, size } => names_reply(alloc, lent.listing(), offset, size),
         FolderUse::ReadEntries { .. } => unreachable!(),
-        FolderUse::GiveUp => Ok(given_up(dirs.retire(rt, fh))),
+        FolderUse::GiveUp => Ok(given_up(dirs.retire(fh))),
         FolderUse::Sync => Ok(ReplyBody::Done),
     }
 }

@@ -4,6 +4,7 @@ ghost use Rattle.std.specs.Prelude.{◌≡◌, None, Some};
 ghost use Rattle.wire.specs.Requests.{opcode_in, unique_in, IsFramed};
 ghost use Rattle.wire.specs.declared.opcode.TheConstants.{INIT};
 ghost use Rattle.engine.specs.Reference.{agrees, ending, init_reply_of, negotiated_by};
+ghost use Rattle.engine.specs.Serving.{does};
 ghost use Rattle.engine.specs.Walks.{stand, HandlesInitFrame, IsHandled, HandlesDestroy, RepliesInit};
 
 use crate::classes::{Class, class_of};
@@ -12,9 +13,10 @@ use crate::links::Sent;
 use crate::outlet::Outlet;
 use crate::reach::Reach;
 use crate::requests::{Session, refuse, reply_done};
+use crate::served::Served;
 use backing::Calls;
 use errno::{EIO, ENOMEM, EPROTO};
-use handles::Dirs;
+use handles::Folders;
 use ledger::{Ledgers, Share};
 use std::sync::Wait;
 use wire::{Negotiated, Operation, Reply, ReplyBody, decode, header_of, negotiate};
@@ -112,12 +114,11 @@ impl Session {
     }
 
     /// Handles one frame. Some end says that the session is over with it.
-    pub fn handle_frame<H: Wait, T: Ledgers, R: Reach<T>, L: Outlet, C: Calls>(
+    pub fn handle_frame<H: Wait, T: Ledgers, R: Reach<T>, L: Outlet, C: Calls, D: Folders>(
         &mut self,
         rt: &H,
-        dirs: &Dirs,
         link: &mut L,
-        calls: &mut C,
+        served: &mut Served<C, D>,
         table: &mut R,
         share: &mut Share<T>,
         frame: &[u8],
@@ -125,8 +126,8 @@ impl Session {
         requires free { R.steps.is_free (R.world table.old) }
         requires framed { IsFramed frame.now }
         requires idle { R.steps.is_idle (R.world table.old) }
-        ensures handled { IsHandled R.steps self.old.settings L.sends C.gives frame.now
-            link.old calls.old (stand (R.world table.old) self.old.agreed) result link.new calls.new (stand (R.world table.new) self.new.agreed) }
+        ensures handled { IsHandled R.steps self.old.settings L.sends (does C.gives D.keeps) frame.now
+            link.old served.old (stand (R.world table.old) self.old.agreed) result link.new served.new (stand (R.world table.new) self.new.agreed) }
         ensures gains { R.steps.gains (R.world table.old) share.old (R.world table.new) share.new }
         ensures idle { R.steps.is_idle (R.world table.new) }
         ensures settings { self.new.settings ≡ self.old.settings }
@@ -143,10 +144,7 @@ impl Session {
                 let (sent, destroyed) = handle_destroy(link, frame, header.unique);
                 ending(Some(sent), destroyed)
             }
-            Class::Asking => ending(
-                self.work_off(rt, dirs, link, calls, table, share, frame),
-                false,
-            ),
+            Class::Asking => ending(self.work_off(rt, link, served, table, share, frame), false),
         }
     }
 }

@@ -12,10 +12,12 @@ mod outlet;
 mod playing;
 mod reach;
 mod requests;
+mod served;
 mod serving;
 mod using;
 
 pub use classes::{Class, class_of};
+pub use concluding::give_up;
 pub use ends::SessionEnd;
 pub use links::{Link, LinkIn, LinkOut, Received, Sent};
 pub use ops::Settings;
@@ -23,4 +25,5 @@ pub use outlet::Outlet;
 pub use playing::play;
 pub use reach::Reach;
 pub use requests::Session;
+pub use served::Served;
 pub use serving::{remove_leftovers, serve};

@@ -5,10 +5,11 @@ ghost use Rattle.wire.specs.Faults.{fault_errno};
 ghost use Rattle.wire.specs.Requests.{opcode_in, unique_in, IsFramed};
 ghost use Rattle.wire.specs.Written.{reply_bytes};
 ghost use Rattle.engine.specs.Classes.{is_unanswered};
-ghost use Rattle.engine.specs.Folders.{FolderCall};
+ghost use Rattle.handles.specs.Calls.{FolderCall};
 ghost use Rattle.engine.specs.Reference.{is_taken, ForgetsAll};
 ghost use Rattle.wire.specs.Pairs.{pairs_in};
 ghost use Rattle.engine.specs.Replies.{done_reply, refusal, TakesMemory};
+ghost use Rattle.engine.specs.Serving.{does};
 ghost use Rattle.engine.specs.Walks.{RunsOut, IsAnswered, IsUntouched, RunsScript, WorkedOff};
 ghost use Rattle.ops.specs.Intents.{want_of};
 ghost use Rattle.ops.specs.Pages.{no_page};
@@ -17,9 +18,10 @@ use crate::links::Sent;
 use crate::outlet::Outlet;
 use crate::playing::play;
 use crate::reach::Reach;
+use crate::served::Served;
 use backing::Calls;
 use errno::ENOMEM;
-use handles::Dirs;
+use handles::Folders;
 use ledger::{Ledgers, Share};
 use ops::{Intent, Paged, Script, ScriptResult, Settings, Wanted, file_reply, intent_of};
 use std::alloc::Global;
@@ -130,12 +132,10 @@ impl Session {
     }
 
     /// Plays the script of a request that has begun, and concludes it. The page is that of a READDIRPLUS.
-    fn run_script<H: Wait, T: Ledgers, R: Reach<T>, L: Outlet, C: Calls>(
+    fn run_script<T: Ledgers, R: Reach<T>, L: Outlet, C: Calls, D: Folders>(
         &mut self,
-        rt: &H,
-        dirs: &Dirs,
         link: &mut L,
-        calls: &mut C,
+        served: &mut Served<C, D>,
         table: &mut R,
         share: &mut Share<T>,
         request: Request<'_>,
@@ -143,8 +143,8 @@ impl Session {
         page: &Paged,
     ) -> Sent
         requires free { R.steps.is_free (R.world table.old) }
-        ensures runs { RunsScript R.steps self.old.settings L.sends C.gives request.entry page.now ticket
-            link.old calls.old (R.world table.old) result link.new calls.new (R.world table.new) }
+        ensures runs { RunsScript R.steps self.old.settings L.sends (does C.gives D.keeps) request.entry page.now ticket
+            link.old served.old (R.world table.old) result link.new served.new (R.world table.new) }
         ensures gains { R.steps.gains (R.world table.old) share.old (R.world table.new) share.new }
         ensures settings { self.new.settings ≡ self.old.settings }
         ensures agreed { self.new.agreed ≡ self.old.agreed }
@@ -153,9 +153,17 @@ impl Session {
             Ok(script) => script,
             Err(_) => return self.end_without_script(link, table, share, request, ticket),
         };
-        match play(calls, script) {
+        match play(&mut served.calls, script) {
             ScriptResult::Listed(children) => {
-                self.list(rt, dirs, link, table, share, request, ticket, children)
+                self.list(
+                    &mut served.dirs,
+                    link,
+                    table,
+                    share,
+                    request,
+                    ticket,
+                    children,
+                )
             }
             ScriptResult::Looked(looked) => {
                 self.tell_entries(link, table, share, request, ticket, page, looked)
@@ -166,12 +174,10 @@ impl Session {
 
     /// Runs a request from begin to settle. None says that another one was in its way, and nothing was done: it is to be begun again.
     /// The page is that of a READDIRPLUS.
-    pub fn run_request<H: Wait, T: Ledgers, R: Reach<T>, L: Outlet, C: Calls>(
+    pub fn run_request<T: Ledgers, R: Reach<T>, L: Outlet, C: Calls, D: Folders>(
         &mut self,
-        rt: &H,
-        dirs: &Dirs,
         link: &mut L,
-        calls: &mut C,
+        served: &mut Served<C, D>,
         table: &mut R,
         share: &mut Share<T>,
         request: Request<'_>,
@@ -180,9 +186,9 @@ impl Session {
     ) -> Option<Sent>
         requires free { R.steps.is_free (R.world table.old) }
         requires idle { R.steps.is_idle (R.world table.old) }
-        ensures some { IfSome result (λ sent. (lends : List FolderCall) → RunsOut R.steps self.old.settings L.sends C.gives request.entry want lends page.now
-            link.old calls.old (R.world table.old) sent link.new calls.new (R.world table.new)) }
-        ensures none { IfNone result (IsUntouched link.old calls.old (R.world table.old) link.new calls.new (R.world table.new)) }
+        ensures some { IfSome result (λ sent. (lends : List FolderCall) → RunsOut R.steps self.old.settings L.sends (does C.gives D.keeps) request.entry want lends page.now
+            link.old served.old (R.world table.old) sent link.new served.new (R.world table.new)) }
+        ensures none { IfNone result (IsUntouched link.old served.old (R.world table.old) link.new served.new (R.world table.new)) }
         ensures gains { R.steps.gains (R.world table.old) share.old (R.world table.new) share.new }
         ensures idle { R.steps.is_idle (R.world table.new) }
         ensures settings { self.new.settings ≡ self.old.settings }
@@ -190,7 +196,7 @@ impl Session {
     {
         match table.begin(request.unique, want) {
             Begin::Go(ticket) => Some(self.run_script(
-                rt, dirs, link, calls, table, share, request, ticket, page,
+                link, served, table, share, request, ticket, page,
             )),
             Begin::Refused(errno) => {
                 let unique = request.unique;
@@ -202,12 +208,11 @@ impl Session {
     }
 
     /// Runs a request whose names lie in its frame, and begins it again for as long as another one is in its way.
-    pub fn run_wanted<H: Wait, T: Ledgers, R: Reach<T>, L: Outlet, C: Calls>(
+    pub fn run_wanted<H: Wait, T: Ledgers, R: Reach<T>, L: Outlet, C: Calls, D: Folders>(
         &mut self,
         rt: &H,
-        dirs: &Dirs,
         link: &mut L,
-        calls: &mut C,
+        served: &mut Served<C, D>,
         table: &mut R,
         share: &mut Share<T>,
         request: Request<'_>,
@@ -215,8 +220,8 @@ impl Session {
     ) -> Sent
         requires free { R.steps.is_free (R.world table.old) }
         requires idle { R.steps.is_idle (R.world table.old) }
-        ensures runs_out { RunsOut R.steps self.old.settings L.sends C.gives request.entry (want_of wanted.entry) [] no_page
-            link.old calls.old (R.world table.old) result link.new calls.new (R.world table.new) }
+        ensures runs_out { RunsOut R.steps self.old.settings L.sends (does C.gives D.keeps) request.entry (want_of wanted.entry) [] no_page
+            link.old served.old (R.world table.old) result link.new served.new (R.world table.new) }
         ensures gains { R.steps.gains (R.world table.old) share.old (R.world table.new) share.new }
         ensures idle { R.steps.is_idle (R.world table.new) }
         ensures settings { self.new.settings ≡ self.old.settings }
@@ -229,7 +234,7 @@ impl Session {
                 Ok(want) => want,
                 Err(_) => return refuse(link, request.unique, ENOMEM),
             };
-            match self.run_request(rt, dirs, link, calls, table, share, request, want, &none) {
+            match self.run_request(link, served, table, share, request, want, &none) {
                 Some(sent) => return sent,
                 None => {}
             }
@@ -238,12 +243,11 @@ impl Session {
     }
 
     /// Works off a request of a session that has agreed on a version. Some tells what became of its reply.
-    pub fn work_off<H: Wait, T: Ledgers, R: Reach<T>, L: Outlet, C: Calls>(
+    pub fn work_off<H: Wait, T: Ledgers, R: Reach<T>, L: Outlet, C: Calls, D: Folders>(
         &mut self,
         rt: &H,
-        dirs: &Dirs,
         link: &mut L,
-        calls: &mut C,
+        served: &mut Served<C, D>,
         table: &mut R,
         share: &mut Share<T>,
         frame: &[u8],
@@ -251,8 +255,8 @@ impl Session {
         requires free { R.steps.is_free (R.world table.old) }
         requires framed { IsFramed frame.now }
         requires idle { R.steps.is_idle (R.world table.old) }
-        ensures worked { WorkedOff R.steps self.old.settings L.sends C.gives frame.now
-            link.old calls.old (R.world table.old) result link.new calls.new (R.world table.new) }
+        ensures worked { WorkedOff R.steps self.old.settings L.sends (does C.gives D.keeps) frame.now
+            link.old served.old (R.world table.old) result link.new served.new (R.world table.new) }
         ensures gains { R.steps.gains (R.world table.old) share.old (R.world table.new) share.new }
         ensures idle { R.steps.is_idle (R.world table.new) }
         ensures settings { self.new.settings ≡ self.old.settings }
@@ -269,7 +273,7 @@ impl Session {
                 Some(self.answer(link, Reply { unique, body }))
             }
             Intent::Want(wanted) => Some(self.run_wanted(
-                rt, dirs, link, calls, table, share, request, wanted,
+                rt, link, served, table, share, request, wanted,
             )),
             Intent::File { fh } => {
                 let body = file_reply(request.node, table.find(fh));
@@ -277,7 +281,7 @@ impl Session {
                 Some(self.answer(link, Reply { unique, body }))
             }
             Intent::Folder { fh, usage } => {
-                Some(self.use_folder(rt, dirs, link, calls, table, share, request, fh, usage))
+                Some(self.use_folder(rt, link, served, table, share, request, fh, usage))
             }
             Intent::Forget(lookups) => {
                 table.forget(share, lookups.node, lookups.nlookup);

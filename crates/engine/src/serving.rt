@@ -7,15 +7,16 @@ ghost use Rattle.table_steps.specs.Kept.{world_of};
 ghost use Rattle.table_steps.specs.Steps.{gained};
 ghost use Rattle.table_steps.specs.World.{IsLawfulWorld};
 ghost use Rattle.table.specs.Gains.{Gains};
-ghost use Rattle.engine.specs.Serving.{IsClientRun, IsSessionRun, RemovesAll, RemovesLeft};
+ghost use Rattle.engine.specs.Serving.{does, IsClientRun, IsSessionRun, RemovesAll, RemovesLeft};
 ghost use Rattle.engine.specs.Tables.{worlds, IsIdle};
 ghost use Rattle.engine.specs.Walks.{side, stand, WorksOffFrames};
 
 use crate::ends::SessionEnd;
 use crate::links::{Link, Received};
 use crate::requests::Session;
+use crate::served::Served;
 use backing::{Call, Calls};
-use handles::Dirs;
+use handles::Folders;
 use ledger::{Ledgers, Share};
 use ops::Settings;
 use paths::Path;
@@ -28,20 +29,19 @@ use wire::{CutFault, Cutter};
 const ROOM: usize = 131_072;
 
 /// Works off the frames that are there whole. Some end says that the session is over.
-fn work_off_frames<H: Wait, T: Ledgers, L: Link, C: Calls>(
+fn work_off_frames<H: Wait, T: Ledgers, L: Link, C: Calls, D: Folders>(
     rt: &H,
-    dirs: &Dirs,
     session: &mut Session,
     link: &mut L,
-    calls: &mut C,
+    served: &mut Served<C, D>,
     table: &mut Table<T>,
     share: &mut Share<T>,
     cutter: &mut Cutter,
 ) -> Option<SessionEnd>
     requires idle { IsIdle (world_of table.old) }
-    ensures drains { WorksOffFrames worlds session.old.settings L.receives L.sends C.gives
-        (side link.old calls.old (stand (world_of table.old) session.old.agreed) cutter.old.kept)
-        link.new calls.new (stand (world_of table.new) session.new.agreed) cutter.new.kept result }
+    ensures drains { WorksOffFrames worlds session.old.settings L.receives L.sends (does C.gives D.keeps)
+        (side link.old served.old (stand (world_of table.old) session.old.agreed) cutter.old.kept)
+        link.new served.new (stand (world_of table.new) session.new.agreed) cutter.new.kept result }
     ensures gains { Gains (world_of table.old) share.old (world_of table.new) share.new }
     ensures on { IfNone result (cutter.new.stopped ≡ cutter.old.stopped) }
     ensures idle { IsIdle (world_of table.new) }
@@ -52,7 +52,7 @@ fn work_off_frames<H: Wait, T: Ledgers, L: Link, C: Calls>(
         match cutter.next() {
             Ok(None) => return None,
             Ok(Some(frame)) => {
-                match session.handle_frame(rt, dirs, link, calls, table, share, &frame) {
+                match session.handle_frame(rt, link, served, table, share, &frame) {
                     None => {}
                     Some(end) => return Some(end),
                 }
@@ -64,19 +64,18 @@ fn work_off_frames<H: Wait, T: Ledgers, L: Link, C: Calls>(
 }
 
 /// Works off what a client sends until its session is over.
-fn serve_client<H: Wait, T: Ledgers, L: Link, C: Calls>(
+fn serve_client<H: Wait, T: Ledgers, L: Link, C: Calls, D: Folders>(
     rt: &H,
     alloc: Global,
     link: &mut L,
-    calls: &mut C,
+    served: &mut Served<C, D>,
     table: &mut Table<T>,
     share: &mut Share<T>,
-    dirs: &Dirs,
     settings: Settings,
 ) -> SessionEnd
     requires fresh { IsIdle (world_of table.old) }
-    ensures serves { IsClientRun worlds settings L.receives L.sends C.gives
-        link.old calls.old (world_of table.old) link.new calls.new (world_of table.new) result }
+    ensures serves { IsClientRun worlds settings L.receives L.sends (does C.gives D.keeps)
+        link.old served.old (world_of table.old) link.new served.new (world_of table.new) result }
     ensures lawful { IsLawfulWorld (world_of table.new) }
     ensures grows { (world_of table.new).postings ≡ (world_of table.old).postings ++ gained (world_of table.old) (world_of table.new) }
     ensures share { share.new ≡ record share.old { totals = plus share.old.totals (totals_of (gained (world_of table.old) (world_of table.new))) } }
@@ -105,16 +104,7 @@ fn serve_client<H: Wait, T: Ledgers, L: Link, C: Calls>(
             // It has met no bad length yet.
             Err(_) => return SessionEnd::Memory,
         }
-        match work_off_frames(
-            rt,
-            dirs,
-            &mut session,
-            link,
-            calls,
-            table,
-            share,
-            &mut cutter,
-        ) {
+        match work_off_frames(rt, &mut session, link, served, table, share, &mut cutter) {
             None => {}
             Some(end) => return end,
         }
@@ -143,24 +133,23 @@ pub fn remove_leftovers<T: Ledgers, C: Calls>(calls: &mut C, table: &Table<T>)
 
 /// Serves a client on one thread until its session ends, and removes the files that are still hidden then. The share counts the
 /// postings. No request may be in flight in the table. It may wait for the link.
-pub fn serve<H: Wait, T: Ledgers, L: Link, C: Calls>(
+pub fn serve<H: Wait, T: Ledgers, L: Link, C: Calls, D: Folders>(
     rt: &H,
     alloc: Global,
     link: &mut L,
-    calls: &mut C,
+    served: &mut Served<C, D>,
     table: &mut Table<T>,
     share: &mut Share<T>,
-    dirs: &Dirs,
     settings: Settings,
 ) -> SessionEnd
     requires fresh { IsIdle (world_of table.old) }
-    ensures serves { IsSessionRun worlds settings L.receives L.sends C.gives
-        link.old calls.old (world_of table.old) link.new calls.new (world_of table.new) result }
+    ensures serves { IsSessionRun worlds settings L.receives L.sends (does C.gives D.keeps)
+        link.old served.old (world_of table.old) link.new served.new (world_of table.new) result }
     ensures lawful { IsLawfulWorld (world_of table.new) }
     ensures grows { (world_of table.new).postings ≡ (world_of table.old).postings ++ gained (world_of table.old) (world_of table.new) }
     ensures share { share.new ≡ record share.old { totals = plus share.old.totals (totals_of (gained (world_of table.old) (world_of table.new))) } }
 {
-    let end = serve_client(rt, alloc, link, calls, table, share, dirs, settings);
-    remove_leftovers(calls, table);
+    let end = serve_client(rt, alloc, link, served, table, share, settings);
+    remove_leftovers(&mut served.calls, table);
     end
 }

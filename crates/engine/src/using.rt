@@ -2,9 +2,10 @@
 
 ghost use Rattle.std.specs.Prelude.{◌≡◌, List};
 ghost use Rattle.ops.specs.Pages.{page_want};
-ghost use Rattle.engine.specs.Folders.{FolderCall};
+ghost use Rattle.handles.specs.Calls.{FolderCall};
 ghost use Rattle.ops.specs.declared.intents.FolderUse.TheVariants.{ReadEntries};
 ghost use Rattle.engine.specs.Folders.{IsAtOnce};
+ghost use Rattle.engine.specs.Serving.{does};
 ghost use Rattle.engine.specs.Walks.{RunsOut, IsUsedBy, UsesOut};
 
 use crate::entries::{Lends, lend_page};
@@ -13,9 +14,10 @@ use crate::links::Sent;
 use crate::outlet::Outlet;
 use crate::reach::Reach;
 use crate::requests::{Session, refuse};
+use crate::served::Served;
 use backing::Calls;
 use errno::ENOMEM;
-use handles::Dirs;
+use handles::Folders;
 use ledger::{Ledgers, Share};
 use ops::{FolderUse, Paged};
 use std::sync::Wait;
@@ -23,34 +25,32 @@ use wire::{Reply, Request};
 
 impl Session {
     /// Answers at once a request that uses an open folder.
-    fn tell_use<H: Wait, L: Outlet>(
+    fn tell_use<L: Outlet, D: Folders>(
         &mut self,
-        rt: &H,
-        dirs: &Dirs,
+        dirs: &mut D,
         link: &mut L,
         request: Request<'_>,
         fh: u64,
         usage: FolderUse,
     ) -> Sent
         requires { IsAtOnce usage }
-        ensures used { IsUsedBy L.sends request.entry fh usage link.old result link.new }
+        ensures used { IsUsedBy L.sends D.keeps request.entry fh usage link.old dirs.old result link.new dirs.new }
         ensures settings { self.new.settings ≡ self.old.settings }
         ensures agreed { self.new.agreed ≡ self.old.agreed }
     {
         let unique = request.unique;
-        match use_folder(rt, self.alloc, dirs, request.node, fh, usage) {
+        match use_folder(self.alloc, dirs, request.node, fh, usage) {
             Ok(body) => self.answer(link, Reply { unique, body }),
             Err(_) => refuse(link, unique, ENOMEM),
         }
     }
 
     /// Runs a READDIRPLUS, and begins it again for as long as another request is in its way.
-    fn run_page<H: Wait, T: Ledgers, R: Reach<T>, L: Outlet, C: Calls>(
+    fn run_page<H: Wait, T: Ledgers, R: Reach<T>, L: Outlet, C: Calls, D: Folders>(
         &mut self,
         rt: &H,
-        dirs: &Dirs,
         link: &mut L,
-        calls: &mut C,
+        served: &mut Served<C, D>,
         table: &mut R,
         share: &mut Share<T>,
         request: Request<'_>,
@@ -58,8 +58,8 @@ impl Session {
     ) -> Sent
         requires free { R.steps.is_free (R.world table.old) }
         requires idle { R.steps.is_idle (R.world table.old) }
-        ensures runs_out { (lends : List FolderCall) → RunsOut R.steps self.old.settings L.sends C.gives request.entry (page_want request.entry.node page.now.entries) lends page.now
-            link.old calls.old (R.world table.old) result link.new calls.new (R.world table.new) }
+        ensures runs_out { (lends : List FolderCall) → RunsOut R.steps self.old.settings L.sends (does C.gives D.keeps) request.entry (page_want request.entry.node page.now.entries) lends page.now
+            link.old served.old (R.world table.old) result link.new served.new (R.world table.new) }
         ensures gains { R.steps.gains (R.world table.old) share.old (R.world table.new) share.new }
         ensures idle { R.steps.is_idle (R.world table.new) }
         ensures settings { self.new.settings ≡ self.old.settings }
@@ -71,7 +71,7 @@ impl Session {
                 Ok(want) => want,
                 Err(_) => return refuse(link, request.unique, ENOMEM),
             };
-            match self.run_request(rt, dirs, link, calls, table, share, request, want, page) {
+            match self.run_request(link, served, table, share, request, want, page) {
                 Some(sent) => return sent,
                 None => {}
             }
@@ -80,12 +80,11 @@ impl Session {
     }
 
     /// Works off a READDIRPLUS. Its page is copied and the folder given back before it begins; a page that is refused is answered at once.
-    fn read_entries<H: Wait, T: Ledgers, R: Reach<T>, L: Outlet, C: Calls>(
+    fn read_entries<H: Wait, T: Ledgers, R: Reach<T>, L: Outlet, C: Calls, D: Folders>(
         &mut self,
         rt: &H,
-        dirs: &Dirs,
         link: &mut L,
-        calls: &mut C,
+        served: &mut Served<C, D>,
         table: &mut R,
         share: &mut Share<T>,
         request: Request<'_>,
@@ -95,8 +94,8 @@ impl Session {
     ) -> Sent
         requires free { R.steps.is_free (R.world table.old) }
         requires idle { R.steps.is_idle (R.world table.old) }
-        ensures used { UsesOut R.steps self.old.settings L.sends C.gives request.entry fh (ReadEntries offset size)
-            link.old calls.old (R.world table.old) result link.new calls.new (R.world table.new) }
+        ensures used { UsesOut R.steps self.old.settings L.sends (does C.gives D.keeps) request.entry fh (ReadEntries offset size)
+            link.old served.old (R.world table.old) result link.new served.new (R.world table.new) }
         ensures gains { R.steps.gains (R.world table.old) share.old (R.world table.new) share.new }
         ensures idle { R.steps.is_idle (R.world table.new) }
         ensures settings { self.new.settings ≡ self.old.settings }
@@ -104,21 +103,20 @@ impl Session {
     {
         table.attest(); // proof: its law
         let (unique, node) = (request.unique, request.node);
-        let page = match lend_page(rt, self.alloc, dirs, node, fh, offset, size) {
+        let page = match lend_page(self.alloc, &mut served.dirs, node, fh, offset, size) {
             Ok(Lends::Page(page)) => page,
             Ok(Lends::Nothing(body)) => return self.answer(link, Reply { unique, body }),
             Err(_) => return refuse(link, unique, ENOMEM),
         };
-        self.run_page(rt, dirs, link, calls, table, share, request, &page)
+        self.run_page(rt, link, served, table, share, request, &page)
     }
 
     /// Works off a request that uses an open folder.
-    pub fn use_folder<H: Wait, T: Ledgers, R: Reach<T>, L: Outlet, C: Calls>(
+    pub fn use_folder<H: Wait, T: Ledgers, R: Reach<T>, L: Outlet, C: Calls, D: Folders>(
         &mut self,
         rt: &H,
-        dirs: &Dirs,
         link: &mut L,
-        calls: &mut C,
+        served: &mut Served<C, D>,
         table: &mut R,
         share: &mut Share<T>,
         request: Request<'_>,
@@ -127,8 +125,8 @@ impl Session {
     ) -> Sent
         requires free { R.steps.is_free (R.world table.old) }
         requires idle { R.steps.is_idle (R.world table.old) }
-        ensures used { UsesOut R.steps self.old.settings L.sends C.gives request.entry fh usage
-            link.old calls.old (R.world table.old) result link.new calls.new (R.world table.new) }
+        ensures used { UsesOut R.steps self.old.settings L.sends (does C.gives D.keeps) request.entry fh usage
+            link.old served.old (R.world table.old) result link.new served.new (R.world table.new) }
         ensures gains { R.steps.gains (R.world table.old) share.old (R.world table.new) share.new }
         ensures idle { R.steps.is_idle (R.world table.new) }
         ensures settings { self.new.settings ≡ self.old.settings }
@@ -137,9 +135,9 @@ impl Session {
         table.attest(); // proof: its law
         match usage {
             FolderUse::ReadEntries { offset, size } => self.read_entries(
-                rt, dirs, link, calls, table, share, request, fh, offset, size,
+                rt, link, served, table, share, request, fh, offset, size,
             ),
-            _ => self.tell_use(rt, dirs, link, request, fh, usage),
+            _ => self.tell_use(&mut served.dirs, link, request, fh, usage),
         }
     }
 }

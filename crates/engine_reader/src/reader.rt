@@ -1,6 +1,6 @@
 //! The thread that cuts frames and queues a job for each.
 
-ghost use Rattle.std.specs.Prelude.{◌≡◌, ◌<◌, ◌++◌, ◌∷◌, [], false, length, map, IsTrue, IsFalse};
+ghost use Rattle.std.specs.Prelude.{◌≡◌, ◌<◌, ◌++◌, ◌∷◌, [], false, length, map, IfOk, IsTrue, IsFalse};
 ghost use Rattle.crossbeam_channel.specs.Claims.{view, IsSeatAt};
 ghost use Rattle.crossbeam_channel.specs.Ends.{sends_on};
 ghost use Rattle.engine_queues.specs.Jobs.{numbers};
@@ -10,12 +10,12 @@ use crate::verdicts::{agrees_after, is_farewell};
 use engine::{LinkIn, Received, SessionEnd};
 use engine_jobs::Job;
 use engine_queues::jobs::{JobPass, JobSender, Puts};
-use std::alloc::Global;
+use std::alloc::{AllocError, Global};
 use std::sync::Wait;
 use wire::{CutFault, Cutter};
 
-/// How many bytes are asked of a link at a time.
-const ROOM: usize = 4096;
+/// How many bytes are asked of a link at a time: more than the longest frame has.
+const ROOM: usize = 131_072;
 
 #[derive(Drop)]
 pub struct Reader {
@@ -24,6 +24,8 @@ pub struct Reader {
     pub next: u64,
     pub agreed: bool,
     pub cutter: Cutter,
+    /// Where a receive puts what it brings.
+    pub room: Vec<u8>,
     /// The job of the frame that ended the session, if one did. It is not queued.
     pub farewell: Option<Job>,
     ghost seated: { IsSeatAt (sends_on to) pass },
@@ -49,23 +51,26 @@ impl Reader {
     ghost use Rattle.engine_reader.specs.Verdicts.{IsVerdict, QueuesAll, Reads};
 
     /// A reader that has heard nothing, with the pass of one that has put nothing.
-    pub fn new(alloc: Global, to: JobSender<Job>, pass: JobPass<Job>) -> Reader
+    pub fn new(alloc: Global, to: JobSender<Job>, pass: JobPass<Job>) -> Result<Reader, AllocError>
         requires seat { IsSeatAt (sends_on to) pass }
         requires parts { 0 < (view pass).parts }
         requires takes_none { length (view pass).taken ≡ 0 }
         requires puts_none { (view pass).put ≡ [] }
-        ensures ring { sends_on result.to ≡ sends_on to }
-        ensures pass { view result.pass ≡ view pass }
-        ensures empty { (result.cutter.kept ≡ []) × (result.agreed ≡ false) × (queued_of (view result.pass).put ≡ []) }
+        ensures ring { IfOk result (λ r. sends_on r.to ≡ sends_on to) }
+        ensures pass { IfOk result (λ r. view r.pass ≡ view pass) }
+        ensures empty { IfOk result (λ r. (r.cutter.kept ≡ []) × (r.agreed ≡ false) × (queued_of (view r.pass).put ≡ [])) }
     {
-        Reader {
+        let mut room = Vec::new(alloc);
+        room.resize(ROOM, 0)?;
+        Ok(Reader {
             to,
             pass,
             next: 0,
             agreed: false,
             cutter: Cutter::new(alloc),
+            room,
             farewell: None,
-        }
+        })
     }
 
     /// Queues a job for a frame. False where the queue hands it back.
@@ -126,8 +131,7 @@ impl Reader {
         ensures ring { sends_on self.new.to ≡ sends_on self.old.to }
         ensures parts { (view self.new.pass).parts ≡ (view self.old.pass).parts }
     {
-        let mut room = [0; ROOM];
-        let count = match link.receive(&mut room) {
+        let count = match link.receive(self.room.as_mut_slice()) {
             Received::Bytes(count) => count,
             Received::End => {
                 return Some(SessionEnd::Closed {
@@ -136,7 +140,7 @@ impl Reader {
             }
             Received::Broken => return Some(SessionEnd::LinkBroken),
         };
-        match self.cutter.feed(&room[..count]) {
+        match self.cutter.feed(&self.room[..count]) {
             Ok(()) => self.queue_all(rt),
             Err(_) => Some(SessionEnd::Memory),
         }

@@ -33,6 +33,7 @@ fn ended(reader: Reader, end: SessionEnd) -> ReaderEnd
         next: _,
         agreed: _,
         cutter: _,
+        room: _,
         farewell,
     } = reader;
     drop(to);

@@ -12,7 +12,7 @@ use crate::starting::{Working, join_all};
 use crate::stopping::{Starter, answer_last, stop_workers, stop_writer};
 use crate::working::WriterEnd;
 use backing::Calls;
-use engine::SessionEnd;
+use engine::{Served, SessionEnd};
 use engine_jobs::Job;
 use engine_queues::gathering::gather;
 use engine_queues::jobs::{JobPass, JobSender};
@@ -90,10 +90,15 @@ fn bid_farewell<H: Wait + Drop, T: Ledgers, C: Calls + Drop>(
     let Some(mut kept) = shares.take() else {
         return own;
     };
-    let Some(mut calls) = first.take() else {
+    let Some(calls) = first.take() else {
         return own;
     };
-    let own = answer_last(rt, common, starter, own, &mut kept, &mut calls, &job);
+    let mut served = Served {
+        calls,
+        dirs: &common.dirs,
+    };
+    let own = answer_last(rt, &common.hall, starter, own, &mut kept, &mut served, &job);
+    let Served { calls, dirs: _ } = served;
     shares.put(kept);
     *first = Some(calls);
     own

@@ -41,6 +41,25 @@ struct Links<I: LinkIn + Drop, O: LinkOut + Drop> {
     link_out: O,
 }
 
+/// What the reader's thread gets. None is want of memory.
+fn reads_of<I: LinkIn + Drop>(
+    alloc: Global,
+    jobs: &JobSender<Job>,
+    read: JobPass<Job>,
+    link: I,
+) -> Option<Reads<I>>
+    requires seat { IsSeatAt (sends_on jobs.now) read }
+    requires parts { 0 < (view read).parts }
+    requires takes_none { length (view read).taken ≡ 0 }
+    requires puts_none { (view read).put ≡ [] }
+    ensures ring { IfSome result (λ r. sends_on r.reader.to ≡ sends_on jobs.now) }
+    ensures pass { IfSome result (λ r. view r.reader.pass ≡ view read) }
+{
+    let jobs = jobs.try_clone().ok()?;
+    let reader = Reader::new(alloc, jobs, read).ok()?;
+    Some(Reads { reader, link })
+}
+
 /// Makes the queues and all that the threads need, and runs them. None where memory or a thread was wanting.
 fn serve_queued<
     H: Threads + Wait + Send + Sync + Drop + 'static,
@@ -87,10 +106,7 @@ fn serve_queued<
     let staff = Vec::with_capacity(alloc, 4).ok()?;
     let staff = staff_all(&jobs, &replies, workers, &mut shares, trees, staff)?;
     let Links { link_in, link_out } = links;
-    let reads = Reads {
-        reader: Reader::new(alloc, jobs.try_clone().ok()?, read),
-        link: link_in,
-    };
+    let reads = reads_of(alloc, &jobs, read, link_in)?;
     let writes = Writes {
         writer: Writer::new(writes, written),
         link: link_out,
@@ -185,6 +201,9 @@ fn serve_table<
     ensures some { IfSome result.totals (λ sums. vec_len result.taken ≡ vec_len trees) }
     ensures only { result.end ≢ end.NoWorkers }
 {
+    let Ok(dirs) = Dirs::new(alloc) else {
+        return unserved(alloc, SessionEnd::Memory);
+    };
     let threads = trees.len() + 1;
     let Ok((table, shares)) = Table::<T>::open(alloc, limits, seeds, blanks, threads) else {
         return unserved(alloc, SessionEnd::Memory);
@@ -196,7 +215,7 @@ fn serve_table<
     let common = Common {
         rt: own,
         hall: Hall::new(table),
-        dirs: Dirs::new(alloc),
+        dirs,
         is_broken: AtomicBool::new(false),
     };
     let Ok(common) = Arc::new(alloc, common) else {

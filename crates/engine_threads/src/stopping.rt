@@ -4,14 +4,15 @@ ghost use Rattle.std.specs.Prelude.{◌≡◌};
 ghost use Rattle.crossbeam_channel.specs.Claims.{IsSeatAt};
 ghost use Rattle.crossbeam_channel.specs.Ends.{sends_on, receives_on};
 
-use crate::places::{Common, Kept};
+use crate::places::Kept;
 use backing::Calls;
-use engine::Settings;
+use engine::{Served, Settings};
 use engine_jobs::Job;
 use engine_queues::jobs::{JobReceiver, JobSender, Puts};
 use engine_queues::letters::{Posts, ReplySender};
 use engine_queues::passes::Passes;
-use engine_workers::{Reply, Worker};
+use engine_workers::{Hall, Reply, Worker};
+use handles::Folders;
 use ledger::Ledgers;
 use std::alloc::Global;
 use std::sync::Wait;
@@ -59,13 +60,13 @@ pub struct Starter {
 }
 
 /// Puts the reply to the frame that ended the session, as a worker does.
-pub fn answer_last<H: Wait + Drop, T: Ledgers, C: Calls + Drop>(
+pub fn answer_last<H: Wait + Drop, T: Ledgers, C: Calls + Drop, D: Folders>(
     rt: &H,
-    common: &Common<H, T>,
+    hall: &Hall<T>,
     starter: Starter,
     own: Passes<Job, Reply>,
     kept: &mut Kept<T>,
-    calls: &mut C,
+    served: &mut Served<C, D>,
     job: &Job,
 ) -> Passes<Job, Reply>
     requires jobs { IsSeatAt (receives_on starter.work) own.job_pass }
@@ -80,6 +81,6 @@ pub fn answer_last<H: Wait + Drop, T: Ledgers, C: Calls + Drop>(
         replies,
     } = starter;
     let mut worker = Worker::new(alloc, settings, work, replies, own);
-    let _ = worker.answer(rt, &common.hall, &mut kept.share, calls, &common.dirs, job);
+    let _ = worker.answer(rt, hall, &mut kept.share, served, job);
     worker.into_passes()
 }

@@ -7,7 +7,7 @@ ghost use Rattle.engine.specs.declared.ends.SessionEnd.TheVariants.{NoWorkers};
 
 use crate::places::{Kept, Shared};
 use backing::Calls;
-use engine::{LinkIn, LinkOut};
+use engine::{LinkIn, LinkOut, Served};
 use engine_jobs::Job;
 use engine_queues::letters::ReplyPass;
 use engine_queues::passes::Passes;
@@ -43,20 +43,19 @@ pub fn work_all<H: Wait + Drop, T: Ledgers, C: Calls + Drop>(
     let Staff {
         mut worker,
         mut kept,
-        mut calls,
+        calls,
     } = staff;
+    let mut served = Served {
+        calls,
+        dirs: &common.dirs,
+    };
     for _ in common.rt.forever() {
-        match worker.turn(
-            &common.rt,
-            &common.hall,
-            &mut kept.share,
-            &mut calls,
-            &common.dirs,
-        ) {
+        match worker.turn(&common.rt, &common.hall, &mut kept.share, &mut served) {
             Turn::Worked(_) => {}
             Turn::Nothing => break,
         }
     }
+    let Served { calls, dirs: _ } = served;
     drop(common);
     WorkerEnd {
         passes: worker.into_passes(),
@@ -82,8 +81,9 @@ fn empty_all<H: Wait + Drop, T: Ledgers>(
     ensures ring { receives_on writer.new.replies ≡ receives_on writer.old.replies }
     ensures made { (view writer.new.pass).made ≡ (view writer.old.pass).made }
 {
+    let mut dirs = &common.dirs;
     for _ in common.rt.forever() {
-        match writer.empty(&common.rt, &common.hall, &mut kept.share, &common.dirs) {
+        match writer.empty(&common.rt, &common.hall, &mut kept.share, &mut dirs) {
             Turn::Worked(_) => {}
             Turn::Nothing => break,
         }
@@ -105,13 +105,14 @@ pub fn write_all<H: Wait + Drop, T: Ledgers, L: LinkOut + Drop>(
     let mut writer = writer;
     let mut link = link;
     let mut kept = kept;
+    let mut dirs = &common.dirs;
     for _ in common.rt.forever() {
         match writer.turn(
             &common.rt,
             &mut link,
             &common.hall,
             &mut kept.share,
-            &common.dirs,
+            &mut dirs,
         ) {
             Turn::Worked(_) => common.is_broken.store(writer.is_broken, Ordering::SeqCst),
             Turn::Nothing => break,

@@ -1,13 +1,13 @@
 -- A job that was handled, and its reply.
 use Rattle.std.proofs.Common.{◌≡◌, ℕ, Bool, false, List, [], Option, Some, None, refl, sym, ap, ◌∙◌, subst, arith}
 use Rattle.std.proofs.lemmas.Option.{none-some}
-use Rattle.backing.specs.Calls.{Asked}
-use Rattle.backing.specs.declared.call.Answer.{Answer as Told}
 use Rattle.ledger.specs.Shares.{Part}
 use Rattle.table_steps.specs.Answers.{Settlement}
 use Rattle.wire.specs.Written.{reply_bytes}
 use Rattle.ops.specs.declared.replies.Settings.{Settings}
 use Rattle.engine.specs.Reference.{Offer}
+use Rattle.engine.specs.Serving.{Behaviour}
+use Rattle.engine.specs.declared.served.Served.{Served}
 use Rattle.engine_queues.specs.declared.letters.Letter.{Letter}
 use Rattle.engine_workers.specs.Halls.{Fresh, GainsListed, Visited, left_in, listed, settled_in}
 use Rattle.engine_workers.specs.Rights.{IsRight}
@@ -23,9 +23,9 @@ bytes_or d None = d
 bytes_or d (Some bytes) = bytes
 
 -- what is written is right
-pub right_of : {C : Type 0} (gives : C → Asked → Told → C → Type 0) (settings : Settings) (job : Job) (calls calls' : C) (before after : Part) (said : Option Bytes) (visited : Visited) (bytes : Bytes)
-    → MeetsJob gives settings job calls before (bytes_in said) visited calls' after → said ≡ Some bytes → IsRight settings job (bytes_of bytes) (left_in visited)
-right_of {C} gives settings job calls calls' before after said visited bytes m is = by_offer m.turn.offer refl m.writes where
+pub right_of : {C D : Type 0} (does : Behaviour C D) (settings : Settings) (job : Job) (served served' : Served C D) (before after : Part) (said : Option Bytes) (visited : Visited) (bytes : Bytes)
+    → MeetsJob does settings job served before (bytes_in said) visited served' after → said ≡ Some bytes → IsRight settings job (bytes_of bytes) (left_in visited)
+right_of does settings job served served' before after said visited bytes m is = by_offer m.turn.offer refl m.writes where
   by_offer : (o : Option Offer) → m.turn.offer ≡ o → Writes o (bytes_in said) → IsRight settings job (bytes_of bytes) (left_in visited)
   by_offer None e w = absurd (none-some (bytes_of bytes) (sym w ∙ ap bytes_in is))
   by_offer (Some offer) e w = record {
@@ -39,12 +39,12 @@ right_of {C} gives settings job calls calls' before after said visited bytes m i
   }
 
 -- the share stays where the reply is put
-pub met_on : {C : Type 0} (gives : C → Asked → Told → C → Type 0) (settings : Settings) (job : Job) (calls calls' : C) (before mid after : Part) (said : Option (List ℕ)) (visited : Visited)
-    → MeetsJob gives settings job calls before said visited calls' mid → after.totals.entries ≡ mid.totals.entries → after.index ≡ mid.index → MeetsJob gives settings job calls before said visited calls' after
-met_on {C} gives settings job calls calls' before mid after said visited m e i = record {
+pub met_on : {C D : Type 0} (does : Behaviour C D) (settings : Settings) (job : Job) (served served' : Served C D) (before mid after : Part) (said : Option (List ℕ)) (visited : Visited)
+    → MeetsJob does settings job served before said visited served' mid → after.totals.entries ≡ mid.totals.entries → after.index ≡ mid.index → MeetsJob does settings job served before said visited served' after
+met_on does settings job served served' before mid after said visited m e i = record {
   turn = m.turn;
   handled = m.handled;
-  makes = m.makes;
+  draws = m.draws;
   writes = m.writes;
   gains = record { entries = (let g = m.gains.entries in omega arith); index = i ∙ m.gains.index };
 }

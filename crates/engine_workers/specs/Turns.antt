@@ -1,13 +1,14 @@
 -- What one turn of each thread does.
 use Rattle.std.specs.Prelude.{◌≡◌, ◌⊎◌, ℕ, ◌+◌, ◌<◌, Bool, true, false, if◌then◌else◌, List, [], ◌∷◌, ◌++◌, length, map, Option, Some, None}
-use Rattle.backing.specs.Calls.{Asked}
-use Rattle.backing.specs.declared.call.Answer.{Answer as Told}
+use Rattle.handles.specs.Calls.{FolderCall}
 use Rattle.ledger.specs.Shares.{Part}
 use Rattle.table_steps.specs.Answers.{Settlement, entries_in}
 use Rattle.wire.specs.Written.{reply_bytes}
 use Rattle.ops.specs.declared.replies.Settings.{Settings}
+use Rattle.engine.specs.Folders.{ByCalls, GivesUp}
 use Rattle.engine.specs.Reference.{Offer, Turn, is_broken, is_taken}
-use Rattle.engine.specs.Serving.{Makes}
+use Rattle.engine.specs.Serving.{Behaviour, Draws}
+use Rattle.engine.specs.declared.served.Served.{Served}
 use Rattle.engine.specs.declared.links.Sent.{Sent}
 use Rattle.engine.specs.declared.links.Sent.TheVariants.{Taken}
 use Rattle.engine_queues.specs.Jobs.{hand}
@@ -29,14 +30,19 @@ abbrev pub Writes : Option Offer → Option (List ℕ) → Type 0
 Writes None bytes = bytes ≡ None
 Writes (Some offer) bytes = (bytes ≡ Some (reply_bytes offer.reply)) × (offer.sent ≡ Taken)
 
--- A job is handled by the rules of a session: by these calls of the directory, each once and in order. The share gains the entries of the answer
--- that is left or settled.
-pub record MeetsJob {C : Type 0} (gives : C → Asked → Told → C → Type 0) (settings : Settings) (job : Job) (calls : C) (before : Part) (bytes : Option (List ℕ)) (visited : Visited) (calls' : C) (after : Part) : Type 0 where
+-- A job is handled by the rules of a session: by these calls of the directory and of the open folders, of each in order and each once. The
+-- share gains the entries of the answer that is left or settled.
+pub record MeetsJob {C D : Type 0} (does : Behaviour C D) (settings : Settings) (job : Job) (served : Served C D) (before : Part) (bytes : Option (List ℕ)) (visited : Visited) (served' : Served C D) (after : Part) : Type 0 where
   pub turn : Turn
   pub handled : IsJobHandled settings job turn visited
-  pub makes : Makes gives calls turn.made calls'
+  pub draws : Draws does served turn.made turn.folders served'
   pub writes : Writes turn.offer bytes
   pub gains : GainsListed Fresh before visited after
+
+-- the handle of the listing that was put for an answer
+abbrev pub put_in : Option Left → Option ℕ
+put_in None = None
+put_in (Some left) = left.put
 
 -- what is settled as untaken where the reply was handed back
 abbrev pub untaken_of : Option Left → Option Settlement → Option Settlement
@@ -54,27 +60,25 @@ pub record IsReplyTo (settings : Settings) (from : ℕ) (job : Job) (bytes : Lis
   pub bytes_are : bytes_of letter.reply.bytes ≡ bytes
   pub left_is : letter.reply.left ≡ left_in visited
 
--- exactly one reply is put, unless the queue hands it back; none is put where nothing is written
-pub data PutsReply (settings : Settings) (from : ℕ) (job : Job) (visited : Visited) (old : ReplyLane Reply) (said : Option (List ℕ)) (new : ReplyLane Reply) (settled : Option Settlement) : Type 0 where
-  is_put : (bytes : List ℕ) (letter : Letter Reply) → said ≡ Some bytes → IsReplyTo settings from job bytes visited letter → new ≡ letters.put_of old (Some letter) → settled ≡ settled_in visited → PutsReply settings from job visited old said new settled
-  handed_back : (bytes : List ℕ) → said ≡ Some bytes → new ≡ old → settled ≡ untaken_in visited → PutsReply settings from job visited old said new settled
-  none : said ≡ None → new ≡ old → settled ≡ settled_in visited → PutsReply settings from job visited old said new settled
+-- Exactly one reply is put, unless the queue hands it back; then a listing that was put for it is given up. None is put where nothing is written.
+pub data PutsReply (settings : Settings) (from : ℕ) (job : Job) (visited : Visited) (old : ReplyLane Reply) (said : Option (List ℕ)) (new : ReplyLane Reply) (settled : Option Settlement) (folders : List FolderCall) : Type 0 where
+  is_put : (bytes : List ℕ) (letter : Letter Reply) → said ≡ Some bytes → IsReplyTo settings from job bytes visited letter → new ≡ letters.put_of old (Some letter) → settled ≡ settled_in visited → folders ≡ [] → PutsReply settings from job visited old said new settled folders
+  handed_back : (bytes : List ℕ) → said ≡ Some bytes → new ≡ old → settled ≡ untaken_in visited → GivesUp false (put_in (left_in visited)) folders → PutsReply settings from job visited old said new settled folders
+  none : said ≡ None → new ≡ old → settled ≡ settled_in visited → folders ≡ [] → PutsReply settings from job visited old said new settled folders
 
--- a job was handled and answered
-pub record AnswersJob {C : Type 0} (gives : C → Asked → Told → C → Type 0) (settings : Settings) (from : ℕ) (job : Job) (lane : ReplyLane Reply) (calls : C) (before : Part) (settled : Option Settlement) (lane' : ReplyLane Reply) (calls' : C) (after : Part) : Type 0 where
+-- a job was handled, and then answered
+pub record AnswersJob {C D : Type 0} (does : Behaviour C D) (settings : Settings) (from : ℕ) (job : Job) (lane : ReplyLane Reply) (served : Served C D) (before : Part) (settled : Option Settlement) (lane' : ReplyLane Reply) (served' : Served C D) (after : Part) : Type 0 where
   pub bytes : Option (List ℕ)
   pub visited : Visited
-  pub meets : MeetsJob gives settings job calls before bytes visited calls' after
-  pub puts : PutsReply settings from job visited lane bytes lane' settled
+  pub between : D
+  pub meets : MeetsJob does settings job served before bytes visited (record { calls = served'.calls; dirs = between }) after
+  pub puts : ByCalls does.keeps between served'.dirs (λ folders. PutsReply settings from job visited lane bytes lane' settled folders)
 
 -- one job was taken, handled and answered
-pub record Worked {C : Type 0} (gives : C → Asked → Told → C → Type 0) (settings : Settings) (from : ℕ) (hand' : Hand Job) (lane : ReplyLane Reply) (calls : C) (before : Part) (settled : Option Settlement) (hand'' : Hand Job) (lane' : ReplyLane Reply) (calls' : C) (after : Part) : Type 0 where
+pub record Worked {C D : Type 0} (does : Behaviour C D) (settings : Settings) (from : ℕ) (hand' : Hand Job) (lane : ReplyLane Reply) (served : Served C D) (before : Part) (settled : Option Settlement) (hand'' : Hand Job) (lane' : ReplyLane Reply) (served' : Served C D) (after : Part) : Type 0 where
   pub job : Job
   pub taken : hand'' ≡ hand hand'.parts hand'.put (hand'.taken ++ job ∷ [])
-  pub bytes : Option (List ℕ)
-  pub visited : Visited
-  pub meets : MeetsJob gives settings job calls before bytes visited calls' after
-  pub puts : PutsReply settings from job visited lane bytes lane' settled
+  pub answers : AnswersJob does settings from job lane served before settled lane' served' after
 
 -- ---- the writer
 
@@ -83,31 +87,34 @@ abbrev pub ended_as : Option Left → Bool → Option Settlement
 ended_as None taken = None
 ended_as (Some left) taken = Some (record { id = left.answered.id; entries = entries_in left.answered.given; taken = taken })
 
--- the front reply was taken once the session was over: nothing is offered, and its answer is settled as untaken
-pub record Empties (lane : ReplyLane Reply) (settled : Option Settlement) (lane' : ReplyLane Reply) : Type 0 where
+-- the front reply was taken once the session was over: nothing is offered, its answer is settled as untaken, and a listing that was put for it is given up
+pub record Empties (lane : ReplyLane Reply) (settled : Option Settlement) (lane' : ReplyLane Reply) (folders : List FolderCall) : Type 0 where
   pub front : Letter Reply
   pub got : lane' ≡ letters.got_of lane (Some front)
   pub settled_is : settled ≡ ended_as front.reply.left false
+  pub gives_up : GivesUp false (put_in front.reply.left) folders
 
--- its bytes are offered, and once
-pub record OffersBytes {L : Type 0} (sends : L → List ℕ → Sent → L → Type 0) (letter : Letter Reply) (settled : Option Settlement) (link link' : L) (broken : Bool) : Type 0 where
+-- its bytes are offered, and once; where they are not taken, a listing that was put for it is given up
+pub record OffersBytes {L : Type 0} (sends : L → List ℕ → Sent → L → Type 0) (letter : Letter Reply) (settled : Option Settlement) (folders : List FolderCall) (link link' : L) (broken : Bool) : Type 0 where
   pub sent : Sent
   pub offer : sends link (bytes_of letter.reply.bytes) sent link'
   pub settled_is : settled ≡ ended_as letter.reply.left (is_taken sent)
+  pub gives_up : GivesUp (is_taken sent) (put_in letter.reply.left) folders
   pub broken_is : broken ≡ is_broken sent
 
 -- nothing is offered once the link broke
-pub record OffersNothing {L : Type 0} (letter : Letter Reply) (settled : Option Settlement) (link link' : L) (broken : Bool) : Type 0 where
+pub record OffersNothing {L : Type 0} (letter : Letter Reply) (settled : Option Settlement) (folders : List FolderCall) (link link' : L) (broken : Bool) : Type 0 where
   pub link_is : link' ≡ link
   pub settled_is : settled ≡ ended_as letter.reply.left false
+  pub gives_up : GivesUp false (put_in letter.reply.left) folders
   pub broken_is : broken ≡ true
 
-abbrev pub Offers : {L : Type 0} → (L → List ℕ → Sent → L → Type 0) → Letter Reply → Option Settlement → L → L → (before after : Bool) → Type 0
-Offers sends letter settled link link' true broken = OffersNothing letter settled link link' broken
-Offers sends letter settled link link' false broken = OffersBytes sends letter settled link link' broken
+abbrev pub Offers : {L : Type 0} → (L → List ℕ → Sent → L → Type 0) → Letter Reply → Option Settlement → List FolderCall → L → L → (before after : Bool) → Type 0
+Offers sends letter settled folders link link' true broken = OffersNothing letter settled folders link link' broken
+Offers sends letter settled folders link link' false broken = OffersBytes sends letter settled folders link link' broken
 
 -- the front reply was taken and offered
-pub record Wrote {L : Type 0} (sends : L → List ℕ → Sent → L → Type 0) (lane : ReplyLane Reply) (link : L) (before : Bool) (settled : Option Settlement) (lane' : ReplyLane Reply) (link' : L) (after : Bool) : Type 0 where
+pub record Wrote {L : Type 0} (sends : L → List ℕ → Sent → L → Type 0) (lane : ReplyLane Reply) (link : L) (before : Bool) (settled : Option Settlement) (folders : List FolderCall) (lane' : ReplyLane Reply) (link' : L) (after : Bool) : Type 0 where
   pub front : Letter Reply
   pub got : lane' ≡ letters.got_of lane (Some front)
-  pub offers : Offers sends front settled link link' before after
+  pub offers : Offers sends front settled folders link link' before after

@@ -4,11 +4,13 @@ ghost use Rattle.std.specs.Prelude.{◌≡◌, ◌+◌, [], ◌∷◌, ◌++◌,
 ghost use Rattle.crossbeam_channel.specs.Claims.{view, IsSeatAt};
 ghost use Rattle.crossbeam_channel.specs.Ends.{sends_on, receives_on};
 ghost use Rattle.table_steps.specs.Answers.{Settlement, entries_in};
+ghost use Rattle.engine.specs.Folders.{ByCalls, GivesUp};
 ghost use Rattle.engine.specs.Reference.{Turn as IsHandled};
+ghost use Rattle.engine.specs.Serving.{does};
 ghost use Rattle.engine_workers.specs.Halls.{Visited, left_in, settled_in};
 ghost use Rattle.engine_workers.specs.Rights.{IsRight};
 ghost use Rattle.engine_workers.specs.Slips.{bytes_in, bytes_of};
-ghost use Rattle.engine_workers.specs.Turns.{AnswersJob, ended_as, IsReplyTo, MeetsJob, PutsReply, Worked};
+ghost use Rattle.engine_workers.specs.Turns.{AnswersJob, ended_as, put_in, IsReplyTo, MeetsJob, PutsReply, Worked};
 ghost use Rattle.engine_workers.specs.Visits.{visited_of};
 
 use crate::halls::Hall;
@@ -16,12 +18,12 @@ use crate::replies::Reply;
 use crate::slips::{Bytes, Slip};
 use crate::visits::{ComeTo, Visit};
 use backing::Calls;
-use engine::{Session, Settings};
+use engine::{Served, Session, Settings, give_up};
 use engine_jobs::{Job, Left};
 use engine_queues::jobs::{JobPass, JobReceiver, Takes};
 use engine_queues::letters::{Letter, Posts, ReplyPass, ReplySender};
 use engine_queues::passes::Passes;
-use handles::Dirs;
+use handles::Folders;
 use ledger::{Ledgers, Share};
 use std::alloc::Global;
 use std::snapshot::Snapshot;
@@ -38,16 +40,15 @@ pub enum Turn {
 }
 
 /// Meets a job by the rules of a session: what is replied, and what has come of it in the table.
-fn meet_job<H: Wait, T: Ledgers, C: Calls>(
+fn meet_job<H: Wait, T: Ledgers, C: Calls, D: Folders>(
     session: &mut Session,
     rt: &H,
     hall: &Hall<T>,
     share: &mut Share<T>,
-    calls: &mut C,
-    dirs: &Dirs,
+    served: &mut Served<C, D>,
     job: &Job,
 ) -> (Option<Bytes>, ComeTo)
-    ensures meets { MeetsJob C.gives session.old.settings job.now calls.old share.old (bytes_in result.0) (visited_of result.1) calls.new share.new }
+    ensures meets { MeetsJob (does C.gives D.keeps) session.old.settings job.now served.old share.old (bytes_in result.0) (visited_of result.1) served.new share.new }
     ensures settings { session.new.settings ≡ session.old.settings }
 {
     session.agreed = job.agreed;
@@ -55,9 +56,8 @@ fn meet_job<H: Wait, T: Ledgers, C: Calls>(
     let mut visit = Visit::new(rt, hall);
     session.handle_frame(
         rt,
-        dirs,
         &mut slip,
-        calls,
+        served,
         &mut visit,
         share,
         job.frame.as_slice(),
@@ -90,16 +90,17 @@ fn reply_to(settings: Settings, job: &Job, bytes: Bytes, left: Option<Left>) -> 
     }
 }
 
-/// Settles what is left as untaken. A listing that was put for it is given up.
-pub(crate) fn settle_left<H: Wait, T: Ledgers>(
+/// Settles what is left. A listing that was put for it is given up where its reply was not taken.
+pub(crate) fn settle_left<H: Wait, T: Ledgers, D: Folders>(
     rt: &H,
     hall: &Hall<T>,
     share: &mut Share<T>,
-    dirs: &Dirs,
+    dirs: &mut D,
     left: Option<Left>,
     taken: bool,
 ) -> Option<Settled>
     ensures settled { result ≡ ended_as left taken }
+    ensures gives_up { ByCalls D.keeps dirs.old dirs.new (λ folders. GivesUp taken (put_in left) folders) }
     ensures entries { share.new.totals.entries ≡ share.old.totals.entries }
     ensures index { share.new.index ≡ share.old.index }
 {
@@ -108,19 +109,8 @@ pub(crate) fn settle_left<H: Wait, T: Ledgers>(
     };
     let (answered, put) = left.into_parts();
     let settled = hall.settle(rt, share, answered, taken);
-    if !taken {
-        give_up(rt, dirs, put);
-    }
+    give_up(dirs, put, taken);
     Some(settled)
-}
-
-fn give_up<H: Wait>(rt: &H, dirs: &Dirs, put: Option<u64>) {
-    match put {
-        Some(fh) => {
-            dirs.retire(rt, fh);
-        }
-        None => {}
-    }
 }
 
 /// A thread that takes jobs, and puts a reply to each that gets one.
@@ -206,18 +196,18 @@ impl Worker {
     }
 
     /// Puts the reply to a job, if there is one. One that is handed back is settled as untaken.
-    fn put<H: Wait, T: Ledgers>(
+    fn put<H: Wait, T: Ledgers, D: Folders>(
         &mut self,
         rt: &H,
         hall: &Hall<T>,
         share: &mut Share<T>,
-        dirs: &Dirs,
+        dirs: &mut D,
         job: &Job,
         said: Option<Bytes>,
         come_to: ComeTo,
     ) -> Option<Settled>
         requires right { (bytes : Bytes) → said ≡ Some bytes → IsRight self.old.session.settings job.now (bytes_of bytes) (left_in (visited_of come_to)) }
-        ensures puts { PutsReply self.old.session.settings self.old.number job.now (visited_of come_to) (view self.old.reply_pass) (bytes_in said) (view self.new.reply_pass) result }
+        ensures puts { ByCalls D.keeps dirs.old dirs.new (λ folders. PutsReply self.old.session.settings self.old.number job.now (visited_of come_to) (view self.old.reply_pass) (bytes_in said) (view self.new.reply_pass) result folders) }
         ensures entries { share.new.totals.entries ≡ share.old.totals.entries }
         ensures index { share.new.index ≡ share.old.index }
         ensures jobs { (self.new.jobs ≡ self.old.jobs) × (view self.new.job_pass ≡ view self.old.job_pass) }
@@ -256,37 +246,35 @@ impl Worker {
     }
 
     /// Meets a job, and puts its reply.
-    pub fn answer<H: Wait, T: Ledgers, C: Calls>(
+    pub fn answer<H: Wait, T: Ledgers, C: Calls, D: Folders>(
         &mut self,
         rt: &H,
         hall: &Hall<T>,
         share: &mut Share<T>,
-        calls: &mut C,
-        dirs: &Dirs,
+        served: &mut Served<C, D>,
         job: &Job,
     ) -> Option<Settled>
         ensures rings { (receives_on self.new.jobs ≡ receives_on self.old.jobs) × (sends_on self.new.replies ≡ sends_on self.old.replies) × (self.new.number ≡ self.old.number) }
-        ensures answers { AnswersJob C.gives self.old.session.settings self.old.number job.now (view self.old.reply_pass) calls.old share.old result (view self.new.reply_pass) calls.new share.new }
+        ensures answers { AnswersJob (does C.gives D.keeps) self.old.session.settings self.old.number job.now (view self.old.reply_pass) served.old share.old result (view self.new.reply_pass) served.new share.new }
         ensures jobs { view self.new.job_pass ≡ view self.old.job_pass }
         ensures settings { self.new.session.settings ≡ self.old.session.settings }
     {
-        let (said, come_to) = meet_job(&mut self.session, rt, hall, share, calls, dirs, job);
-        self.put(rt, hall, share, dirs, job, said, come_to)
+        let (said, come_to) = meet_job(&mut self.session, rt, hall, share, served, job);
+        self.put(rt, hall, share, &mut served.dirs, job, said, come_to)
     }
 
     /// Takes one job, meets it, and puts its reply.
-    pub fn turn<H: Wait, T: Ledgers, C: Calls>(
+    pub fn turn<H: Wait, T: Ledgers, C: Calls, D: Folders>(
         &mut self,
         rt: &H,
         hall: &Hall<T>,
         share: &mut Share<T>,
-        calls: &mut C,
-        dirs: &Dirs,
+        served: &mut Served<C, D>,
     ) -> Turn
         ensures rings { (receives_on self.new.jobs ≡ receives_on self.old.jobs) × (sends_on self.new.replies ≡ sends_on self.old.replies) × (self.new.number ≡ self.old.number) }
-        ensures worked { (settled : Option Settlement) → result ≡ Turn.Worked settled → Worked C.gives self.old.session.settings self.old.number (view self.old.job_pass) (view self.old.reply_pass) calls.old share.old settled
-            (view self.new.job_pass) (view self.new.reply_pass) calls.new share.new }
-        ensures nothing { result ≡ Turn.Nothing → (view self.new.job_pass ≡ view self.old.job_pass) × (view self.new.reply_pass ≡ view self.old.reply_pass) × (share.new ≡ share.old) × (calls.new ≡ calls.old) }
+        ensures worked { (settled : Option Settlement) → result ≡ Turn.Worked settled → Worked (does C.gives D.keeps) self.old.session.settings self.old.number (view self.old.job_pass) (view self.old.reply_pass) served.old share.old settled
+            (view self.new.job_pass) (view self.new.reply_pass) served.new share.new }
+        ensures nothing { result ≡ Turn.Nothing → (view self.new.job_pass ≡ view self.old.job_pass) × (view self.new.reply_pass ≡ view self.old.reply_pass) × (share.new ≡ share.old) × (served.new ≡ served.old) }
         ensures settings { self.new.session.settings ≡ self.old.session.settings }
     {
         let Some(after) = self.count.checked_add(1) else {
@@ -295,7 +283,7 @@ impl Worker {
         match self.jobs.recv_as::<Takes, H>(rt, &mut self.job_pass) {
             Ok(Some(job)) => {
                 self.count = after;
-                Turn::Worked(self.answer(rt, hall, share, calls, dirs, &job))
+                Turn::Worked(self.answer(rt, hall, share, served, &job))
             }
             Ok(None) | Err(_) => Turn::Nothing,
         }

@@ -3,6 +3,7 @@
 ghost use Rattle.std.specs.Prelude.{◌≡◌, [], false, length, true, Option};
 ghost use Rattle.crossbeam_channel.specs.Claims.{view, IsSeatAt};
 ghost use Rattle.crossbeam_channel.specs.Ends.{receives_on};
+ghost use Rattle.engine.specs.Folders.{ByCalls};
 ghost use Rattle.engine.specs.Reference.{is_broken, is_taken};
 ghost use Rattle.table_steps.specs.Answers.{Settlement};
 ghost use Rattle.engine_workers.specs.Slips.{bytes_of};
@@ -14,7 +15,7 @@ use crate::slips::Bytes;
 use crate::working::{Turn, settle_left};
 use engine::{LinkOut, Sent};
 use engine_queues::letters::{Gets, Letter, ReplyPass, ReplyReceiver};
-use handles::Dirs;
+use handles::Folders;
 use ledger::{Ledgers, Share};
 use std::sync::Wait;
 
@@ -72,16 +73,17 @@ impl Writer {
     }
 
     /// Takes the front reply of a session that is over, and settles its answer as untaken. It waits for none.
-    pub fn empty<H: Wait, T: Ledgers>(
+    pub fn empty<H: Wait, T: Ledgers, D: Folders>(
         &mut self,
         rt: &H,
         hall: &Hall<T>,
         share: &mut Share<T>,
-        dirs: &Dirs,
+        dirs: &mut D,
     ) -> Turn
         ensures ring { receives_on self.new.replies ≡ receives_on self.old.replies }
         ensures made { (view self.new.pass).made ≡ (view self.old.pass).made }
-        ensures empties { (settled : Option Settlement) → result ≡ Turn.Worked settled → Empties (view self.old.pass) settled (view self.new.pass) }
+        ensures empties { (settled : Option Settlement) → result ≡ Turn.Worked settled → ByCalls D.keeps dirs.old dirs.new (λ folders. Empties (view self.old.pass) settled (view self.new.pass) folders) }
+        ensures nothing { result ≡ Turn.Nothing → dirs.new ≡ dirs.old }
         ensures entries { share.new.totals.entries ≡ share.old.totals.entries }
         ensures index { share.new.index ≡ share.old.index }
     {
@@ -95,18 +97,18 @@ impl Writer {
     }
 
     /// Takes the front reply, offers it, and settles its answer: as taken only where the link took it.
-    pub fn turn<H: Wait, T: Ledgers, L: LinkOut>(
+    pub fn turn<H: Wait, T: Ledgers, L: LinkOut, D: Folders>(
         &mut self,
         rt: &H,
         link: &mut L,
         hall: &Hall<T>,
         share: &mut Share<T>,
-        dirs: &Dirs,
+        dirs: &mut D,
     ) -> Turn
         ensures ring { receives_on self.new.replies ≡ receives_on self.old.replies }
         ensures made { (view self.new.pass).made ≡ (view self.old.pass).made }
-        ensures wrote { (settled : Option Settlement) → result ≡ Turn.Worked settled → Wrote L.sends (view self.old.pass) link.old self.old.is_broken settled (view self.new.pass) link.new self.new.is_broken }
-        ensures nothing { result ≡ Turn.Nothing → (view self.new.pass ≡ view self.old.pass) × (link.new ≡ link.old) × (self.new.is_broken ≡ self.old.is_broken) }
+        ensures wrote { (settled : Option Settlement) → result ≡ Turn.Worked settled → ByCalls D.keeps dirs.old dirs.new (λ folders. Wrote L.sends (view self.old.pass) link.old self.old.is_broken settled folders (view self.new.pass) link.new self.new.is_broken) }
+        ensures nothing { result ≡ Turn.Nothing → (view self.new.pass ≡ view self.old.pass) × (link.new ≡ link.old) × (self.new.is_broken ≡ self.old.is_broken) × (dirs.new ≡ dirs.old) }
         ensures entries { share.new.totals.entries ≡ share.old.totals.entries }
         ensures index { share.new.index ≡ share.old.index }
     {

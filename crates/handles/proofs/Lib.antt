@@ -1,4 +1,4 @@
 pub mod Fitting
-pub mod Handles
 pub mod Orders
 pub mod Sorting
+pub mod Showing

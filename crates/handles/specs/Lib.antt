@@ -1,4 +1,5 @@
+pub mod Calls
 pub mod Listings
 pub mod Names
 pub mod Pages
-pub mod FolderStores
+pub mod Lending

@@ -1,15 +1,20 @@
 //! What a client sees of a folder that is open: its listing, and pages of it.
 #![tactic(auto)]
 
+mod counts;
 mod dirs;
+mod folders;
+mod lent;
 mod limits;
 mod listing;
 mod names;
-mod open_folders;
 mod page;
 mod paging;
+mod stored;
 
-pub use dirs::{Dirs, Lent};
+pub use dirs::Dirs;
+pub use folders::{Folders, Loan};
+pub use lent::Lent;
 pub use limits::{FolderLimits, MAX_KEPT_NAMES, MAX_OPEN_FOLDERS};
 pub use listing::{Listing, ListingFault};
 pub use page::{Page, PageFault};

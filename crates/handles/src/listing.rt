@@ -78,19 +78,10 @@ impl Listing {
     }
 
     /// The same under a handle.
-    pub(crate) fn under(self, fh: u64) -> Listing
+    pub fn under(self, fh: u64) -> Listing
         ensures { result ≡ record self { fh = fh } }
     {
-        let Self {
-            number,
-            fh: _,
-            entries,
-        } = self;
-        Listing {
-            number,
-            fh,
-            entries,
-        }
+        Listing { fh, ..self }
     }
 
     /// All that it shows, in order.

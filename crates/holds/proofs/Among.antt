@@ -7,10 +7,10 @@ use Rattle.paths.specs.Prefixes.{Names, is_prefix}
 use Rattle.paths.proofs.PrefixLemmas.{is_prefix-both, is_prefix-same}
 use Rattle.holds.specs.Conflicts.{is_among}
 
-same_path : (p q : Names) → p ≡ q → (is_prefix p q && is_prefix q p) ≡ true
+pub same_path : (p q : Names) → p ≡ q → (is_prefix p q && is_prefix q p) ≡ true
 same_path p q e = subst (λ (r : Names). (is_prefix p r && is_prefix r p) ≡ true) e (rw (is_prefix-same p) refl)
 
-other_path : (p q : Names) → (p ≡ q → ⊥) → (is_prefix p q && is_prefix q p) ≡ false
+pub other_path : (p q : Names) → (p ≡ q → ⊥) → (is_prefix p q && is_prefix q p) ≡ false
 other_path p q ne = elim (cases_Bool (is_prefix p q && is_prefix q p)) [
   | inl both ↦ let parts = and_parts (is_prefix p q) (is_prefix q p) both in absurd (ne (is_prefix-both p q parts.0 parts.1))
   | inr none ↦ none

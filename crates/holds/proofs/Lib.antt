@@ -1,2 +1,4 @@
 pub mod Among
+pub mod Numbering
 pub mod Prefixing
+mod Under

@@ -1,1 +1,3 @@
 pub mod Conflicts
+pub mod Numbers
+pub mod Under

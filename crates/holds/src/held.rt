@@ -2,6 +2,7 @@
 
 ghost use Rattle.std.specs.Prelude.{◌≡◌, ◌↔◌, ℕ, List, IsTrue, Contains};
 
+use crate::finding::contains;
 use paths::Path;
 use std::marker::Model;
 
@@ -82,12 +83,7 @@ impl Paths {
         ensures among { result ≡ is_among self.now path.now }
         ensures found { IsTrue result ↔ Contains self.now path.now }
     {
-        for other in self.as_slice() {
-            if other.is(path) {
-                return true;
-            }
-        }
-        false
+        contains(self.as_slice(), path)
     }
 
     /// Whether some path is one of these and one of those.

@@ -1,8 +1,12 @@
 //! What requests in flight hold, so that those that touch the same names wait for one another.
 #![tactic(auto)]
 
+mod finding;
 mod held;
+mod names_under;
+mod numbers;
 mod prefixes;
 
 pub use held::{GivenPath, GivenPaths, Held, Paths};
+pub use numbers::{HoldNumbers, Holders};
 pub use prefixes::{prefixes_of, push_prefixes};

@@ -29,6 +29,6 @@ fn main(rt: HostRuntime) -> ExitCode {
         Err(error) => return fail(&rt, Fault::from(error)),
     };
     let (output, mut faults) = (io::writer(&rt), rt.stderr());
-    let ended = run(&rt, &words, input, output, &mut faults);
+    let ended = run(&rt, &rt, &words, input, output, &mut faults);
     ExitCode::from(ended.status)
 }

@@ -27,13 +27,17 @@ number_rule id least most default = record (new_rule id) {
 abbrev pub user : Text → Rule
 user id = number_rule id 0 4294967295 (codes "0")
 
--- the flag `--sample`
-abbrev pub sample_rule : Rule
-sample_rule = record (new_rule (codes "sample")) { long = Some (codes "sample"); action = Some SetTrue }
+-- a flag
+abbrev pub flag_rule : Text → Rule
+flag_rule id = record (new_rule id) { long = Some id; action = Some SetTrue }
+
+-- the flag `--single`, which is `-s` too
+abbrev pub single_rule : Rule
+single_rule = record (flag_rule (codes "single")) { short = Some 115 }
 
 -- the subcommands
 abbrev pub hex_app : App
-hex_app = with_rule (new_app (codes "hex")) sample_rule
+hex_app = with_rule (new_app (codes "hex")) (flag_rule (codes "sample"))
 
 -- told a user and a group, too
 abbrev pub owned : App → App
@@ -42,10 +46,12 @@ owned app = with_rule (with_rule app (user (codes "uid"))) (user (codes "gid"))
 abbrev pub pipe_app : App
 pipe_app = owned (with_rule (new_app (codes "pipe")) (text_rule (codes "root")))
 
+-- told how many threads work on requests, too
+abbrev pub staffed : App → App
+staffed app = with_rule (with_rule app (number_rule (codes "workers") 1 4 (codes "2"))) single_rule
+
 abbrev pub serve_app : App
-serve_app =
-    owned (with_rule (with_rule (with_rule (new_app (codes "serve"))
-    (text_rule (codes "root"))) (text_rule (codes "socket"))) (number_rule (codes "workers") 1 4 (codes "2")))
+serve_app = owned (staffed (with_rule (with_rule (new_app (codes "serve")) (text_rule (codes "root"))) (text_rule (codes "socket"))))
 
 -- the program, whose version can be asked for, without its subcommands
 abbrev pub bare_app : App
@@ -88,9 +94,9 @@ IsFlag id rows = FlagReads (one_of id rows)
 
 -- what is asked for by the subcommand of that name, which was met with these rows
 abbrev pub IsAskedBy : Text → List Row → Options → Type 0
-IsAskedBy name rows (Serve root socket workers uid gid) =
+IsAskedBy name rows (Serve root socket workers single uid gid) =
     (name ≡ codes "serve") × IsText (codes "root") rows root.now × IsText (codes "socket") rows socket.now
-    × IsNumber 8 (codes "workers") rows workers × IsNumber 32 (codes "uid") rows uid × IsNumber 32 (codes "gid") rows gid
+    × IsNumber 8 (codes "workers") rows workers × IsFlag (codes "single") rows single × IsNumber 32 (codes "uid") rows uid × IsNumber 32 (codes "gid") rows gid
 IsAskedBy name rows (Pipe root uid gid) =
     (name ≡ codes "pipe") × IsText (codes "root") rows root.now × IsNumber 32 (codes "uid") rows uid × IsNumber 32 (codes "gid") rows gid
 IsAskedBy name rows (Hex sample) = (name ≢ codes "serve") × (name ≢ codes "pipe") × IsFlag (codes "sample") rows sample

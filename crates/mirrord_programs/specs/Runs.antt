@@ -10,13 +10,14 @@ use Rattle.engine.specs.Serving.{events_of}
 use Rattle.engine.specs.declared.ends.SessionEnd.{SessionEnd}
 use Rattle.engine.specs.declared.ends.SessionEnd.TheVariants as end
 use Rattle.ops.specs.declared.replies.Settings.{Settings}
-use Rattle.mirrord_server.specs.Folders.{ServesFolder, ServesSocket}
+use Rattle.mirrord_server.specs.Folders.{ServesFolder, ServesSocket, ServesWorkers}
 use Rattle.mirrord_server.specs.Known.{IsKnownServed}
 use Rattle.mirrord_server.specs.declared.folder.Unserved.{Unserved}
 use Rattle.mirrord_programs.specs.CommandLine.{mirrord_app, IsAsked}
 use Rattle.mirrord_programs.specs.Ends.{exit_of, failure_after, failure_of, Tells}
 use Rattle.mirrord_programs.specs.Lines.{Hexing, Receives, Sends, broken_line, lines_in, unread}
 use Rattle.mirrord_programs.specs.Samples.{IsStart}
+use Rattle.mirrord_programs.specs.declared.folders.Serving.{Serving}
 use Rattle.mirrord_programs.specs.declared.faults.Failure.TheVariants.{Stopped}
 use Rattle.mirrord_programs.specs.declared.faults.Fault.TheVariants.{Memory, Seed}
 use Rattle.mirrord_programs.specs.declared.options.Options.{Options}
@@ -78,10 +79,14 @@ pub record RunsPipe (root : Bor Text) (settings : Settings) (input output output
   pub path : Bor Text
   pub ends : IsEnded ended root path faults faults' status told
 
+-- by one thread, or by threads
+abbrev pub ServesBy : Serving → Settings → Result SessionEnd Unserved → Type 0
+ServesBy threads settings ended = (threads.single ≡ true → ServesSocket settings ended) × (threads.single ≡ false → ServesWorkers threads.workers ended)
+
 -- A folder is served over a socket.
-pub record RunsServe (root path : Bor Text) (settings : Settings) (faults faults' : Option (List ℕ)) (status : ℕ) (told : Bool) : Type 0 where
+pub record RunsServe (root path : Bor Text) (threads : Serving) (settings : Settings) (faults faults' : Option (List ℕ)) (status : ℕ) (told : Bool) : Type 0 where
   pub ended : Result SessionEnd Unserved
-  pub serves : ServesSocket settings ended
+  pub serves : ServesBy threads settings ended
   pub ends : IsEnded ended root path faults faults' status told
 
 -- ---- from the command line
@@ -102,8 +107,8 @@ pub record IsRefused (words : List Text) (kind : ErrorKind) : Type 0 where
 
 -- the program that was asked for
 abbrev pub RunsAsked : Options → (input output output' faults faults' : Option (List ℕ)) → (status : ℕ) → (told : Bool) → Type 0
-RunsAsked (Serve root socket workers uid gid) input output output' faults faults' status told =
-    RunsServe root socket (record { uid = uid; gid = gid }) faults faults' status told × (output' ≡ output)
+RunsAsked (Serve root socket workers single uid gid) input output output' faults faults' status told =
+    RunsServe root socket (record { workers = workers; single = single }) (record { uid = uid; gid = gid }) faults faults' status told × (output' ≡ output)
 RunsAsked (Pipe root uid gid) input output output' faults faults' status told =
     RunsPipe root (record { uid = uid; gid = gid }) input output output' faults faults' status told
 RunsAsked (Hex sampled) input output output' faults faults' status told = RunsSeeded sampled input output output' faults faults' status told

@@ -3,7 +3,7 @@
 ghost use Rattle.std.specs.Prelude.{◌≡◌, codes, false, IfOk, pos};
 ghost use Rattle.clap.specs.Words.{app_of, rule_of};
 ghost use Rattle.clap.specs.declared.builder.command.Command.TheViews.{out-Command as fields_of};
-ghost use Rattle.mirrord_programs.specs.CommandLine.{bare_app, hex_app, mirrord_app, owned, number_rule, pipe_app, sample_rule, serve_app, text_rule, user};
+ghost use Rattle.mirrord_programs.specs.CommandLine.{bare_app, flag_rule, hex_app, mirrord_app, owned, number_rule, pipe_app, serve_app, single_rule, staffed, text_rule, user};
 
 use clap::builder::ValueParser;
 use clap::{Arg, ArgAction, Command};
@@ -41,7 +41,10 @@ const ROOT: &str = "The folder that is served";
 
 const SOCKET: &str = "Where the socket is made; nothing may stand there";
 
-const WORKERS: &str = "How many threads serve, from 1 to 4. Today one does, whatever this says";
+const WORKERS: &str =
+    "How many threads work on requests, from 1 to 4, beside one that reads and one that writes";
+
+const SINGLE: &str = "One thread does all, whatever --workers says: the least time for each reply";
 
 const UID: &str = "The user that each file and folder is told to belong to";
 
@@ -92,14 +95,23 @@ fn owner_option<'a>(alloc: Global, name: &'a str, help: &'a str) -> Arg<'a>
     number_option(alloc, name, 0, u32::MAX, "0", help)
 }
 
-fn sample_flag<'a>(alloc: Global) -> Arg<'a>
-    ensures rule { rule_of result ≡ sample_rule }
+/// A flag.
+fn flag<'a>(alloc: Global, name: &'a str, help: &'a str) -> Arg<'a>
+    ensures rule { rule_of result ≡ flag_rule name.entry.now }
     ensures local { result.global ≡ false }
 {
-    Arg::new(alloc, "sample")
-        .long("sample")
+    Arg::new(alloc, name)
+        .long(name)
         .action(ArgAction::SetTrue)
-        .help(SAMPLE)
+        .help(help)
+}
+
+/// The flag of one thread.
+fn single_flag<'a>(alloc: Global) -> Arg<'a>
+    ensures rule { rule_of result ≡ single_rule }
+    ensures local { result.global ≡ false }
+{
+    flag(alloc, "single", SINGLE).short('s')
 }
 
 fn hex_command<'a>(alloc: Global) -> Result<Command<'a>, AllocError>
@@ -109,7 +121,7 @@ fn hex_command<'a>(alloc: Global) -> Result<Command<'a>, AllocError>
     Command::new(alloc, "hex")
         .about(HEX)
         .after_help(HEX_EXAMPLE)
-        .arg(sample_flag(alloc))
+        .arg(flag(alloc, "sample", SAMPLE))
 }
 
 /// A command that is also told a user and a group.
@@ -120,6 +132,16 @@ fn with_owner<'a>(alloc: Global, command: Command<'a>) -> Result<Command<'a>, Al
     command
         .arg(owner_option(alloc, "uid", UID))?
         .arg(owner_option(alloc, "gid", GID))
+}
+
+/// A command that is also told how many threads work on requests.
+fn with_workers<'a>(alloc: Global, command: Command<'a>) -> Result<Command<'a>, AllocError>
+    ensures app { IfOk result (λ c. app_of c ≡ staffed (app_of command.entry)) }
+    ensures local { (fields_of command.entry).has_globals ≡ false → IfOk result (λ c. (fields_of c).has_globals ≡ false) }
+{
+    command
+        .arg(number_option(alloc, "workers", 1, 4, "2", WORKERS))?
+        .arg(single_flag(alloc))
 }
 
 fn pipe_command<'a>(alloc: Global) -> Result<Command<'a>, AllocError>
@@ -141,9 +163,9 @@ fn serve_command<'a>(alloc: Global) -> Result<Command<'a>, AllocError>
         .about(SERVE)
         .after_help(SERVE_EXAMPLE)
         .arg(text_option(alloc, "root", "DIR", ROOT))?
-        .arg(text_option(alloc, "socket", "PATH", SOCKET))?
-        .arg(number_option(alloc, "workers", 1, 4, "2", WORKERS))?;
-    with_owner(alloc, placed)
+        .arg(text_option(alloc, "socket", "PATH", SOCKET))?;
+    let staffed = with_workers(alloc, placed)?;
+    with_owner(alloc, staffed)
 }
 
 /// The program without its subcommands.

@@ -5,13 +5,14 @@ ghost use Rattle.mirrord_programs.specs.Runs.{RunsPipe, RunsServe};
 
 use crate::ended::{Ended, failure_after, status_after, tell_any};
 use engine::Settings;
-use mirrord_server::{serve_folder, serve_socket};
+use mirrord_server::{serve_folder, serve_socket, serve_socket_by};
 use std::fs::File;
 use std::io::{Read, Write};
 use std::net::Net;
 use std::random::RandomSource;
 use std::rt::Files;
 use std::sync::Wait;
+use std::thread::Threads;
 
 /// The name of what `pipe` reads.
 const STANDARD_INPUT: &str = "standard input";
@@ -34,17 +35,49 @@ pub fn pipe_run<
     }
 }
 
+/// How many threads serve.
+#[derive(Clone, Copy, Debug, PartialEq, Eq)]
+pub struct Serving {
+    /// How many work on requests, from 1 to 4, beside one that reads and one that writes.
+    pub workers: u8,
+    /// Whether one thread does all, whatever their number.
+    pub single: bool,
+}
+
 /// Serves the folder `root` to the first client that comes to a new socket at `path`: the program `serve` but for its command
 /// line. It reads nothing from the input and writes nothing to the output, which is handed back.
 pub fn serve_run<
-    H: Wait + Net + RandomSource + Files<File = File> + AllocGlobal + Clone + Drop,
+    H: Threads
+        + Wait
+        + Net
+        + RandomSource
+        + Files<File = File>
+        + AllocGlobal
+        + Clone
+        + Send
+        + Sync
+        + Drop
+        + 'static,
     O: Write + Drop,
     F: Write,
->(rt: &H, root: &str, path: &str, settings: Settings, output: O, faults: &mut F) -> Ended<O>
-    ensures runs { RunsServe root.entry path.entry settings (F.contents faults.old) (F.contents faults.new) result.status result.told }
+>(
+    rt: &H,
+    host: &HostRuntime,
+    root: &str,
+    path: &str,
+    threads: Serving,
+    settings: Settings,
+    output: O,
+    faults: &mut F,
+) -> Ended<O>
+    ensures runs { RunsServe root.entry path.entry threads settings (F.contents faults.old) (F.contents faults.new) result.status result.told }
     ensures output { result.output ≡ output }
 {
-    let ended = serve_socket(rt, root, path, settings);
+    let ended = if threads.single {
+        serve_socket(rt, root, path, settings)
+    } else {
+        serve_socket_by(rt, host, root, path, threads.workers, settings)
+    };
     let failure = failure_after(ended, root, path);
     Ended {
         status: status_after(failure),

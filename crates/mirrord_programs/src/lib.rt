@@ -12,7 +12,7 @@ mod samples;
 
 pub use ended::Ended;
 pub use faults::{Failure, Fault, tell};
-pub use folders::{pipe_run, serve_run};
+pub use folders::{Serving, pipe_run, serve_run};
 pub use hexadecimal::HexLink;
 pub use options::{Options, read_options};
 pub use runs::{hex_run, run};

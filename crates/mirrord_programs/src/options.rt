@@ -19,8 +19,10 @@ pub enum Options<'a> {
         root: &'a str,
         /// Where the socket is made.
         socket: &'a str,
-        /// How many threads are to serve.
+        /// How many threads work on requests, from 1 to 4.
         workers: u8,
+        /// Whether one thread does all, whatever their number.
+        single: bool,
         /// Who all of it is told to belong to.
         uid: u32,
         gid: u32,
@@ -96,6 +98,7 @@ fn serve_asked<'a>(matches: &ArgMatches<'a>) -> Options<'a>
         root: text_in(matches, "root"),
         socket: text_in(matches, "socket"),
         workers: small_number_in(matches, "workers"),
+        single: flag_in(matches, "single"),
         uid: number_in(matches, "uid"),
         gid: number_in(matches, "gid"),
     }

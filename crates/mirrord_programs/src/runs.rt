@@ -6,7 +6,7 @@ ghost use Rattle.mirrord_programs.specs.Runs.{IsUnserved, RunsHex, RunsSeeded, R
 
 use crate::ended::{Ended, failure_of, status_after, tell_any};
 use crate::faults::{Failure, Fault, tell};
-use crate::folders::{pipe_run, serve_run};
+use crate::folders::{Serving, pipe_run, serve_run};
 use crate::hexadecimal::HexLink;
 use crate::options::{Options, read_options};
 use crate::samples::new_tree;
@@ -21,6 +21,7 @@ use std::net::Net;
 use std::random::RandomSource;
 use std::rt::Files;
 use std::sync::Wait;
+use std::thread::Threads;
 use table::Seeds;
 
 /// Nobody owns what is mirrored.
@@ -118,14 +119,25 @@ fn explain<O: Write + Drop, F: Write>(
     }
 }
 
-/// The program `mirrord`, whose first word names it.
+/// The program `mirrord`, whose first word names it. The `host` is the same system as `rt`, by its name: what workers are sent may rest on
+/// no bound of a type parameter.
 pub fn run<
-    H: Wait + Net + RandomSource + Files<File = File> + AllocGlobal + Clone + Drop,
+    H: Threads
+        + Wait
+        + Net
+        + RandomSource
+        + Files<File = File>
+        + AllocGlobal
+        + Clone
+        + Send
+        + Sync
+        + Drop
+        + 'static,
     S: AsStr,
     I: BufRead + Drop,
     O: Write + Drop,
     F: Write,
->(rt: &H, words: &[S], input: I, output: O, faults: &mut F) -> Ended<O>
+>(rt: &H, host: &HostRuntime, words: &[S], input: I, output: O, faults: &mut F) -> Ended<O>
     ensures { RunsWords (map S.text words.entry.now) (I.remaining input) (O.contents output) (O.contents result.output) (F.contents faults.old) (F.contents faults.new) result.status result.told }
 {
     match read_options(rt.alloc(), words) {
@@ -133,11 +145,16 @@ pub fn run<
             Options::Serve {
                 root,
                 socket,
-                workers: _,
+                workers,
+                single,
                 uid,
                 gid,
             },
-        ) => serve_run(rt, root, socket, Settings { uid, gid }, output, faults),
+        ) => {
+            let threads = Serving { workers, single };
+            let settings = Settings { uid, gid };
+            serve_run(rt, host, root, socket, threads, settings, output, faults)
+        }
         Ok(Options::Pipe { root, uid, gid }) => {
             pipe_run(rt, root, Settings { uid, gid }, input, output, faults)
         }

@@ -41,6 +41,6 @@ pub known_served : {L C : Type 0} (settings : Settings) (receives : L → Heard 
     → ((old new : C) (call : Asked) (answer : Answer) → gives old call answer new → Counted (tree_of old) (faults old) call answer (tree_of new) (faults new))
     → (tree : C) (old : L) (over : SessionEnd) (new : L) → ServesLink settings receives sends gives tree old over new → ServesKnown settings receives sends gives tree_of faults tree old over new
 known_served settings receives sends gives tree_of faults knows tree old over new (inl served) =
-    let run = known_run gives tree_of faults knows tree served.left (made_of (turns_of served.run.client.steps) ++ served.run.removal.removals) (chain_append (Gives gives) tree served.run.left served.left (made_of (turns_of served.run.client.steps)) served.run.removal.removals served.run.client.makes served.run.removal.makes) in
+    let run = known_run gives tree_of faults knows tree served.left (made_of (turns_of served.run.client.steps) ++ served.run.removal.removals) (chain_append (Gives gives) tree served.run.left.calls served.left (made_of (turns_of served.run.client.steps)) served.run.removal.removals served.run.client.draws.makes served.run.removal.makes) in
     inl (record { served = served; devices = run.devices; on_tree = run.on_tree; counts = run.counts })
 known_served settings receives sends gives tree_of faults knows tree old over new (inr none) = inr none

@@ -1,9 +1,12 @@
 -- A session with a table of its own.
 use Rattle.std.specs.Prelude.{ℕ, ◌≡◌, ◌⊎◌, List}
+use Rattle.std.specs.Borrow.{Bor}
 use Rattle.backing.specs.Calls.{Asked}
 use Rattle.backing.specs.declared.call.Answer.{Answer}
+use Rattle.handles.specs.Calls.{Shares}
+use Rattle.handles.specs.declared.limits.FolderLimits.{FolderLimits}
 use Rattle.engine.specs.Links.{Heard}
-use Rattle.engine.specs.Serving.{IsSessionRun}
+use Rattle.engine.specs.Serving.{does, IsSessionRun}
 use Rattle.engine.specs.Tables.{worlds}
 use Rattle.engine.specs.declared.ends.SessionEnd.{SessionEnd}
 use Rattle.engine.specs.declared.ends.SessionEnd.TheVariants as end
@@ -16,13 +19,20 @@ use Rattle.table_steps.specs.declared.data.Limits.{Limits}
 abbrev pub limits : Limits
 limits = record { nodes = 65536; postings = 1048576; flights = 64; files = 4096 }
 
--- a session over a new table
+-- how far the open folders may grow (own)
+abbrev pub folder_limits : FolderLimits
+folder_limits = record { folders = 4096; names = 1048576 }
+
+-- a session over a new table, with open folders of these limits
 pub record IsServed {L C : Type 0} (settings : Settings) (receives : L → Heard → L → Type 0) (sends : L → List ℕ → Sent → L → Type 0) (gives : C → Asked → Answer → C → Type 0) (tree : C) (old : L) (over : SessionEnd) (new : L) : Type 0 where
   pub world : World
   pub opened : world ≡ opened_world limits
   pub last : World
+  pub dirs : Bor FolderLimits
+  pub limits_are : dirs.now ≡ folder_limits
   pub left : C
-  pub run : IsSessionRun worlds settings receives sends gives old tree world new left last over
+  pub dirs_left : Bor FolderLimits
+  pub run : IsSessionRun worlds settings receives sends (does gives Shares) old (record { calls = tree; dirs = dirs }) world new (record { calls = left; dirs = dirs_left }) last over
 
 -- the same, unless there is no memory for a table
 abbrev pub ServesLink : {L C : Type 0} → Settings → (L → Heard → L → Type 0) → (L → List ℕ → Sent → L → Type 0) → (C → Asked → Answer → C → Type 0) → C → L → SessionEnd → L → Type 0

@@ -5,7 +5,7 @@ ghost use Rattle.mirrord_server.specs.Known.{ServesKnown};
 ghost use Rattle.mirrord_server.specs.Sessions.{ServesLink};
 
 use backing::{Calls, KnownTree};
-use engine::{Link, SessionEnd, Settings, serve};
+use engine::{Link, Served, SessionEnd, Settings, serve};
 use handles::Dirs;
 use ledger::{Blanks, Ledgers};
 use std::alloc::Global;
@@ -19,7 +19,7 @@ fn serve_link<H: Wait, T: Ledgers, L: Link, C: Calls + Drop>(
     alloc: Global,
     blanks: Blanks,
     seeds: Seeds,
-    mut tree: C,
+    tree: C,
     link: &mut L,
     settings: Settings,
 ) -> SessionEnd
@@ -33,9 +33,22 @@ fn serve_link<H: Wait, T: Ledgers, L: Link, C: Calls + Drop>(
     };
     let mut share = shares.pop().unwrap();
     shares.destroy_empty();
-    let dirs = Dirs::new(alloc);
+    let Ok(dirs) = Dirs::new(alloc) else {
+        share.leave();
+        return SessionEnd::Memory;
+    };
+    let mut served = Served {
+        calls: tree,
+        dirs: &dirs,
+    };
     let end = serve(
-        rt, alloc, link, &mut tree, &mut table, &mut share, &dirs, settings,
+        rt,
+        alloc,
+        link,
+        &mut served,
+        &mut table,
+        &mut share,
+        settings,
     );
     share.leave();
     end

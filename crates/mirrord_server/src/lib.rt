@@ -4,7 +4,8 @@
 mod folder;
 mod hosting;
 mod socket;
+mod workers;
 
 pub use folder::{Served, Unserved, serve_folder};
 pub use hosting::{serve_alone, serve_known};
-pub use socket::{RECEIVED, serve_socket};
+pub use socket::{RECEIVED, serve_socket, serve_socket_by};

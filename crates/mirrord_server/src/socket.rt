@@ -1,9 +1,10 @@
 //! A folder of the system, served over a Unix socket.
 
 ghost use Rattle.std.specs.Prelude.{◌≡◌};
-ghost use Rattle.mirrord_server.specs.Folders.{ServesSocket};
+ghost use Rattle.mirrord_server.specs.Folders.{ServesSocket, ServesWorkers};
 
 use crate::folder::{Unserved, new_seeds, open_folder, serve_opened};
+use crate::workers::{open_folders, serve_workers};
 use backing_folder::{Folder, System};
 use engine::{SessionEnd, Settings};
 use std::fs::File;
@@ -14,6 +15,7 @@ use std::os::unix::net::{UnixListener, UnixStream};
 use std::random::RandomSource;
 use std::rt::Files;
 use std::sync::Wait;
+use std::thread::Threads;
 use std::{fs, io};
 use table::Seeds;
 
@@ -48,23 +50,6 @@ fn serve_client<H: Wait + Files<File = File> + AllocGlobal + Clone + Drop>(
     }
 }
 
-/// Waits for one client and serves it.
-fn serve_first<H: Wait + Files<File = File> + AllocGlobal + Clone + Drop>(
-    rt: &H,
-    folder: Folder<System<H>>,
-    seeds: Seeds,
-    settings: Settings,
-    listener: &UnixListener,
-) -> Result<SessionEnd, Unserved>
-    requires { folder ≡ 0 }
-    ensures { ServesSocket settings result }
-{
-    match listener.accept() {
-        Ok((stream, _)) => serve_client(rt, folder, seeds, settings, &stream),
-        Err(error) => Err(unheard(error)),
-    }
-}
-
 /// The device and the inode number of what stands at the path, without following a link there.
 fn identity_of<R: Files<File = File> + AllocGlobal>(rt: &R, path: &str) -> Option<(u64, u64)> {
     match fs::symlink_metadata(rt, path) {
@@ -84,6 +69,37 @@ fn remove_socket<R: Files<File = File> + AllocGlobal>(
     }
 }
 
+/// A socket that a client may connect to.
+#[derive(Drop)]
+struct Place {
+    listener: UnixListener,
+    made: Option<(u64, u64)>,
+}
+
+impl Place {
+    /// Makes the file of the socket.
+    fn new<H: Net + Files<File = File> + AllocGlobal>(
+        rt: &H,
+        path: &str,
+    ) -> Result<Place, Unserved> {
+        match UnixListener::bind(rt, path) {
+            Ok(listener) => Ok(Place {
+                listener,
+                made: identity_of(rt, path),
+            }),
+            Err(error) => Err(unheard(error)),
+        }
+    }
+
+    /// Waits for one client.
+    fn accept(&self) -> Result<UnixStream, Unserved> {
+        match self.listener.accept() {
+            Ok((stream, _)) => Ok(stream),
+            Err(error) => Err(unheard(error)),
+        }
+    }
+}
+
 /// Serves the folder at `root` to the first client that connects to a new socket at `path`, until its session ends. The file of
 /// the socket is then removed, unless something else stands there by then.
 pub fn serve_socket<H: Wait + Net + RandomSource + Files<File = File> + AllocGlobal + Clone + Drop>(
@@ -94,21 +110,48 @@ pub fn serve_socket<H: Wait + Net + RandomSource + Files<File = File> + AllocGlo
 ) -> Result<SessionEnd, Unserved>
     ensures { ServesSocket settings result }
 {
-    let folder = match open_folder(rt, root) {
-        Ok(folder) => folder,
-        Err(why) => return Err(why),
+    let folder = open_folder(rt, root)?;
+    let seeds = new_seeds(rt)?;
+    let place = Place::new(rt, path)?;
+    let ended = match place.accept() {
+        Ok(stream) => serve_client(rt, folder, seeds, settings, &stream),
+        Err(why) => Err(why),
     };
-    let seeds = match new_seeds(rt) {
-        Ok(seeds) => seeds,
-        Err(why) => return Err(why),
+    remove_socket(rt, path, place.made);
+    ended
+}
+
+/// The same by threads: one reads, so many work on requests, from 1 to 4, each with a folder of its own on the same root, and one
+/// writes the replies. The folders are of the `host`, which is the same system.
+pub fn serve_socket_by<
+    H: Threads
+        + Wait
+        + Net
+        + RandomSource
+        + Files<File = File>
+        + AllocGlobal
+        + Clone
+        + Send
+        + Sync
+        + Drop
+        + 'static,
+>(
+    rt: &H,
+    host: &HostRuntime,
+    root: &str,
+    path: &str,
+    workers: u8,
+    settings: Settings,
+) -> Result<SessionEnd, Unserved>
+    ensures { ServesWorkers workers result }
+{
+    let folders = open_folders(host, root, workers)?;
+    let seeds = new_seeds(rt)?;
+    let place = Place::new(rt, path)?;
+    let ended = match place.accept() {
+        Ok(stream) => serve_workers(rt, folders, seeds, settings, stream),
+        Err(why) => Err(why),
     };
-    match UnixListener::bind(rt, path) {
-        Ok(listener) => {
-            let made = identity_of(rt, path);
-            let ended = serve_first(rt, folder, seeds, settings, &listener);
-            remove_socket(rt, path, made);
-            ended
-        }
-        Err(error) => Err(unheard(error)),
-    }
+    remove_socket(rt, path, place.made);
+    ended
 }

@@ -37,7 +37,7 @@ impl<T: Ledgers> Model for Table<T> {
     ghost use Rattle.std.specs.FinMap as map;
     ghost use Rattle.std.specs.Ordering.{nat_cmp};
     ghost use Rattle.tree.specs.contracts.nodes.Node as node;
-    ghost use Rattle.table_steps.specs.Kept.{IsKept};
+    ghost use Rattle.table_steps.specs.Kept.{IsWhole};
 
     ghost Value = { State };
 
@@ -45,7 +45,7 @@ impl<T: Ledgers> Model for Table<T> {
 
     ghost view = { λ t. t.state };
 
-    ghost invariant = { λ t. IsKept t.state × (t.book ≡ totals_of t.state.ledger.made) };
+    ghost invariant = { λ t. IsWhole t.state × (t.book ≡ totals_of t.state.ledger.made) };
 }
 
 /// Counts the postings from a place on for the worker that has the share.

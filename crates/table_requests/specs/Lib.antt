@@ -2,3 +2,4 @@ pub mod Roomy
 pub mod PinCounts
 pub mod RequestMaps
 pub mod Listed
+pub mod HeldPaths

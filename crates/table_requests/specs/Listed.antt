@@ -5,6 +5,8 @@ use Rattle.std.specs.declared.alloc.Global.{Global}
 use Rattle.table_requests.specs.declared.data.RequestInFlight.{RequestInFlight}
 use Rattle.table_requests.specs.declared.data.Promise.{Promise}
 use Rattle.table_requests.specs.declared.pin_counts.PinCounts.{PinCounts}
+use Rattle.holds.specs.declared.numbers.HoldNumbers.{HoldNumbers}
+use Rattle.table_requests.specs.HeldPaths.{AreHolders}
 use Rattle.table_requests.specs.PinCounts.{AreCounted, pins_in}
 use Rattle.table_requests.specs.RequestMaps.{RequestsInFlight, RequestMaps, files_promised, pins_number, nodes_promised, postings_promised}
 
@@ -54,10 +56,11 @@ HaveOwnIds fs = AllPairs (λ (f g : RequestInFlight). f.id ≢ g.id) fs
 abbrev pub AreBelow : ℕ → RequestsInFlight → Type 0
 AreBelow n at = (id : ℕ) (f : RequestInFlight) → at id ≡ Some f → id < n
 
--- requests with their pins counted, with running totals, and with an id that comes after all of theirs, if one is known
-pub record IsTotalled (fs : List RequestInFlight) (pinned : PinCounts) (promised : Promise) (next : ℕ) : Type 0 where
+-- requests with their pins and the paths that they hold counted, with running totals, and with an id that comes after all of theirs, if one is known
+pub record IsTotalled (fs : List RequestInFlight) (pinned : PinCounts) (numbers : HoldNumbers) (promised : Promise) (next : ℕ) : Type 0 where
   pub apart : HaveOwnIds fs
   pub counted : AreCounted pinned (pins_in fs)
+  pub held : AreHolders numbers fs
   pub below : next + 1 < 2 ^ 64 → AreBelow next (flight_in fs)
   pub nodes : promised.nodes ≡ nodes_in fs
   pub postings : promised.postings ≡ postings_in fs

@@ -5,7 +5,7 @@ ghost use Rattle.std.specs.List.{list_any};
 
 use crate::names::Names;
 use holds::Held;
-use paths::{Name, Path};
+use paths::Name;
 use std::alloc::{AllocError, Global};
 use std::marker::Model;
 use table_files::{Access, Need};
@@ -259,38 +259,7 @@ pub enum Stage {
 }
 
 impl Stage {
-    ghost use Rattle.std.specs.Prelude.{◌↔◌, IsTrue};
-    ghost use Rattle.table_requests.specs.RequestMaps.{files_promised, is_working, nodes_promised, postings_promised, IsInTheWay, has_exclusive, has_shared};
-
-    /// Whether the request is worked on, and what it holds conflicts with these names.
-    pub fn conflicts_with(&self, wanted: &Held) -> bool
-        ensures { IsTrue result ↔ IsInTheWay self.now wanted.now }
-    {
-        match self {
-            Stage::Working(work) => work.held.conflicts_with(wanted),
-            Stage::Answered { .. } => false,
-        }
-    }
-
-    /// Whether the request is worked on, and shares the path.
-    pub fn shares(&self, path: &Path) -> bool
-        ensures { result ≡ has_shared self.now path.now }
-    {
-        match self {
-            Stage::Working(work) => work.held.shared.contains(path),
-            Stage::Answered { .. } => false,
-        }
-    }
-
-    /// Whether the request is worked on, and holds the path for itself.
-    pub fn holds_exclusively(&self, path: &Path) -> bool
-        ensures { result ≡ has_exclusive self.now path.now }
-    {
-        match self {
-            Stage::Working(work) => work.held.exclusive.contains(path),
-            Stage::Answered { .. } => false,
-        }
-    }
+    ghost use Rattle.table_requests.specs.RequestMaps.{files_promised, is_working, nodes_promised, postings_promised};
 
     /// Whether the request is worked on.
     pub fn is_working(&self) -> bool

@@ -2,7 +2,7 @@
 #![tactic(auto)]
 
 mod data;
-mod exclusive_holders;
+mod held_paths;
 mod listed;
 mod names;
 mod pin_counts;

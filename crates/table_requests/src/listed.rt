@@ -1,16 +1,15 @@
 //! The requests in flight as a list of them, each step on its own.
 
-ghost use Rattle.std.specs.Prelude.{true, false, ◌≡◌, nat_eq, if◌then◌else◌, ◌<◌, ◌≤◌, ◌+◌, ◌^◌, ◌↔◌, ℕ, None, Some, IfNone, IfSome, IsTrue, count_by, length, slice_get, slice_set, slice_index_or, vec_len, vec_capacity};
+ghost use Rattle.std.specs.Prelude.{true, false, ◌≡◌, nat_eq, if◌then◌else◌, ◌<◌, ◌≤◌, ◌+◌, ◌^◌, ℕ, None, Some, IfNone, IfSome, length, slice_get, slice_set, slice_index_or, vec_len, vec_capacity};
 ghost use Rattle.std.specs.List.{remove};
 ghost use Rattle.table_requests.specs.declared.data.RequestInFlight.{RequestInFlight};
 ghost use Rattle.table_requests.specs.declared.data.Stage.TheVariants as Stage;
-ghost use Rattle.table_requests.specs.RequestMaps.{is_working, answered, opening, pinning, HasNoneWorking, HasNoneAnswered, Answers, Notes, PinsMore, Goes, HoldsUp, has_exclusive, has_shared};
+ghost use Rattle.table_requests.specs.HeldPaths.{HaveSameHolders, LoseHolder};
+ghost use Rattle.table_requests.specs.RequestMaps.{is_working, answered, opening, pinning, HasNoneWorking, HasNoneAnswered, Answers, Notes, PinsMore, Goes};
 ghost use Rattle.table_requests.specs.Listed.{flight_in, in_flight, requests_of, AreBelow, HaveOwnIds};
 ghost use Rattle.table_requests.specs.PinCounts.{pins_in, times};
 
 use crate::data::{Ended, RequestInFlight, Stage, Work};
-use holds::Held;
-use paths::Path;
 use std::mem;
 
 /// The place of the request in the list. Where ids rise, as they do where each is the next one, that takes as many steps
@@ -40,45 +39,6 @@ fn walk_to(flights: &[RequestInFlight], id: u64) -> Option<usize>
         }
     }
     None
-}
-
-/// Whether one of the requests is in the way of these names.
-pub fn holds_up(flights: &[RequestInFlight], wanted: &Held) -> bool
-    requires { HaveOwnIds flights.now }
-    ensures { IsTrue result ↔ HoldsUp (flight_in flights.now) wanted.now }
-{
-    for flight in flights {
-        if flight.stage.conflicts_with(wanted) {
-            return true;
-        }
-    }
-    false
-}
-
-/// How many of the requests that are worked on share the path.
-pub fn shared_on(flights: &[RequestInFlight], path: &Path) -> u64
-    ensures { result ≡ count_by (λ (f : RequestInFlight). has_shared f.stage path.now) flights.now }
-{
-    let mut count = 0;
-    for flight in flights {
-        if flight.stage.shares(path) {
-            count += 1;
-        }
-    }
-    count
-}
-
-/// How many of the requests that are worked on hold the path for themselves.
-pub fn exclusive_on(flights: &[RequestInFlight], path: &Path) -> u64
-    ensures { result ≡ count_by (λ (f : RequestInFlight). has_exclusive f.stage path.now) flights.now }
-{
-    let mut count = 0;
-    for flight in flights {
-        if flight.stage.holds_exclusively(path) {
-            count += 1;
-        }
-    }
-    count
 }
 
 /// Ends the work on the request at that place, if it is worked on, and gives it back.
@@ -112,6 +72,7 @@ pub fn end_work(flights: &mut Vec<RequestInFlight>, id: u64) -> Option<Work>
     ensures same { IfNone result (flights.new.items ≡ flights.old.items) }
     ensures some { IfSome result (λ work. Answers (requests_of (in_flight flights.old)) id work (requests_of (in_flight flights.new))) }
     ensures pinned { (n : ℕ) → pins_in flights.new.items n ≡ pins_in flights.old.items n }
+    ensures held { IfSome result (λ work. LoseHolder flights.old.items work.held flights.new.items) }
     ensures apart { HaveOwnIds flights.new.items }
     ensures below { (n : ℕ) → AreBelow n (flight_in flights.old.items) → AreBelow n (flight_in flights.new.items) }
     ensures len { vec_len flights.new ≡ vec_len flights.old }
@@ -139,6 +100,7 @@ pub fn pin_for(flights: &mut Vec<RequestInFlight>, id: u64, number: u64)
     requires room { (f : RequestInFlight) × (flight_in flights.old.items id ≡ Some f) × (0 < f.pins.room) }
     ensures pins { (f : RequestInFlight) → flight_in flights.old.items id ≡ Some f → PinsMore (requests_of (in_flight flights.old)) id f number (requests_of (in_flight flights.new)) }
     ensures pinned { (n : ℕ) → pins_in flights.new.items n ≡ pins_in flights.old.items n + (if nat_eq number n then 1 else 0) }
+    ensures held { HaveSameHolders flights.old.items flights.new.items }
     ensures apart { HaveOwnIds flights.new.items }
     ensures below { (n : ℕ) → AreBelow n (flight_in flights.old.items) → AreBelow n (flight_in flights.new.items) }
     ensures len { vec_len flights.new ≡ vec_len flights.old }
@@ -170,6 +132,7 @@ pub fn note_for(flights: &mut Vec<RequestInFlight>, id: u64, handle: u64)
     requires here { (f : RequestInFlight) × (flight_in flights.old.items id ≡ Some f) }
     ensures notes { (f : RequestInFlight) → flight_in flights.old.items id ≡ Some f → Notes (requests_of (in_flight flights.old)) id f handle (requests_of (in_flight flights.new)) }
     ensures pinned { (n : ℕ) → pins_in flights.new.items n ≡ pins_in flights.old.items n }
+    ensures held { HaveSameHolders flights.old.items flights.new.items }
     ensures apart { HaveOwnIds flights.new.items }
     ensures below { (n : ℕ) → AreBelow n (flight_in flights.old.items) → AreBelow n (flight_in flights.new.items) }
     ensures len { vec_len flights.new ≡ vec_len flights.old }
@@ -212,6 +175,7 @@ pub fn take_answered(flights: &mut Vec<RequestInFlight>, id: u64) -> Option<Ende
     ensures same { IfNone result (flights.new.items ≡ flights.old.items) }
     ensures some { IfSome result (λ ended. Goes (requests_of (in_flight flights.old)) id ended (requests_of (in_flight flights.new))) }
     ensures pinned { IfSome result (λ ended. (n : ℕ) → pins_in flights.new.items n + times n ended.pins.numbers ≡ pins_in flights.old.items n) }
+    ensures held { HaveSameHolders flights.old.items flights.new.items }
     ensures apart { HaveOwnIds flights.new.items }
     ensures below { (n : ℕ) → AreBelow n (flight_in flights.old.items) → AreBelow n (flight_in flights.new.items) }
     ensures capacity { vec_capacity flights.new ≡ vec_capacity flights.old }

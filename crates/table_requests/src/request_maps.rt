@@ -1,20 +1,18 @@
 //! The requests in flight, with the totals of what is promised to them.
 
-ghost use Rattle.std.specs.Prelude.{true, false, ◌≡◌, ◌≢◌, ◌<◌, ◌≤◌, ◌+◌, ◌^◌, ◌++◌, ◌∷◌, [], ℕ, None, Some, IfNone, IfSome, IsOk, OnOk, IsTrue, AllPairs, ◌↔◌, option_copied, count_by, length};
+ghost use Rattle.std.specs.Prelude.{true, false, ◌≡◌, ◌≢◌, ◌<◌, ◌≤◌, ◌+◌, ◌^◌, ◌++◌, ◌∷◌, [], ℕ, None, Some, IfNone, IfSome, IsOk, OnErr, OnOk, IsTrue, AllPairs, ◌↔◌, option_copied, count_by, length};
 ghost use Rattle.table_requests.specs.declared.data.RequestInFlight.{RequestInFlight};
 ghost use Rattle.table_requests.specs.RequestMaps.{files_promised, no_requests, nodes_promised, postings_promised, AreLawfulRequests, IsTallied, HasNoneWorking, HasNoneAnswered, Adds, Answers, Notes, PinsMore, Goes, HoldsUp, HasExclusiveHolder, has_exclusive, has_shared};
 ghost use Rattle.table_requests.specs.Listed.{requests_of, flight_in, pinned_in};
 
 use crate::data::{Ended, Promise, RequestInFlight, Work};
-use crate::exclusive_holders::is_held_exclusively;
-use crate::listed::{
-    end_work, exclusive_on, holds_up, least_free, next_after, note_for, pin_for, shared_on,
-    take_answered,
-};
+use crate::held_paths::count_held;
+use crate::listed::{end_work, least_free, next_after, note_for, pin_for, take_answered};
 use crate::pin_counts::{PinCounts, count, count_all, count_of, make_room, no_pins, uncount_all};
-use holds::Held;
+use holds::{Held, HoldNumbers};
 use paths::{Name, Path};
 use std::alloc::{AllocError, Global};
+use std::hash::RandomState;
 use std::marker::Model;
 
 /// The requests in flight, each under an id of its own.
@@ -22,6 +20,8 @@ use std::marker::Model;
 pub struct RequestsInFlight {
     flights: Vec<RequestInFlight>,
     pinned: PinCounts,
+    /// How many of them hold each path.
+    held: HoldNumbers,
     promised: Promise,
     /// Above all ids, or the greatest number if such a one is not known.
     next: u64,
@@ -34,13 +34,13 @@ impl Model for RequestsInFlight {
 
     ghost view = { λ a. in_flight a.flights };
 
-    ghost invariant = { λ a. IsTotalled a.flights.items a.pinned a.promised a.next };
+    ghost invariant = { λ a. IsTotalled a.flights.items a.pinned a.held a.promised a.next };
 }
 
 #[tactic(auto, using(crate::proofs::Kept::IsFlying_listed), unfolding(crate::specs::Listed::requests_of))]
 impl RequestsInFlight {
-    /// None in flight.
-    pub fn new(alloc: Global) -> RequestsInFlight
+    /// None in flight. The paths that they hold are hashed by that seed.
+    pub fn new(alloc: Global, seed: RandomState) -> RequestsInFlight
         ensures at { (requests_of result).at ≡ no_requests }
         ensures pinned { (requests_of result).pinned ≡ (λ _. false) }
         ensures many { (requests_of result).many ≡ 0 }
@@ -49,9 +49,12 @@ impl RequestsInFlight {
         ensures files { (requests_of result).files ≡ 0 }
         ensures law { AreLawfulRequests (requests_of result) }
     {
+        let flights = Vec::new(alloc);
+        let held = HoldNumbers::new(alloc, seed);
         RequestsInFlight {
-            flights: Vec::new(alloc),
+            flights,
             pinned: no_pins(alloc),
+            held,
             promised: Promise::NONE,
             next: 0,
         }
@@ -107,7 +110,7 @@ impl RequestsInFlight {
         ensures held { IsTrue result ↔ HoldsUp (requests_of self.now).at wanted.now }
         ensures law { AreLawfulRequests (requests_of self.now) }
     {
-        holds_up(&self.flights, wanted)
+        self.held.holds_up(wanted)
     }
 
     /// Whether one that is worked on holds the name under the parent's path for itself.
@@ -115,21 +118,21 @@ impl RequestsInFlight {
         ensures owned { IsTrue result ↔ HasExclusiveHolder (requests_of self.now).at (parent.now ++ name.now ∷ []) }
         ensures law { AreLawfulRequests (requests_of self.now) }
     {
-        is_held_exclusively(&self.flights, parent, name)
+        self.held.is_held_exclusively(parent, name)
     }
 
     /// How many of those that are worked on share the path.
     pub fn shared_on(&self, path: &Path) -> u64
         ensures { result ≡ count_by (λ (f : RequestInFlight). has_shared f.stage path.now) self.now.flights }
     {
-        shared_on(&self.flights, path)
+        self.held.holders_on(path).shared
     }
 
     /// How many of those that are worked on hold the path for themselves.
     pub fn exclusive_on(&self, path: &Path) -> u64
         ensures { result ≡ count_by (λ (f : RequestInFlight). has_exclusive f.stage path.now) self.now.flights }
     {
-        exclusive_on(&self.flights, path)
+        self.held.holders_on(path).exclusive
     }
 
     /// Makes room for one more.
@@ -144,17 +147,20 @@ impl RequestsInFlight {
         self.flights.reserve(1)
     }
 
-    /// Adds a request, for which there is room.
-    pub fn add(&mut self, flight: RequestInFlight)
+    /// Adds a request, for which there is room. Want of memory for the paths that it holds is the only error: then none is added.
+    pub fn add(&mut self, flight: RequestInFlight) -> Result<(), AllocError>
         requires room { 0 < (requests_of self.old).room }
         requires fresh { (requests_of self.old).at flight.id ≡ None }
         requires nodes { (requests_of self.old).nodes + nodes_promised flight.stage < 2 ^ 64 }
         requires postings { (requests_of self.old).postings + postings_promised flight.stage < 2 ^ 64 }
         requires files { (requests_of self.old).files + files_promised flight.stage < 2 ^ 64 }
-        ensures adds { Adds (requests_of self.old) flight (requests_of self.new) }
+        ensures adds { OnOk result (Adds (requests_of self.old) flight (requests_of self.new)) }
+        ensures same { OnErr result (self.new ≡ self.old) }
         ensures room { (requests_of self.old).room ≤ (requests_of self.new).room + 1 }
         ensures law { AreLawfulRequests (requests_of self.new) }
     {
+        let _places = self.flights.capacity(); // proof: a `usize` counts them
+        count_held(&mut self.held, &flight.stage)?;
         let promise = flight.stage.promise();
         self.promised.nodes += promise.nodes;
         self.promised.postings += promise.postings;
@@ -162,6 +168,7 @@ impl RequestsInFlight {
         self.next = next_after(self.next, flight.id);
         count_all(&mut self.pinned, flight.pins.as_slice());
         self.flights.push_reserved(flight);
+        Ok(())
     }
 
     /// Ends the work on the request and gives it back, if one is worked on under the id.
@@ -174,6 +181,7 @@ impl RequestsInFlight {
         ensures law { AreLawfulRequests (requests_of self.new) }
     {
         let work = end_work(&mut self.flights, id)?;
+        self.held.drop_holds(&work.held);
         self.promised.nodes -= work.promise.nodes;
         self.promised.postings -= work.promise.postings;
         self.promised.files -= work.promise.files;

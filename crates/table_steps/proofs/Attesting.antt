@@ -6,17 +6,18 @@ use Rattle.tree.specs.Places.{IsCensus, at_in}
 use Rattle.table_steps.specs.Keeping.{kept_by}
 use Rattle.table_steps.specs.declared.state.State.{State}
 use Rattle.table_steps.specs.Kept.{IsKept, tally_of, world_of}
-use Rattle.table_steps.specs.World.{IsLawfulWorld}
+use Rattle.table_steps.specs.World.{AreUndisturbed, IsLawfulWorld}
 use Rattle.table_steps.proofs.Tallying.{tallied}
 use Rattle.table_steps.proofs.Viewed.{are_kept}
 
-pub kept_lawful : (s : State) → IsCensus (at_in s.tree) s.tree.living s.tree.counts → IsTallied (requests_of s.flights) → IsKept s → IsLawfulWorld (world_of s)
-kept_lawful s census totals kept = record {
+pub kept_lawful : (s : State) → IsCensus (at_in s.tree) s.tree.living s.tree.counts → IsTallied (requests_of s.flights) → IsKept s → AreUndisturbed (world_of s).at (world_of s).files (world_of s).flights → IsLawfulWorld (world_of s)
+kept_lawful s census totals kept undisturbed = record {
   kept = kept_by s.flights s.files;
   keeps = are_kept s.flights s.files kept.flying kept.filed;
   law = kept.law;
   held = kept.held;
   ready = kept.ready;
+  undisturbed = undisturbed;
   within = record {
     tally = tally_of s;
     tallied = tallied s census totals kept.provided kept.filed;

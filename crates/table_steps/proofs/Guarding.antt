@@ -7,6 +7,7 @@ use Rattle.holds.specs.declared.held.Held.{Held}
 use Rattle.holds.specs.Conflicts.{Conflict, IsHeld}
 use Rattle.tree.specs.declared.nodes.Node.{Node}
 use Rattle.tree.specs.Places.{Lookup, IsNamed, IsPathOf, IsTree, Reaches}
+use Rattle.tree.specs.Moves.{Stands, Where, after_cut, after_exchange, after_move, at_path}
 use Rattle.tree.proofs.Transfers.{path_after_cut, path_after_exchange, path_after_move}
 use Rattle.table_requests.specs.declared.data.Given.{Given}
 use Rattle.ledger.specs.declared.postings.Posting.{Posting}
@@ -24,11 +25,12 @@ use Rattle.table_footprints.specs.Asked.{HasPath, Holds}
 use Rattle.table_footprints.specs.Laws.{AreOwn, IsGrounded}
 use Rattle.table_steps.specs.Laws.{AreEntriesHarmless, AreOthersLeft, AreSweepsHarmless, IsPlaced, LeavesWork}
 use Rattle.table_footprints.specs.Footprints.{AtName, AtNode, Change, Footprint, Location, cuts, exchanges, hides, moves, replaces, footprint_of, stays}
-use Rattle.table_steps.specs.Steps.{Alters, EntersAll, Hides, HoldsUp, Marks, Moves, act_of, hiding_at, none_there, one_there, replacing_at}
+use Rattle.table_steps.specs.Steps.{Alters, EntersAll, Follows, Hides, HoldsUp, Marks, Moves, act_of, after_follow, hiding_at, none_there, one_there, replacing_at}
 use Rattle.table_steps.specs.World.{RequestInFlight, RequestsInFlight, IsAtWork, Work}
 use Rattle.table_footprints.proofs.Members.{any_in, first_in, later_in}
 use Rattle.table_footprints.proofs.FootprintLemmas.{are_grounded}
 use Rattle.table_steps.proofs.Following.{path_follows}
+use Rattle.table_steps.proofs.Landing.{cut_from, exchanged_from, followed_from, marks_keep, moved_from, stands_kept}
 use Rattle.table_steps.proofs.Staying.{KeepsPaths, paths_kept, ready_kept}
 
 -- ---- acts change no names but those that their footprints hold exclusively
@@ -124,6 +126,31 @@ module _ (old : Lookup) (flights : RequestsInFlight) (d : Footprint) (held : Hel
   path_stays (hides l c) new own it n h = hidden_away l c own.0 own.1 new it n h
   path_stays (replaces s t c moved) new own it n h =
       path_follows it.hidden new it.hides.moves.new_path it.path it.new_path moved it.follows n q (apart t own.1 it.new_path it.new_leads) (apart s own.0 it.path it.leads) (hidden_away t c own.1 own.2 it.hidden it.hides n h)
+
+  moves_to : (s t : Location) → Contains d.exclusive s → Contains d.exclusive t → (new : Lookup) → Moves old s t new → (n : ℕ) (w : Where) → Stands old n w → (v : Where) × Stands new n v × (v ≡ at_path q → w ≡ at_path q)
+  moves_to s t own_s own_t new m n w h = (after_move m.path m.new_path w, m.changes.moved n w h, moved_from m.path m.new_path q (apart t own_t m.new_path m.new_leads) w)
+
+  hides_to : (l c : Location) → Contains d.exclusive l → Contains d.exclusive c → (new : Lookup) → Hides old l c new → (n : ℕ) (w : Where) → Stands old n w → (v : Where) × Stands new n v × (v ≡ at_path q → w ≡ at_path q)
+  hides_to l c own_l own_c new it n w h =
+      let m = moves_to l c own_l own_c it.mid it.moves n w h in
+      (m.0, stands_kept it.mid new (marks_keep old it.mid new l it.marks) n m.0 m.1, m.2)
+
+  follows_to : (hidden new : Lookup) (c p t : Names) (moved : Bool) → is_prefix t q ≡ false → Follows hidden c p t moved new → (n : ℕ) (w : Where) → Stands hidden n w → (v : Where) × Stands new n v × (v ≡ at_path q → w ≡ at_path q)
+  follows_to hidden new c p t false beside same n w h = (w, subst (λ (at : Lookup). Stands at n w) (sym same) h, λ e. e)
+  follows_to hidden new c p t true beside changes n w h = (after_follow c p t w, changes.moved n w h, followed_from c p t q beside w)
+
+  -- where each node comes to stand: one that comes to that path stood there
+  pub lands : (change : Change) (new : Lookup) → AreOwn d.exclusive change → Alters old change new → (n : ℕ) (w : Where) → Stands old n w → (v : Where) × Stands new n v × (v ≡ at_path q → w ≡ at_path q)
+  lands stays new own same n w h = (w, subst (λ (at : Lookup). Stands at n w) (sym same) h, λ e. e)
+  lands (cuts l) new own it n w h = (after_cut it.path w, it.changes.moved n w h, cut_from it.path q w)
+  lands (moves s t) new own it n w h = moves_to s t own.0 own.1 new it n w h
+  lands (exchanges s t) new own it n w h =
+      (after_exchange it.path it.new_path w, it.changes.moved n w h, exchanged_from it.path it.new_path q (apart t own.1 it.new_path it.new_leads) (apart s own.0 it.path it.leads) w)
+  lands (hides l c) new own it n w h = hides_to l c own.0 own.1 new it n w h
+  lands (replaces s t c moved) new own it n w h =
+      let hid = hides_to t c own.1 own.2 it.hidden it.hides n w h in
+      let on = follows_to it.hidden new it.hides.moves.new_path it.path it.new_path moved (apart t own.1 it.new_path it.new_leads) it.follows n hid.0 hid.1 in
+      (on.0, on.1, λ e. hid.2 (on.2 e))
 
 -- where all its paths stay, a request is left
 pub left_where : (old new : Lookup) (flights : RequestsInFlight) → IsTree new → ((id : ℕ) (f : RequestInFlight) (work : Work) → IsAtWork flights id f work → KeepsPaths old new f.pins work.held) → LeavesWork old new flights

@@ -2,6 +2,11 @@ pub mod Remaining
 mod Filing
 pub mod Staying
 mod Following
+mod Landing
+mod KeptMarks
+mod Disturbing
+mod DisturbedSteps
+pub mod StillUndisturbed
 pub mod Guarding
 pub mod Beginning
 pub mod Finishing

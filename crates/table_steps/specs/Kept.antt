@@ -15,7 +15,7 @@ use Rattle.tree.specs.Places.{Nodes, at_in}
 use Rattle.table_footprints.specs.NewRequests.{IsProvided, footprint_in}
 use Rattle.table_steps.specs.declared.state.State.{State}
 use Rattle.table_steps.specs.Keeping.{kept_by}
-use Rattle.table_steps.specs.World.{AreHeld, AreReady, Answered, RequestInFlight, RequestsInFlight, HaveNodes, Stage, Tally, Work, Working, World}
+use Rattle.table_steps.specs.World.{AreHeld, AreReady, AreUndisturbed, Answered, RequestInFlight, RequestsInFlight, HaveNodes, Stage, Tally, Work, Working, World}
 
 -- ---- the parts as a world
 
@@ -89,6 +89,11 @@ pub record IsKept (s : State) : Type 0 where
   pub counts : s.counts ≡ s.tree.counts
   pub filed : AreOpenEntries (files_of s.files)
   pub files : HaveNodes (at_in s.tree) (files_of s.files).at
+
+-- so they are between two calls: besides, what the ends of requests may remove has no open file
+pub record IsWhole (s : State) : Type 0 where
+  pub kept : IsKept s
+  pub undisturbed : AreUndisturbed (world_of s).at (world_of s).files (world_of s).flights
 
 -- beside what is promised to others there is room for this promise
 pub record IsRoomFor (s : State) (promise : Promise) : Type 0 where

@@ -1,22 +1,24 @@
 -- All that a table keeps, and the law of it. No number stands here that the rest already fixes: what the limits are judged
 -- by is added up over what stands.
-use Rattle.std.specs.Prelude.{ℕ, ℤ, ◌+◌, ◌^◌, ◌<◌, ◌≤◌, ◌≡◌, ◌≢◌, ◌==◌, ◌↔◌, ◌⊎◌, Bool, true, if◌then◌else◌, List, [], Option, Some, None, All, Contains, length}
+use Rattle.std.specs.Prelude.{ℕ, ℤ, ◌+◌, ◌^◌, ◌<◌, ◌≤◌, ◌≡◌, ◌≢◌, ◌==◌, ◌↔◌, ◌⊎◌, ◌&&◌, Bool, true, not, if◌then◌else◌, List, [], ◌∷◌, Option, Some, None, All, Contains, length}
 use Rattle.holds.specs.declared.held.Held.{Held}
 use Rattle.holds.specs.Conflicts.{Conflict}
 use Rattle.ledger.specs.declared.postings.Posting.{Posting}
 use Rattle.table_requests.specs.declared.data.Case.{Case}
 use Rattle.table_requests.specs.declared.data.Promise.{Promise}
 use Rattle.table_requests.specs.declared.data.Want.{Want}
+use Rattle.table_requests.specs.declared.data.Want.TheVariants as wants
 use Rattle.table_files.specs.declared.data.OpenFile.{OpenFile}
 use Rattle.table_files.specs.Handles.{Files, IsOpen, no_files}
 use Rattle.tree.specs.declared.nodes.Key.{Key}
+use Rattle.tree.specs.declared.nodes.Node.{Node}
 use Rattle.tree.specs.Places.{Lookup, IsNamed, no_nodes, root_node, with_node}
 use Rattle.table_image.specs.Law.{HasNode, IsLawful, IsGivenPath}
 use Rattle.sums.specs.Sum.{IsSum}
 use Rattle.table_steps.specs.declared.data.Limits.{Limits}
-use Rattle.table_footprints.specs.Asked.{Holds, IsMisplaced, promise_of}
+use Rattle.table_footprints.specs.Asked.{Holds, IsMisplaced, IsThere, promise_of}
 use Rattle.table_footprints.specs.Cases.{Seen}
-use Rattle.table_footprints.specs.Footprints.{AtNode, Footprint, footprint_of}
+use Rattle.table_footprints.specs.Footprints.{AtName, AtNode, Footprint, Location, are_same, cuts, footprint_of}
 
 -- ---- what a table keeps
 
@@ -149,6 +151,36 @@ pub record IsReady (at : Lookup) (f : RequestInFlight) (work : Work) : Type 0 wh
   -- it holds not the root alone
   pub below : Contains work.footprint.exclusive (AtNode 1) → ⊥
 
+-- ---- what hiding rests on
+
+-- the name whose file is hidden where it is open, and is not removed or replaced
+abbrev pub hidden_at : Want → List Location
+hidden_at (wants.Node number handle) = []
+hidden_at (wants.Name parent name) = []
+hidden_at (wants.Remove parent name may_hide) = if may_hide then AtName parent name ∷ [] else []
+hidden_at (wants.Move parent name new_parent new_name keep) = if not keep && not (are_same (AtName parent name) (AtName new_parent new_name)) then AtName new_parent new_name ∷ [] else []
+hidden_at (wants.Exchange parent name new_parent new_name) = []
+hidden_at (wants.Page folder names) = []
+hidden_at (wants.Open number access) = []
+hidden_at (wants.Create parent name access) = []
+hidden_at (wants.Release number fh) = []
+
+-- no file is open of what stands there
+abbrev pub IsClosedAt : Lookup → Files → Location → Type 0
+IsClosedAt at files l = (n : ℕ) → IsThere at l n → IsOpen files n → ⊥
+
+-- what the end of the work may remove for good has no open file
+pub record IsUndisturbed (at : Lookup) (files : Files) (work : Work) : Type 0 where
+  -- what stands at the name whose file would be hidden, where there are no candidates for it
+  pub removal : work.footprint.candidates ≡ [] → (l : Location) → Contains (hidden_at work.want) l → IsClosedAt at files l
+  -- the node that is cut by its number, since the request closed the last opening of it
+  pub release : (number : ℕ) → work.footprint.done ≡ cuts (AtNode number) → IsClosedAt at files (AtNode number)
+  -- that node has a hidden mark
+  pub marked : (number : ℕ) → work.footprint.done ≡ cuts (AtNode number) → (x : Node) → at number ≡ Some x → x.hidden ≡ true
+
+abbrev pub AreUndisturbed : Lookup → Files → RequestsInFlight → Type 0
+AreUndisturbed at files flights = (id : ℕ) (f : RequestInFlight) (work : Work) → IsAtWork flights id f work → IsUndisturbed at files work
+
 -- ---- the law
 
 -- the node of each open file lives, with the generation that it had then
@@ -176,6 +208,7 @@ pub record IsLawfulWorld (w : World) : Type 0 where
   pub law : IsLawful w.at w.postings kept
   pub held : AreHeld w.at w.flights
   pub ready : AreReady w.at w.flights
+  pub undisturbed : AreUndisturbed w.at w.files w.flights
   pub within : IsWithin w
   pub files : AreFilesKnown w.at w.files w.last_handle
 

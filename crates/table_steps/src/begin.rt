@@ -216,12 +216,16 @@ impl State {
         let last = is_last(&work.want, work.case);
         let closes = closed_by(&work.want);
         let id = self.flights.free_id();
-        self.flights.add(RequestInFlight {
+        let flight = RequestInFlight {
             id,
             unique,
             stage: Stage::Working(work),
             pins,
-        });
+        };
+        match self.flights.add(flight) {
+            Ok(()) => {}
+            Err(_) => return Begin::Refused(ENOMEM),
+        }
         self.counter = next_counter(self.counter, hide);
         self.close_file(closes);
         Begin::Go(Ticket {

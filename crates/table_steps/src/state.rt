@@ -1,7 +1,7 @@
 //! The parts of a table.
 
 ghost use Rattle.std.specs.Prelude.{◌≡◌, ◌≤◌, IfOk};
-ghost use Rattle.table_steps.specs.Kept.{IsKept, world_of};
+ghost use Rattle.table_steps.specs.Kept.{IsKept, IsWhole, world_of};
 ghost use Rattle.table_steps.specs.World.{IsLawfulWorld, opened_world};
 
 use crate::data::{Limits, Seeds};
@@ -39,7 +39,7 @@ impl State {
             alloc,
             tree,
             ledger: Ledger::new(alloc, limits.postings as usize),
-            flights: RequestsInFlight::new(alloc),
+            flights: RequestsInFlight::new(alloc, seeds.holds),
             limits,
             counts: 0,
             files: Files::new(alloc),
@@ -49,7 +49,7 @@ impl State {
 
     /// Between any two calls the law holds.
     pub fn attest(&self)
-        requires { IsKept self.now }
+        requires { IsWhole self.now }
         ensures { IsLawfulWorld (world_of self.now) }
     {
         let _nodes = self.tree.len(); // proof: its law

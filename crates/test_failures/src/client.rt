@@ -3,7 +3,7 @@
 ghost use Rattle.std.specs.Prelude.{◌≡◌};
 
 use crate::watched::Watched;
-use engine::{Link, LinkIn, LinkOut, Received, Sent, SessionEnd, Settings, serve};
+use engine::{Link, LinkIn, LinkOut, Received, Sent, Served, SessionEnd, Settings, serve};
 use handles::Dirs;
 use ledger::{Blanks, Ledgers};
 use std::alloc::{AllocError, Global};
@@ -11,12 +11,15 @@ use std::random::RandomSource;
 use std::sync::Wait;
 use table::{Limits, Seeds, Table};
 use table_image::Image;
+use test_clients::Handles;
 
-/// Gives its frames one after another, and takes all replies but one.
+/// Gives its frames one after another, and takes all replies but one. Handles of open folders stand in its frames and replies as the
+/// places in which they came (`Handles`).
 #[derive(Drop)]
 pub struct Client {
     frames: Vec<Vec<u8>>,
     given: usize,
+    handles: Handles,
     /// How many replies were offered.
     pub offers: u32,
     /// The reply that is not taken, counted from 1, or 0.
@@ -34,6 +37,7 @@ impl Client {
         Client {
             frames,
             given: 0,
+            handles: Handles::new(alloc),
             offers: 0,
             declined,
             fate,
@@ -62,6 +66,7 @@ impl LinkIn for Client {
             return Received::Broken;
         }
         room[..frame.len()].copy_from_slice(frame);
+        self.handles.write(&mut room[..frame.len()]);
         Received::Bytes(frame.len())
     }
 }
@@ -77,11 +82,17 @@ impl LinkOut for Client {
 
     fn send(&mut self, frame: &[u8]) -> Sent {
         self.offers = self.offers.saturating_add(1);
+        // Its handle is read whether it is then taken or not.
+        let told = self.handles.told(*self.taken.allocator(), frame);
         if self.offers == self.declined && self.fate != Sent::Taken {
             self.failures = self.failures.saturating_add(1);
             return self.fate;
         }
-        match self.taken.extend_from_slice(frame) {
+        let kept = match told {
+            Ok(told) => self.taken.extend_from_slice(&told),
+            Err(_) => Err(AllocError),
+        };
+        match kept {
             Ok(()) => Sent::Taken,
             Err(_) => {
                 self.failures = self.failures.saturating_add(1);
@@ -109,7 +120,7 @@ pub fn serve_on<H: Wait + RandomSource, T: Ledgers>(
     rt: &H,
     alloc: Global,
     blanks: Blanks,
-    tree: &mut Watched<'_>,
+    served: &mut Served<Watched<'_>, &Dirs>,
     client: &mut Client,
 ) -> Result<Over, AllocError>
     requires names { blanks ≡ T.names }
@@ -123,10 +134,7 @@ pub fn serve_on<H: Wait + RandomSource, T: Ledgers>(
     let mut share = shares.pop().unwrap();
     shares.destroy_empty();
     let settings = Settings { uid: 0, gid: 0 };
-    let dirs = Dirs::new(alloc);
-    let end = serve(
-        rt, alloc, client, tree, &mut table, &mut share, &dirs, settings,
-    );
+    let end = serve(rt, alloc, client, served, &mut table, &mut share, settings);
     share.leave();
     let image = table.export()?;
     Ok(Over { end, image })

@@ -10,7 +10,8 @@ use crate::hostile_frames::ROWS;
 use crate::product::tree_of;
 use crate::slow::PLAIN;
 use crate::watched::Watched;
-use engine::{Sent, SessionEnd};
+use engine::{Sent, Served, SessionEnd};
+use handles::Dirs;
 use ledger::{Blanks, Ledgers};
 use std::alloc::{AllocError, Global};
 use std::marker::Brand;
@@ -72,9 +73,13 @@ fn serve_pieces<H: Wait + RandomSource, T: Ledgers>(
     requires names { blanks ≡ T.names }
     requires shares { T.names.parts ≡ 1 }
 {
-    let mut watched = Watched::new(tree_of(alloc, &PLAIN)?, &[]);
+    let dirs = Dirs::new(alloc)?;
+    let mut served = Served {
+        calls: Watched::new(tree_of(alloc, &PLAIN)?, &[]),
+        dirs: &dirs,
+    };
     let mut client = Client::new(alloc, pieces, 0, Sent::Taken);
-    let over = serve_on::<H, T>(rt, alloc, blanks, &mut watched, &mut client)?;
+    let over = serve_on::<H, T>(rt, alloc, blanks, &mut served, &mut client)?;
     let Client { taken, .. } = client;
     Ok((over, taken))
 }

@@ -10,7 +10,8 @@ use crate::items::{Item, Told, sample_items};
 use crate::slow::Plan;
 use crate::watched::Watched;
 use backing::{Answer, Call, Calls, Kind, MemTree};
-use engine::SessionEnd;
+use engine::{Served, SessionEnd};
+use handles::Dirs;
 use ledger::{Blanks, Ledgers};
 use paths::{Name, Path};
 use std::alloc::{AllocError, Global};
@@ -131,12 +132,17 @@ pub fn serve_session<H: Wait + RandomSource, T: Ledgers>(
     requires names { blanks ≡ T.names }
     requires shares { T.names.parts ≡ 1 }
 {
-    let mut watched = Watched::new(tree_of(alloc, plan)?, due);
+    let dirs = Dirs::new(alloc)?;
+    let mut served = Served {
+        calls: Watched::new(tree_of(alloc, plan)?, due),
+        dirs: &dirs,
+    };
     let frames = apart(alloc, FRAMES)?;
     let mut client = Client::new(alloc, frames, plan.declined, plan.fate);
-    let over = serve_on::<H, T>(rt, alloc, blanks, &mut watched, &mut client)?;
-    let are_due = watched.is_as_due();
-    let Watched { tree, .. } = watched;
+    let over = serve_on::<H, T>(rt, alloc, blanks, &mut served, &mut client)?;
+    let Served { calls, dirs: _ } = served;
+    let are_due = calls.is_as_due();
+    let Watched { tree, .. } = calls;
     let Client { taken, offers, .. } = client;
     Ok(Ran {
         end: over.end,

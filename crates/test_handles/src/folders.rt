@@ -1,10 +1,9 @@
 //! Listings put, lent and retired.
 
-use crate::making::{Given, children, listing, told};
+use crate::making::{Given, listing, some_listing, told};
 use backing::Kind::{File, Folder};
 use handles::{Dirs, Listing};
-use std::alloc::Global;
-use std::sync::Wait;
+use std::alloc::{AllocError, Global};
 use std::test::Fail;
 use std::thread;
 
@@ -12,8 +11,8 @@ const ONE: Given = &[("a", File)];
 
 const TWO: Given = &[("c", File), ("b", Folder)];
 
-fn put(rt: &impl Wait, dirs: &Dirs, listing: Listing) -> Result<u64, Fail> {
-    match dirs.put(rt, listing) {
+fn put(dirs: &Dirs, listing: Listing) -> Result<u64, Fail> {
+    match dirs.put(listing) {
         Ok(fh) => Ok(fh),
         Err(_) => Err(Fail::from("the listing came back")),
     }
@@ -21,72 +20,98 @@ fn put(rt: &impl Wait, dirs: &Dirs, listing: Listing) -> Result<u64, Fail> {
 
 #[test]
 fn put_lent_and_retired(rt: HostRuntime) -> Result<(), Fail> {
-    let dirs = Dirs::new(rt.alloc());
-    assert!(rt; dirs.lend(&rt, 0).is_none());
-    assert!(rt; dirs.lend(&rt, 1).is_none());
-    assert_eq!(rt; put(&rt, &dirs, listing(rt.alloc(), ONE)?)?, 1);
-    assert_eq!(rt; put(&rt, &dirs, listing(rt.alloc(), TWO)?)?, 2);
-    let Some(lent) = dirs.lend(&rt, 1) else {
-        return Err(Fail::from("handle 1 is not lent"));
+    let dirs = Dirs::new(rt.alloc())?;
+    assert!(rt; dirs.lend(0).is_none());
+    assert!(rt; dirs.lend(u64::MAX).is_none());
+    assert!(rt; !dirs.retire(0));
+    let first = put(&dirs, listing(rt.alloc(), ONE)?)?;
+    let second = put(&dirs, listing(rt.alloc(), TWO)?)?;
+    assert!(rt; first != second);
+    let Some(lent) = dirs.lend(first) else {
+        return Err(Fail::from("the first is not lent"));
     };
-    let Some(again) = dirs.lend(&rt, 1) else {
-        return Err(Fail::from("handle 1 is not lent twice"));
+    let Some(again) = dirs.lend(first) else {
+        return Err(Fail::from("the first is not lent twice"));
     };
-    assert!(rt; dirs.retire(&rt, 1));
-    assert!(rt; !dirs.retire(&rt, 1));
-    assert!(rt; dirs.lend(&rt, 1).is_none());
-    assert_eq!(rt; again.listing().fh(), 1);
+    // While it is lent, too, a handle is given up once.
+    assert!(rt; dirs.retire(first));
+    assert!(rt; !dirs.retire(first));
+    assert!(rt; dirs.lend(first).is_none());
+    assert_eq!(rt; again.listing().fh(), first);
     assert_eq!(rt; lent.listing().number(), 1);
     let text = told(rt.alloc(), lent.listing().entries())?;
     assert_eq!(rt; text.as_str(), "./ ../ a");
-    let Some(other) = dirs.lend(&rt, 2) else {
-        return Err(Fail::from("handle 2 is not lent"));
+    let Some(other) = dirs.lend(second) else {
+        return Err(Fail::from("the second is not lent"));
     };
     let text = told(rt.alloc(), other.listing().entries())?;
     assert_eq!(rt; text.as_str(), "./ ../ b/ c");
-    assert_eq!(rt; put(&rt, &dirs, listing(rt.alloc(), ONE)?)?, 3);
-    assert!(rt; dirs.retire(&rt, 3));
-    assert!(rt; dirs.retire(&rt, 2));
+    let third = put(&dirs, listing(rt.alloc(), ONE)?)?;
+    assert!(rt; third != first && third != second);
+    assert!(rt; dirs.retire(third));
+    assert!(rt; dirs.retire(second));
     Ok(())
 }
 
-/// Puts 50 listings, lends each by its handle, and retires it: how many calls answered as they should.
-fn use_folders(rt: &impl Wait, alloc: Global, dirs: &Dirs) -> u64 {
-    let mut right = 0u64;
-    for _round in 0..50 {
-        let Ok(names) = children(alloc, TWO) else {
-            return right;
-        };
-        let Ok(own) = Listing::new(alloc, 1, names) else {
-            return right;
-        };
-        let Ok(fh) = dirs.put(rt, own) else {
-            return right;
-        };
-        let lent = dirs.lend(rt, fh);
-        if lent.is_some_and(|lent| lent.listing().fh() == fh
-            && lent.listing().entries().len() == 4)
-        {
-            right = right.saturating_add(1);
-        }
-        if dirs.retire(rt, fh) && dirs.lend(rt, fh).is_none() {
-            right = right.saturating_add(1);
-        }
-    }
-    right
+/// What a thread came to: how many of its listings were lent as they were put and then retired, and under which handles they stood.
+#[derive(Drop)]
+struct Worked {
+    right: u64,
+    handles: Vec<u64>,
 }
 
+/// Whether the listing that is lent under the handle bears it, and has these names.
+fn is_lent(alloc: Global, dirs: &Dirs, fh: u64, names: &str) -> Result<bool, AllocError> {
+    let Some(lent) = dirs.lend(fh) else {
+        return Ok(false);
+    };
+    let text = told(alloc, lent.listing().entries())?;
+    Ok(lent.listing().fh() == fh && text.as_str() == names)
+}
+
+/// Puts a listing, lends it, and retires it.
+fn use_folder(alloc: Global, dirs: &Dirs, worked: &mut Worked) -> Result<(), AllocError> {
+    let Some(own) = some_listing(alloc, TWO) else {
+        return Ok(());
+    };
+    let Ok(fh) = dirs.put(own) else {
+        return Ok(());
+    };
+    worked.handles.push(fh)?;
+    if is_lent(alloc, dirs, fh, "./ ../ b/ c")? && dirs.retire(fh) && dirs.lend(fh).is_none() {
+        worked.right = worked.right.saturating_add(1);
+    }
+    Ok(())
+}
+
+/// Uses 1,000 folders.
+fn use_folders(alloc: Global, dirs: &Dirs) -> Worked {
+    let mut worked = Worked {
+        right: 0,
+        handles: Vec::new(alloc),
+    };
+    for _round in 0..1_000 {
+        let _ = use_folder(alloc, dirs, &mut worked);
+    }
+    worked
+}
+
+// What one thread puts no other one disturbs, and nothing is left of it.
 #[test]
-fn two_threads(rt: HostRuntime) -> Result<(), Fail> {
+fn four_threads(rt: HostRuntime) -> Result<(), Fail> {
     let alloc = rt.alloc();
-    let dirs = Dirs::new(alloc);
+    let dirs = Dirs::new(alloc)?;
     let shared = &dirs;
-    let told = thread::join(
-        &rt,
-        || use_folders(&rt, alloc, shared),
-        || use_folders(&rt, alloc, shared),
-    );
-    assert_eq!(rt; told, (100, 100));
-    assert_eq!(rt; put(&rt, &dirs, listing(alloc, ONE)?)?, 101);
+    let all = thread::map_indices(&rt, alloc, 4, &|_thread| use_folders(alloc, shared))?;
+    let mut gone = 0u64;
+    for worked in &all {
+        assert_eq!(rt; worked.right, 1_000);
+        for fh in &worked.handles {
+            if dirs.lend(*fh).is_none() {
+                gone = gone.saturating_add(1);
+            }
+        }
+    }
+    assert_eq!(rt; gone, 4_000);
     Ok(())
 }

@@ -1,11 +1,11 @@
 //! Listings that are put up to the limits of the open folders, and beyond them.
 
-use crate::making::{Given, listing};
+use crate::making::{Given, listing, some_listing};
 use backing::Kind::File;
-use handles::{Dirs, FolderLimits, Listing, MAX_OPEN_FOLDERS};
+use handles::{Dirs, FolderLimits, MAX_OPEN_FOLDERS};
 use std::alloc::Global;
-use std::sync::Wait;
 use std::test::Fail;
+use std::thread;
 
 const NONE: Given = &[];
 
@@ -16,57 +16,64 @@ const TWO: Given = &[("a", File), ("b", File)];
 /// What is done with the open folders.
 #[derive(Clone, Copy)]
 enum Step {
-    /// A listing of these names is put, and comes under that handle.
-    Put(Given, u64),
-    /// One of these is put, and comes back.
+    /// A listing of these names is put.
+    Put(Given),
+    /// One of these is put, and comes back as it was.
     Back(Given),
-    /// A handle is given up.
-    Retire(u64),
+    /// The handle of the listing that was put as that one, counted from 0, is given up.
+    Retire(usize),
 }
 
-/// Where the listing came: 0 if it came back as it was.
-fn place(rt: &impl Wait, dirs: &Dirs, listing: Listing) -> u64 {
-    match dirs.put(rt, listing) {
-        Ok(fh) => fh,
-        Err(back) => back.fh(),
-    }
+/// Whether the step is answered as it must be. Handles that come are kept.
+fn is_right(alloc: Global, dirs: &Dirs, handles: &mut Vec<u64>, step: Step) -> Result<bool, Fail> {
+    Ok(match step {
+        Step::Put(names) => match dirs.put(listing(alloc, names)?) {
+            Ok(fh) => {
+                handles.push(fh)?;
+                true
+            }
+            Err(_) => false,
+        },
+        Step::Back(names) => dirs.put(listing(alloc, names)?).is_err_and(|back| back.fh() == 0
+            && back.entries().len() == names.len() + 2),
+        Step::Retire(place) => match handles.get(place) {
+            Some(fh) => dirs.retire(*fh),
+            None => false,
+        },
+    })
 }
 
-fn take(rt: &impl Wait, alloc: Global, dirs: &Dirs, step: Step) -> Result<(), Fail> {
-    let (told, wanted) = match step {
-        Step::Put(names, fh) => (place(rt, dirs, listing(alloc, names)?), fh),
-        Step::Back(names) => (place(rt, dirs, listing(alloc, names)?), 0),
-        Step::Retire(fh) => (u64::from(dirs.retire(rt, fh)), 1),
-    };
-    if told == wanted {
+fn take(alloc: Global, dirs: &Dirs, handles: &mut Vec<u64>, step: Step) -> Result<(), Fail> {
+    if is_right(alloc, dirs, handles, step)? {
         return Ok(());
     }
-    Err(Fail::from((told, wanted)))
+    Err(Fail::from(("after so many handles", handles.len())))
 }
 
 // `.` and `..` are names that are kept, too.
 #[test]
 fn listings_come_back_beyond_the_limits(rt: HostRuntime) -> Result<(), Fail> {
     const STEPS: &[Step] = &[
-        Step::Put(ONE, 1),
-        Step::Put(TWO, 2),
+        Step::Put(ONE),
+        Step::Put(TWO),
+        Step::Back(NONE),
+        Step::Retire(0),
+        Step::Back(TWO),
+        Step::Put(ONE),
         Step::Back(NONE),
         Step::Retire(1),
-        Step::Back(TWO),
-        Step::Put(ONE, 3),
-        Step::Back(NONE),
         Step::Retire(2),
-        Step::Retire(3),
-        Step::Put(TWO, 4),
-        Step::Put(ONE, 5),
+        Step::Put(TWO),
+        Step::Put(ONE),
     ];
     let limits = FolderLimits {
         folders: 2,
         names: 7,
     };
-    let dirs = Dirs::with_limits(rt.alloc(), limits);
+    let dirs = Dirs::with_limits(rt.alloc(), limits)?;
+    let mut handles = Vec::new(rt.alloc());
     for step in STEPS {
-        take(&rt, rt.alloc(), &dirs, *step)?;
+        take(rt.alloc(), &dirs, &mut handles, *step)?;
     }
     Ok(())
 }
@@ -74,9 +81,45 @@ fn listings_come_back_beyond_the_limits(rt: HostRuntime) -> Result<(), Fail> {
 #[test]
 fn so_many_folders(rt: HostRuntime) -> Result<(), Fail> {
     let alloc = rt.alloc();
-    let dirs = Dirs::new(alloc);
-    for number in 0..MAX_OPEN_FOLDERS {
-        take(&rt, alloc, &dirs, Step::Put(NONE, number.saturating_add(1)))?;
+    let dirs = Dirs::new(alloc)?;
+    let mut handles = Vec::new(alloc);
+    for _folder in 0..MAX_OPEN_FOLDERS {
+        take(alloc, &dirs, &mut handles, Step::Put(NONE))?;
     }
-    take(&rt, alloc, &dirs, Step::Back(NONE))
+    take(alloc, &dirs, &mut handles, Step::Back(NONE))?;
+    take(alloc, &dirs, &mut handles, Step::Retire(7))?;
+    take(alloc, &dirs, &mut handles, Step::Put(ONE))
+}
+
+/// Puts 500 listings, and retires each that did not come back: how many were made.
+fn put_and_retire(alloc: Global, dirs: &Dirs) -> u64 {
+    let mut made = 0u64;
+    for _round in 0..500 {
+        let Some(own) = some_listing(alloc, ONE) else {
+            return made;
+        };
+        made = made.saturating_add(1);
+        if let Ok(fh) = dirs.put(own) {
+            dirs.retire(fh);
+        }
+    }
+    made
+}
+
+// Whatever was refused to threads that met at the limits, all of it is there again when they have ended.
+#[test]
+fn no_place_is_lost(rt: HostRuntime) -> Result<(), Fail> {
+    let alloc = rt.alloc();
+    let limits = FolderLimits {
+        folders: 2,
+        names: 7,
+    };
+    let dirs = Dirs::with_limits(alloc, limits)?;
+    let shared = &dirs;
+    let all = thread::map_indices(&rt, alloc, 4, &|_thread| put_and_retire(alloc, shared))?;
+    assert!(rt; all.iter().all(|made| *made == 500));
+    let mut handles = Vec::new(alloc);
+    take(alloc, &dirs, &mut handles, Step::Put(TWO))?;
+    take(alloc, &dirs, &mut handles, Step::Put(ONE))?;
+    take(alloc, &dirs, &mut handles, Step::Back(NONE))
 }

@@ -27,6 +27,12 @@ pub(crate) fn listing(alloc: Global, given: Given) -> Result<Listing, Fail> {
     }
 }
 
+/// The same where no words are to be told of a failure.
+pub(crate) fn some_listing(alloc: Global, given: Given) -> Option<Listing> {
+    let children = children(alloc, given).ok()?;
+    Listing::new(alloc, 1, children).ok()
+}
+
 /// The names with blanks between them, a slash after a folder's.
 pub(crate) fn told(alloc: Global, entries: &[Child]) -> Result<String, AllocError> {
     let mut text = String::new(alloc);

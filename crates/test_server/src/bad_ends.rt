@@ -52,7 +52,13 @@ fn output_that_breaks_in_a_reply(rt: HostRuntime) -> Result<(), Fail> {
             MAKE_M,
             "34000000 0c000000 0500000000000000 0100000000000000",
         ];
-        let out = pipe(&rt, root.as_str(), &asks, new_narrow(rt.alloc(), 100, kind))?;
+        let out = pipe(
+            &rt,
+            &rt,
+            root.as_str(),
+            &asks,
+            new_narrow(rt.alloc(), 100, kind),
+        )?;
         assert_eq!(rt; out.status, 4);
         assert!(rt; out.faults.as_slice() == b"mirrord: the link failed\n".as_slice());
         assert_eq!(rt; out.output.taken.len(), 100);
@@ -71,11 +77,17 @@ fn output_that_breaks_in_a_reply(rt: HostRuntime) -> Result<(), Fail> {
 }
 
 /// Runs the program with these words on INIT: its status, and whether it wrote just that line and no reply.
-fn told_by(rt: &impl Host, words: &[&str], line: &str) -> Result<(u8, bool), Fail> {
+fn told_by(
+    rt: &impl Host,
+    host: &HostRuntime,
+    words: &[&str],
+    line: &str,
+) -> Result<(u8, bool), Fail> {
     let input = bytes_of(rt.alloc(), &[INIT, LOOKUP_A])?;
     let mut faults = Vec::new(rt.alloc());
     let ended = run(
         rt,
+        host,
         words,
         input.as_slice(),
         Vec::new(rt.alloc()),
@@ -92,7 +104,7 @@ fn what_is_no_folder(rt: HostRuntime) -> Result<(), Fail> {
         let place = place_of(rt.alloc(), root.as_str(), name)?;
         let line = format!(in rt.alloc(); "mirrord: {place} is not a folder\n")?;
         let pipe = ["mirrord", "pipe", "--root", place.as_str()];
-        assert_eq!(rt; told_by(&rt, &pipe, line.as_str())?, (4, true));
+        assert_eq!(rt; told_by(&rt, &rt, &pipe, line.as_str())?, (4, true));
         // It is tested before the socket is made.
         let socket = place_of(rt.alloc(), root.as_str(), "socket")?;
         let serve = [
@@ -103,7 +115,7 @@ fn what_is_no_folder(rt: HostRuntime) -> Result<(), Fail> {
             "--socket",
             socket.as_str(),
         ];
-        assert_eq!(rt; told_by(&rt, &serve, line.as_str())?, (4, true));
+        assert_eq!(rt; told_by(&rt, &rt, &serve, line.as_str())?, (4, true));
         expect(&rt, root.as_str(), &[("socket", Shown::Nothing)])?;
     }
     Ok(())
@@ -126,7 +138,7 @@ fn where_no_socket_can_be(rt: HostRuntime) -> Result<(), Fail> {
             "--socket",
             place.as_str(),
         ];
-        assert_eq!(rt; told_by(&rt, &words, line.as_str())?, (4, true));
+        assert_eq!(rt; told_by(&rt, &rt, &words, line.as_str())?, (4, true));
     }
     expect(&rt, root.as_str(), &[("a", Shown::File(3))])
 }

@@ -5,9 +5,11 @@ use std::net::Net;
 use std::random::RandomSource;
 use std::rt::{Clock, Env, Files};
 use std::sync::Wait;
+use std::thread::Threads;
 
 /// The runtime of a test.
-pub trait Host: Wait
+pub trait Host: Threads
+    + Wait
     + Net
     + RandomSource
     + Files<File = File>
@@ -15,8 +17,23 @@ pub trait Host: Wait
     + Clock
     + AllocGlobal
     + Clone
-    + Drop {}
+    + Send
+    + Sync
+    + Drop
+    + 'static {}
 
 impl<
-    H: Wait + Net + RandomSource + Files<File = File> + Env + Clock + AllocGlobal + Clone + Drop,
+    H: Threads
+        + Wait
+        + Net
+        + RandomSource
+        + Files<File = File>
+        + Env
+        + Clock
+        + AllocGlobal
+        + Clone
+        + Send
+        + Sync
+        + Drop
+        + 'static,
 > Host for H {}

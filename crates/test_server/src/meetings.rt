@@ -15,6 +15,7 @@ use std::os::unix::net::UnixStream;
 use std::test::Fail;
 use std::time::Duration;
 use std::{io, thread};
+use test_clients::Handles;
 
 /// What a client does next.
 #[derive(Clone, Copy)]
@@ -49,21 +50,35 @@ fn connect(rt: &impl Host, path: &str) -> io::Result<UnixStream> {
     UnixStream::connect(rt, path)
 }
 
-/// Writes what is asked, and reads as many bytes as are waited for. True says that they came.
-fn ask(rt: &impl Host, stream: &mut UnixStream, asked: &str, told: &str) -> io::Result<bool> {
-    let asked = bytes_of(rt.alloc(), &[asked])?;
+/// Writes what is asked, and reads as many bytes as are waited for. True says that they came. Handles of open folders are as in a script.
+fn ask(
+    rt: &impl Host,
+    stream: &mut UnixStream,
+    handles: &mut Handles,
+    asked: &str,
+    told: &str,
+) -> io::Result<bool> {
+    let mut asked = bytes_of(rt.alloc(), &[asked])?;
     let told = bytes_of(rt.alloc(), &[told])?;
+    handles.write(&mut asked);
     stream.write_all(&asked)?;
     let mut came = Vec::new(rt.alloc());
     came.resize(told.len(), 0)?;
     stream.read_exact(came.as_mut_slice())?;
+    handles.read(&mut came)?;
     Ok(came.as_slice() == told.as_slice())
 }
 
 /// Whether a turn came out as it should.
-fn is_right(rt: &impl Host, root: &str, stream: &mut UnixStream, turn: Turn) -> bool {
+fn is_right(
+    rt: &impl Host,
+    root: &str,
+    stream: &mut UnixStream,
+    handles: &mut Handles,
+    turn: Turn,
+) -> bool {
     match turn {
-        Asks(asked, told) => matches!(ask(rt, stream, asked, told), Ok(true)),
+        Asks(asked, told) => matches!(ask(rt, stream, handles, asked, told), Ok(true)),
         Sees(name, shown) => matches!(shown_at(rt, root, name), Ok(found) if found == shown),
     }
 }
@@ -74,8 +89,9 @@ fn be_client(rt: &impl Host, root: &str, path: &str, turns: &[Turn]) -> u64 {
     let Ok(mut stream) = connect(rt, path) else {
         return right;
     };
+    let mut handles = Handles::new(rt.alloc());
     for turn in turns {
-        if !is_right(rt, root, &mut stream, *turn) {
+        if !is_right(rt, root, &mut stream, &mut handles, *turn) {
             return right;
         }
         right = right.saturating_add(1);
@@ -83,25 +99,28 @@ fn be_client(rt: &impl Host, root: &str, path: &str, turns: &[Turn]) -> u64 {
     right
 }
 
+/// Which threads serve: the word for it.
+const ONE_THREAD: &str = "-s";
+
+const FOUR_WORKERS: &str = "--workers=4";
+
 /// Runs `serve`: its status, and whether it wrote just that line.
-fn be_server(rt: &impl Host, root: &str, path: &str, fault: &str) -> (u8, bool) {
+fn be_server(
+    rt: &impl Host,
+    host: &HostRuntime,
+    root: &str,
+    path: &str,
+    threads: &str,
+    fault: &str,
+) -> (u8, bool) {
     let words = [
-        "mirrord",
-        "serve",
-        "--workers",
-        "4",
-        "--socket",
-        path,
-        "--root",
-        root,
-        "--uid",
-        "1000",
-        "--gid",
+        "mirrord", "serve", threads, "--socket", path, "--root", root, "--uid", "1000", "--gid",
         "100",
     ];
     let mut faults = Vec::new(rt.alloc());
     let ended = run(
         rt,
+        host,
         &words,
         b"".as_slice(),
         Vec::new(rt.alloc()),
@@ -272,34 +291,45 @@ const WHOLE: &[Meeting] = &[Meeting {
     ],
 }];
 
+/// A server and a client meet as the row says.
+fn meet(
+    rt: &impl Host,
+    host: &HostRuntime,
+    there: &str,
+    threads: &str,
+    row: &Meeting,
+) -> Result<(), Fail> {
+    let path = place_of(rt.alloc(), there, "socket")?;
+    let place = path.as_str();
+    let (served, right) = thread::join(
+        rt,
+        || be_server(rt, host, there, place, threads, row.fault),
+        || be_client(rt, there, place, row.turns),
+    );
+    judge(rt, there, row, served, right)
+}
+
 #[test]
 fn clients_over_a_socket(rt: HostRuntime) -> Result<(), Fail> {
     for row in MEETINGS {
-        let root = new_folder(&rt, "meeting")?;
-        let path = place_of(rt.alloc(), root.as_str(), "socket")?;
-        let (there, place) = (root.as_str(), path.as_str());
-        let (served, right) = thread::join(
-            &rt,
-            || be_server(&rt, there, place, row.fault),
-            || be_client(&rt, there, place, row.turns),
-        );
-        judge(&rt, there, row, served, right)?;
+        let (one, four) = (new_folder(&rt, "alone")?, new_folder(&rt, "meeting")?);
+        meet(&rt, &rt, one.as_str(), ONE_THREAD, row)?;
+        meet(&rt, &rt, four.as_str(), FOUR_WORKERS, row)?;
     }
     Ok(())
 }
 
+// With workers a request may overtake a FORGET before it, so that no reply tells of it.
 #[test]
 fn whole_session_over_a_socket(rt: HostRuntime) -> Result<(), Fail> {
     for row in WHOLE {
-        let root = new_folder(&rt, "whole")?;
-        let path = place_of(rt.alloc(), root.as_str(), "socket")?;
-        let (there, place) = (root.as_str(), path.as_str());
-        let (served, right) = thread::join(
+        meet(
             &rt,
-            || be_server(&rt, there, place, row.fault),
-            || be_client(&rt, there, place, row.turns),
-        );
-        judge(&rt, there, row, served, right)?;
+            &rt,
+            new_folder(&rt, "whole")?.as_str(),
+            ONE_THREAD,
+            row,
+        )?;
     }
     Ok(())
 }

@@ -37,6 +37,7 @@ pub struct Outcome<O: Drop> {
 /// Runs `pipe` on that folder.
 pub fn pipe<H: Host, O: Write + Drop>(
     rt: &H,
+    host: &HostRuntime,
     root: &str,
     asks: &[&str],
     output: O,
@@ -52,7 +53,7 @@ pub fn pipe<H: Host, O: Write + Drop>(
     ];
     let input = bytes_of(rt.alloc(), asks)?;
     let mut faults = Vec::new(rt.alloc());
-    let ended = run(rt, &words, input.as_slice(), output, &mut faults);
+    let ended = run(rt, host, &words, input.as_slice(), output, &mut faults);
     Ok(Outcome {
         status: ended.status,
         output: ended.output,
@@ -60,8 +61,8 @@ pub fn pipe<H: Host, O: Write + Drop>(
     })
 }
 
-fn run_in(rt: &impl Host, root: &str, row: &Run) -> Result<(), Fail> {
-    let out = pipe(rt, root, row.asks, Vec::new(rt.alloc()))?;
+fn run_in(rt: &impl Host, host: &HostRuntime, root: &str, row: &Run) -> Result<(), Fail> {
+    let out = pipe(rt, host, root, row.asks, Vec::new(rt.alloc()))?;
     let told = bytes_of(rt.alloc(), row.told)?;
     let is_told = out.output.as_slice() == told.as_slice();
     if !is_told || out.status != row.status || out.faults.as_slice() != row.fault.as_bytes() {
@@ -119,7 +120,7 @@ const RUNS: &[Run] = &[
 fn sessions_over_a_pipe(rt: HostRuntime) -> Result<(), Fail> {
     for row in RUNS {
         let root = new_folder(&rt, "pipe")?;
-        run_in(&rt, root.as_str(), row)?;
+        run_in(&rt, &rt, root.as_str(), row)?;
     }
     Ok(())
 }

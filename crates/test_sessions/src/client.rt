@@ -3,8 +3,8 @@
 ghost use Rattle.std.specs.Prelude.{◌≡◌};
 
 use backing::MemTree;
-use engine::{Link, LinkIn, LinkOut, Received, Sent, SessionEnd, serve};
-use handles::Dirs;
+use engine::{Link, LinkIn, LinkOut, Received, Sent, Served, SessionEnd, serve};
+use handles::Folders;
 use ledger::{Blanks, Ledgers, Totals};
 use log::info;
 use log::sink::{Lines, Memory};
@@ -13,12 +13,15 @@ use std::alloc::{AllocError, Global};
 use std::random::RandomSource;
 use std::sync::Wait;
 use table::{Limits, Seeds, Table};
+use test_clients::Handles;
 
-/// Gives its frames one after another, and takes all replies but one. It records what passes.
+/// Gives its frames one after another, and takes all replies but one. It records what passes. Handles of open folders stand in its
+/// frames and replies as the places in which they came (`Handles`).
 #[derive(Drop)]
 pub struct Client {
     frames: Vec<Vec<u8>>,
     given: usize,
+    handles: Handles,
     sends: u32,
     /// The reply that is not taken, counted from 1.
     declined: u32,
@@ -36,6 +39,7 @@ impl Client {
         Client {
             frames,
             given: 0,
+            handles: Handles::new(alloc),
             sends: 0,
             declined,
             breaks: false,
@@ -79,6 +83,7 @@ impl LinkIn for Client {
             return Received::Broken;
         }
         room[..frame.len()].copy_from_slice(frame);
+        self.handles.write(&mut room[..frame.len()]);
         info!(self.log; target: "link", "{} bytes are heard", frame.len());
         Received::Bytes(frame.len())
     }
@@ -95,6 +100,8 @@ impl LinkOut for Client {
 
     fn send(&mut self, frame: &[u8]) -> Sent {
         self.sends = self.sends.saturating_add(1);
+        // Its handle is read whether it is then taken or not.
+        let told = self.handles.told(*self.taken.allocator(), frame);
         info!(self.log; target: "link", "{} bytes are offered", frame.len());
         if self.sends == self.declined {
             self.failures = self.failures.saturating_add(1);
@@ -104,7 +111,11 @@ impl LinkOut for Client {
                 Sent::Untaken
             };
         }
-        match self.taken.extend_from_slice(frame) {
+        let kept = match told {
+            Ok(told) => self.taken.extend_from_slice(&told),
+            Err(_) => Err(AllocError),
+        };
+        match kept {
             Ok(()) => Sent::Taken,
             Err(_) => {
                 self.failures = self.failures.saturating_add(1);
@@ -127,13 +138,13 @@ pub struct Over {
     pub totals: Totals,
 }
 
-/// Serves a tree to a client with a table of these limits.
-pub fn serve_client<H: Wait + RandomSource, T: Ledgers>(
+/// Serves a tree, and open folders, to a client with a table of these limits.
+pub fn serve_client<H: Wait + RandomSource, T: Ledgers, D: Folders>(
     rt: &H,
     alloc: Global,
     blanks: Blanks,
     limits: Limits,
-    tree: &mut MemTree,
+    served: &mut Served<MemTree, D>,
     client: &mut Client,
 ) -> Result<Over, AllocError>
     requires names { blanks ≡ T.names }
@@ -150,10 +161,7 @@ pub fn serve_client<H: Wait + RandomSource, T: Ledgers>(
     let mut share = shares.pop().unwrap();
     shares.destroy_empty();
     let settings = Settings { uid: 0, gid: 0 };
-    let dirs = Dirs::new(alloc);
-    let end = serve(
-        rt, alloc, client, tree, &mut table, &mut share, &dirs, settings,
-    );
+    let end = serve(rt, alloc, client, served, &mut table, &mut share, settings);
     let totals = share.totals();
     share.leave();
     Ok(Over { end, totals })

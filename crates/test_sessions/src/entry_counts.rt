@@ -2,7 +2,7 @@
 
 use crate::stories::Says::{Attributes, Done, Entries, Entry, Failed, Names, NoReply, Opened};
 use crate::stories::Stands::{File, Folder};
-use crate::stories::{NOTHING, Story, tell};
+use crate::stories::{NOTHING, Story, tell, tell_plainly};
 use errno::{EBADF, EINVAL, ENFILE, ESTALE};
 use ledger::Blanks;
 use std::marker::Brand;
@@ -97,6 +97,7 @@ const COUNTS: &[Story] = &[
 fn entries_count(rt: HostRuntime) -> Result<(), Fail> {
     for story in COUNTS {
         tell::<HostRuntime, Brand>(&rt, rt.alloc(), Blanks::new(1), story)?;
+        tell_plainly::<HostRuntime, Brand>(&rt, rt.alloc(), Blanks::new(1), story)?;
     }
     Ok(())
 }
@@ -250,6 +251,7 @@ const REFUSALS: &[Story] = &[
 fn refused_pages(rt: HostRuntime) -> Result<(), Fail> {
     for story in REFUSALS {
         tell::<HostRuntime, Brand>(&rt, rt.alloc(), Blanks::new(1), story)?;
+        tell_plainly::<HostRuntime, Brand>(&rt, rt.alloc(), Blanks::new(1), story)?;
     }
     Ok(())
 }

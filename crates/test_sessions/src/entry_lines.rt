@@ -1,6 +1,8 @@
 //! READDIRPLUS byte for byte.
 
-use crate::row::{NOTHING, Row, run_rows};
+use crate::untaken::{Lines, tell_lines};
+use ledger::Blanks;
+use std::marker::Brand;
 use std::test::Fail;
 
 /// MKDIR `m` in the root, unique 4: node 2.
@@ -24,7 +26,7 @@ pub const MOVE_E: &str =
     "34000000 0c000000 0600000000000000 0100000000000000 00000000 00000000 00000000 00000000 \
     0200000000000000 6500 6200";
 
-/// OPENDIR of `m`, unique 7, and the handle 1.
+/// OPENDIR of `m`, unique 7, and the first handle, which a script writes as 1.
 pub const OPEN_M: &str =
     "30000000 1b000000 0700000000000000 0200000000000000 00000000 00000000 00000000 00000000 00000000 00000000";
 
@@ -43,8 +45,7 @@ const UNKNOWN_FOUR: &str = "10000000 8cffffff 0b00000000000000";
 
 /// A folder with `a`, a file of three bytes, and `b`, an empty one, alone: the pages from the index 2 on of 319, 320 and 159 bytes, and the one
 /// from the index 4 on. In between the one lookup of `a` is given back, and it is born again.
-const PAGE_SIZES: &[Row] = &[Row {
-    says: "pages of 319, 320 and 159 bytes, and one past the end",
+const PAGE_SIZES: Lines = Lines {
     lines: &[
         MAKE_M,
         MOVE_A,
@@ -87,17 +88,15 @@ const PAGE_SIZES: &[Row] = &[Row {
         "10000000 eaffffff 0c00000000000000",
         "10000000 00000000 0d00000000000000",
     ],
-    ..NOTHING
-}];
+};
 
 #[test]
 fn page_sizes(rt: HostRuntime) -> Result<(), Fail> {
-    run_rows(&rt, rt.alloc(), PAGE_SIZES)
+    tell_lines::<HostRuntime, Brand>(&rt, rt.alloc(), Blanks::new(1), PAGE_SIZES)
 }
 
 /// `.` has an entry of zeros, and so has a name that is gone: 144 bytes but for where it stands, its kind and its name.
-const ZEROS: &[Row] = &[Row {
-    says: "an entry without a node",
+const ZEROS: Lines = Lines {
     lines: &[
         MAKE_M,
         OPEN_M,
@@ -120,10 +119,9 @@ const ZEROS: &[Row] = &[Row {
         "10000000 f7ffffff 0900000000000000",
         "10000000 f7ffffff 0a00000000000000",
     ],
-    ..NOTHING
-}];
+};
 
 #[test]
 fn entry_of_zeros(rt: HostRuntime) -> Result<(), Fail> {
-    run_rows(&rt, rt.alloc(), ZEROS)
+    tell_lines::<HostRuntime, Brand>(&rt, rt.alloc(), Blanks::new(1), ZEROS)
 }

@@ -1,12 +1,13 @@
 //! READDIR byte for byte.
 
 use crate::entry_lines::{MADE_M, MAKE_M, MOVE_A, MOVE_E, OPEN_M, OPENED as OPENED_M};
-use crate::row::{NOTHING, Row, run_row};
+use crate::untaken::{Lines, tell_lines};
+use ledger::Blanks;
+use std::marker::Brand;
 use std::test::Fail;
 
 /// A folder with `a` and `b` alone: its first entry is itself, and is all that 32 bytes have room for.
-const FIRST: Row = Row {
-    says: "the first entry of a folder, in 32 bytes",
+const FIRST: Lines = Lines {
     lines: &[
         MAKE_M,
         MOVE_A,
@@ -23,23 +24,21 @@ const FIRST: Row = Row {
         "30000000 00000000 0800000000000000 \
         ffffffff00000000 0100000000000000 01000000 04000000 2e00000000000000",
     ],
-    ..NOTHING
 };
 
 #[test]
 fn first_dirent(rt: HostRuntime) -> Result<(), Fail> {
-    run_row(&rt, rt.alloc(), &FIRST)
+    tell_lines::<HostRuntime, Brand>(&rt, rt.alloc(), Blanks::new(1), FIRST)
 }
 
-/// OPENDIR of the root, unique 3, and the handle 1.
+/// OPENDIR of the root, unique 3, and the first handle, which a script writes as 1.
 const OPEN_ROOT: &str =
     "30000000 1b000000 0300000000000000 0100000000000000 00000000 00000000 00000000 00000000 00000000 00000000";
 
 const OPENED: &str = "20000000 00000000 0300000000000000 0100000000000000 00000000 00000000";
 
 /// The root from the index 2 on in 96, 95 and 31 bytes, and from the index 5 on, where no entry is left.
-const PAGES: Row = Row {
-    says: "three names in 96 bytes, two in 95, none in 31, and an empty page",
+const PAGES: Lines = Lines {
     lines: &[
         OPEN_ROOT,
         "50000000 1c000000 0400000000000000 0100000000000000 00000000 00000000 00000000 00000000 \
@@ -63,10 +62,9 @@ const PAGES: Row = Row {
         "10000000 eaffffff 0600000000000000",
         "10000000 00000000 0700000000000000",
     ],
-    ..NOTHING
 };
 
 #[test]
 fn names_that_fit(rt: HostRuntime) -> Result<(), Fail> {
-    run_row(&rt, rt.alloc(), &PAGES)
+    tell_lines::<HostRuntime, Brand>(&rt, rt.alloc(), Blanks::new(1), PAGES)
 }

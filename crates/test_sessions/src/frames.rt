@@ -8,6 +8,7 @@ use std::net::Net;
 use std::random::RandomSource;
 use std::rt::Files;
 use std::sync::Wait;
+use std::thread::Threads;
 use table::Seeds;
 
 /// INIT 7.31 with 131,072 bytes read ahead and no flags, unique 1.
@@ -138,15 +139,30 @@ pub fn run_into(
 }
 
 /// Runs the program with these words on these lines.
-pub fn run_words<H: Wait + Net + RandomSource + Files<File = File> + AllocGlobal + Clone + Drop>(
-    rt: &H,
-    words: &[&str],
-    lines: &[&str],
-) -> Result<Run, AllocError> {
+pub fn run_words<
+    H: Threads
+        + Wait
+        + Net
+        + RandomSource
+        + Files<File = File>
+        + AllocGlobal
+        + Clone
+        + Send
+        + Sync
+        + Drop
+        + 'static,
+>(rt: &H, host: &HostRuntime, words: &[&str], lines: &[&str]) -> Result<Run, AllocError> {
     let alloc = rt.alloc();
     let input = lines_of(alloc, lines)?;
     let mut faults = Vec::new(alloc);
-    let ended = run(rt, words, input.as_slice(), Vec::new(alloc), &mut faults);
+    let ended = run(
+        rt,
+        host,
+        words,
+        input.as_slice(),
+        Vec::new(alloc),
+        &mut faults,
+    );
     Ok(Run {
         status: ended.status,
         output: ended.output,

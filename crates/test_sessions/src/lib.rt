@@ -52,6 +52,8 @@ mod names;
 #[cfg(test)]
 mod open_files;
 #[cfg(test)]
+mod open_folders;
+#[cfg(test)]
 mod recorded;
 #[cfg(test)]
 mod refused_exchanges;

@@ -2,7 +2,7 @@
 
 use crate::stories::Says::{Done, Entry, Failed, Names, Opened};
 use crate::stories::Stands::{File, Folder};
-use crate::stories::{NOTHING, Story, tell};
+use crate::stories::{NOTHING, Story, tell, tell_plainly};
 use backing::Fault::{After, Before};
 use errno::{EACCES, EBADF, EINVAL, EIO, ENOTDIR, ESTALE};
 use ledger::Blanks;
@@ -139,6 +139,7 @@ const PAGES: &[Story] = &[
 fn pages_of_names(rt: HostRuntime) -> Result<(), Fail> {
     for story in PAGES {
         tell::<HostRuntime, Brand>(&rt, rt.alloc(), Blanks::new(1), story)?;
+        tell_plainly::<HostRuntime, Brand>(&rt, rt.alloc(), Blanks::new(1), story)?;
     }
     Ok(())
 }
@@ -256,6 +257,7 @@ const HANDLES: &[Story] = &[
 fn handles_of_folders(rt: HostRuntime) -> Result<(), Fail> {
     for story in HANDLES {
         tell::<HostRuntime, Brand>(&rt, rt.alloc(), Blanks::new(1), story)?;
+        tell_plainly::<HostRuntime, Brand>(&rt, rt.alloc(), Blanks::new(1), story)?;
     }
     Ok(())
 }

@@ -11,11 +11,11 @@ use table::Seeds;
 #[test]
 fn sample_names_or_none(rt: HostRuntime) -> Result<(), Fail> {
     let alloc = rt.alloc();
-    let sample = run_words(&rt, &["mirrord", "hex", "--sample"], &[INIT, LOOKUP_A])?;
+    let sample = run_words(&rt, &rt, &["mirrord", "hex", "--sample"], &[INIT, LOOKUP_A])?;
     assert_eq!(rt; sample.status, 0);
     assert!(rt; sample.output.as_slice() == lines_of(alloc, &[AGREED, ENTRY_A])?.as_slice());
     assert!(rt; sample.faults.is_empty());
-    let bare = run_words(&rt, &["mirrord", "hex"], &[INIT, LOOKUP_A])?;
+    let bare = run_words(&rt, &rt, &["mirrord", "hex"], &[INIT, LOOKUP_A])?;
     assert_eq!(rt; bare.status, 0);
     assert!(rt; bare.output.as_slice() == lines_of(alloc, &[AGREED, ABSENT])?.as_slice());
     assert!(rt; bare.faults.is_empty());
@@ -29,7 +29,7 @@ fn sample_names_or_none(rt: HostRuntime) -> Result<(), Fail> {
 #[test]
 fn bad_words(rt: HostRuntime) -> Result<(), Fail> {
     for words in [&["mirrord", "mount"], &["mirrord", "--smaple"]] {
-        let run = run_words(&rt, words, &[LOOKUP_A])?;
+        let run = run_words(&rt, &rt, words, &[LOOKUP_A])?;
         assert_eq!(rt; run.status, 2);
         assert!(rt; run.output.is_empty());
         assert!(rt; run.faults.starts_with(b"error: "));
@@ -40,7 +40,7 @@ fn bad_words(rt: HostRuntime) -> Result<(), Fail> {
 // Help goes to the output, and no line is read.
 #[test]
 fn help(rt: HostRuntime) -> Result<(), Fail> {
-    let run = run_words(&rt, &["mirrord", "--help"], &["no digits"])?;
+    let run = run_words(&rt, &rt, &["mirrord", "--help"], &["no digits"])?;
     assert_eq!(rt; run.status, 0);
     assert!(rt;
         run.output.starts_with(b"A file system server that speaks the FUSE kernel protocol 7.31\n")
@@ -53,13 +53,13 @@ fn help(rt: HostRuntime) -> Result<(), Fail> {
 #[test]
 fn faults_of_the_input(rt: HostRuntime) -> Result<(), Fail> {
     let words = ["mirrord", "hex"];
-    let length = run_words(&rt, &words, &["27000000"])?;
+    let length = run_words(&rt, &rt, &words, &["27000000"])?;
     assert_eq!(rt; length.status, 3);
     assert!(rt;
         length.faults.as_slice()
             == b"mirrord: frame length 39 is not between 40 and 69632\n".as_slice()
     );
-    let line = run_words(&rt, &words, &["", "2"])?;
+    let line = run_words(&rt, &rt, &words, &["", "2"])?;
     assert_eq!(rt; line.status, 4);
     assert!(rt; line.faults.as_slice() == b"mirrord: line 2 is not hexadecimal\n".as_slice());
     Ok(())

@@ -5,6 +5,8 @@ ghost use Rattle.std.specs.Prelude.{◌≡◌};
 use crate::answers::replies_of;
 use crate::client::{Client, serve_client};
 use backing::{Answer, Call, Calls, Fault, Kind, MemTree};
+use engine::Served;
+use handles::{Dirs, Folders};
 use ledger::{Blanks, Ledgers};
 use mirrord_programs::new_tree;
 use paths::{Name, Path};
@@ -13,6 +15,7 @@ use std::random::RandomSource;
 use std::sync::Wait;
 use std::test::Fail;
 use table::Limits;
+use test_clients::PlainFolders;
 use wire::{Operation, Request, encode_request};
 
 /// A session over the sample names.
@@ -158,16 +161,8 @@ fn fail_of(story: &Story, are_replies: bool, stand: usize) -> Fail {
     .into()
 }
 
-/// Tells a story. Fails where it comes otherwise.
-pub fn tell<H: Wait + RandomSource, T: Ledgers>(
-    rt: &H,
-    alloc: Global,
-    blanks: Blanks,
-    story: &Story,
-) -> Result<(), Fail>
-    requires names { blanks ≡ T.names }
-    requires shares { T.names.parts ≡ 1 }
-{
+/// The tree of a story, before it begins.
+fn tree_of(alloc: Global, story: &Story) -> Result<MemTree, Fail> {
     let mut tree = new_tree(alloc, true)?;
     for names in story.files {
         let path = path_of(alloc, names)?;
@@ -178,23 +173,74 @@ pub fn tell<H: Wait + RandomSource, T: Ledgers>(
     for (call, fault) in story.faults {
         tree.fail_at(*call, *fault)?;
     }
+    Ok(tree)
+}
+
+/// At how many of the story's paths it is in the end as it says.
+fn stand_in(alloc: Global, tree: &mut MemTree, story: &Story) -> Result<usize, AllocError> {
+    let mut stand = 0usize;
+    for (names, stands) in story.after {
+        if what_stands(alloc, tree, names)? == *stands {
+            stand = stand.saturating_add(1);
+        }
+    }
+    Ok(stand)
+}
+
+/// Tells a story with these open folders. Fails where it comes otherwise.
+fn tell_on<H: Wait + RandomSource, T: Ledgers, D: Folders + Drop>(
+    rt: &H,
+    alloc: Global,
+    blanks: Blanks,
+    dirs: D,
+    story: &Story,
+) -> Result<(), Fail>
+    requires names { blanks ≡ T.names }
+    requires shares { T.names.parts ≡ 1 }
+{
+    let mut served = Served {
+        calls: tree_of(alloc, story)?,
+        dirs,
+    };
     let mut client = Client::new(alloc, frames_of(alloc, story.asks)?, 0);
     let limits = Limits {
         nodes: story.nodes,
         files: story.open_files,
         ..Limits::default()
     };
-    serve_client::<H, T>(rt, alloc, blanks, limits, &mut tree, &mut client)?;
+    serve_client::<H, T, D>(rt, alloc, blanks, limits, &mut served, &mut client)?;
     let replies = replies_of(alloc, story.replies)?;
     let are_replies = client.taken.as_slice() == replies.as_slice();
-    let mut stand = 0usize;
-    for (names, stands) in story.after {
-        if what_stands(alloc, &mut tree, names)? == *stands {
-            stand = stand.saturating_add(1);
-        }
-    }
+    let stand = stand_in(alloc, &mut served.calls, story)?;
     if are_replies && stand == story.after.len() {
         return Ok(());
     }
     Err(fail_of(story, are_replies, stand))
+}
+
+/// Tells a story. Fails where it comes otherwise.
+pub fn tell<H: Wait + RandomSource, T: Ledgers>(
+    rt: &H,
+    alloc: Global,
+    blanks: Blanks,
+    story: &Story,
+) -> Result<(), Fail>
+    requires names { blanks ≡ T.names }
+    requires shares { T.names.parts ≡ 1 }
+{
+    let dirs = Dirs::new(alloc)?;
+    tell_on::<H, T, &Dirs>(rt, alloc, blanks, &dirs, story)
+}
+
+/// Tells a story whose open folders are a plain map. Fails where it comes otherwise.
+pub fn tell_plainly<H: Wait + RandomSource, T: Ledgers>(
+    rt: &H,
+    alloc: Global,
+    blanks: Blanks,
+    story: &Story,
+) -> Result<(), Fail>
+    requires names { blanks ≡ T.names }
+    requires shares { T.names.parts ≡ 1 }
+{
+    tell_on::<H, T, PlainFolders>(rt, alloc, blanks, PlainFolders::new(alloc), story)
 }

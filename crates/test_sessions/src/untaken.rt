@@ -8,8 +8,9 @@ use crate::frames::{
     ABSENT, AGREED, DESTROY, ENTRY_A, ENTRY_E_REBORN, INIT, LOOKUP_A, LOOKUP_E, LOOKUP_ZZ, lines_of,
 };
 use backing::Fault;
-use engine::SessionEnd;
+use engine::{Served, SessionEnd};
 use errno::EACCES;
+use handles::Dirs;
 use ledger::{Blanks, Ledgers, Totals};
 use mirrord_programs::new_tree;
 use std::alloc::{AllocError, Global};
@@ -34,7 +35,13 @@ pub fn serve_samples<H: Wait + RandomSource, T: Ledgers>(
     if let Some(fault) = planned {
         tree.fail_at(1, fault)?;
     }
-    serve_client::<H, T>(rt, alloc, blanks, Limits::default(), &mut tree, client)
+    let dirs = Dirs::new(alloc)?;
+    let mut served = Served {
+        calls: tree,
+        dirs: &dirs,
+    };
+    let limits = Limits::default();
+    serve_client::<H, T, &Dirs>(rt, alloc, blanks, limits, &mut served, client)
 }
 
 pub fn bytes_of(alloc: Global, line: &str) -> Result<Vec<u8>, Fail> {
@@ -54,7 +61,7 @@ fn client_from(alloc: Global, first: &str, lines: &[&str], declined: u32) -> Res
 }
 
 // A client that sends INIT and these frames.
-fn client_of(alloc: Global, lines: &[&str], declined: u32) -> Result<Client, Fail> {
+pub fn client_of(alloc: Global, lines: &[&str], declined: u32) -> Result<Client, Fail> {
     client_from(alloc, INIT, lines, declined)
 }
 
@@ -65,6 +72,31 @@ fn are_taken(alloc: Global, taken: &[u8], replies: &[&str]) -> Result<bool, Fail
         bytes.extend_from_slice(&bytes_of(alloc, reply)?)?;
     }
     Ok(taken == bytes.as_slice())
+}
+
+/// What a client sends after INIT, and what it is answered, in hexadecimal digits.
+#[derive(Clone, Copy)]
+pub struct Lines {
+    pub lines: &'static [&'static str],
+    pub replies: &'static [&'static str],
+}
+
+// A client that sends these lines over the sample names is answered so.
+pub fn tell_lines<H: Wait + RandomSource, T: Ledgers>(
+    rt: &H,
+    alloc: Global,
+    blanks: Blanks,
+    told: Lines,
+) -> Result<(), Fail>
+    requires names { blanks ≡ T.names }
+    requires shares { T.names.parts ≡ 1 }
+{
+    let mut client = client_of(alloc, told.lines, 0)?;
+    serve_samples::<H, T>(rt, alloc, blanks, None, &mut client)?;
+    if are_taken(alloc, &client.taken, told.replies)? {
+        return Ok(());
+    }
+    Err(Fail::from("the replies came otherwise"))
 }
 
 /// LOOKUP `n` in the root, unique 8.

@@ -24,6 +24,7 @@ fn serve_and_pipe(rt: HostRuntime) -> Result<(), Fail> {
         "/tmp/s",
         "--workers",
         "4",
+        "-s",
         "--uid",
         "4294967295",
         "--gid=7",
@@ -32,6 +33,7 @@ fn serve_and_pipe(rt: HostRuntime) -> Result<(), Fail> {
         root: "/srv",
         socket: "/tmp/s",
         workers: 4,
+        single: true,
         uid: 4_294_967_295,
         gid: 7,
     };
@@ -41,6 +43,7 @@ fn serve_and_pipe(rt: HostRuntime) -> Result<(), Fail> {
         root: "/srv",
         socket: "/tmp/s",
         workers: 2,
+        single: false,
         uid: 0,
         gid: 0,
     };

@@ -3,6 +3,7 @@
 ghost use Rattle.std.specs.Prelude.{◌≡◌};
 
 use engine::{LinkIn, LinkOut, Received, Sent};
+use std::alloc::Global;
 use std::sync::{Arc, Mutex, Wait};
 
 /// Gives its pieces one after another.
@@ -13,6 +14,19 @@ pub struct Asks<H: Wait + Drop> {
     pub pieces: Vec<Vec<u8>>,
     pub given: usize,
     pub failures: u64,
+}
+
+impl<H: Wait + Drop> Asks<H> {
+    /// It has given nothing yet.
+    pub fn new(rt: H, heard: Arc<Mutex<Heard>>, pieces: Vec<Vec<u8>>) -> Asks<H> {
+        Asks {
+            rt,
+            heard,
+            pieces,
+            given: 0,
+            failures: 0,
+        }
+    }
 }
 
 impl<H: Wait + Drop> LinkIn for Asks<H> {
@@ -39,15 +53,41 @@ impl<H: Wait + Drop> LinkIn for Asks<H> {
     }
 }
 
-/// The reply that is not taken, counted from 1.
+/// What becomes of the replies. They are counted from 1.
 #[derive(Clone, Copy)]
-pub enum Declined {
-    /// None is.
-    Never,
-    /// Of all replies.
-    Reply(u32),
-    /// Of those with an entry, whose frame has 144 bytes.
-    Entry(u32),
+pub enum Fates {
+    /// All are taken.
+    Taken,
+    /// One comes to this, and the others are taken.
+    Reply(u32, Sent),
+    /// The same of those with an entry, whose frame has 144 bytes.
+    Entry(u32, Sent),
+    /// One after another comes to these, and those after them are taken.
+    InTurn(&'static [Sent]),
+}
+
+impl Fates {
+    /// What becomes of a reply: it is the so many-th offered, and with an entry or not the so many-th of these.
+    fn of(self, offers: u32, entry: Option<u32>) -> Sent {
+        let (is_declined, fate) = match self {
+            Fates::Taken => (false, Sent::Taken),
+            Fates::Reply(number, fate) => (offers == number, fate),
+            Fates::Entry(number, fate) => (entry == Some(number), fate),
+            Fates::InTurn(fates) => return fate_in(fates, offers),
+        };
+        if is_declined { fate } else { Sent::Taken }
+    }
+}
+
+/// The fate of that number.
+fn fate_in(fates: &[Sent], number: u32) -> Sent {
+    let Some(index) = number.checked_sub(1) else {
+        return Sent::Taken;
+    };
+    match fates.get(index as usize) {
+        Some(fate) => *fate,
+        None => Sent::Taken,
+    }
 }
 
 /// What a client was asked for, and offered.
@@ -63,34 +103,39 @@ pub struct Heard {
     pub bytes: Vec<u8>,
 }
 
-/// Takes all replies but one.
+/// Takes replies, or does not.
 #[derive(Drop)]
 pub struct Hears<H: Wait + Drop> {
     pub rt: H,
     pub heard: Arc<Mutex<Heard>>,
-    pub declined: Declined,
-    /// What becomes of it.
-    pub fate: Sent,
+    pub fates: Fates,
     pub failures: u64,
 }
 
 impl Heard {
+    /// Nothing yet.
+    pub fn new(alloc: Global) -> Heard {
+        Heard {
+            receives: 0,
+            offers: 0,
+            entries: 0,
+            bytes: Vec::new(alloc),
+        }
+    }
+
     fn count_receive(&mut self) {
         self.receives = self.receives.saturating_add(1);
     }
 
-    fn hear(&mut self, declined: Declined, fate: Sent, frame: &[u8]) -> Sent {
+    fn hear(&mut self, fates: Fates, frame: &[u8]) -> Sent {
         self.offers = self.offers.saturating_add(1);
-        let is_entry = frame.len() == 144;
-        if is_entry {
+        let mut entry = None;
+        if frame.len() == 144 {
             self.entries = self.entries.saturating_add(1);
+            entry = Some(self.entries);
         }
-        let is_declined = match declined {
-            Declined::Never => false,
-            Declined::Reply(count) => self.offers == count,
-            Declined::Entry(count) => is_entry && self.entries == count,
-        };
-        if is_declined {
+        let fate = fates.of(self.offers, entry);
+        if fate != Sent::Taken {
             return fate;
         }
         match self.bytes.extend_from_slice(frame) {
@@ -111,7 +156,7 @@ impl<H: Wait + Drop> LinkOut for Hears<H> {
 
     fn send(&mut self, frame: &[u8]) -> Sent {
         let mut heard = self.heard.lock(&self.rt);
-        let sent = heard.hear(self.declined, self.fate, frame);
+        let sent = heard.hear(self.fates, frame);
         drop(heard);
         if sent != Sent::Taken {
             self.failures = self.failures.saturating_add(1);

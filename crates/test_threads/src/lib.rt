@@ -9,3 +9,5 @@ mod overlap;
 mod rows;
 #[cfg(test)]
 mod teller;
+#[cfg(test)]
+mod turns;

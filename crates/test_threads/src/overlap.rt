@@ -1,9 +1,9 @@
 //! Two workers are in calls of the directory at once.
 
-use crate::client::Declined;
+use crate::client::Fates;
 use crate::teller::{Story, check_by, holds_of};
 use backing::{Answer, Call, Calls, Shared};
-use engine::{Sent, SessionEnd};
+use engine::SessionEnd;
 use std::alloc::{AllocError, Global};
 use std::sync::atomic::{AtomicU32, Ordering};
 use std::sync::{Arc, Wait};
@@ -81,12 +81,12 @@ const TWO: Story = Story {
     workers: 2,
     asks: &[(1, Lookup { name: "a" }), (1, Lookup { name: "a" })],
     rest: &[],
-    declined: Declined::Never,
-    fate: Sent::Untaken,
+    fates: Fates::Taken,
     end: SessionEnd::Closed { rest: 0 },
     offers: 3,
     last: 0,
     taken: 3,
+    births: Some(1),
     totals: Some((2, 0, 0)),
 };
 

@@ -1,6 +1,6 @@
 //! Sessions by 1, 2 and 4 workers, and by none and five.
 
-use crate::client::Declined;
+use crate::client::Fates;
 use crate::teller::{Story, check};
 use engine::{Sent, SessionEnd};
 use std::test::Fail;
@@ -25,12 +25,12 @@ const NINE: Story = Story {
     workers: 1,
     asks: EIGHT,
     rest: &[],
-    declined: Declined::Never,
-    fate: Sent::Untaken,
+    fates: Fates::Taken,
     end: SessionEnd::Closed { rest: 0 },
     offers: 9,
     last: 0,
     taken: 9,
+    births: None,
     totals: Some((8, 0, 0)),
 };
 
@@ -124,8 +124,7 @@ const ENDS: &[Story] = &[
     Story {
         says: "the link breaks at the reply to the end",
         workers: 2,
-        declined: Declined::Reply(10),
-        fate: Sent::Broken,
+        fates: Fates::Reply(10, Sent::Broken),
         end: SessionEnd::LinkBroken,
         last: 0,
         ..DESTROYED
@@ -148,8 +147,7 @@ const ENDS: &[Story] = &[
         says: "the link breaks, and a bad length",
         workers: 1,
         rest: &[7, 0, 0, 0],
-        declined: Declined::Reply(9),
-        fate: Sent::Broken,
+        fates: Fates::Reply(9, Sent::Broken),
         end: SessionEnd::LinkBroken,
         totals: Some((8, 1, 0)),
         ..NINE
@@ -180,7 +178,7 @@ fn each_reply_is_declined_in_turn(rt: HostRuntime) -> Result<(), Fail> {
             let story = Story {
                 says: "an entry that is not taken",
                 workers,
-                declined: Declined::Entry(declined),
+                fates: Fates::Entry(declined, Sent::Untaken),
                 totals: Some((8, 1, 0)),
                 ..NINE
             };
@@ -190,14 +188,36 @@ fn each_reply_is_declined_in_turn(rt: HostRuntime) -> Result<(), Fail> {
     Ok(())
 }
 
+/// The third reply is not taken, and the link breaks at the fourth: the first entry alone is the client's.
+const FATES: Story = Story {
+    says: "taken, taken, not taken, broken",
+    asks: &[
+        (1, Lookup { name: "a" }),
+        (1, Lookup { name: "a" }),
+        (1, Lookup { name: "a" }),
+        (1, Lookup { name: "a" }),
+    ],
+    fates: Fates::InTurn(&[Sent::Taken, Sent::Taken, Sent::Untaken, Sent::Broken]),
+    end: SessionEnd::LinkBroken,
+    offers: 4,
+    taken: 5,
+    births: Some(1),
+    totals: Some((4, 3, 0)),
+    ..NINE
+};
+
+#[test]
+fn each_reply_has_its_fate(rt: HostRuntime) -> Result<(), Fail> {
+    check(&rt, rt.alloc(), &FATES)
+}
+
 /// Nothing is offered once the link broke, and the entries of all replies from there on are given back.
 #[test]
 fn the_link_breaks_at_each_reply(rt: HostRuntime) -> Result<(), Fail> {
     for declined in 2u32..10 {
         let story = Story {
             says: "the link breaks",
-            declined: Declined::Reply(declined),
-            fate: Sent::Broken,
+            fates: Fates::Reply(declined, Sent::Broken),
             end: SessionEnd::LinkBroken,
             offers: declined,
             totals: Some((8, (10 - declined) as u64, 0)),

@@ -2,9 +2,9 @@
 
 ghost use Rattle.std.specs.Prelude.{◌≡◌};
 
-use crate::client::{Asks, Declined, Heard, Hears};
+use crate::client::{Asks, Fates, Heard, Hears};
 use backing::{Calls, MemTree, Shared};
-use engine::{Sent, SessionEnd, Settings};
+use engine::{SessionEnd, Settings};
 use engine_threads::{Ended, serve_threads};
 use paths::{Name, Path};
 use std::alloc::{AllocError, Global};
@@ -24,9 +24,7 @@ pub struct Story<'a> {
     pub asks: &'a [(u64, Operation<'a>)],
     /// Bytes that come after all frames.
     pub rest: &'a [u8],
-    /// The reply that is not taken, and what becomes of it.
-    pub declined: Declined,
-    pub fate: Sent,
+    pub fates: Fates,
     pub end: SessionEnd,
     /// How many replies are offered.
     pub offers: u32,
@@ -34,7 +32,9 @@ pub struct Story<'a> {
     pub last: u64,
     /// How many jobs all workers took.
     pub taken: u64,
-    /// Entries, give-backs and what was forgotten, where the table was gathered. How often the node is born is a matter of time.
+    /// How often a node is born, unless it is a matter of time.
+    pub births: Option<u64>,
+    /// Entries, give-backs and what was forgotten, where the table was gathered.
     pub totals: Option<(u64, u64, u64)>,
 }
 
@@ -47,8 +47,12 @@ pub struct Came {
     pub last: u64,
     pub workers: usize,
     pub taken: u64,
+    /// Where that is asked for.
+    pub births: Option<u64>,
     pub totals: Option<(u64, u64, u64)>,
 }
+
+pub const SETTINGS: Settings = Settings { uid: 0, gid: 0 };
 
 const INIT: (u64, Operation<'static>) = (
     0,
@@ -75,17 +79,21 @@ fn put_request(
     Ok(())
 }
 
-/// All frames in one piece, so that one receive brings them.
-fn pieces_of(alloc: Global, story: &Story<'_>) -> Result<Vec<Vec<u8>>, AllocError> {
+/// All frames in one piece, so that one receive brings them, and these bytes after them.
+pub fn pieces_of(
+    alloc: Global,
+    asks: &[(u64, Operation<'_>)],
+    rest: &[u8],
+) -> Result<Vec<Vec<u8>>, AllocError> {
     let mut piece = Vec::new(alloc);
     let (node, operation) = INIT;
     put_request(&mut piece, 1, node, operation)?;
     let mut unique = 1u64;
-    for (node, operation) in story.asks {
+    for (node, operation) in asks {
         unique = unique.saturating_add(1);
         put_request(&mut piece, unique, *node, *operation)?;
     }
-    piece.extend_from_slice(story.rest)?;
+    piece.extend_from_slice(rest)?;
     let mut pieces = Vec::new(alloc);
     pieces.push(piece)?;
     Ok(pieces)
@@ -139,25 +147,29 @@ fn last_of(bytes: &[u8]) -> u64 {
     number
 }
 
-fn came_of(ended: &Ended, heard: &Heard, wanted: u64) -> Came {
-    let totals = match &ended.totals {
+fn came_of(ended: &Ended, heard: &Heard, story: &Story<'_>) -> Came {
+    let (born, totals) = match &ended.totals {
         Some(sums) => {
             let totals = sums.totals();
-            Some((totals.entries, totals.backs, totals.forgotten))
+            (
+                Some(totals.born),
+                Some((totals.entries, totals.backs, totals.forgotten)),
+            )
         }
-        None => None,
+        None => (None, None),
     };
     Came {
         end: ended.end,
         is_read: heard.receives > 0,
         offers: heard.offers,
-        last: if wanted == 0 {
+        last: if story.last == 0 {
             0
         } else {
             last_of(heard.bytes.as_slice())
         },
         workers: ended.taken.len(),
         taken: summed(ended.taken.as_slice()),
+        births: if story.births.is_some() { born } else { None },
         totals,
     }
 }
@@ -167,39 +179,24 @@ fn tell<
     H: Threads + Wait + RandomSource + Clone + Send + Sync + Drop + 'static,
     C: Calls + Send + Drop + 'static,
 >(rt: &H, alloc: Global, story: &Story<'_>, trees: Vec<C>) -> Result<Came, AllocError> {
-    let heard = Arc::new(
-        alloc,
-        Mutex::new(Heard {
-            receives: 0,
-            offers: 0,
-            entries: 0,
-            bytes: Vec::new(alloc),
-        }),
-    )?;
+    let heard = Arc::new(alloc, Mutex::new(Heard::new(alloc)))?;
     let Ok(own) = rt.clone() else {
         return Err(AllocError);
     };
-    let asks = Asks {
-        rt: own,
-        heard: Arc::try_clone(&heard)?,
-        pieces: pieces_of(alloc, story)?,
-        given: 0,
-        failures: 0,
-    };
+    let pieces = pieces_of(alloc, story.asks, story.rest)?;
+    let asks = Asks::new(own, Arc::try_clone(&heard)?, pieces);
     let Ok(own) = rt.clone() else {
         return Err(AllocError);
     };
     let hears = Hears {
         rt: own,
         heard: Arc::try_clone(&heard)?,
-        declined: story.declined,
-        fate: story.fate,
+        fates: story.fates,
         failures: 0,
     };
     let Ok(seeds) = Seeds::new(rt) else {
         return Err(AllocError);
     };
-    let settings = Settings { uid: 0, gid: 0 };
     let ended = serve_threads(
         rt,
         alloc,
@@ -208,10 +205,10 @@ fn tell<
         trees,
         Limits::default(),
         seeds,
-        settings,
+        SETTINGS,
     );
     let heard = heard.lock(rt);
-    Ok(came_of(&ended, &heard, story.last))
+    Ok(came_of(&ended, &heard, story))
 }
 
 /// Serves a story by holds on one tree, and fails where it came otherwise.
@@ -241,6 +238,7 @@ pub fn check_by<
         last: story.last,
         workers,
         taken: story.taken,
+        births: story.births,
         totals: story.totals,
     };
     if came == wanted {

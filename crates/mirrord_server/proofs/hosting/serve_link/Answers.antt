@@ -12,6 +12,9 @@ returns g c = inl (record {
   world = world_of c.in-Ok.table;
   opened = c.in-Ok.ensures.opened ∙ ap opened_world c.default.ensures;
   last = world_of c.serve-end.new.table;
-  left = c.serve-end.new.calls;
+  dirs = _;
+  limits_are = c.in-Ok-new.ensures;
+  left = c.serve-end.new.served.calls;
+  dirs_left = c.serve-end.new.served.dirs;
   run = c.serve-end.ensures.serves;
 })

@@ -3,6 +3,7 @@ use Rattle.table_requests.specs.RequestMaps.{opening}
 use Rattle.table_requests.proofs.CountedPins.{pins_in-opening}
 use Rattle.table_requests.proofs.Lookups.{alive_at}
 use Rattle.table_requests.proofs.Stepping.{Notes-listed, below_changed}
+use Rattle.table_requests.proofs.CountedHolds.{holders_opening}
 use Rattle.table_requests.proofs.listed.note_for.Goals as goal
 
 pub returns-clause-notes : goal.returns-clause-notes
@@ -22,3 +23,10 @@ returns-clause-below c =
     let within = rw c.as_slice.ensures.value at c.in-Some.ensures.within in
     let found = rw c.as_slice.ensures.value at c.in-Some.ensures.found in
     below_changed c.args.flights.now.items c.in-Some.i c.args.id within found c.note_at.new.flights.items (λ f. opening f c.args.handle) (λ f. refl) c.note_at.ensures.items c.requires.apart
+
+pub returns-clause-held : goal.returns-clause-held
+returns-clause-held c =
+    let fs = c.args.flights.now.items in
+    let within = rw c.as_slice.ensures.value at c.in-Some.ensures.within in
+    let found = rw c.as_slice.ensures.value at c.in-Some.ensures.found in
+    holders_opening fs c.note_at.new.flights.items c.in-Some.i c.args.handle within c.note_at.ensures.items (alive_at fs c.in-Some.i c.args.id within found).0

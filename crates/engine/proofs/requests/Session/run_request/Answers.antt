@@ -1,4 +1,5 @@
 use Rattle.std.proofs.Common.{ap, refl, subst, ◌∙◌, sym, to_z, of_z, w32}
+use Rattle.engine.specs.Serving.{does}
 use Rattle.engine.proofs.Turns.{goes_on, table_refused}
 use Rattle.engine.proofs.requests.Session.run_request.Goals as goal
 
@@ -7,8 +8,8 @@ returns-in-Go-clause-some g c lends =
     let p = c.run_script.ensures.runs in
     let w = g.R.Reach.world c.args.table.now in
     let begun = g.R.Reach.world c.begin.new.self in
-    let kept = g.met.R.Reach.completes w begun p.concludes.finished (g.R.Reach.world c.run_script.new.table) c.args.request.unique c.args.want c.in-Go.ticket p.end.outcome p.concludes.answer p.concludes.put _ c.requires.idle c.in-Go.ensures.begins p.concludes.finishes p.concludes.settles in
-    goes_on g.R.Reach.steps c.args.self.now.settings g.L.Outlet.sends g.C.Calls.gives c.args.request c.args.want lends c.args.page.now c.in-Go.ticket c.args.link.now c.run_script.new.link c.args.calls.now c.run_script.new.calls
+    let kept = g.met.R.Reach.completes w begun p.concludes.so.finished (g.R.Reach.world c.run_script.new.table) c.args.request.unique c.args.want c.in-Go.ticket p.end.outcome p.concludes.so.answer p.concludes.so.put _ c.requires.idle c.in-Go.ensures.begins p.concludes.so.finishes p.concludes.so.settles in
+    goes_on g.R.Reach.steps c.args.self.now.settings g.L.Outlet.sends (does g.C.Calls.gives g.D.Folders.keeps) c.args.request c.args.want lends c.args.page.now c.in-Go.ticket c.args.link.now c.run_script.new.link c.args.served.now c.run_script.new.served
     w begun (g.R.Reach.world c.run_script.new.table) c.run_script.result c.in-Go.ensures.begins p kept.0
 
 pub returns-in-Go-clause-idle : goal.returns-in-Go-clause-idle
@@ -16,14 +17,14 @@ returns-in-Go-clause-idle g c =
     let p = c.run_script.ensures.runs in
     let w = g.R.Reach.world c.args.table.now in
     let begun = g.R.Reach.world c.begin.new.self in
-    let kept = g.met.R.Reach.completes w begun p.concludes.finished (g.R.Reach.world c.run_script.new.table) c.args.request.unique c.args.want c.in-Go.ticket p.end.outcome p.concludes.answer p.concludes.put _ c.requires.idle c.in-Go.ensures.begins p.concludes.finishes p.concludes.settles in
+    let kept = g.met.R.Reach.completes w begun p.concludes.so.finished (g.R.Reach.world c.run_script.new.table) c.args.request.unique c.args.want c.in-Go.ticket p.end.outcome p.concludes.so.answer p.concludes.so.put _ c.requires.idle c.in-Go.ensures.begins p.concludes.so.finishes p.concludes.so.settles in
     kept.1
 
 pub returns-in-Refused-clause-some : goal.returns-in-Refused-clause-some
 returns-in-Refused-clause-some g c lends =
     let w = g.R.Reach.world c.args.table.now in
     let refused = g.met.R.Reach.refuses w (g.R.Reach.world c.begin.new.self) c.args.request.unique c.args.want c.in-Refused.errno c.in-Refused.ensures.begins in
-    table_refused g.R.Reach.steps c.args.self.now.settings g.L.Outlet.sends g.C.Calls.gives c.args.request c.args.want lends c.args.page.now (to_z w32 (of_z w32 c.in-Refused.errno)) c.args.link.now c.answer.new.link c.args.calls.now
+    table_refused g.R.Reach.steps c.args.self.now.settings g.L.Outlet.sends (does g.C.Calls.gives g.D.Folders.keeps) c.args.request c.args.want lends c.args.page.now (to_z w32 (of_z w32 c.in-Refused.errno)) c.args.link.now c.answer.new.link c.args.served.now
     w (g.R.Reach.world c.begin.new.self) c.answer.result refused.0 refused.1 c.answer.ensures.said
 
 pub returns-in-Refused-clause-idle : goal.returns-in-Refused-clause-idle
@@ -35,7 +36,7 @@ returns-in-Refused-clause-idle g c =
 pub returns-in-Busy-clause-none : goal.returns-in-Busy-clause-none
 returns-in-Busy-clause-none g c = record {
   link_is = refl;
-  calls_are = refl;
+  served_is = refl;
   world_is = g.met.R.Reach.waits (g.R.Reach.world c.args.table.now) (g.R.Reach.world c.begin.new.self) c.args.request.unique c.args.want c.in-Busy.ensures.begins;
 }
 

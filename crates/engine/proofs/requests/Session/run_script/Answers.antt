@@ -10,7 +10,7 @@ returns-in-Err-clause-runs g c = record {
   made = [];
   end = no_memory;
   makes = refl;
-  concludes = c.end_without_script.ensures.concludes c.args.page.now c.in-Err.ensures.err;
+  concludes = record { folders = []; chain = refl; so = c.end_without_script.ensures.concludes c.args.page.now c.in-Err.ensures.err };
 }
 
 pub returns-in-Listed-clause-runs : goal.returns-in-Listed-clause-runs
@@ -23,7 +23,7 @@ returns-in-Listed-clause-runs g c =
       made = played.made;
       end = listed_end c.in-Listed.children;
       makes = played.makes;
-      concludes = c.list.ensures.concludes c.args.page.now played.made listed;
+      concludes = record { folders = c.list.ensures.concludes.folders; chain = c.list.ensures.concludes.chain; so = c.list.ensures.concludes.so c.args.page.now played.made listed };
     }
 
 pub returns-in_default : goal.returns-in_default
@@ -35,7 +35,7 @@ returns-in_default g c =
         made = played.made;
         end = end_of c.play.result;
         makes = played.makes;
-        concludes = c.tell.ensures.concludes c.args.page.now played.made follows;
+        concludes = record { folders = []; chain = refl; so = c.tell.ensures.concludes c.args.page.now played.made follows };
       };
       gains = c.tell.ensures.gains;
       settings = c.tell.ensures.settings;

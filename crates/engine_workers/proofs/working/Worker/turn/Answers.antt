@@ -2,7 +2,8 @@ use Rattle.std.proofs.Common.{◌≡◌, ◌<◌, Option, Some, None, refl, sym,
 use Rattle.table_steps.specs.Answers.{Settlement}
 use Rattle.crossbeam_channel.specs.Claims.{view}
 use Rattle.engine_queues.proofs.JobSteps.{takes}
-use Rattle.engine_workers.specs.Turns.{PutsReply}
+use Rattle.engine.specs.Serving.{does}
+use Rattle.engine_workers.specs.Turns.{AnswersJob}
 use Rattle.engine_workers.specs.declared.working.Turn.{Turn}
 use Rattle.engine_workers.specs.declared.working.Turn.TheVariants.{Worked, Nothing}
 use Rattle.engine_workers.proofs.working.Worker.turn.Goals as goal
@@ -17,12 +18,8 @@ recv_as-requires-clause-rule g c = (takes _ _ (let e = c.args.self.now.one_part 
 pub returns-in-Ok-Some-clause-worked : goal.returns-in-Ok-Some-clause-worked
 returns-in-Ok-Some-clause-worked g c settled e =
     let same : c.answer.result ≡ settled = ap settled_by e in
-    let a = c.answer.ensures.answers in
     record {
       job = c.in-Ok-Some.job;
       taken = c.answer.ensures.jobs ∙ (rw c.in-Ok-Some.field-0-is at c.in-Ok-Some.ensures.rule);
-      bytes = a.bytes;
-      visited = a.visited;
-      meets = a.meets;
-      puts = subst (λ (s : Option Settlement). PutsReply c.args.self.now.session.settings c.args.self.now.number c.in-Ok-Some.job a.visited (view c.args.self.now.reply_pass) a.bytes (view c.answer.new.self.reply_pass) s) same a.puts;
+      answers = subst (λ (s : Option Settlement). AnswersJob (does g.C.Calls.gives g.D.Folders.keeps) c.args.self.now.session.settings c.args.self.now.number c.in-Ok-Some.job (view c.args.self.now.reply_pass) c.args.served.now c.args.share.now s (view c.answer.new.self.reply_pass) c.answer.new.served c.answer.new.share) same c.answer.ensures.answers;
     }

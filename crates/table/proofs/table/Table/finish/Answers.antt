@@ -1,3 +1,4 @@
+use Rattle.table_steps.proofs.StillUndisturbed.{finish_calm}
 use Rattle.table_steps.proofs.Growing.{ledgers_grown}
 use Rattle.table_steps.specs.Kept.{world_of}
 use Rattle.table.proofs.Longer.{length_longer, totals_longer, gained_longer}
@@ -14,3 +15,19 @@ post_since-requires-clause-so_far g c =
 pub returns-clause-grows : goal.returns-clause-grows
 returns-clause-grows g c =
     rw (← c.self.view_is) (gained_longer (world_of c.self.inside.state) (world_of c.finish-answered.new.self) (ledgers_grown.finish (world_of c.self.inside.state) c.args.ticket.id c.args.outcome c.finish-answered.result (world_of c.finish-answered.new.self) c.finish-answered.ensures.finishes))
+
+pub attest-requires : goal.attest-requires
+attest-requires g c =
+    record {
+      kept = c.finish-answered.ensures.kept;
+      undisturbed = finish_calm c.self.inside.state c.finish-answered.new.self c.self.invariant.0.kept c.finish-answered.ensures.kept c.self.invariant.0.undisturbed c.args.ticket.id c.args.outcome c.finish-answered.result c.finish-answered.ensures.finishes;
+    }
+
+pub invariant_of-self : goal.invariant_of-self
+invariant_of-self g c = (
+  record {
+    kept = c.finish-answered.ensures.kept;
+    undisturbed = finish_calm c.self.inside.state c.finish-answered.new.self c.self.invariant.0.kept c.finish-answered.ensures.kept c.self.invariant.0.undisturbed c.args.ticket.id c.args.outcome c.finish-answered.result c.finish-answered.ensures.finishes;
+  },
+  c.post_since.ensures.book,
+)

@@ -1,3 +1,4 @@
+use Rattle.table_steps.proofs.StillUndisturbed.{forget_calm}
 use Rattle.table_steps.proofs.Growing.{ledgers_grown}
 use Rattle.table_steps.specs.Kept.{world_of}
 use Rattle.table.proofs.Longer.{length_longer, totals_longer, gained_longer}
@@ -14,3 +15,19 @@ post_since-requires-clause-so_far g c =
 pub returns-clause-grows : goal.returns-clause-grows
 returns-clause-grows g c =
     rw (← c.self.view_is) (gained_longer (world_of c.self.inside.state) (world_of c.forget-amount.new.self) (ledgers_grown.forget (world_of c.self.inside.state) c.args.number c.args.n c.forget-amount.result (world_of c.forget-amount.new.self) c.forget-amount.ensures.forgets))
+
+pub attest-requires : goal.attest-requires
+attest-requires g c =
+    record {
+      kept = c.forget-amount.ensures.kept;
+      undisturbed = forget_calm c.self.inside.state c.forget-amount.new.self c.self.invariant.0.kept c.forget-amount.ensures.kept c.self.invariant.0.undisturbed c.args.number c.args.n c.forget-amount.result c.forget-amount.ensures.forgets;
+    }
+
+pub invariant_of-self : goal.invariant_of-self
+invariant_of-self g c = (
+  record {
+    kept = c.forget-amount.ensures.kept;
+    undisturbed = forget_calm c.self.inside.state c.forget-amount.new.self c.self.invariant.0.kept c.forget-amount.ensures.kept c.self.invariant.0.undisturbed c.args.number c.args.n c.forget-amount.result c.forget-amount.ensures.forgets;
+  },
+  c.post_since.ensures.book,
+)

@@ -1,10 +1,11 @@
-use Rattle.std.proofs.Common.{ℕ, ◌+◌, ◌%◌, ◌^◌, if◌then◌else◌, refl, sym, ap, ◌∙◌}
+use Rattle.std.proofs.Common.{ℕ, ◌+◌, ◌%◌, ◌^◌, if◌then◌else◌, refl, sym, ap, ◌∙◌, subst}
 use Rattle.std.proofs.lemmas.Bool.{false≢true}
 use Rattle.table_footprints.specs.declared.data.NewRequest.{NewRequest}
 use Rattle.table_footprints.specs.Asked.{no_memory}
 use Rattle.table_footprints.specs.Cases.{IsFootprint, Seen}
 use Rattle.table_footprints.specs.NewRequests.{IsNewRequest, footprint_in}
-use Rattle.table_steps.specs.Kept.{world_of}
+use Rattle.table_requests.specs.Listed.{InFlight}
+use Rattle.table_steps.specs.Kept.{IsKept, world_of}
 use Rattle.table_steps.specs.World.{seen_in}
 use Rattle.table_steps.specs.Steps.{unsound}
 use Rattle.table_steps.proofs.Refusing.{refusal_bits}
@@ -48,7 +49,7 @@ returns-clause-begins c =
       footprint_is = footprint_is (seen_in (world_of s)) new_request c.requires.new_request;
       begins = (
         may_begin s new_request.work.want new_request c.requires.new_request (c.requires.handle new_request.work.case) c.expect_within.ensures.tally (λ up. false≢true (sym c.if-holds_up.false ∙ c.holds_up.ensures.held.1 up)) c.in-Ok.ensures.ok,
-        goes_on s c.reserve.new.self c.args.unique c.free_id-id.result new_request c.requires.new_request c.reserve.ensures.same c.add.new.self c.add.ensures.adds c.is_same-same.result c.may_hide-hide.result c.is_last-last.result c.next_counter-self.result c.free_id-id.ensures.free c.is_same-same.ensures
+        goes_on s c.reserve.new.self c.args.unique c.free_id-id.result new_request c.requires.new_request c.reserve.ensures.same c.add.new.self c.in-Ok-add.ensures.adds c.is_same-same.result c.may_hide-hide.result c.is_last-last.result c.next_counter-self.result c.free_id-id.ensures.free c.is_same-same.ensures
             (c.may_hide-hide.ensures ∙ hides_so (seen_in (world_of s)) new_request.work.want new_request.work.case c.requires.new_request.fits new_request.work.candidates c.requires.new_request.provided.candidates)
             c.is_last-last.ensures
             (c.next_counter-self.ensures ∙ ap (λ (k : ℕ). if c.may_hide-hide.result then (k + 10) % 2 ^ 32 else k) c.reserve.ensures.same.counter)
@@ -61,7 +62,7 @@ close_file-requires c =
     let s = c.args.self.now in
     let new_request = c.args.new_request in
     record {
-      kept = begun_kept s c.reserve.new.self c.args.unique c.free_id-id.result new_request c.requires.new_request c.reserve.ensures.same c.add.new.self c.add.ensures.adds c.next_counter-self.result c.free_id-id.ensures.free
+      kept = begun_kept s c.reserve.new.self c.args.unique c.free_id-id.result new_request c.requires.new_request c.reserve.ensures.same c.add.new.self c.in-Ok-add.ensures.adds c.next_counter-self.result c.free_id-id.ensures.free
           c.reserve.ensures.kept c.add.ensures.law (λ up. false≢true (sym c.if-holds_up.false ∙ c.holds_up.ensures.held.1 up))
           (may_begin s new_request.work.want new_request c.requires.new_request (c.requires.handle new_request.work.case) c.expect_within.ensures.tally (λ up. false≢true (sym c.if-holds_up.false ∙ c.holds_up.ensures.held.1 up)) c.in-Ok.ensures.ok)
           c.in-Ok.ensures.ok c.in-Ok-reserve.ensures.ok;
@@ -76,3 +77,19 @@ returns-in-Err-reserve-clause-begins c =
       footprint_is = footprint_is (seen_in (world_of s)) new_request c.requires.new_request;
       begins = (unsound (c.requires.handle new_request.work.case) (no_memory refl c.requires.new_request.sound.not_stale), c.reserve.ensures.same.world);
     }
+
+pub returns-in-Err-add-clause-begins : goal.returns-in-Err-add-clause-begins
+returns-in-Err-add-clause-begins c =
+    let s = c.args.self.now in
+    let new_request = c.args.new_request in
+    record {
+      footprint = footprint_in new_request.work;
+      footprint_is = footprint_is (seen_in (world_of s)) new_request c.requires.new_request;
+      begins = (
+        unsound (c.requires.handle new_request.work.case) (no_memory refl c.requires.new_request.sound.not_stale),
+        ap (λ (flights : InFlight). world_of (record c.reserve.new.self { flights = flights })) c.in-Err-add.ensures.same ∙ c.reserve.ensures.same.world,
+      );
+    }
+
+pub returns-in-Err-add-clause-kept : goal.returns-in-Err-add-clause-kept
+returns-in-Err-add-clause-kept c = subst (λ (flights : InFlight). IsKept (record c.reserve.new.self { flights = flights })) (sym c.in-Err-add.ensures.same) c.reserve.ensures.kept

@@ -1,0 +1,8 @@
+//! What a session serves on.
+
+/// A directory, and the open folders of the session.
+#[derive(Drop)]
+pub struct Served<C, D> {
+    pub calls: C,
+    pub dirs: D,
+}

@@ -1,0 +1,291 @@
+//! How many requests hold each path.
+//!
+//! A path counts once for each request, however often it is listed there. What is asked about a path is one look-up,
+//! however many requests are in flight. Room is made as a request is added, so that its end takes no memory.
+
+ghost use Rattle.std.specs.Prelude.{◌≡◌, ◌<◌, ◌≤◌, ◌+◌, ◌*◌, ◌^◌, ◌↔◌, ◌++◌, ◌∷◌, [], true, false, if◌then◌else◌, Any, IfOk, IsTrue, OnErr, OnOk, length, vec_len};
+ghost use Rattle.paths.specs.Prefixes.{Names};
+ghost use Rattle.steady_map.specs.Living.{live, places};
+ghost use Rattle.holds.specs.Conflicts.{is_among};
+ghost use Rattle.holds.specs.Numbers.{Adds, AreNumbers, HasPlaces, IsHeldUp, Raises, counted_in, holders_on, is_same_path, no_holders};
+
+use crate::finding::contains;
+use crate::held::Held;
+use crate::names_under::NameUnder;
+use indexmap::IndexMap;
+use paths::{Name, Path};
+use std::alloc::{AllocError, Global};
+use std::hash::RandomState;
+use steady_map::{make_places, put, set, take_out, value_by, value_of};
+
+/// How many requests hold a path.
+#[derive(Clone, Copy)]
+pub struct Holders {
+    pub shared: u64,
+    pub exclusive: u64,
+}
+
+/// Nobody.
+const NOBODY: Holders = Holders {
+    shared: 0,
+    exclusive: 0,
+};
+
+/// One that shares it.
+const SHARER: Holders = Holders {
+    shared: 1,
+    exclusive: 0,
+};
+
+/// One that holds it exclusively.
+const OWNER: Holders = Holders {
+    shared: 0,
+    exclusive: 1,
+};
+
+/// The two numbers of each path that is held.
+#[derive(Drop)]
+pub struct HoldNumbers {
+    pub by_path: IndexMap<Path, Option<Holders>, RandomState>,
+    /// How many paths are held.
+    pub paths: usize,
+}
+
+impl HoldNumbers {
+    /// Nothing is held. The map hashes by that seed.
+    pub fn new(alloc: Global, seed: RandomState) -> HoldNumbers
+        ensures none { (path : Names) → holders_on result path ≡ no_holders }
+        ensures law { AreNumbers result }
+    {
+        HoldNumbers {
+            by_path: IndexMap::with_hasher(alloc, seed),
+            paths: 0,
+        }
+    }
+
+    /// The numbers of the path.
+    pub fn holders_on(&self, path: &Path) -> Holders
+        ensures { result ≡ holders_on self.now path.now }
+    {
+        match value_of(&self.by_path, path) {
+            Some(holders) => holders,
+            None => NOBODY,
+        }
+    }
+
+    /// Whether somebody holds the name under the path exclusively. It takes no memory.
+    pub fn is_held_exclusively(&self, parent: &Path, name: &Name) -> bool
+        ensures { IsTrue result ↔ (0 < (holders_on self.now (parent.now ++ name.now ∷ [])).exclusive) }
+    {
+        match value_by(&self.by_path, NameUnder { parent, name }) {
+            Some(holders) => holders.exclusive > 0,
+            None => false,
+        }
+    }
+
+    /// Whether a request that wants to hold this has to wait for others.
+    pub fn holds_up(&self, wanted: &Held) -> bool
+        requires { AreNumbers self.now }
+        ensures { IsTrue result ↔ IsHeldUp self.now wanted.now }
+    {
+        if self.paths == 0 {
+            return false;
+        }
+        self.is_any_held(wanted.exclusive.as_slice())
+            || self.is_any_exclusive(wanted.shared.as_slice())
+    }
+
+    /// Whether one of the paths is held.
+    fn is_any_held(&self, paths: &[Path]) -> bool
+        ensures { IsTrue result ↔ Any (λ path. 0 < (holders_on self.now path).shared + (holders_on self.now path).exclusive) paths.now }
+    {
+        for path in paths {
+            let holders = self.holders_on(path);
+            if holders.shared > 0 || holders.exclusive > 0 {
+                return true;
+            }
+        }
+        false
+    }
+
+    /// Whether one of the paths is held exclusively.
+    fn is_any_exclusive(&self, paths: &[Path]) -> bool
+        ensures { IsTrue result ↔ Any (λ path. 0 < (holders_on self.now path).exclusive) paths.now }
+    {
+        for path in paths {
+            if self.holders_on(path).exclusive > 0 {
+                return true;
+            }
+        }
+        false
+    }
+
+    /// One request more holds this. Want of memory is the only error: then all numbers are as they were.
+    pub fn add(&mut self, held: &Held) -> Result<(), AllocError>
+        requires law { AreNumbers self.old }
+        requires few { (path : Names) → ((holders_on self.old path).shared + 1 < 2 ^ 64) × ((holders_on self.old path).exclusive + 1 < 2 ^ 64) }
+        ensures adds { OnOk result (Adds self.old held.now self.new) }
+        ensures same { OnErr result ((path : Names) → holders_on self.new path ≡ holders_on self.old path) }
+        ensures law { AreNumbers self.new }
+    {
+        let alloc = *self.by_path.allocator();
+        let shared = copies_of(alloc, held.shared.as_slice())?;
+        let exclusive = copies_of(alloc, held.exclusive.as_slice())?;
+        self.reserve(shared.len() + exclusive.len())?;
+        raise_all(self, shared, SHARER);
+        raise_all(self, exclusive, OWNER);
+        Ok(())
+    }
+
+    /// Makes room for so many paths more.
+    fn reserve(&mut self, more: usize) -> Result<(), AllocError>
+        requires law { AreNumbers self.old }
+        ensures ok { OnOk result (HasPlaces self.new more) }
+        ensures same { (path : Names) → holders_on self.new path ≡ holders_on self.old path }
+        ensures law { AreNumbers self.new }
+    {
+        make_places(&mut self.by_path, self.paths, more)?;
+        let _places = self.by_path.capacity(); // proof: a `usize` counts them
+        Ok(())
+    }
+
+    /// A request no longer holds this. It takes no memory.
+    pub fn drop_holds(&mut self, held: &Held)
+        requires law { AreNumbers self.old }
+        requires shared { (path : Names) → counted_in held.now.shared path 1 ≤ (holders_on self.old path).shared }
+        requires exclusive { (path : Names) → counted_in held.now.exclusive path 1 ≤ (holders_on self.old path).exclusive }
+        ensures drops { Adds self.new held.now self.old }
+        ensures law { AreNumbers self.new }
+    {
+        lower_all(self, held.shared.as_slice(), SHARER);
+        lower_all(self, held.exclusive.as_slice(), OWNER);
+    }
+}
+
+/// The same paths, once more.
+fn copies_of(alloc: Global, paths: &[Path]) -> Result<Vec<Path>, AllocError>
+    ensures { IfOk result (λ copies. copies.items ≡ paths.now) }
+{
+    let mut copies = Vec::with_capacity(alloc, paths.len())?;
+    for path in paths {
+        copies.push(path.copy()?)?;
+    }
+    Ok(copies)
+}
+
+/// One holder more of the path, for which there is room. It takes no memory.
+fn raise(numbers: &mut HoldNumbers, path: Path, one: Holders)
+    requires law { AreNumbers numbers.old }
+    requires some { 0 < one.shared + one.exclusive }
+    requires room { HasPlaces numbers.old 1 }
+    requires shared { (holders_on numbers.old path).shared + one.shared < 2 ^ 64 }
+    requires exclusive { (holders_on numbers.old path).exclusive + one.exclusive < 2 ^ 64 }
+    ensures shared { (p : Names) → (holders_on numbers.new p).shared ≡ (holders_on numbers.old p).shared + (if is_same_path path p then one.shared else 0) }
+    ensures exclusive { (p : Names) → (holders_on numbers.new p).exclusive ≡ (holders_on numbers.old p).exclusive + (if is_same_path path p then one.exclusive else 0) }
+    ensures live { live numbers.new.by_path ≤ live numbers.old.by_path + 1 }
+    ensures places { places numbers.old.by_path ≤ places numbers.new.by_path }
+    ensures law { AreNumbers numbers.new }
+{
+    match value_of(&numbers.by_path, &path) {
+        Some(holders) => {
+            let more = Holders {
+                shared: holders.shared + one.shared,
+                exclusive: holders.exclusive + one.exclusive,
+            };
+            set(&mut numbers.by_path, &path, more);
+        }
+        None => {
+            put(&mut numbers.by_path, path, one);
+            numbers.paths += 1;
+        }
+    }
+}
+
+/// One holder less of the path. It takes no memory.
+fn lower(numbers: &mut HoldNumbers, path: &Path, one: Holders)
+    requires law { AreNumbers numbers.old }
+    requires some { 0 < one.shared + one.exclusive }
+    requires shared { one.shared ≤ (holders_on numbers.old path.now).shared }
+    requires exclusive { one.exclusive ≤ (holders_on numbers.old path.now).exclusive }
+    ensures shared { (p : Names) → (holders_on numbers.new p).shared + (if is_same_path path.now p then one.shared else 0) ≡ (holders_on numbers.old p).shared }
+    ensures exclusive { (p : Names) → (holders_on numbers.new p).exclusive + (if is_same_path path.now p then one.exclusive else 0) ≡ (holders_on numbers.old p).exclusive }
+    ensures law { AreNumbers numbers.new }
+{
+    let holders = numbers.holders_on(path);
+    let less = Holders {
+        shared: holders.shared - one.shared,
+        exclusive: holders.exclusive - one.exclusive,
+    };
+    if less.shared == 0 && less.exclusive == 0 {
+        take_out(&mut numbers.by_path, path);
+        numbers.paths -= 1;
+    } else {
+        set(&mut numbers.by_path, path, less);
+    }
+}
+
+/// One holder more of each of the paths, for which there is room. It takes no memory.
+fn raise_all(numbers: &mut HoldNumbers, paths: Vec<Path>, one: Holders)
+    requires law { AreNumbers numbers.old }
+    requires some { 0 < one.shared + one.exclusive }
+    requires room { HasPlaces numbers.old (vec_len paths) }
+    requires few { (path : Names) → ((holders_on numbers.old path).shared + one.shared < 2 ^ 64) × ((holders_on numbers.old path).exclusive + one.exclusive < 2 ^ 64) }
+    ensures raises { Raises numbers.old paths.items one numbers.new }
+    ensures live { live numbers.new.by_path ≤ live numbers.old.by_path + vec_len paths }
+    ensures places { places numbers.old.by_path ≤ places numbers.new.by_path }
+    ensures law { AreNumbers numbers.new }
+{
+    let mut rest = paths;
+    while let Some(path) = rest.pop() {
+        raise_once(numbers, rest.as_slice(), path, one);
+    }
+}
+
+/// One holder more of the path, for which there is room, unless it is among those before it. It takes no memory.
+fn raise_once(numbers: &mut HoldNumbers, before: &[Path], path: Path, one: Holders)
+    requires law { AreNumbers numbers.old }
+    requires some { 0 < one.shared + one.exclusive }
+    requires room { HasPlaces numbers.old 1 }
+    requires shared { is_among before.now path ≡ false → (holders_on numbers.old path).shared + one.shared < 2 ^ 64 }
+    requires exclusive { is_among before.now path ≡ false → (holders_on numbers.old path).exclusive + one.exclusive < 2 ^ 64 }
+    ensures shared { (p : Names) → (holders_on numbers.new p).shared + counted_in before.now p one.shared ≡ (holders_on numbers.old p).shared + counted_in (before.now ++ path ∷ []) p one.shared }
+    ensures exclusive { (p : Names) → (holders_on numbers.new p).exclusive + counted_in before.now p one.exclusive ≡ (holders_on numbers.old p).exclusive + counted_in (before.now ++ path ∷ []) p one.exclusive }
+    ensures live { live numbers.new.by_path ≤ live numbers.old.by_path + 1 }
+    ensures places { places numbers.old.by_path ≤ places numbers.new.by_path }
+    ensures law { AreNumbers numbers.new }
+{
+    if contains(before, &path) {
+        return;
+    }
+    raise(numbers, path, one);
+}
+
+/// One holder less of each of the paths. It takes no memory.
+fn lower_all(numbers: &mut HoldNumbers, paths: &[Path], one: Holders)
+    requires law { AreNumbers numbers.old }
+    requires some { 0 < one.shared + one.exclusive }
+    requires shared { (path : Names) → counted_in paths.now path one.shared ≤ (holders_on numbers.old path).shared }
+    requires exclusive { (path : Names) → counted_in paths.now path one.exclusive ≤ (holders_on numbers.old path).exclusive }
+    ensures lowers { Raises numbers.new paths.now one numbers.old }
+    ensures law { AreNumbers numbers.new }
+{
+    for (i, path) in paths.iter().enumerate() {
+        lower_once(numbers, &paths[..i], path, one);
+    }
+}
+
+/// One holder less of the path, unless it is among those before it. It takes no memory.
+fn lower_once(numbers: &mut HoldNumbers, before: &[Path], path: &Path, one: Holders)
+    requires law { AreNumbers numbers.old }
+    requires some { 0 < one.shared + one.exclusive }
+    requires shared { is_among before.now path.now ≡ false → one.shared ≤ (holders_on numbers.old path.now).shared }
+    requires exclusive { is_among before.now path.now ≡ false → one.exclusive ≤ (holders_on numbers.old path.now).exclusive }
+    ensures shared { (p : Names) → (holders_on numbers.new p).shared + counted_in (before.now ++ path.now ∷ []) p one.shared ≡ (holders_on numbers.old p).shared + counted_in before.now p one.shared }
+    ensures exclusive { (p : Names) → (holders_on numbers.new p).exclusive + counted_in (before.now ++ path.now ∷ []) p one.exclusive ≡ (holders_on numbers.old p).exclusive + counted_in before.now p one.exclusive }
+    ensures law { AreNumbers numbers.new }
+{
+    if contains(before, path) {
+        return;
+    }
+    lower(numbers, path, one);
+}

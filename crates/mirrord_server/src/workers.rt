@@ -1,0 +1,71 @@
+//! A folder of the system, served by threads.
+
+ghost use Rattle.std.specs.Prelude.{◌≡◌, IfOk, vec_len};
+ghost use Rattle.mirrord_server.specs.Folders.{ServesWorkers};
+
+use crate::folder::{Unserved, open_folder};
+use crate::socket::RECEIVED;
+use backing_folder::{Folder, System};
+use engine::{SessionEnd, Settings};
+use engine_streams::StreamLink;
+use engine_threads::serve_threads;
+use std::fs::ReadDir;
+use std::io;
+use std::io::BufReader;
+use std::os::unix::net::UnixStream;
+use std::sync::Wait;
+use std::thread::Threads;
+use table::{Limits, Seeds};
+
+/// A folder that a thread of its own may use. A bound of a type parameter would be one of the thread that makes it, so the
+/// runtime is named.
+pub(crate) type HostFolder = Folder<System<HostRuntime>>;
+
+/// A folder for each worker, all on the same root.
+pub(crate) fn open_folders(
+    host: &HostRuntime,
+    root: &str,
+    workers: u8,
+) -> Result<Vec<HostFolder>, Unserved>
+    ensures { IfOk result (λ folders. vec_len folders ≡ workers) }
+{
+    let Ok(mut folders) = Vec::with_capacity(host.alloc(), usize::from(workers)) else {
+        return Err(Unserved::Memory);
+    };
+    for opened in 0..workers {
+        folders.push_reserved(open_folder(host, root)?);
+    }
+    Ok(folders)
+}
+
+/// Serves the client at the other end of a socket by as many workers as there are folders.
+pub(crate) fn serve_workers<H: Threads + Wait + AllocGlobal + Clone + Send + Sync + Drop + 'static>(
+    rt: &H,
+    folders: Vec<HostFolder>,
+    seeds: Seeds,
+    settings: Settings,
+    stream: UnixStream,
+) -> Result<SessionEnd, Unserved>
+    ensures { ServesWorkers (vec_len folders) result }
+{
+    let _names: Option<ReadDir> = None; // proof: a type that a folder's calls name
+    let Ok(heard) = stream.try_clone() else {
+        return Err(Unserved::NoSocket);
+    };
+    let Ok(input) = BufReader::with_capacity(rt.alloc(), RECEIVED, heard) else {
+        return Err(Unserved::Memory);
+    };
+    let link_in = StreamLink::new(input, io::sink());
+    let link_out = StreamLink::new(io::empty(), stream);
+    let ended = serve_threads(
+        rt,
+        rt.alloc(),
+        link_in,
+        link_out,
+        folders,
+        Limits::default(),
+        seeds,
+        settings,
+    );
+    Ok(ended.end)
+}

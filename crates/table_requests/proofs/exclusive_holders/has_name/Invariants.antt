@@ -1,6 +1,0 @@
-use Rattle.std.proofs.Common.{ℕ, ◌≡◌, ◌<◌, ◌++◌, [], ◌∷◌, get_or}
-use Rattle.paths.specs.Prefixes.{Names}
-use Rattle.table_requests.proofs.exclusive_holders.has_name.Given as goal
-
-abbrev pub invariant-loop-path : goal.invariant-loop-path
-invariant-loop-path l = (k : ℕ) (d : Names) → k < l.path-index → get_or l.paths k d ≡ l.parent ++ l.name ∷ [] → ⊥

@@ -1,0 +1,157 @@
+//! Turns of a worker whose replies nobody gets any more.
+
+ghost use Rattle.std.specs.Prelude.{◌≡◌, ◌<◌, ◌+◌, true};
+ghost use Rattle.crossbeam_channel.specs.Claims.{view, IsSeatAt};
+ghost use Rattle.crossbeam_channel.specs.Ends.{sends_on};
+
+use crate::client::{Asks, Heard};
+use crate::teller::{SETTINGS, holds_of, pieces_of};
+use backing::Shared;
+use crossbeam_channel::bounded_with;
+use engine::Served;
+use engine_jobs::Job;
+use engine_queues::jobs::{Cut, Fair, Hand, JobPass, JobSender};
+use engine_queues::letters::{InOrder, Letter, ReplyLane, ReplyPass, ReplySender, Roles};
+use engine_queues::passes::Passes;
+use engine_reader::Reader;
+use engine_workers::{Hall, Reply, Worker};
+use handles::Dirs;
+use ledger::{Blanks, Ledgers, Posting, Share};
+use std::alloc::{AllocError, Global};
+use std::marker::Brand;
+use std::random::RandomSource;
+use std::sync::{Arc, Mutex, Wait};
+use std::test::Fail;
+use table::{Limits, Seeds, Table};
+use table_image::Image;
+use wire::Operation;
+use wire::Operation::Lookup;
+
+/// One entry is asked for, after INIT.
+const ONE: &[(u64, Operation<'static>)] = &[(1, Lookup { name: "a" })];
+
+/// The link of a client who asks for that.
+fn asks<H: Wait + Clone + Drop>(rt: &H, alloc: Global) -> Result<Asks<H>, AllocError> {
+    let heard = Arc::new(alloc, Mutex::new(Heard::new(alloc)))?;
+    let Ok(own) = rt.clone() else {
+        return Err(AllocError);
+    };
+    Ok(Asks::new(own, heard, pieces_of(alloc, ONE, &[])?))
+}
+
+/// The passes of the only worker.
+fn passes_of(
+    jobs: &JobSender<Job>,
+    replies: &ReplySender<Reply>,
+    read: &mut JobPass<Job>,
+    written: &mut ReplyPass<Reply>,
+) -> Passes<Job, Reply>
+    requires read { IsSeatAt (sends_on jobs.now) read.old }
+    requires parts { 1 < (view read.old).parts }
+    requires written { IsSeatAt (sends_on replies.now) written.old }
+    requires gets { (view written.old).gets ≡ true }
+    requires made { (view written.old).made ≡ 0 }
+    ensures read { IsSeatAt (sends_on jobs.now) read.new }
+    ensures parts { (view read.new).parts + 1 ≡ (view read.old).parts }
+    ensures reads { ((view read.new).put ≡ (view read.old).put) × ((view read.new).taken ≡ (view read.old).taken) }
+    ensures seats { IsSeatAt (sends_on jobs.now) result.job_pass × IsSeatAt (sends_on replies.now) result.reply_pass }
+{
+    let job_pass = jobs.another::<Cut>(read);
+    let reply_pass = replies.another::<Roles>(written);
+    Passes {
+        number: 0,
+        count: 0,
+        job_pass,
+        reply_pass,
+    }
+}
+
+/// A worker with two jobs in its queue, and a queue for replies whose receiver is gone.
+fn lone_worker<H: Wait + Clone + Drop>(rt: &H, alloc: Global) -> Result<Worker, AllocError> {
+    let (jobs, work, mut read) = bounded_with::<Option<Job>, Hand<Job>, Fair, Global>(alloc, 16)?;
+    let (replies, receiver, mut written) = bounded_with::<
+        Option<Letter<Reply>>,
+        ReplyLane<Reply>,
+        InOrder,
+        Global,
+    >(alloc, 16)?;
+    let passes = passes_of(&jobs, &replies, &mut read, &mut written);
+    let worker = Worker::new(alloc, SETTINGS, work, replies, passes);
+    let mut reader = Reader::new(alloc, jobs, read)?;
+    let _end = reader.turn(rt, &mut asks(rt, alloc)?);
+    drop(receiver);
+    Ok(worker)
+}
+
+/// Both jobs are worked on. What the table is then is the result.
+fn work<H: Wait + Drop, T: Ledgers>(
+    rt: &H,
+    table: Table<T>,
+    mut share: Share<T>,
+    mut worker: Worker,
+    tree: Shared<H>,
+    dirs: &Dirs,
+) -> Result<Image, AllocError> {
+    let hall = Hall::new(table);
+    let mut served = Served { calls: tree, dirs };
+    for _ in 0..2 {
+        let _turn = worker.turn(rt, &hall, &mut share, &mut served);
+    }
+    share.leave();
+    hall.into_table().export()
+}
+
+/// The same from a new table.
+fn work_anew<H: Wait + Drop, T: Ledgers>(
+    rt: &H,
+    alloc: Global,
+    seeds: Seeds,
+    blanks: Blanks,
+    worker: Worker,
+    tree: Shared<H>,
+) -> Result<Image, AllocError>
+    requires names { blanks ≡ T.names }
+    requires shares { T.names.parts ≡ 1 }
+{
+    let dirs = Dirs::new(alloc)?;
+    let (table, mut shares) = Table::<T>::open(alloc, Limits::default(), seeds, blanks, 1)?;
+    let share = shares.pop().unwrap();
+    shares.destroy_empty();
+    work(rt, table, share, worker, tree, &dirs)
+}
+
+/// Its reply is handed back, and the entry that it tells with it.
+const POSTINGS: &[Posting] = &[
+    Posting::Born {
+        number: 2,
+        generation: 0,
+    },
+    Posting::Entry {
+        number: 2,
+        generation: 0,
+    },
+    Posting::Back {
+        number: 2,
+        generation: 0,
+    },
+];
+
+/// Runs both turns, over a tree with the file `a`.
+fn image_of<H: Wait + RandomSource + Clone + Drop>(rt: &H, alloc: Global) -> Result<Image, Fail> {
+    let worker = lone_worker(rt, alloc)?;
+    let seeds = Seeds::new(rt)?;
+    let Some(tree) = holds_of(rt, alloc, 1)?.pop() else {
+        return Err(Fail::from("no tree"));
+    };
+    let image = work_anew::<H, Brand>(rt, alloc, seeds, Blanks::new(1), worker, tree)?;
+    Ok(image)
+}
+
+#[test]
+fn reply_that_nobody_gets(rt: HostRuntime) -> Result<(), Fail> {
+    let image = image_of(&rt, rt.alloc())?;
+    assert!(rt; image.postings.as_slice() == POSTINGS);
+    assert_eq!(rt; image.records.as_slice().len(), 0);
+    assert_eq!(rt; image.nodes.as_slice().len(), 1);
+    Ok(())
+}
