@@ -99,10 +99,11 @@ fn be_client(rt: &impl Host, root: &str, path: &str, turns: &[Turn]) -> u64 {
     right
 }
 
-/// Which threads serve: the word for it.
+/// The word of a command line for a session on one thread.
 const ONE_THREAD: &str = "-s";
 
-const FOUR_WORKERS: &str = "--workers=4";
+/// It, and the word for four workers.
+const EITHER: &[&str] = &[ONE_THREAD, "--workers=4"];
 
 /// Runs `serve`: its status, and whether it wrote just that line.
 fn be_server(
@@ -291,30 +292,21 @@ const WHOLE: &[Meeting] = &[Meeting {
     ],
 }];
 
-/// A server and a client meet as the row says.
-fn meet(
-    rt: &impl Host,
-    host: &HostRuntime,
-    there: &str,
-    threads: &str,
-    row: &Meeting,
-) -> Result<(), Fail> {
-    let path = place_of(rt.alloc(), there, "socket")?;
-    let place = path.as_str();
-    let (served, right) = thread::join(
-        rt,
-        || be_server(rt, host, there, place, threads, row.fault),
-        || be_client(rt, there, place, row.turns),
-    );
-    judge(rt, there, row, served, right)
-}
-
+// Threads are joined in the tests themselves: what a thread is sent rests on the runtime, and not on a bound.
 #[test]
 fn clients_over_a_socket(rt: HostRuntime) -> Result<(), Fail> {
     for row in MEETINGS {
-        let (one, four) = (new_folder(&rt, "alone")?, new_folder(&rt, "meeting")?);
-        meet(&rt, &rt, one.as_str(), ONE_THREAD, row)?;
-        meet(&rt, &rt, four.as_str(), FOUR_WORKERS, row)?;
+        for threads in EITHER {
+            let root = new_folder(&rt, "meeting")?;
+            let path = place_of(rt.alloc(), root.as_str(), "socket")?;
+            let (there, place) = (root.as_str(), path.as_str());
+            let (served, right) = thread::join(
+                &rt,
+                || be_server(&rt, &rt, there, place, threads, row.fault),
+                || be_client(&rt, there, place, row.turns),
+            );
+            judge(&rt, there, row, served, right)?;
+        }
     }
     Ok(())
 }
@@ -323,13 +315,15 @@ fn clients_over_a_socket(rt: HostRuntime) -> Result<(), Fail> {
 #[test]
 fn whole_session_over_a_socket(rt: HostRuntime) -> Result<(), Fail> {
     for row in WHOLE {
-        meet(
+        let root = new_folder(&rt, "whole")?;
+        let path = place_of(rt.alloc(), root.as_str(), "socket")?;
+        let (there, place) = (root.as_str(), path.as_str());
+        let (served, right) = thread::join(
             &rt,
-            &rt,
-            new_folder(&rt, "whole")?.as_str(),
-            ONE_THREAD,
-            row,
-        )?;
+            || be_server(&rt, &rt, there, place, ONE_THREAD, row.fault),
+            || be_client(&rt, there, place, row.turns),
+        );
+        judge(&rt, there, row, served, right)?;
     }
     Ok(())
 }
