@@ -1,3 +1,4 @@
+pub mod Begun
 pub mod Closing
 pub mod ByClass
 pub mod Endings

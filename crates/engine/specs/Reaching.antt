@@ -6,13 +6,13 @@ use Rattle.table_steps.specs.Answers.{Answer, Claim}
 use Rattle.table_steps.specs.World.{World}
 use Rattle.table_steps.specs.declared.data.Begin.TheVariants.{Busy, Go, Refused}
 use Rattle.table_steps.specs.declared.data.Outcome.{Outcome}
-use Rattle.table.specs.Gains.{Gains}
+use Rattle.table.specs.Gains.{GainsInAll}
 use Rattle.table.proofs.Gaining as gaining
 use Rattle.engine.specs.Tables.{worlds, IsIdle}
 use Rattle.engine.specs.Alone.{finishes_one, forgets_idle, refused_bits, settles_one}
 
-pub gains_on : (old mid new : World) (before between after : Part) → Gains old before mid between → Gains mid between new after → Gains old before new after
-gains_on = gaining.gains_on
+pub gains_on : (old mid new : World) (before between after : Part) → GainsInAll old before mid between → GainsInAll mid between new after → GainsInAll old before new after
+gains_on = gaining.in_all_on
 
 pub waits : (old new : World) (unique : ℕ) (want : Want) → worlds.begins old unique want Busy new → new ≡ old
 waits old new unique want b = b.0.begins.2

@@ -10,7 +10,7 @@ use Rattle.table_steps.specs.World.{IsLawfulWorld, World}
 use Rattle.table_steps.specs.declared.data.Begin.{Begin}
 use Rattle.table_steps.specs.declared.data.Outcome.{Outcome}
 use Rattle.table.specs.Leftovers.{AreLeftovers}
-use Rattle.table.specs.Gains.{Gains}
+use Rattle.table.specs.Gains.{GainsInAll}
 
 -- a table whose states are the elements of W
 pub record Table (W : Type 0) : Type 1 where
@@ -48,7 +48,7 @@ worlds = record {
   knows = λ answer. answer.lost ≡ false;
   is_free = λ w. Unit {0};
   holds = λ w answer. Unit {0};
-  gains = Gains;
+  gains = GainsInAll;
   leftovers = λ world paths. AreLeftovers world.at paths;
   is_idle = IsIdle;
 }

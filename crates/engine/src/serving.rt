@@ -1,12 +1,8 @@
 //! A whole session on one thread.
 
-ghost use Rattle.std.specs.Prelude.{◌≡◌, ◌++◌, None, IfNone};
-ghost use Rattle.ledger.specs.Shares.{plus};
-ghost use Rattle.ledger.specs.Sums.{totals_of};
+ghost use Rattle.std.specs.Prelude.{◌≡◌, None, IfNone};
 ghost use Rattle.table_steps.specs.Kept.{world_of};
-ghost use Rattle.table_steps.specs.Steps.{gained};
-ghost use Rattle.table_steps.specs.World.{IsLawfulWorld};
-ghost use Rattle.table.specs.Gains.{Gains};
+ghost use Rattle.table.specs.Gains.{GainsInAll};
 ghost use Rattle.engine.specs.Serving.{does, IsClientRun, IsSessionRun, RemovesAll, RemovesLeft};
 ghost use Rattle.engine.specs.Tables.{worlds, IsIdle};
 ghost use Rattle.engine.specs.Walks.{side, stand, WorksOffFrames};
@@ -42,7 +38,7 @@ fn work_off_frames<H: Wait, T: Ledgers, L: Link, C: Calls, D: Folders>(
     ensures drains { WorksOffFrames worlds session.old.settings L.receives L.sends (does C.gives D.keeps)
         (side link.old served.old (stand (world_of table.old) session.old.agreed) cutter.old.kept)
         link.new served.new (stand (world_of table.new) session.new.agreed) cutter.new.kept result }
-    ensures gains { Gains (world_of table.old) share.old (world_of table.new) share.new }
+    ensures gains { GainsInAll (world_of table.old) share.old (world_of table.new) share.new }
     ensures on { IfNone result (cutter.new.stopped ≡ cutter.old.stopped) }
     ensures idle { IsIdle (world_of table.new) }
     ensures settings { session.new.settings ≡ session.old.settings }
@@ -76,9 +72,7 @@ fn serve_client<H: Wait, T: Ledgers, L: Link, C: Calls, D: Folders>(
     requires fresh { IsIdle (world_of table.old) }
     ensures serves { IsClientRun worlds settings L.receives L.sends (does C.gives D.keeps)
         link.old served.old (world_of table.old) link.new served.new (world_of table.new) result }
-    ensures lawful { IsLawfulWorld (world_of table.new) }
-    ensures grows { (world_of table.new).postings ≡ (world_of table.old).postings ++ gained (world_of table.old) (world_of table.new) }
-    ensures share { share.new ≡ record share.old { totals = plus share.old.totals (totals_of (gained (world_of table.old) (world_of table.new))) } }
+    ensures gains { GainsInAll (world_of table.old) share.old (world_of table.new) share.new }
 {
     table.attest(); // proof: its law
     let mut session = Session {
@@ -145,9 +139,7 @@ pub fn serve<H: Wait, T: Ledgers, L: Link, C: Calls, D: Folders>(
     requires fresh { IsIdle (world_of table.old) }
     ensures serves { IsSessionRun worlds settings L.receives L.sends (does C.gives D.keeps)
         link.old served.old (world_of table.old) link.new served.new (world_of table.new) result }
-    ensures lawful { IsLawfulWorld (world_of table.new) }
-    ensures grows { (world_of table.new).postings ≡ (world_of table.old).postings ++ gained (world_of table.old) (world_of table.new) }
-    ensures share { share.new ≡ record share.old { totals = plus share.old.totals (totals_of (gained (world_of table.old) (world_of table.new))) } }
+    ensures gains { GainsInAll (world_of table.old) share.old (world_of table.new) share.new }
 {
     let end = serve_client(rt, alloc, link, served, table, share, settings);
     remove_leftovers(&mut served.calls, table);

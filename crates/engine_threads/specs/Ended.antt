@@ -1,7 +1,7 @@
 -- What a session on threads leaves.
 use Rattle.std.specs.Prelude.{◌≡◌, ℕ, List, [], ◌∷◌, ◌++◌, length, map}
 use Rattle.ledger.specs.Shares.{Part, sum_of}
-use Rattle.ledger.specs.Sums.{totals_of}
+use Rattle.ledger.specs.Sums.{totals_over}
 use Rattle.ledger.specs.declared.shares.Totals.{Totals}
 use Rattle.table_steps.specs.World.{IsLawfulWorld, World}
 
@@ -9,7 +9,7 @@ use Rattle.table_steps.specs.World.{IsLawfulWorld, World}
 pub record IsGathered (totals : Totals) : Type 0 where
   pub world : World
   pub lawful : IsLawfulWorld world
-  pub ledger : totals ≡ totals_of world.postings
+  pub ledger : totals ≡ totals_over world.postings
   pub shares : List Part
   pub sums : totals ≡ sum_of shares
 

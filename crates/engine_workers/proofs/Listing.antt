@@ -9,7 +9,10 @@ use Rattle.table_requests.specs.declared.data.Given.{Given}
 use Rattle.ledger.specs.declared.postings.Posting.{Posting}
 use Rattle.ledger.specs.declared.postings.Posting.TheVariants.{Back, Born, Entry, Forget}
 use Rattle.ledger.specs.Shares.{Part, plus}
-use Rattle.ledger.specs.Sums.{totals_by, totals_of}
+use Rattle.ledger.specs.declared.shares.Totals.{Totals}
+use Rattle.ledger.specs.Periods.{Periods, continued, posted}
+use Rattle.ledger.specs.Sums.{totals_of, totals_over}
+use Rattle.ledger.proofs.SharesLemmas.{totals_over-more}
 use Rattle.tree.proofs.LookupLemmas.{cases_option}
 use Rattle.tree.specs.declared.nodes.Key.{Key}
 use Rattle.tree.specs.Places.{Lookup}
@@ -19,11 +22,11 @@ use Rattle.table_steps.specs.Steps.{EntersAll, Ends, IsAnswered, Finishes, Settl
 use Rattle.table_steps.specs.World.{Answered, RequestInFlight, RequestsInFlight, IsAtWork, Stage, Work, Working, World}
 use Rattle.table_steps.specs.declared.data.Outcome.{Outcome}
 
-abbrev pub posted : List Posting → ℕ
-posted ps = (totals_of ps).entries
+abbrev pub listed : Periods → ℕ
+listed ps = (totals_over ps).entries
 
-posted_append : (ps qs : List Posting) → posted (ps ++ qs) ≡ posted ps + posted qs
-posted_append ps qs = sum_by-append (λ p. (totals_by p).entries) ps qs
+listed_more : (ps : Periods) (more : List Posting) → listed (continued ps more) ≡ listed ps + (totals_of more).entries
+listed_more ps more = ap (λ (t : Totals). t.entries) (totals_over-more ps more)
 
 listed_some : (g : Given) (gs : List (Option Given)) → entries_in (Some g ∷ gs) ≡ 1 + entries_in gs
 listed_some g gs = let e = sum_by-cons (λ (o : Option Given). cond (is_some o) 1 0) (Some g) gs in omega arith
@@ -31,12 +34,12 @@ listed_some g gs = let e = sum_by-cons (λ (o : Option Given). cond (is_some o) 
 listed_none : (gs : List (Option Given)) → entries_in (None ∷ gs) ≡ entries_in gs
 listed_none gs = let e = sum_by-cons (λ (o : Option Given). cond (is_some o) 1 0) None gs in omega arith
 
-enters_one : (at at' : Lookup) (ps ps' : List Posting) (parent : ℕ) (name : List ℕ) (g : Given) → Enters at ps parent name g at' ps' → posted ps' ≡ posted ps + 1
-enters_one at at' ps ps' parent name g (inl again) = ap posted again.postings ∙ posted_append ps (Entry g.number g.generation ∷ [])
+enters_one : (at at' : Lookup) (ps ps' : Periods) (parent : ℕ) (name : List ℕ) (g : Given) → Enters at ps parent name g at' ps' → listed ps' ≡ listed ps + 1
+enters_one at at' ps ps' parent name g (inl again) = ap listed again.postings ∙ listed_more ps (Entry g.number g.generation ∷ [])
 enters_one at at' ps ps' parent name g (inr bears) =
-    ap posted bears.postings ∙ (let a = posted_append (ps ++ Born g.number g.generation ∷ []) (Entry g.number g.generation ∷ []) in let b = posted_append ps (Born g.number g.generation ∷ []) in omega arith)
+    ap listed bears.postings ∙ (let a = listed_more (posted ps (Born g.number g.generation)) (Entry g.number g.generation ∷ []) in let b = listed_more ps (Born g.number g.generation ∷ []) in omega arith)
 
-enters_all : (flights : RequestsInFlight) (at at' : Lookup) (ps ps' : List Posting) (keys : List Key) (found : List Bool) (given : List (Option Given)) → EntersAll flights at ps keys found given at' ps' → posted ps' ≡ posted ps + entries_in given
+enters_all : (flights : RequestsInFlight) (at at' : Lookup) (ps ps' : Periods) (keys : List Key) (found : List Bool) (given : List (Option Given)) → EntersAll flights at ps keys found given at' ps' → listed ps' ≡ listed ps + entries_in given
 enters_all flights at at' ps ps' (key ∷ keys) (true ∷ found) (Some g ∷ given) (free, (mid, qs, first, rest)) =
     let a = enters_one at mid ps qs key.parent key.name g first in
     let b = enters_all flights mid at' qs ps' keys found given rest in
@@ -51,7 +54,7 @@ enters_all flights at at' ps ps' (key ∷ keys) (false ∷ found) (None ∷ give
     let n = listed_none given in
     omega arith
 enters_all flights at at' ps ps' (key ∷ keys) (false ∷ found) (Some g ∷ given) h = absurd h
-enters_all flights at at' ps ps' [] [] [] h = let e : posted ps' ≡ posted ps = ap posted h.1 in omega arith
+enters_all flights at at' ps ps' [] [] [] h = let e : listed ps' ≡ listed ps = ap listed h.1 in omega arith
 enters_all flights at at' ps ps' [] [] (g ∷ given) h = absurd h
 enters_all flights at at' ps ps' [] (f ∷ found) given h = absurd h
 enters_all flights at at' ps ps' (key ∷ keys) [] given h = absurd h
@@ -59,8 +62,8 @@ enters_all flights at at' ps ps' (key ∷ keys) (true ∷ found) [] h = absurd h
 enters_all flights at at' ps ps' (key ∷ keys) (false ∷ found) [] h = absurd h
 
 -- what a step gained
-pub gained_of : (old new : World) → new.postings ≡ old.postings ++ gained old new → posted new.postings ≡ posted old.postings + posted (gained old new)
-gained_of old new grows = ap posted grows ∙ posted_append old.postings (gained old new)
+pub gained_of : (old new : World) → new.postings ≡ continued old.postings (gained old new) → listed new.postings ≡ listed old.postings + (totals_of (gained old new)).entries
+gained_of old new grows = ap listed grows ∙ listed_more old.postings (gained old new)
 
 -- a request is worked on, or none is
 at_work : (flights : RequestsInFlight) (id : ℕ) (o : Option RequestInFlight) → flights id ≡ o → ((f : RequestInFlight) (work : Work) → IsAtWork flights id f work → ⊥) ⊎ ((f : RequestInFlight) × (work : Work) × IsAtWork flights id f work)
@@ -70,24 +73,24 @@ at_work flights id (Some f) e = by_stage f.stage refl where
   by_stage (Working work) s = inr (f, work, record { here = e; working = s })
   by_stage (Answered before opened) s = inl (λ f' work w. let h = w.here in let k = w.working in absurd cc)
 
-pub finished_lists : (old new : World) (id : ℕ) (outcome : Outcome) (answer : Answer) → Finishes old id outcome answer new → posted new.postings ≡ posted old.postings + entries_in answer.given
+pub finished_lists : (old new : World) (id : ℕ) (outcome : Outcome) (answer : Answer) → Finishes old id outcome answer new → listed new.postings ≡ listed old.postings + entries_in answer.given
 finished_lists old new id outcome answer finishes = elim (at_work old.flights id (old.flights id) refl) [
-  | inl none ↦ (let lost = finishes.lost none in let p : posted new.postings ≡ posted old.postings = ap (λ (w : World). posted w.postings) lost.1 in let e : entries_in answer.given ≡ 0 = ap (λ (a : Answer). entries_in a.given) lost.0 in omega arith)
+  | inl none ↦ (let lost = finishes.lost none in let p : listed new.postings ≡ listed old.postings = ap (λ (w : World). listed w.postings) lost.1 in let e : entries_in answer.given ≡ 0 = ap (λ (a : Answer). entries_in a.given) lost.0 in omega arith)
   | inr (f, work, here) ↦ (let ends = finishes.found f work here in enters_all _ old.at ends.entered old.postings new.postings work.footprint.entries (act_of work.footprint outcome).found answer.given ends.enters)
 ]
 
-backs_all : (at at' : Lookup) (ps ps' : List Posting) (ns : List ℕ) → TakesAllBack at ps ns at' ps' → posted ps' ≡ posted ps
-backs_all at at' ps ps' [] h = ap posted h.1
+backs_all : (at at' : Lookup) (ps ps' : Periods) (ns : List ℕ) → TakesAllBack at ps ns at' ps' → listed ps' ≡ listed ps
+backs_all at at' ps ps' [] h = ap listed h.1
 backs_all at at' ps ps' (n ∷ ns) (mid, qs, inl back, rest) =
-    backs_all mid at' qs ps' ns rest ∙ (ap posted back.postings ∙ (let a = posted_append ps (Back n back.node.generation ∷ []) in omega arith))
-backs_all at at' ps ps' (n ∷ ns) (mid, qs, inr none, rest) = backs_all mid at' qs ps' ns rest ∙ ap posted none.postings
+    backs_all mid at' qs ps' ns rest ∙ (ap listed back.postings ∙ (let a = listed_more ps (Back n back.node.generation ∷ []) in omega arith))
+backs_all at at' ps ps' (n ∷ ns) (mid, qs, inr none, rest) = backs_all mid at' qs ps' ns rest ∙ ap listed none.postings
 
 -- what goes back and what is forgotten lists no entry
-pub settled_lists : (old new : World) (answer : Answer) (taken : Bool) (settled : Settlement) → Settles old answer taken settled new → posted new.postings ≡ posted old.postings
+pub settled_lists : (old new : World) (answer : Answer) (taken : Bool) (settled : Settlement) → Settles old answer taken settled new → listed new.postings ≡ listed old.postings
 settled_lists old new answer taken settled s = elim (cases_eq_bool answer.lost) [
-  | inl lost ↦ ap (λ (w : World). posted w.postings) (s.lost lost)
+  | inl lost ↦ ap (λ (w : World). listed w.postings) (s.lost lost)
   | inr kept ↦ elim (answered_or (old.flights answer.id) refl) [
-    | inl unknown ↦ ap (λ (w : World). posted w.postings) (s.unknown unknown)
+    | inl unknown ↦ ap (λ (w : World). listed w.postings) (s.unknown unknown)
     | inr known ↦ (let e = s.found kept known in backs_all old.at e.mid old.postings new.postings (untaken_of taken (drop known.before known.flight.pins)) e.back)
   ]
 ] where
@@ -102,18 +105,18 @@ settled_lists old new answer taken settled s = elim (cases_eq_bool answer.lost) 
     by_stage (Answered before opened) is = inr (record { flight = f; here = e; before = before; opened = opened; ended = is })
     by_stage (Working work) is = inl (λ k. let h = k.here in let m = k.ended in absurd cc)
 
-pub forgot_lists : (old new : World) (number n amount : ℕ) → Forgets old number n amount new → posted new.postings ≡ posted old.postings
+pub forgot_lists : (old new : World) (number n amount : ℕ) → Forgets old number n amount new → listed new.postings ≡ listed old.postings
 forgot_lists old new number n amount h = elim (cases_eq amount 0) [
-  | inl none ↦ ap (λ (w : World). posted w.postings) (h.nothing none)
+  | inl none ↦ ap (λ (w : World). listed w.postings) (h.nothing none)
   | inr some ↦ elim (cases_option (old.at number)) [
     | inl gone ↦ absurd (some (h.unknown gone))
-    | inr (x, stood) ↦ (let t = h.something x stood (omega arith) in ap (λ (w : World). posted w.postings) t.new_is ∙ (let a = posted_append old.postings (Forget number x.generation amount ∷ []) in omega arith))
+    | inr (x, stood) ↦ (let t = h.something x stood (omega arith) in ap (λ (w : World). listed w.postings) t.new_is ∙ (let a = listed_more old.postings (Forget number x.generation amount ∷ []) in omega arith))
   ]
 ]
 
 -- the share gains what the ledger does
-pub gains_posted : (old new : World) (before after : Part) → new.postings ≡ old.postings ++ gained old new → after ≡ record before { totals = plus before.totals (totals_of (gained old new)) } → after.totals.entries + posted old.postings ≡ before.totals.entries + posted new.postings
+pub gains_posted : (old new : World) (before after : Part) → new.postings ≡ continued old.postings (gained old new) → after ≡ record before { totals = plus before.totals (totals_of (gained old new)) } → after.totals.entries + listed old.postings ≡ before.totals.entries + listed new.postings
 gains_posted old new before after grows is =
-    let a : after.totals.entries ≡ before.totals.entries + posted (gained old new) = ap (λ (p : Part). p.totals.entries) is in
+    let a : after.totals.entries ≡ before.totals.entries + (totals_of (gained old new)).entries = ap (λ (p : Part). p.totals.entries) is in
     let b = gained_of old new grows in
     omega arith

@@ -1,12 +1,22 @@
 //! How often each number was born, beside the postings.
 
-ghost use Rattle.std.specs.Prelude.{◌≡◌, ◌<◌, ◌≤◌, ◌+◌, ◌^◌, ◌++◌, [], ◌∷◌, ℕ, List, nat_eq, if◌then◌else◌};
-ghost use Rattle.indexmap.specs.IndexMap.{spare};
+ghost use Rattle.std.specs.Prelude.{◌≡◌, ◌<◌, ◌≤◌, ◌+◌, ◌^◌, ℕ, IfOk, nat_eq, sum_by, if◌then◌else◌};
+ghost use Rattle.indexmap.specs.IndexMap.{spare, IsUnique};
 ghost use Rattle.ledger.specs.declared.postings.Posting.{Posting};
-ghost use Rattle.ledger.specs.Births.{births_in, AreTallied};
+ghost use Rattle.ledger.specs.Births.{births_in, listed_births, AreTallied};
+ghost use Rattle.ledger.specs.Periods.{Periods, posted};
+ghost use Rattle.ledger.specs.Sums.{totals_by};
 
 use crate::postings::Posting;
 use indexmap::IndexMap;
+use std::alloc::{AllocError, Global};
+
+/// How often a number was born in the periods that are closed.
+#[derive(Clone, Copy, Debug, PartialEq, Eq)]
+pub struct KeptBirths {
+    pub number: u64,
+    pub count: u64,
+}
 
 /// How often the number was born.
 pub(crate) fn births_of(births: &IndexMap<u64, u64>, number: u64) -> u64
@@ -23,6 +33,7 @@ fn raise(births: &mut IndexMap<u64, u64>, number: u64)
     requires few { births_in births.old number + 1 < 2 ^ 64 }
     requires room { 0 < spare births.old }
     ensures raised { (n : ℕ) → births_in births.new n ≡ births_in births.old n + (if nat_eq number n then 1 else 0) }
+    ensures more { sum_by (λ (e : ℕ × ℕ). e.1) births.new.entries ≡ sum_by (λ (e : ℕ × ℕ). e.1) births.old.entries + 1 }
     ensures room { spare births.old ≤ spare births.new + 1 }
 {
     let count = births_of(births, number) + 1;
@@ -34,13 +45,35 @@ fn raise(births: &mut IndexMap<u64, u64>, number: u64)
 
 /// Keeps the births in step with one posting more. It takes no memory.
 pub(crate) fn tally(births: &mut IndexMap<u64, u64>, posting: Posting)
-    requires few { (n : ℕ) → births_in births.old n + 1 < 2 ^ 64 }
+    requires few { (n : ℕ) → births_in births.old n + (totals_by posting).born < 2 ^ 64 }
     requires room { 0 < spare births.old }
-    ensures tallied { (ps : List Posting) → AreTallied births.old ps → AreTallied births.new (ps ++ posting ∷ []) }
+    ensures tallied { (ps : Periods) → AreTallied births.old ps → AreTallied births.new (posted ps posting) }
+    ensures more { sum_by (λ (e : ℕ × ℕ). e.1) births.new.entries ≡ sum_by (λ (e : ℕ × ℕ). e.1) births.old.entries + (totals_by posting).born }
     ensures room { spare births.old ≤ spare births.new + 1 }
 {
     match posting {
         Posting::Born { number, .. } => raise(births, number),
-        Posting::Entry { .. } | Posting::Back { .. } | Posting::Forget { .. } => {}
+        Posting::Entry { .. }
+        | Posting::Back { .. }
+        | Posting::Forget { .. }
+        | Posting::Opening { .. } => {}
     }
+}
+
+/// The births of each number, as they are to be kept.
+pub(crate) fn list_births(
+    alloc: Global,
+    births: &IndexMap<u64, u64>,
+) -> Result<Vec<KeptBirths>, AllocError>
+    ensures listed { IfOk result (λ kept. kept.items ≡ listed_births births.now.entries) }
+    ensures unique { IsUnique nat_eq births.now }
+{
+    let mut kept = Vec::new(alloc);
+    for (number, count) in births {
+        kept.push(KeptBirths {
+            number: *number,
+            count: *count,
+        })?;
+    }
+    Ok(kept)
 }

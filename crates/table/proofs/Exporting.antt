@@ -4,7 +4,9 @@ use Rattle.std.specs.Prelude.{option_map}
 use Rattle.std.specs.List.{AllZip}
 use Rattle.std.proofs.lemmas.List.{take_more}
 use mathlib.Core.Path.{fun_ext}
+use Rattle.ledger.specs.declared.births.KeptBirths.{KeptBirths}
 use Rattle.ledger.specs.declared.postings.Posting.{Posting}
+use Rattle.ledger.specs.declared.shares.Totals.{Totals}
 use Rattle.paths.specs.Prefixes.{Names}
 use Rattle.holds.specs.declared.held.Held.{Held}
 use Rattle.holds.specs.Conflicts.{Conflict}
@@ -26,7 +28,7 @@ use Rattle.table_image.specs.declared.data.Hold.{Hold}
 use Rattle.table_image.specs.declared.data.Image.{Image}
 use Rattle.table_image.specs.declared.data.Record.{Record}
 use Rattle.table_image.specs.declared.data.Stage.TheVariants.{Working, Answered}
-use Rattle.table_image.specs.Law.{AreApart, AreCounts, AreHoldsCounted, AreKnown, IsGivenPath, IsKnownFile, IsLawfulImage, is_kept, is_pinned, exclusive_of, sharers_of}
+use Rattle.table_image.specs.Law.{AreApart, AreCounts, AreHoldsCounted, AreKnown, IsGivenPath, IsKnownFile, IsLawfulImage, periods_in, is_kept, is_pinned, exclusive_of, sharers_of}
 use Rattle.table_image.proofs.Exported.{ListsBelow, ListsBelow-all, IsLawfulImage-shows, Mirrors, is_pinned-mirrors, ids-mirrors}
 use Rattle.table_steps.specs.declared.state.State.{State}
 use Rattle.table.specs.Copies.{IsCopyOf, held_of, exclusive_in_all, sharers_in, stage_of}
@@ -36,6 +38,7 @@ use Rattle.table_steps.specs.Kept.{flight_of, work_of}
 use Rattle.table_steps.specs.Kept as seen
 use Rattle.table.proofs.Holders.{counts_same, owners_same, sharers_same}
 use Rattle.table_steps.specs.Keeping.{kept_by}
+use Rattle.table_steps.proofs.Lawful.{law_of}
 use Rattle.table_steps.specs.Kept.{IsKept, world_of}
 
 -- a record more
@@ -165,13 +168,13 @@ module _ (flights : RequestsInFlight) (fs : List RequestInFlight) (rs : List Rec
         subst (λ (h : Held). All (IsGivenPath l h) h.given) (sym a.held) (held.known a.flight.id (flight_of a.flight) (work_of a.work) (at_work flights a.flight.id a.flight a.work a.there a.stage));
   }
 
-module _ (s : State) (kept : IsKept s) (xs : List Node) (ps : List Posting) (rs : List Record) (fs : List RequestInFlight) (distinct : IsDistinct xs) (nodes : node_at xs ≡ at_in s.tree) (postings : ps ≡ s.ledger.made)
+module _ (s : State) (kept : IsKept s) (xs : List Node) (bs : List KeptBirths) (closed : Totals) (ps : List Posting) (rs : List Record) (fs : List RequestInFlight) (distinct : IsDistinct xs) (nodes : node_at xs ≡ at_in s.tree) (births : bs ≡ s.ledger.made.births) (totals : closed ≡ s.ledger.made.totals) (postings : ps ≡ s.ledger.made.last)
     (at : flight_in fs ≡ (requests_of s.flights).at) (pinned : pinned_in fs ≡ (requests_of s.flights).pinned) (many : length fs ≡ (requests_of s.flights).many) (apart : AllPairs (λ (f g : RequestInFlight). f.id ≢ g.id) fs) (zip : AllZip IsCopyOf fs rs)
     (hs : List Hold) (counts : AreCounts (sharers_in s.flights.flights) (exclusive_in_all s.flights.flights) hs)
     (opened : List OpenEntry) (files_at : file_in opened ≡ (files_of s.files).at) (are_opened : opened_in opened ≡ (files_of s.files).opened) (rising : AllPairs (λ (f g : OpenEntry). f.handle < g.handle) opened)
     (last : ℕ) (last_is : last ≡ (files_of s.files).last) where
   abbrev image : Image
-  image = record { nodes = xs; postings = ps; records = rs; holds = hs; files = opened; counter = s.counter; last_handle = last }
+  image = record { nodes = xs; births = bs; closed = closed; postings = ps; records = rs; holds = hs; files = opened; counter = s.counter; last_handle = last }
 
   handles : AllPairs (λ (f g : OpenEntry). f.handle ≢ g.handle) opened
   handles i j d before within same = let less = rising i j d before within in omega (arith, less, same)
@@ -198,11 +201,14 @@ module _ (s : State) (kept : IsKept s) (xs : List Node) (ps : List Posting) (rs 
       let owning : exclusive_of rs ≡ exclusive_in_all s.flights.flights = owners_same fs rs zip ∙ fun_ext (λ path. counts_same (λ (f : RequestInFlight). has_exclusive f.stage path) fs s.flights apart at many) in
       subst (λ (S : Names → ℕ). AreCounts S (exclusive_of rs) hs) (sym sharing) (subst (λ (O : Names → ℕ). AreCounts (sharers_in s.flights.flights) O hs) (sym owning) counts)
 
+  ledger : periods_in image ≡ s.ledger.made
+  ledger = λ i. record { births = births i; totals = totals i; last = postings i }
+
   pub exports : Exports (world_of s) image
   exports = record {
     distinct = distinct;
     nodes = nodes;
-    postings = postings;
+    ledger = ledger;
     ids = ids;
     records = λ id. record_seen rs id ((requests_of s.flights).at id) (kept.flying.numbered id)
         (subst (λ (a : RequestsInFlight). MatchOption (a id) (record_in rs id ≡ None) (λ f. (r : Record) × (record_in rs id ≡ Some r) × IsCopyOf f r)) at (records_found fs rs id zip));
@@ -217,7 +223,7 @@ module _ (s : State) (kept : IsKept s) (xs : List Node) (ps : List Posting) (rs 
   exports_lawful = IsLawfulImage-shows image (at_in s.tree) s.ledger.made (kept_by s.flights s.files) (record {
     distinct = distinct;
     nodes = λ n. ap (λ (a : Lookup). a n) nodes;
-    postings = postings;
+    ledger = ledger;
     ids = ids;
     handles = handles;
     keeps = keeps;
@@ -225,4 +231,4 @@ module _ (s : State) (kept : IsKept s) (xs : List Node) (ps : List Posting) (rs 
     counted = counted;
     apart = records_apart (requests_of s.flights).at fs rs at apart zip (at_in s.tree) kept.held;
     known = records_known (requests_of s.flights).at fs rs at apart zip (at_in s.tree) kept.held;
-  }) kept.law
+  }) (law_of (at_in s.tree) s.ledger.made (kept_by s.flights s.files) kept.law)

@@ -4,3 +4,4 @@ pub mod Holders
 pub mod Exporting
 pub mod Gaining
 pub mod Leaving
+pub mod Closing

@@ -3,19 +3,23 @@ use Rattle.std.proofs.Common.{ℕ, ◌≤◌, ◌≡◌, List, ◌++◌, length,
 use Rattle.std.proofs.Math.Seq.{take-append_seam, drop-append_seam}
 use Rattle.ledger.specs.declared.postings.Posting.{Posting}
 use Rattle.ledger.specs.declared.shares.Totals.{Totals}
-use Rattle.ledger.specs.Sums.{totals_of}
+use Rattle.ledger.specs.Periods.{Periods, continued, up_to}
+use Rattle.ledger.specs.Sums.{totals_over}
 use Rattle.table_steps.specs.Laws.{Grows}
 use Rattle.table_steps.specs.World.{World}
 
 module _ (old new : World) (grows : Grows old new) where
-  pub length_longer : length old.postings ≤ length new.postings
-  length_longer = omega (arith, ap {B = ℕ} length grows.grown, length-append old.postings grows.more)
+  last_longer : new.postings.last ≡ old.postings.last ++ grows.more
+  last_longer = ap (λ (ps : Periods). ps.last) grows.grown
 
-  pub take_longer : take (length old.postings) new.postings ≡ old.postings
-  take_longer = ap (take (length old.postings)) grows.grown ∙ take-append_seam old.postings grows.more
+  pub length_longer : length old.postings.last ≤ length new.postings.last
+  length_longer = omega (arith, ap {B = ℕ} length last_longer, length-append old.postings.last grows.more)
 
-  pub gained_longer : new.postings ≡ old.postings ++ drop (length old.postings) new.postings
-  gained_longer = grows.grown ∙ ap (λ (x : List Posting). old.postings ++ x) (sym (ap (drop (length old.postings)) grows.grown ∙ drop-append_seam old.postings grows.more))
+  take_longer : up_to (length old.postings.last) new.postings ≡ old.postings
+  take_longer = ap (up_to (length old.postings.last)) grows.grown ∙ ap (λ (l : List Posting). record old.postings { last = l }) (take-append_seam old.postings.last grows.more)
 
-  pub totals_longer : (book : Totals) → book ≡ totals_of old.postings → book ≡ totals_of (take (length old.postings) new.postings)
-  totals_longer book is = is ∙ ap totals_of (sym take_longer)
+  pub gained_longer : new.postings ≡ continued old.postings (drop (length old.postings.last) new.postings.last)
+  gained_longer = grows.grown ∙ ap (continued old.postings) (sym (ap (drop (length old.postings.last)) last_longer ∙ drop-append_seam old.postings.last grows.more))
+
+  pub totals_longer : (book : Totals) → book ≡ totals_over old.postings → book ≡ totals_over (up_to (length old.postings.last) new.postings)
+  totals_longer book is = is ∙ ap totals_over (sym take_longer)

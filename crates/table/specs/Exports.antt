@@ -7,7 +7,7 @@ use Rattle.table_image.specs.declared.data.Image.{Image}
 use Rattle.table_image.specs.declared.data.Record.{Record}
 use Rattle.table_image.specs.declared.data.Stage.{Stage as Shown}
 use Rattle.table_image.specs.declared.data.Stage.TheVariants as shown
-use Rattle.table_image.specs.Law.{AreHoldsCounted}
+use Rattle.table_image.specs.Law.{AreHoldsCounted, periods_in}
 use Rattle.table_steps.specs.World.{Answered, RequestInFlight, Stage, Working, World}
 
 abbrev pub stage_shown : Stage → Shown
@@ -37,7 +37,7 @@ record_in rs id = find (λ (r : Record). r.id == id) rs
 pub record Exports (w : World) (image : Image) : Type 0 where
   pub distinct : IsDistinct image.nodes
   pub nodes : node_at image.nodes ≡ w.at
-  pub postings : image.postings ≡ w.postings
+  pub ledger : periods_in image ≡ w.postings
   pub ids : AllPairs (λ r s. r.id ≢ s.id) image.records
   pub records : (id : ℕ) → MatchOption (w.flights id) (record_in image.records id ≡ None) (λ f. (r : Record) × (record_in image.records id ≡ Some r) × IsRecordOf id f r)
   pub holds : AreHoldsCounted image.holds image.records

@@ -3,6 +3,7 @@ pub use Rattle.table_steps.specs.World
 pub use Rattle.table_steps.specs.Steps
 pub use Rattle.table_steps.specs.Kept
 pub mod Gains
+pub mod Made
 pub mod Exports
 pub mod Copies
 pub mod Leftovers

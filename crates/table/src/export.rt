@@ -15,7 +15,7 @@ use holds::{GivenPath, GivenPaths, Held, Paths};
 use paths::Path;
 use std::alloc::{AllocError, Global};
 use table_image::{
-    Hold, Holds, Image, Nodes, Numbers, OpenFiles, Postings, Record, Records, Stage,
+    Births, Hold, Holds, Image, Nodes, Numbers, OpenFiles, Postings, Record, Records, Stage,
 };
 use table_requests::{RequestInFlight, RequestsInFlight};
 use table_steps::State;
@@ -271,12 +271,15 @@ pub fn export(state: &State) -> Result<Image, AllocError>
     ensures lawful { IfOk result IsLawfulImage }
 {
     let nodes = copy_nodes(state.alloc, &state.tree)?;
+    let births = Vec::from_slice(state.alloc, state.ledger.closed_births())?;
     let postings = Vec::from_slice(state.alloc, state.ledger.postings())?;
     let records = copy_records(state.alloc, state.flights.as_slice())?;
     let holds = copy_holds(state.alloc, &state.flights)?;
     let files = Vec::from_slice(state.alloc, state.files.as_slice())?;
     Ok(Image {
         nodes: Nodes::from(nodes),
+        births: Births::from(births),
+        closed: state.ledger.closed(),
         postings: Postings::from(postings),
         records: Records::from(records),
         holds: Holds::from(holds),

@@ -1,14 +1,16 @@
 //! The table, with the book that shows what each worker posted.
 
-ghost use Rattle.std.specs.Prelude.{◌≡◌, ◌≤◌, ◌<◌, ◌↔◌, ◌++◌, ◌^◌, ℕ, IfOk, IsErr, map, vec_len, length, take, drop};
+ghost use Rattle.std.specs.Prelude.{◌≡◌, ◌≤◌, ◌<◌, ◌↔◌, ℕ, IfOk, IsErr, OnErr, map, vec_len, length, take, drop};
 ghost use Rattle.std.specs.List.{range_with_len};
 ghost use Rattle.ledger.specs.Shares.{nothing, plus, sum_of};
-ghost use Rattle.ledger.specs.Sums.{totals_of};
+ghost use Rattle.ledger.specs.Periods.{continued, up_to};
+ghost use Rattle.ledger.specs.Sums.{totals_of, totals_over};
+ghost use Rattle.table.specs.Made.{IsMade};
 ghost use Rattle.table_image.specs.Law.{IsLawfulImage};
 ghost use Rattle.table.specs.Exports.{Exports};
 ghost use Rattle.table.specs.Leftovers.{AreLeftovers};
 ghost use Rattle.table_steps.specs.Kept.{world_of};
-ghost use Rattle.table_steps.specs.Steps.{Begins, Finishes, Forgets, Settles, gained};
+ghost use Rattle.table_steps.specs.Steps.{Begins, ClosesPeriod, Finishes, Forgets, Settles, gained};
 ghost use Rattle.table_steps.specs.World.{IsLawfulWorld, opened_world};
 
 use crate::export::export;
@@ -22,6 +24,17 @@ use table_image::Image;
 use table_requests::Want;
 use table_steps::{Answered, Begin, Limits, Outcome, Seeds, Settled, State, Ticket};
 
+/// How far the last period of a ledger has come.
+#[derive(Clone, Copy, Debug, PartialEq, Eq)]
+pub struct Made {
+    /// The postings of the period.
+    pub postings: u64,
+    /// How many it may have.
+    pub limit: u64,
+    /// The nodes that live, but the root.
+    pub living: u64,
+}
+
 /// The state that all workers share, under one lock. Its type parameter names the four ledgers of its book.
 #[derive(Drop)]
 pub struct Table<T: Ledgers> {
@@ -31,7 +44,7 @@ pub struct Table<T: Ledgers> {
 
 impl<T: Ledgers> Model for Table<T> {
     ghost use Rattle.std.specs.Prelude.{◌≡◌};
-    ghost use Rattle.ledger.specs.Sums.{totals_of};
+    ghost use Rattle.ledger.specs.Sums.{totals_over};
     ghost use Rattle.table_steps.specs.declared.state.State.{State};
     ghost use Rattle.std.specs.Coded.{codes, coded_ℕ};
     ghost use Rattle.std.specs.FinMap as map;
@@ -45,17 +58,17 @@ impl<T: Ledgers> Model for Table<T> {
 
     ghost view = { λ t. t.state };
 
-    ghost invariant = { λ t. IsWhole t.state × (t.book ≡ totals_of t.state.ledger.made) };
+    ghost invariant = { λ t. IsWhole t.state × (t.book ≡ totals_over t.state.ledger.made) };
 }
 
-/// Counts the postings from a place on for the worker that has the share.
+/// Counts the postings of the last period from a place on for the worker that has the share.
 fn post_since<T: Ledgers>(ledger: &Ledger, book: &mut Book<T>, share: &mut Share<T>, made: usize)
-    requires within { made ≤ length ledger.now.made }
-    requires short { length ledger.now.made < 2 ^ 64 }
-    requires so_far { book.old ≡ totals_of (take made ledger.now.made) }
-    ensures book { book.new ≡ totals_of ledger.now.made }
-    ensures share { share.new ≡ record share.old { totals = plus share.old.totals (totals_of (drop made ledger.now.made)) } }
+    requires within { made ≤ length ledger.now.made.last }
+    requires so_far { book.old ≡ totals_over (up_to made ledger.now.made) }
+    ensures book { book.new ≡ totals_over ledger.now.made }
+    ensures share { share.new ≡ record share.old { totals = plus share.old.totals (totals_of (drop made ledger.now.made.last)) } }
 {
+    let _totals = ledger.totals(); // proof: they fit
     let postings = ledger.postings();
     for posting in &postings[made..] {
         book.post(share, posting);
@@ -106,10 +119,10 @@ impl<T: Ledgers> Table<T> {
     pub fn finish(&mut self, share: &mut Share<T>, ticket: Ticket, outcome: Outcome) -> Answered
         ensures finishes { Finishes (world_of self.old) ticket.id outcome result (world_of self.new) }
         ensures lawful { IsLawfulWorld (world_of self.new) }
-        ensures grows { (world_of self.new).postings ≡ (world_of self.old).postings ++ gained (world_of self.old) (world_of self.new) }
+        ensures grows { (world_of self.new).postings ≡ continued (world_of self.old).postings (gained (world_of self.old) (world_of self.new)) }
         ensures share { share.new ≡ record share.old { totals = plus share.old.totals (totals_of (gained (world_of self.old) (world_of self.new))) } }
     {
-        let made = self.state.ledger.postings().len();
+        let made = self.state.ledger.made();
         let answered = self.state.finish(ticket, outcome);
         self.state.attest(); // proof: its law
         post_since(&self.state.ledger, &mut self.book, share, made);
@@ -120,10 +133,10 @@ impl<T: Ledgers> Table<T> {
     pub fn settle(&mut self, share: &mut Share<T>, answered: Answered, taken: bool) -> Settled
         ensures settles { Settles (world_of self.old) answered taken result (world_of self.new) }
         ensures lawful { IsLawfulWorld (world_of self.new) }
-        ensures grows { (world_of self.new).postings ≡ (world_of self.old).postings ++ gained (world_of self.old) (world_of self.new) }
+        ensures grows { (world_of self.new).postings ≡ continued (world_of self.old).postings (gained (world_of self.old) (world_of self.new)) }
         ensures share { share.new ≡ record share.old { totals = plus share.old.totals (totals_of (gained (world_of self.old) (world_of self.new))) } }
     {
-        let made = self.state.ledger.postings().len();
+        let made = self.state.ledger.made();
         let settled = self.state.settle(answered, taken);
         self.state.attest(); // proof: its law
         post_since(&self.state.ledger, &mut self.book, share, made);
@@ -134,14 +147,37 @@ impl<T: Ledgers> Table<T> {
     pub fn forget(&mut self, share: &mut Share<T>, number: u64, n: u64) -> u64
         ensures forgets { Forgets (world_of self.old) number n result (world_of self.new) }
         ensures lawful { IsLawfulWorld (world_of self.new) }
-        ensures grows { (world_of self.new).postings ≡ (world_of self.old).postings ++ gained (world_of self.old) (world_of self.new) }
+        ensures grows { (world_of self.new).postings ≡ continued (world_of self.old).postings (gained (world_of self.old) (world_of self.new)) }
         ensures share { share.new ≡ record share.old { totals = plus share.old.totals (totals_of (gained (world_of self.old) (world_of self.new))) } }
     {
-        let made = self.state.ledger.postings().len();
+        let made = self.state.ledger.made();
         let amount = self.state.forget(number, n);
         self.state.attest(); // proof: its law
         post_since(&self.state.ledger, &mut self.book, share, made);
         amount
+    }
+
+    /// Ends a period of the ledger: births and totals are kept, and the next one begins with the count of each node but the root.
+    /// It answers by how many postings the ledger became shorter, and touches no share. A refused growth changes nothing.
+    pub fn close_period(&mut self) -> Result<u64, AllocError>
+        ensures closes { IfOk result (λ fewer. ClosesPeriod (world_of self.old) fewer (world_of self.new)) }
+        ensures err { OnErr result (world_of self.new ≡ world_of self.old) }
+        ensures lawful { IsLawfulWorld (world_of self.new) }
+    {
+        let closed = self.state.close_period();
+        self.state.attest(); // proof: its law
+        closed
+    }
+
+    /// How many postings the last period has, how many it may have, and how many nodes live beside the root. It takes no memory.
+    pub fn made(&self) -> Made
+        ensures { IsMade (world_of self.now) result }
+    {
+        Made {
+            postings: self.state.ledger.made() as u64,
+            limit: self.state.limits.postings,
+            living: self.state.tree.len() - 1,
+        }
     }
 
     /// The open file under the handle.
@@ -170,7 +206,7 @@ impl<T: Ledgers> Table<T> {
     pub fn gather(self, shares: Vec<Share<T>>) -> Result<Totals, Gather>
         ensures missing { IsErr result ↔ (vec_len shares < T.names.parts) }
         ensures sums { IfOk result (λ totals. totals ≡ sum_of shares.items) }
-        ensures ledger { IfOk result (λ totals. totals ≡ totals_of (world_of self).postings) }
+        ensures ledger { IfOk result (λ totals. totals ≡ totals_over (world_of self).postings) }
     {
         let Table { state: _, book } = self;
         book.gather(shares)

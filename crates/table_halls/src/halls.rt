@@ -4,7 +4,7 @@ ghost use Rattle.std.specs.Prelude.{◌≡◌, ◌+◌, ◌<◌, ◌↔◌, [], 
 ghost use Rattle.std.specs.List.{range_with_len};
 ghost use Rattle.table_histories.specs.Views.{front};
 ghost use Rattle.ledger.specs.Shares.{sum_of};
-ghost use Rattle.ledger.specs.Sums.{totals_of};
+ghost use Rattle.ledger.specs.Sums.{totals_over};
 ghost use Rattle.table_steps.specs.Answers.{entries_in};
 ghost use Rattle.table_steps.specs.Kept.{world_of};
 ghost use Rattle.table_steps.specs.World.{opened_world};
@@ -62,7 +62,7 @@ impl<T: Ledgers, O: Opening> Closed<T, O> {
         ensures whole { me.new.seen ≡ self.table.log }
         ensures missing { IsErr result ↔ (vec_len shares < T.names.parts) }
         ensures sums { IfOk result (λ totals. totals ≡ sum_of shares.items) }
-        ensures ledger { IfOk result (λ totals. totals ≡ totals_of (end_of (opened_world O.limits) me.new.seen).postings) }
+        ensures ledger { IfOk result (λ totals. totals ≡ totals_over (end_of (opened_world O.limits) me.new.seen).postings) }
     {
         self.into_table(me).gather(shares)
     }

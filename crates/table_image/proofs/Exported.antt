@@ -9,7 +9,7 @@ use Rattle.std.proofs.lemmas.List.Elements.{All-push, Contains-push}
 use Rattle.std.proofs.lemmas.List.Folds.{list_any-append}
 use Rattle.std.proofs.lemmas.List.Quantifiers.{all_pairs_push}
 use mathlib.Core.Path.{fun_ext}
-use Rattle.ledger.specs.declared.postings.Posting.{Posting}
+use Rattle.ledger.specs.Periods.{Periods}
 use Rattle.tree.specs.declared.nodes.Node.{Node}
 use Rattle.tree.specs.Places.{Lookup, IsAlive}
 use Rattle.tree.specs.Listed.{node_at, IsDistinct}
@@ -18,23 +18,23 @@ use Rattle.paths.specs.Prefixes.{Names}
 use Rattle.table_image.specs.declared.data.Hold.{Hold}
 use Rattle.table_image.specs.declared.data.Image.{Image}
 use Rattle.table_image.specs.declared.data.Record.{Record}
-use Rattle.table_image.specs.Law.{AreApart, AreHoldsCounted, AreKnown, IsCountOf, IsKnownFile, IsLawful, IsLawfulImage, is_kept, is_pinned}
+use Rattle.table_image.specs.Law.{AreApart, AreHoldsCounted, AreKnown, IsCountOf, IsKnownFile, IsLawful, IsLawfulImage, is_kept, is_pinned, periods_in}
 use Rattle.table_image.specs.Parts.{IsStored}
 
 -- ---- the law, from what is said of each number
 
 -- the law is about where each number leads and which numbers are kept, and nothing else of them
-pub IsLawful-same : (old new : Lookup) (ps : List Posting) (p q : ℕ → Bool) → ((n : ℕ) → new n ≡ old n) → ((n : ℕ) → q n ≡ p n) → IsLawful old ps p → IsLawful new ps q
+pub IsLawful-same : (old new : Lookup) (ps : Periods) (p q : ℕ → Bool) → ((n : ℕ) → new n ≡ old n) → ((n : ℕ) → q n ≡ p n) → IsLawful old ps p → IsLawful new ps q
 IsLawful-same old new ps p q nodes keeps law =
     let at : old ≡ new = fun_ext (λ n. sym (nodes n)) in
     let kept : p ≡ q = fun_ext (λ n. sym (keeps n)) in
     subst (λ (r : ℕ → Bool). IsLawful new ps r) kept (subst (λ (l : Lookup). IsLawful l ps p) at law)
 
 -- an image shows nodes, a ledger, what is kept, open files and holds that keep the law
-pub record Shows (image : Image) (at : Lookup) (ps : List Posting) (kept : ℕ → Bool) : Type 0 where
+pub record Shows (image : Image) (at : Lookup) (ps : Periods) (kept : ℕ → Bool) : Type 0 where
   pub distinct : IsDistinct image.nodes
   pub nodes : (n : ℕ) → node_at image.nodes n ≡ at n
-  pub postings : image.postings ≡ ps
+  pub ledger : periods_in image ≡ ps
   pub ids : AllPairs (λ r s. r.id ≢ s.id) image.records
   pub handles : AllPairs (λ f g. f.handle ≢ g.handle) image.files
   pub keeps : (n : ℕ) → is_kept image.records image.files n ≡ kept n
@@ -44,7 +44,7 @@ pub record Shows (image : Image) (at : Lookup) (ps : List Posting) (kept : ℕ �
   pub known : AreKnown at image.records
 
 -- so it is lawful
-pub IsLawfulImage-shows : (image : Image) (at : Lookup) (ps : List Posting) (kept : ℕ → Bool) → Shows image at ps kept → IsLawful at ps kept → IsLawfulImage image
+pub IsLawfulImage-shows : (image : Image) (at : Lookup) (ps : Periods) (kept : ℕ → Bool) → Shows image at ps kept → IsLawful at ps kept → IsLawfulImage image
 IsLawfulImage-shows image at ps kept shows law =
     let same : at ≡ node_at image.nodes = fun_ext (λ n. sym (shows.nodes n)) in
     record {
@@ -53,7 +53,7 @@ IsLawfulImage-shows image at ps kept shows law =
       handles = shows.handles;
       law =
           let here = IsLawful-same at (node_at image.nodes) ps kept (is_kept image.records image.files) shows.nodes shows.keeps law in
-          subst (λ (qs : List Posting). IsLawful (node_at image.nodes) qs (is_kept image.records image.files)) (sym shows.postings) here;
+          subst (λ (qs : Periods). IsLawful (node_at image.nodes) qs (is_kept image.records image.files)) (sym shows.ledger) here;
       files = subst (λ (l : Lookup). All (IsKnownFile l image.last_handle) image.files) same shows.files;
       counted = shows.counted;
       apart = shows.apart;

@@ -6,3 +6,4 @@ pub mod Counted
 pub mod Ledgers
 pub mod Exported
 pub mod Balance
+pub mod TakenOver

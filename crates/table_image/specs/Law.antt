@@ -1,6 +1,6 @@
 -- The law of a table. It is said of where each number leads (`at`), the ledger, which numbers are kept (those that the
 -- records pin and those of open files), and what the records hold.
-use Rattle.std.specs.Prelude.{ℕ, ◌+◌, ◌<◌, ◌≤◌, ◌≡◌, ◌≢◌, ◌==◌, ◌&&◌, ◌||◌, ◌⊎◌, Bool, true, false, List, Some, All, AllPairs, Contains, take, length, slice_index_or, count_by}
+use Rattle.std.specs.Prelude.{ℕ, ◌+◌, ◌<◌, ◌≤◌, ◌≡◌, ◌≢◌, ◌==◌, ◌&&◌, ◌||◌, ◌⊎◌, Bool, true, false, List, Some, All, AllPairs, Contains, length, slice_index_or, count_by}
 use Rattle.std.specs.List.{list_any}
 use Rattle.table_files.specs.declared.data.OpenFile.{OpenFile}
 use Rattle.table_files.specs.declared.listed.OpenEntry.{OpenEntry}
@@ -10,8 +10,9 @@ use Rattle.holds.specs.declared.held.Held.{Held}
 use Rattle.holds.specs.declared.held.GivenPath.{GivenPath}
 use Rattle.holds.specs.Conflicts.{Conflict, IsHeld, IsSomePrefix, is_among}
 use Rattle.ledger.specs.declared.postings.Posting.{Posting}
-use Rattle.ledger.specs.declared.postings.Posting.TheVariants.{Born, Entry, Back, Forget}
-use Rattle.ledger.specs.Sums.{number_of, births_of, entries_of, given_back_of, IsNeverNegative}
+use Rattle.ledger.specs.declared.postings.Posting.TheVariants.{Born, Entry, Back, Forget, Opening}
+use Rattle.ledger.specs.Periods.{Periods, up_to}
+use Rattle.ledger.specs.Sums.{number_of, births_closed, births_of, entries_of, given_back_of, is_opening, IsCarriedOver, IsNeverNegative}
 use Rattle.tree.specs.declared.nodes.Key.{Key}
 use Rattle.tree.specs.declared.nodes.Node.{Node}
 use Rattle.tree.specs.declared.nodes.Place.TheVariants.{Named}
@@ -25,16 +26,27 @@ use Rattle.table_image.specs.declared.data.Stage.TheVariants.{Working, Answered}
 
 -- ---- the ledger
 
--- a posting may stand after those: a birth bears the number of births of its number before it as its generation,
--- and all else stands after the birth of its number and generation
-abbrev pub MayStand : List Posting → Posting → Type 0
-MayStand before (Born n g) = g ≡ births_of n before
-MayStand before (Entry n g) = Contains before (Born n g)
-MayStand before (Back n g) = Contains before (Born n g)
-MayStand before (Forget n g amount) = Contains before (Born n g)
+-- the life of that number and generation was begun in the last period, or went on when it began
+abbrev pub IsBegun : Periods → ℕ → ℕ → Type 0
+IsBegun ps n g = Contains ps.last (Born n g) ⊎ ((k : ℕ) × Contains ps.last (Opening n g k))
 
-pub record IsOrdered (ps : List Posting) : Type 0 where
-  pub each : (k : ℕ) (d : Posting) → k < length ps → MayStand (take k ps) (slice_index_or ps k d)
+-- what a period begins with stands first, once of each number and generation, and those were born in a closed period
+pub record MayOpen (before : Periods) (n g : ℕ) : Type 0 where
+  pub first : All (λ p. is_opening p ≡ true) before.last
+  pub once : IsBegun before n g → ⊥
+  pub known : g < births_closed n before.births
+
+-- a posting may stand after those: a birth bears the number of births of its number before it as its generation,
+-- and all else stands after what began the life of its number and generation
+abbrev pub MayStand : Periods → Posting → Type 0
+MayStand before (Born n g) = g ≡ births_of n before
+MayStand before (Entry n g) = IsBegun before n g
+MayStand before (Back n g) = IsBegun before n g
+MayStand before (Forget n g amount) = IsBegun before n g
+MayStand before (Opening n g count) = MayOpen before n g
+
+pub record IsOrdered (ps : Periods) : Type 0 where
+  pub each : (k : ℕ) (d : Posting) → k < length ps.last → MayStand (up_to k ps) (slice_index_or ps.last k d)
 
 -- ---- nodes and the ledger
 
@@ -42,7 +54,7 @@ pub record IsOrdered (ps : List Posting) : Type 0 where
 abbrev pub IsUnborne : Lookup → ℕ → ℕ → Type 0
 IsUnborne at n g = (x : Node) → at n ≡ Some x → x.generation ≢ g
 
-pub record IsCounted (at : Lookup) (ps : List Posting) : Type 0 where
+pub record IsCounted (at : Lookup) (ps : Periods) : Type 0 where
   -- each lookup count is its entries less what came back and what was forgotten
   pub counts : (n : ℕ) (x : Node) → at n ≡ Some x → x.count + given_back_of n x.generation ps ≡ entries_of n x.generation ps
   -- of a number and generation that no node bears, nothing is left
@@ -51,14 +63,14 @@ pub record IsCounted (at : Lookup) (ps : List Posting) : Type 0 where
   pub never_negative : IsNeverNegative ps
 
 -- no number was born twice with one generation, and a living node bears the last
-pub record IsBornInOrder (at : Lookup) (ps : List Posting) : Type 0 where
+pub record IsBornInOrder (at : Lookup) (ps : Periods) : Type 0 where
   pub ordered : IsOrdered ps
   pub generations : (n : ℕ) (x : Node) → at n ≡ Some x → n ≢ 1 → x.generation + 1 ≡ births_of n ps
 
 -- the root is never born, counted or marked
-pub record HasPlainRoot (at : Lookup) (ps : List Posting) : Type 0 where
+pub record HasPlainRoot (at : Lookup) (ps : Periods) : Type 0 where
   pub plain : (x : Node) → at 1 ≡ Some x → (x.generation ≡ 0) × (x.count ≡ 0) × (x.hidden ≡ false)
-  pub unposted : All (λ p. number_of p ≢ 1) ps
+  pub unposted : All (λ p. number_of p ≢ 1) ps.last
 
 -- a hidden mark stands only on a node that is named
 abbrev pub AreMarksNamed : Lookup → Type 0
@@ -149,12 +161,14 @@ AreKnown at records = All (IsKnown at) records
 
 -- ---- the law
 
-pub record IsLawful (at : Lookup) (ps : List Posting) (kept : ℕ → Bool) : Type 0 where
+pub record IsLawful (at : Lookup) (ps : Periods) (kept : ℕ → Bool) : Type 0 where
   -- the root alone is the root, names under a parent are distinct, and parents lead to the root
   pub tree : IsTree at
   pub root : HasPlainRoot at ps
   pub counted : IsCounted at ps
   pub born : IsBornInOrder at ps
+  -- what is kept of closed periods fits together
+  pub carried : IsCarriedOver ps
   pub marks : AreMarksNamed at
   -- a pin and an open file name a living node
   pub alive : AreAlive at kept
@@ -168,12 +182,16 @@ is_pinned records n = list_any (λ r. list_any (λ m. m == n) r.pins) records
 abbrev pub is_kept : List Record → List OpenEntry → ℕ → Bool
 is_kept records files n = is_pinned records n || opened_in files n
 
+-- the ledger of an image
+abbrev pub periods_in : Image → Periods
+periods_in image = record { births = image.births; totals = image.closed; last = image.postings }
+
 -- the law of an image, which is any data: its numbers, its ids and its handles are distinct besides
 pub record IsLawfulImage (image : Image) : Type 0 where
   pub numbers : IsDistinct image.nodes
   pub ids : AllPairs (λ r s. r.id ≢ s.id) image.records
   pub handles : AllPairs (λ f g. f.handle ≢ g.handle) image.files
-  pub law : IsLawful (node_at image.nodes) image.postings (is_kept image.records image.files)
+  pub law : IsLawful (node_at image.nodes) (periods_in image) (is_kept image.records image.files)
   -- each open file names a living node with its generation, under a handle that was given
   pub files : All (IsKnownFile (node_at image.nodes) image.last_handle) image.files
   -- the holds are those of the requests that are worked on

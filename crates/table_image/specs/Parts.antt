@@ -1,19 +1,23 @@
 -- The parts of the law that one test decides, each said of a single node, posting or record.
-use Rattle.std.specs.Prelude.{ℕ, ◌+◌, ◌≡◌, ◌≢◌, Bool, true, false, List, Some, All, Any, sum_by}
+use Rattle.std.specs.Prelude.{ℕ, ◌+◌, ◌≡◌, ◌≢◌, ◌⊎◌, Bool, true, false, List, Some, All, Any, sum_by}
 use Rattle.table_files.specs.declared.listed.OpenEntry.{OpenEntry}
 use Rattle.paths.specs.Prefixes.{Name, Names}
 use Rattle.holds.specs.declared.held.Held.{Held}
 use Rattle.holds.specs.Conflicts.{IsHeld, IsSomePrefix}
 use Rattle.ledger.specs.declared.postings.Posting.{Posting}
-use Rattle.ledger.specs.Sums.{births_of, entries_of, given_back_of, totals_of}
+use Rattle.ledger.specs.declared.births.KeptBirths.{KeptBirths}
+use Rattle.ledger.specs.declared.postings.Posting.TheVariants.{Born, Opening}
+use Rattle.ledger.specs.Periods.{Periods}
+use Rattle.ledger.specs.Shares.{nothing}
+use Rattle.ledger.specs.Sums.{births_of, carried_by, entries_of, given_back_of, totals_by, IsCarriedOver}
 use Rattle.tree.specs.declared.nodes.Key.{Key}
 use Rattle.tree.specs.declared.nodes.Node.{Node}
 use Rattle.tree.specs.declared.nodes.Place.TheVariants.{Root, Named}
-use Rattle.tree.specs.Places.{Lookup, IsAlive, IsNamed, Leads}
+use Rattle.tree.specs.Places.{Lookup, IsAlive, IsNamed, IsTree, Leads}
 use Rattle.table_image.specs.declared.data.Hold.{Hold}
 use Rattle.table_image.specs.declared.data.Record.{Record}
 use Rattle.table_image.specs.declared.data.Stage.TheVariants.{Working}
-use Rattle.table_image.specs.Law.{IsUnborne, HasReason, IsCountOf, sharers_of, exclusive_of}
+use Rattle.table_image.specs.Law.{AreAlive, AreMarksNamed, HasPlainRoot, HasReason, HaveReasons, IsBornInOrder, IsCounted, IsCountOf, IsUnborne, sharers_of, exclusive_of}
 
 -- ---- the tree
 
@@ -44,6 +48,20 @@ pub record IsReached (at : Lookup) (x : Node) : Type 0 where
 abbrev pub IsMarkNamed : Node → Type 0
 IsMarkNamed x = x.hidden ≡ true → (key : Key) × (x.place ≡ Named key)
 
+-- ---- the ledger
+
+-- a ledger by its kept births and the postings of its last period: no part of the law but one looks at what was posted before
+abbrev pub after_closed : List KeptBirths → List Posting → Periods
+after_closed births last = record { births = births; totals = nothing; last = last }
+
+-- all births that are kept
+abbrev pub births_summed : List KeptBirths → ℕ
+births_summed kept = sum_by (λ (b : KeptBirths). b.count) kept
+
+-- the posting begins the life of that number and generation, or goes on with it in a new period
+abbrev pub Begins : Posting → ℕ → ℕ → Type 0
+Begins p n g = (p ≡ Born n g) ⊎ ((k : ℕ) × (p ≡ Opening n g k))
+
 -- ---- nodes and the ledger
 
 -- the root, where there is one, has generation 0, count 0 and no mark
@@ -51,32 +69,32 @@ pub record IsRootPlain (at : Lookup) : Type 0 where
   pub plain : (x : Node) → at 1 ≡ Some x → (x.generation ≡ 0) × (x.count ≡ 0) × (x.hidden ≡ false)
 
 -- each node but the root bears the generation of the last birth of its number
-pub record BearLastBirths (at : Lookup) (ps : List Posting) : Type 0 where
+pub record BearLastBirths (at : Lookup) (ps : Periods) : Type 0 where
   pub generations : (n : ℕ) (x : Node) → at n ≡ Some x → n ≢ 1 → x.generation + 1 ≡ births_of n ps
 
-pub record BearsLastBirth (ps : List Posting) (x : Node) : Type 0 where
+pub record BearsLastBirth (ps : Periods) (x : Node) : Type 0 where
   pub generation : x.number ≢ 1 → x.generation + 1 ≡ births_of x.number ps
 
 -- each lookup count is its entries less what came back and what was forgotten
-pub record AreCountsExact (at : Lookup) (ps : List Posting) : Type 0 where
+pub record AreCountsExact (at : Lookup) (ps : Periods) : Type 0 where
   pub counts : (n : ℕ) (x : Node) → at n ≡ Some x → x.count + given_back_of n x.generation ps ≡ entries_of n x.generation ps
 
-unfoldable pub IsCountExact : List Posting → Node → Type 0
+unfoldable pub IsCountExact : Periods → Node → Type 0
 IsCountExact ps x = x.count + given_back_of x.number x.generation ps ≡ entries_of x.number x.generation ps
 
 -- of a number and generation that no node bears, nothing is left
-pub record AreOthersSettled (at : Lookup) (ps : List Posting) : Type 0 where
+pub record AreOthersSettled (at : Lookup) (ps : Periods) : Type 0 where
   pub others : (n g : ℕ) → IsUnborne at n g → given_back_of n g ps ≡ entries_of n g ps
 
 -- ---- sums over the whole ledger and all nodes
 
--- all entries
+-- all entries, with those that were left when the period began
 abbrev pub entered_in_all : List Posting → ℕ
-entered_in_all ps = (totals_of ps).entries
+entered_in_all ps = sum_by (λ p. carried_by p + (totals_by p).entries) ps
 
 -- those of them that came back or were forgotten
 abbrev pub given_in_all : List Posting → ℕ
-given_in_all ps = (totals_of ps).backs + (totals_of ps).forgotten
+given_in_all ps = sum_by (λ p. (totals_by p).backs + (totals_by p).forgotten) ps
 
 -- all lookup counts
 abbrev pub counts_in_all : List Node → ℕ
@@ -136,3 +154,19 @@ pub record AreStored (holds : List Hold) (r : Record) : Type 0 where
 -- each prefix of the path is held, but the empty one
 unfoldable pub ArePrefixesHeld : Held → Names → Type 0
 ArePrefixesHeld held path = (prefix : Names) → IsSomePrefix prefix path → IsHeld held prefix
+
+-- ---- the law in two halves
+
+-- what it says of nodes and the ledger
+pub record AreBooked (at : Lookup) (ps : Periods) : Type 0 where
+  pub root : HasPlainRoot at ps
+  pub counted : IsCounted at ps
+  pub born : IsBornInOrder at ps
+  pub carried : IsCarriedOver ps
+
+-- and of nodes alone, and what keeps them
+pub record AreNodesKept (at : Lookup) (kept : ℕ → Bool) : Type 0 where
+  pub tree : IsTree at
+  pub marks : AreMarksNamed at
+  pub alive : AreAlive at kept
+  pub reasons : HaveReasons at kept

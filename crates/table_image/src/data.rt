@@ -2,7 +2,7 @@
 
 use crate::items::Items;
 use holds::Held;
-use ledger::Posting;
+use ledger::{KeptBirths, Posting, Totals};
 use paths::Path;
 use table_files::OpenEntry;
 use tree::Node;
@@ -22,7 +22,10 @@ pub type Numbers = Items<u64>;
 /// The nodes of a table, in any order.
 pub type Nodes = Items<Node>;
 
-/// The ledger of a table, the oldest posting first.
+/// How often each number was born in closed periods, in any order.
+pub type Births = Items<KeptBirths>;
+
+/// The postings of a period, the oldest first.
 pub type Postings = Items<Posting>;
 
 /// The records of a table, in any order.
@@ -58,9 +61,28 @@ pub struct Hold {
     pub exclusive: u64,
 }
 
-/// A table as plain data: any nodes, postings, records, holds and open files, lawful or not.
+/// A table as plain data: any nodes, ledger, records, holds and open files, lawful or not.
 #[derive(Drop)]
 pub struct Image {
+    pub nodes: Nodes,
+    /// The births of the periods that are closed.
+    pub births: Births,
+    /// What was posted in them.
+    pub closed: Totals,
+    /// The postings of the last period.
+    pub postings: Postings,
+    pub records: Records,
+    pub holds: Holds,
+    pub files: OpenFiles,
+    /// The counter of the next hidden name.
+    pub counter: u32,
+    /// The last handle that was given to an open file, or 0.
+    pub last_handle: u64,
+}
+
+/// The struct of before, which knew no periods.
+#[derive(Drop)]
+pub struct ImageOne {
     pub nodes: Nodes,
     pub postings: Postings,
     pub records: Records,

@@ -37,6 +37,15 @@ impl<T: Drop> Items<T> {
         Ok(())
     }
 
+    /// No items of another type. It takes no memory.
+    pub fn none_of<U>(&self) -> Items<U>
+        ensures { result ≡ [] }
+    {
+        Items {
+            items: Vec::new(*self.items.allocator()),
+        }
+    }
+
     pub fn as_slice(&self) -> &[T]
         ensures { result.now ≡ self.now }
     {

@@ -6,6 +6,10 @@
 mod data;
 mod items;
 mod lawful;
+mod one;
 
-pub use data::{Hold, Holds, Image, Nodes, Numbers, OpenFiles, Postings, Record, Records, Stage};
+pub use data::{
+    Births, Hold, Holds, Image, ImageOne, Nodes, Numbers, OpenFiles, Postings, Record, Records,
+    Stage,
+};
 pub use items::Items;

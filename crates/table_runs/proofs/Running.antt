@@ -22,10 +22,10 @@ use Rattle.table_footprints.proofs.Members.{first_in, in_map, later_in}
 use Rattle.table_footprints.proofs.FootprintLemmas.{are_grounded}
 use Rattle.table_steps.specs.declared.data.Outcome.{Outcome}
 use Rattle.table_steps.specs.Answers.{Answer, Claim, Settlement}
-use Rattle.table_steps.specs.Steps.{Finishes, Forgets, IsTicket, Settles}
+use Rattle.table_steps.specs.Steps.{ClosesPeriod, Finishes, Forgets, IsTicket, Settles}
 use Rattle.table_steps.specs.World.{Answered, RequestInFlight, RequestsInFlight, IsAtWork, IsLawfulWorld, Stage, Work, Working, World, with_entry}
-use Rattle.table.specs.Gains.{Gains}
-use Rattle.table.proofs.Gaining.{gains_on}
+use Rattle.table.specs.Gains.{GainsInAll}
+use Rattle.table.proofs.Gaining.{gains_in_all, gains_same, in_all_on}
 use Rattle.table_runs.specs.declared.calls.Call.{Call}
 use Rattle.table_runs.specs.declared.calls.Call.TheVariants as call
 use Rattle.table_runs.specs.declared.calls.Told.{Told}
@@ -145,6 +145,9 @@ forgets_stays old number n amount new h k f work it = elim (cases_eq amount 0) [
   ]
 ]
 
+closes_stays : (old : World) (fewer : ℕ) (new : World) → ClosesPeriod old fewer new → (k : ℕ) → StaysAtWork old new k
+closes_stays old fewer new closes k f work it = ap (λ (w : World). w.flights k) closes.new_is ∙ it.here
+
 -- ---- one call
 
 -- the ticket of the id, if there is one, is current
@@ -229,6 +232,7 @@ current_step old hand (call.Begin unique want) told.Nothing new hand' was is bad
 current_step old hand (call.Begin unique want) told.Finished new hand' was is bad id current = absurd bad
 current_step old hand (call.Begin unique want) (told.Settled settled) new hand' was is bad id current = absurd bad
 current_step old hand (call.Begin unique want) (told.Forgot amount) new hand' was is bad id current = absurd bad
+current_step old hand (call.Begin unique want) (told.Closed fewer) new hand' was is bad id current = absurd bad
 current_step old hand (call.Finish place o) told.Finished new hand' was is spends id current = current_finish old hand place o new hand' was is spends id current
 current_step old hand (call.Finish place o) told.Nothing new hand' was is (none, same) id current = current_same old new hand hand' same.world same.hand_is id current
 current_step old hand (call.Finish place o) told.Begun new hand' was is bad id current = absurd bad
@@ -236,6 +240,7 @@ current_step old hand (call.Finish place o) told.Busy new hand' was is bad id cu
 current_step old hand (call.Finish place o) (told.Refused e) new hand' was is bad id current = absurd bad
 current_step old hand (call.Finish place o) (told.Settled settled) new hand' was is bad id current = absurd bad
 current_step old hand (call.Finish place o) (told.Forgot amount) new hand' was is bad id current = absurd bad
+current_step old hand (call.Finish place o) (told.Closed fewer) new hand' was is bad id current = absurd bad
 current_step old hand (call.Settle place taken) (told.Settled settled) new hand' was is spends id current =
     same_tickets old new hand hand' was is (settles_stays old spends.spent taken settled new spends.settles) (ap (λ (h : Outstanding). h.tickets) spends.hand_is) id current
 current_step old hand (call.Settle place taken) told.Nothing new hand' was is (none, same) id current = current_same old new hand hand' same.world same.hand_is id current
@@ -244,6 +249,7 @@ current_step old hand (call.Settle place taken) told.Busy new hand' was is bad i
 current_step old hand (call.Settle place taken) (told.Refused e) new hand' was is bad id current = absurd bad
 current_step old hand (call.Settle place taken) told.Finished new hand' was is bad id current = absurd bad
 current_step old hand (call.Settle place taken) (told.Forgot amount) new hand' was is bad id current = absurd bad
+current_step old hand (call.Settle place taken) (told.Closed fewer) new hand' was is bad id current = absurd bad
 current_step old hand (call.Forget number n) (told.Forgot amount) new hand' was is (forgets, same) id current =
     same_tickets old new hand hand' was is (forgets_stays old number n amount new forgets) (ap (λ (h : Outstanding). h.tickets) same) id current
 current_step old hand (call.Forget number n) told.Nothing new hand' was is bad id current = absurd bad
@@ -252,6 +258,16 @@ current_step old hand (call.Forget number n) told.Busy new hand' was is bad id c
 current_step old hand (call.Forget number n) (told.Refused e) new hand' was is bad id current = absurd bad
 current_step old hand (call.Forget number n) told.Finished new hand' was is bad id current = absurd bad
 current_step old hand (call.Forget number n) (told.Settled settled) new hand' was is bad id current = absurd bad
+current_step old hand (call.Forget number n) (told.Closed fewer) new hand' was is bad id current = absurd bad
+current_step old hand call.ClosePeriod (told.Closed fewer) new hand' was is (closes, same) id current =
+    same_tickets old new hand hand' was is (closes_stays old fewer new closes) (ap (λ (h : Outstanding). h.tickets) same) id current
+current_step old hand call.ClosePeriod told.Nothing new hand' was is bad id current = absurd bad
+current_step old hand call.ClosePeriod told.Begun new hand' was is bad id current = absurd bad
+current_step old hand call.ClosePeriod told.Busy new hand' was is bad id current = absurd bad
+current_step old hand call.ClosePeriod (told.Refused e) new hand' was is bad id current = absurd bad
+current_step old hand call.ClosePeriod told.Finished new hand' was is bad id current = absurd bad
+current_step old hand call.ClosePeriod (told.Settled settled) new hand' was is bad id current = absurd bad
+current_step old hand call.ClosePeriod (told.Forgot amount) new hand' was is bad id current = absurd bad
 
 -- ---- many calls
 
@@ -296,23 +312,31 @@ told_whole o u v t was is =
 pub record HasRun (old : World) (hand : Outstanding) (before : Part) (made : List Call) (ts : List Told) (new : World) (hand' : Outstanding) (after : Part) : Type 0 where
   pub runs : Runs old hand made ts new hand'
   pub current : (id : ℕ) → IsCurrentAt old hand id → IsCurrentAt new hand' id
-  pub gains : Gains old before new after
+  pub gains : GainsInAll old before new after
+
+-- no call was made yet
+pub no_run : (w : World) (hand : Outstanding) (share : Part) (ts : List Told) → IsLawfulWorld w → ts ≡ [] → HasRun w hand share [] ts w hand share
+no_run w hand share ts lawful none = record {
+  runs = subst (λ us. Runs w hand [] us w hand) (sym none) (record { world = refl; hand_is = refl });
+  current = λ id start. start;
+  gains = gains_in_all w w share share (gains_same w w share share lawful refl refl);
+}
 
 pub run_more : (old : World) (hand : Outstanding) (before : Part) (made : List Call) (ts : List Told) (mid : World) (between : Outstanding) (among : Part) (c : Call) (t : Told) (new : World) (hand' : Outstanding) (after : Part)
-    → HasRun old hand before made ts mid between among → IsStep mid between c t new hand' → ((id : ℕ) → IsCurrentAt mid between id → IsCurrentAt new hand' id) → Gains mid among new after
+    → HasRun old hand before made ts mid between among → IsStep mid between c t new hand' → ((id : ℕ) → IsCurrentAt mid between id → IsCurrentAt new hand' id) → GainsInAll mid among new after
     → HasRun old hand before (made ++ c ∷ []) (ts ++ t ∷ []) new hand' after
 run_more old hand before made ts mid between among c t new hand' after run step current gains = record {
   runs = runs_more old hand made ts mid between c t new hand' run.runs step gains.lawful;
   current = λ id start. current id (run.current id start);
-  gains = gains_on old mid new before among after run.gains gains;
+  gains = in_all_on old mid new before among after run.gains gains;
 }
 
 -- a call that found no memory
 pub run_refused : (old : World) (hand : Outstanding) (before : Part) (made : List Call) (ts : List Told) (mid : World) (between : Outstanding) (among : Part) (new : World) (hand' : Outstanding) (after : Part)
-    → HasRun old hand before made ts mid between among → ChangesNothing mid between new hand' → Gains mid among new after
+    → HasRun old hand before made ts mid between among → ChangesNothing mid between new hand' → GainsInAll mid among new after
     → HasRun old hand before made ts new hand' after
 run_refused old hand before made ts mid between among new hand' after run same gains = record {
   runs = runs_same old hand made ts mid between new hand' run.runs same;
   current = λ id start. current_same mid new between hand' same.world same.hand_is id (run.current id start);
-  gains = gains_on old mid new before among after run.gains gains;
+  gains = in_all_on old mid new before among after run.gains gains;
 }

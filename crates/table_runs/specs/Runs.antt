@@ -5,7 +5,7 @@ use Rattle.table_requests.specs.declared.data.Want.{Want}
 use Rattle.table_steps.specs.declared.data.Begin.TheVariants as begin
 use Rattle.table_steps.specs.declared.data.Outcome.{Outcome}
 use Rattle.table_steps.specs.Answers.{Answer, Claim, Settlement}
-use Rattle.table_steps.specs.Steps.{Begins, Finishes, Forgets, IsTicket, Settles}
+use Rattle.table_steps.specs.Steps.{Begins, ClosesPeriod, Finishes, Forgets, IsTicket, Settles}
 use Rattle.table_steps.specs.World.{RequestInFlight, IsAtWork, IsLawfulWorld, Work, World}
 use Rattle.table_runs.specs.declared.calls.Call.{Call}
 use Rattle.table_runs.specs.declared.calls.Call.TheVariants as call
@@ -73,6 +73,7 @@ IsStep old hand (call.Finish place outcome) told.Nothing new hand' = (length han
 IsStep old hand (call.Settle place taken) (told.Settled settled) new hand' = SpendsAnswer old hand place taken settled new hand'
 IsStep old hand (call.Settle place taken) told.Nothing new hand' = (length hand.answers ≤ place) × ChangesNothing old hand new hand'
 IsStep old hand (call.Forget number n) (told.Forgot amount) new hand' = Forgets old number n amount new × (hand' ≡ hand)
+IsStep old hand call.ClosePeriod (told.Closed fewer) new hand' = ClosesPeriod old fewer new × (hand' ≡ hand)
 IsStep old hand c t new hand' = ⊥
 
 -- ---- all calls of a list, in order, each with what it told. The world after each is lawful

@@ -1,13 +1,16 @@
 //! Lists of calls, and what each told.
 
 ghost use Rattle.std.specs.Prelude.{ℕ, ◌≡◌, ◌+◌, ◌++◌, List, OnOk, OnErr, IfOk, length, drop, take};
+ghost use Rattle.ledger.specs.Periods.{continued};
 ghost use Rattle.ledger.specs.Shares.{plus};
-ghost use Rattle.ledger.specs.Sums.{totals_of};
+ghost use Rattle.ledger.specs.Sums.{totals_of, totals_over};
+ghost use Rattle.table.specs.Gains.{GainsInAll};
 ghost use Rattle.table_steps.specs.Answers.{Answer};
 ghost use Rattle.table_steps.specs.Kept.{world_of};
 ghost use Rattle.table_steps.specs.Steps.{gained};
 ghost use Rattle.table_steps.specs.World.{IsLawfulWorld};
 ghost use Rattle.table_runs.specs.declared.calls.Call.TheVariants as Call;
+ghost use Rattle.table_runs.specs.Outstanding.{Outstanding};
 ghost use Rattle.table_runs.specs.Runs.{ChangesNothing, IsCurrentAt, IsStep, Runs};
 
 use crate::pending::{Pending, Started, copy_of};
@@ -26,6 +29,8 @@ pub enum Call {
     Settle { place: usize, taken: bool },
     /// Gives lookups of a node back.
     Forget { number: u64, n: u64 },
+    /// Ends a period of the ledger.
+    ClosePeriod,
 }
 
 /// What a call told.
@@ -45,6 +50,8 @@ pub enum Told {
     Settled(Settled),
     /// So many lookups were given back.
     Forgot(u64),
+    /// The period ended, and the ledger became so much shorter.
+    Closed(u64),
 }
 
 /// Takes up a request, with room for its ticket.
@@ -83,7 +90,7 @@ fn finish<T: Ledgers>(
     ensures finishes { IfOk result (λ told. IsStep (world_of table.old) pending.old (Call.Finish place outcome) told (world_of table.new) pending.new) }
     ensures refused { OnErr result (ChangesNothing (world_of table.old) pending.old (world_of table.new) pending.new) }
     ensures lawful { IsLawfulWorld (world_of table.new) }
-    ensures grows { (world_of table.new).postings ≡ (world_of table.old).postings ++ gained (world_of table.old) (world_of table.new) }
+    ensures grows { (world_of table.new).postings ≡ continued (world_of table.old).postings (gained (world_of table.old) (world_of table.new)) }
     ensures share { share.new ≡ record share.old { totals = plus share.old.totals (totals_of (gained (world_of table.old) (world_of table.new))) } }
 {
     table.attest(); // proof: its law
@@ -107,7 +114,7 @@ fn settle<T: Ledgers>(
 ) -> Told
     ensures settles { IsStep (world_of table.old) pending.old (Call.Settle place taken) result (world_of table.new) pending.new }
     ensures lawful { IsLawfulWorld (world_of table.new) }
-    ensures grows { (world_of table.new).postings ≡ (world_of table.old).postings ++ gained (world_of table.old) (world_of table.new) }
+    ensures grows { (world_of table.new).postings ≡ continued (world_of table.old).postings (gained (world_of table.old) (world_of table.new)) }
     ensures share { share.new ≡ record share.old { totals = plus share.old.totals (totals_of (gained (world_of table.old) (world_of table.new))) } }
 {
     table.attest(); // proof: its law
@@ -116,6 +123,17 @@ fn settle<T: Ledgers>(
     }
     let answered = pending.answers.remove(place);
     Told::Settled(table.settle(share, answered, taken))
+}
+
+/// Ends a period of the ledger.
+fn close_period<T: Ledgers>(table: &mut Table<T>) -> Result<Told, AllocError>
+    ensures closes { IfOk result (λ told. (hand : Outstanding) → IsStep (world_of table.old) hand Call.ClosePeriod told (world_of table.new) hand) }
+    ensures refused { OnErr result (world_of table.new ≡ world_of table.old) }
+    ensures lawful { IsLawfulWorld (world_of table.new) }
+    ensures totals { totals_over (world_of table.new).postings ≡ totals_over (world_of table.old).postings }
+{
+    let fewer = table.close_period()?;
+    Ok(Told::Closed(fewer))
 }
 
 /// Makes one call.
@@ -128,14 +146,14 @@ fn step<T: Ledgers>(
     ensures step { IfOk result (λ told. IsStep (world_of table.old) pending.old call told (world_of table.new) pending.new) }
     ensures refused { OnErr result (ChangesNothing (world_of table.old) pending.old (world_of table.new) pending.new) }
     ensures lawful { IsLawfulWorld (world_of table.new) }
-    ensures grows { (world_of table.new).postings ≡ (world_of table.old).postings ++ gained (world_of table.old) (world_of table.new) }
-    ensures share { share.new ≡ record share.old { totals = plus share.old.totals (totals_of (gained (world_of table.old) (world_of table.new))) } }
+    ensures gains { GainsInAll (world_of table.old) share.old (world_of table.new) share.new }
 {
     match call {
         Call::Begin { unique, want } => begin(table, &mut pending.tickets, unique, want),
         Call::Finish { place, outcome } => finish(table, share, pending, place, outcome),
         Call::Settle { place, taken } => Ok(settle(table, share, pending, place, taken)),
         Call::Forget { number, n } => Ok(Told::Forgot(table.forget(share, number, n))),
+        Call::ClosePeriod => close_period(table),
     }
 }
 
@@ -150,8 +168,7 @@ pub fn make<T: Ledgers>(
     ensures refused { OnErr result (ChangesNothing (world_of table.old) pending.old (world_of table.new) pending.new) }
     ensures lawful { IsLawfulWorld (world_of table.new) }
     ensures current { (id : ℕ) → IsCurrentAt (world_of table.old) pending.old id → IsCurrentAt (world_of table.new) pending.new id }
-    ensures grows { (world_of table.new).postings ≡ (world_of table.old).postings ++ gained (world_of table.old) (world_of table.new) }
-    ensures share { share.new ≡ record share.old { totals = plus share.old.totals (totals_of (gained (world_of table.old) (world_of table.new))) } }
+    ensures gains { GainsInAll (world_of table.old) share.old (world_of table.new) share.new }
 {
     table.attest(); // proof: its law
     let told = step(table, share, pending, call)?;
@@ -171,8 +188,7 @@ pub fn run<T: Ledgers>(
     ensures all { OnOk result (length told.new.items ≡ length told.old.items + length calls.items) }
     ensures lawful { IsLawfulWorld (world_of table.new) }
     ensures current { (id : ℕ) → IsCurrentAt (world_of table.old) pending.old id → IsCurrentAt (world_of table.new) pending.new id }
-    ensures grows { (world_of table.new).postings ≡ (world_of table.old).postings ++ gained (world_of table.old) (world_of table.new) }
-    ensures share { share.new ≡ record share.old { totals = plus share.old.totals (totals_of (gained (world_of table.old) (world_of table.new))) } }
+    ensures gains { GainsInAll (world_of table.old) share.old (world_of table.new) share.new }
 {
     table.attest(); // proof: its law
     told.reserve(calls.len())?;

@@ -4,7 +4,7 @@ use Rattle.std.proofs.lemmas.Bool.{and_parts, cases_Bool, cases_eq, false≢true
 use Rattle.std.proofs.lemmas.List.{reverse-reverse}
 use Rattle.std.proofs.lemmas.Option.{none-some, same_Some}
 use Rattle.table_files.specs.Handles.{Files}
-use Rattle.ledger.specs.declared.postings.Posting.{Posting}
+use Rattle.ledger.specs.Periods.{Periods}
 use Rattle.ledger.specs.Sums.{entries_of, given_back_of}
 use Rattle.paths.specs.Prefixes.{Names, is_prefix}
 use Rattle.paths.proofs.PrefixLemmas.{drop-append, is_prefix-both, is_prefix-same}
@@ -19,7 +19,8 @@ use Rattle.tree.proofs.Transfers.{changed_count, changed_generation, changed_mar
 use Rattle.table_footprints.specs.Asked.{HasPath, IsProperPrefix, IsThere}
 use Rattle.table_footprints.specs.Footprints.{Location, AtName, AtNode}
 use Rattle.table_steps.specs.Steps.{Hides, none_there, one_there}
-use Rattle.table_steps.specs.Sweeping.{IsBooked}
+use Rattle.table_image.specs.Law.{IsBegun}
+use Rattle.table_steps.specs.Upheld.{IsBooked}
 use Rattle.table_steps.specs.World.{HaveNodes}
 use Rattle.table_steps.proofs.Lawful.{named_not_root}
 
@@ -122,7 +123,7 @@ nodes_altered files old new a have handle file here =
     let now = a.kept file.number it.node it.here in
     record { node = now.0; here = now.1; generation = now.2.generation ∙ it.generation }
 
-module _ (old new : Lookup) (tree : IsTree new) (a : AltersNodes old new) (ps : List Posting) (pinned : ℕ → Bool) (booked : IsBooked old ps pinned) where
+module _ (old new : Lookup) (tree : IsTree new) (a : AltersNodes old new) (ps : Periods) (pinned : ℕ → Bool) (booked : IsBooked old ps pinned) where
   marks_named : (n : ℕ) (y : Node) → new n ≡ Some y → IsMarkNamed y
   marks_named n y h = let was = altered_back old new a n y h in was.2.named (booked.marks n was.0 was.1)
 
@@ -157,6 +158,10 @@ module _ (old new : Lookup) (tree : IsTree new) (a : AltersNodes old new) (ps : 
           let was = altered_back old new a n y h in
           ap (λ (i : ℕ). i + 1) was.2.generation ∙ booked.born.generations n was.0 was.1 not_one;
     };
+    carried = booked.carried;
+    begun = λ n y h not_one.
+        let was = altered_back old new a n y h in
+        subst (λ (i : ℕ). IsBegun ps n i) (sym was.2.generation) (booked.begun n was.0 was.1 not_one);
     marks = marks_named;
     alive = λ n h. let was = booked.alive n h in let it = a.kept n was.0 was.1 in (it.0, it.1);
   }

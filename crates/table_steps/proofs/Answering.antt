@@ -9,7 +9,7 @@ use Rattle.table_requests.specs.declared.data.Work.{Work as RecordedWork}
 use Rattle.table_requests.specs.RequestMaps.{RequestsInFlight as Recordeds, RequestMaps, AreLawfulRequests, Answers, HasNoneWorking, is_working, with_flight}
 use Rattle.table_requests.specs.RequestMaps as flying
 use Rattle.table_requests.specs.Listed.{InFlight, requests_of}
-use Rattle.table_image.specs.Law.{IsLawful}
+use Rattle.table_steps.specs.Upheld.{IsUpheld}
 use Rattle.table_footprints.specs.NewRequests.{footprint_in}
 use Rattle.table_steps.specs.declared.data.Outcome.{Outcome}
 use Rattle.table_steps.specs.declared.state.State.{State}
@@ -49,7 +49,7 @@ module _ (s : State) (kept : IsKept s) (flights : InFlight) (id : ℕ) (work : R
   -- the request keeps its pins and is promised nothing more
   pub answer_kept : IsKept (record s { flights = flights })
   answer_kept = record {
-    law = subst (λ (keeps : ℕ → Bool). IsLawful (at_in s.tree) s.ledger.made keeps) (sym (kept_same s.flights flights s.files s.files a.pinned refl)) kept.law;
+    law = subst (λ (keeps : ℕ → Bool). IsUpheld (at_in s.tree) s.ledger.made keeps) (sym (kept_same s.flights flights s.files s.files a.pinned refl)) kept.law;
     flying = law;
     held = fewer_held (requests_of s.flights) (requests_of flights) fewer (at_in s.tree) kept.held;
     ready = still_ready;
@@ -58,6 +58,9 @@ module _ (s : State) (kept : IsKept s) (flights : InFlight) (id : ℕ) (work : R
     limited = record {
       nodes = omega (arith, a.nodes, kept.limited.nodes);
       postings = omega (arith, a.postings, kept.limited.postings);
+      entries = omega (arith, a.postings, kept.limited.entries);
+      births = kept.limited.births;
+      begun = kept.limited.begun;
       flights = omega (arith, a.many, kept.limited.flights);
       files = omega (arith, a.files, kept.limited.files);
       handles = omega (arith, a.files, kept.limited.handles);
@@ -112,6 +115,7 @@ module _ (s : State) (kept : IsKept s) (flights : InFlight) (id : ℕ) (work : R
       postings = omega (arith, a.postings, kept.reserved.postings);
       nodes_within = omega (arith, a.nodes, kept.limited.nodes);
       postings_within = omega (arith, a.postings, kept.limited.postings);
+      entries = omega (arith, a.postings, kept.limited.entries);
       files = omega (arith, a.files, kept.reserved.files);
       files_within = omega (arith, a.files, kept.limited.files);
       handles = omega (arith, a.files, kept.limited.handles);

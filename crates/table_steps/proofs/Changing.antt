@@ -16,13 +16,14 @@ use Rattle.table_steps.specs.Ending.{ChangesNames, IsUnder, KeepsChildren, MayAl
 use Rattle.table_steps.specs.Kept.{IsKept, flights_in, world_of}
 use Rattle.table_steps.specs.Steps.{Alters}
 use Rattle.table_steps.specs.Swept.{IsSwept}
-use Rattle.table_steps.specs.Sweeping.{AreListed, HaveReasonsAside, IsBooked, IsSameRest, parent_at, parent_in}
+use Rattle.table_steps.specs.Sweeping.{AreListed, HaveReasonsAside, IsSameRest, parent_at, parent_in}
+use Rattle.table_steps.specs.Upheld.{IsBooked}
 use Rattle.table_steps.specs.World.{AreReady, RequestInFlight, RequestsInFlight, IsAtWork, Work}
 use Rattle.table_steps.proofs.Booked.{IsBooked-swept}
 use Rattle.table_steps.proofs.Altering.{AltersNodes, IsAltered, IsBooked-altered, altered_back, alters_by, alters_hidden, alters_then, nodes_altered, nothing_altered}
 use Rattle.table_steps.proofs.Filing.{nodes_swept}
 use Rattle.table_steps.proofs.Guarding.{left_where, path_some, path_stays}
-use Rattle.table_steps.proofs.Kept.{kept_changed, ready_swept}
+use Rattle.table_steps.proofs.Kept.{kept_changed, ready_swept, totals_same}
 use Rattle.table_steps.proofs.Lawful.{booked_of, lawful_from}
 use Rattle.table_steps.proofs.NewlyCut.{cut_childless, cut_named, was_cut}
 use Rattle.table_steps.proofs.Replacing.{alters_follow}
@@ -92,7 +93,7 @@ module _ (s : State) (kept : IsKept s) (change : footprints.Change) (may : MayAl
   -- one that was cut before has its count or its pin
   cut_reason : (n : ℕ) (x y : Node) → IsAltered x y → at_in s.tree n ≡ Some x → x.place ≡ place.Cut → HasReason (at_in s.tree) (kept_by s.flights s.files) n x → HasReason (at_in mid) (kept_by s.flights s.files) n y
   cut_reason n x y altered stood lost (inl counted) = inl (subst (λ c. 0 < c) (sym altered.count) counted)
-  cut_reason n x y altered stood lost (inr (inl hidden)) = let named = kept.law.marks n x stood hidden in absurd (cut_named x.place named.0 lost named.1)
+  cut_reason n x y altered stood lost (inr (inl hidden)) = let named = kept.law.booked.marks n x stood hidden in absurd (cut_named x.place named.0 lost named.1)
   cut_reason n x y altered stood lost (inr (inr (inl pin))) = inr (inr (inl pin))
   cut_reason n x y altered stood lost (inr (inr (inr child))) = absurd (cut_childless (at_in s.tree) kept.law.tree n x stood lost child)
 
@@ -126,7 +127,7 @@ module _ (s : State) (kept : IsKept s) (change : footprints.Change) (may : MayAl
         (ready_swept (at_in mid) (at_in new) s.flights s.files kept.flying kept.filed tree' swept mid_ready)
         (nodes_swept s.flights s.files kept.filed (at_in mid) (at_in new) swept (nodes_altered (files_of s.files).at (at_in s.tree) (at_in mid) it kept.files))
         (omega (arith, same.room, room)) (omega (arith, same.fewer, living)) (same.limit ∙ limit)
-        (omega (arith, same.counts, counts)) (omega (arith, same.counts, counts)) refl
+        (omega (arith, same.counts, counts)) (omega (arith, same.counts, counts)) (totals_same s.ledger.made) refl
         (omega (arith, kept.counts, same.counts, counts))
 
     pub changes_names : ChangesNames (world_of s) change (world_of (record s { tree = new }))

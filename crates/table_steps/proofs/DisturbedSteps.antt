@@ -2,7 +2,7 @@
 use Rattle.std.proofs.Common.{ℕ, ◌-◌, ◌≡◌, ◌≢◌, ◌==◌, ◌⊎◌, if◌then◌else◌, Bool, true, false, List, [], ◌∷◌, ◌++◌, Option, Some, None, Contains, length, refl, sym, ap, ◌∙◌, subst, inl, inr, arith}
 use Rattle.std.proofs.lemmas.Bool.{cases_eq, cond-false, cond-true, eq-eqb, ne_eqb, false≢true}
 use Rattle.std.proofs.lemmas.Option.{none-some, same_Some}
-use Rattle.ledger.specs.declared.postings.Posting.{Posting}
+use Rattle.ledger.specs.Periods.{Periods}
 use Rattle.paths.specs.Prefixes.{Name, Names}
 use Rattle.paths.proofs.PrefixLemmas.{is_prefix-same}
 use Rattle.sums.specs.Sum.{IsSum}
@@ -287,7 +287,7 @@ opens_shared (wants.Create parent name access) c o e =
     (subst (λ (x : Opening). Contains (AtName parent name ∷ []) x.target) (same_Some opening o e) (first_in (AtName parent name) []), refl)
 opens_shared (wants.Release number fh) c o e = absurd (none-some o e)
 
-none_entered : (owners : RequestsInFlight) (at at' : Lookup) (ps qs : List Posting) (keys : List Key) (given : List (Option Given)) → EntersAll owners at ps keys (none_found keys) given at' qs → at' ≡ at
+none_entered : (owners : RequestsInFlight) (at at' : Lookup) (ps qs : Periods) (keys : List Key) (given : List (Option Given)) → EntersAll owners at ps keys (none_found keys) given at' qs → at' ≡ at
 none_entered owners at at' ps qs [] [] same = same.0
 none_entered owners at at' ps qs [] (g ∷ given) bad = absurd bad
 none_entered owners at at' ps qs (key ∷ keys) [] bad = absurd bad

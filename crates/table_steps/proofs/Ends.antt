@@ -4,7 +4,7 @@ use Rattle.std.specs.Prelude.{map}
 use Rattle.std.proofs.lemmas.Bool.{cases_eq, cond-false, cond-true, eq-eqb, ne_eqb}
 use Rattle.std.proofs.lemmas.Option.{same_Some}
 use mathlib.Core.Path.{fun_ext}
-use Rattle.ledger.specs.declared.postings.Posting.{Posting}
+use Rattle.ledger.specs.Periods.{Periods}
 use Rattle.table_requests.specs.declared.data.Given.{Given}
 use Rattle.tree.specs.declared.nodes.Key.{Key}
 use Rattle.tree.specs.Places.{Lookup}
@@ -47,7 +47,7 @@ working_else flights id h ended k g work at = elim (cases_eq id k) [
 abbrev pub nothing_for : List Key → List (Option Given)
 nothing_for keys = map (λ (key : Key). let none : Option Given = None in none) keys
 
-pub none_entered : (flights : RequestsInFlight) (at : Lookup) (ps : List Posting) (keys : List Key) → EntersAll flights at ps keys (map (λ key. false) keys) (nothing_for keys) at ps
+pub none_entered : (flights : RequestsInFlight) (at : Lookup) (ps : Periods) (keys : List Key) → EntersAll flights at ps keys (map (λ key. false) keys) (nothing_for keys) at ps
 none_entered flights at ps [] = (refl, refl)
 none_entered flights at ps (key ∷ keys) = none_entered flights at ps keys
 
@@ -93,7 +93,7 @@ ends_changed old new id f here idle act keys found none changes =
       opens = subst (λ (o : Option Opening). Opens changes.altered o old None new.files new.last_handle) (sym none) (refl, files, last);
       sweeps = changes.sweeps;
       new_is = changes.new_is
-          ∙ (ap (λ (ps : List Posting). let w : World = record old { at = new.at; postings = ps } in w) (sym postings)
+          ∙ (ap (λ (ps : Periods). let w : World = record old { at = new.at; postings = ps } in w) (sym postings)
           ∙ (ap (λ (fs : RequestsInFlight). let w : World = record old { at = new.at; postings = new.postings; flights = fs } in w) (sym flights)
           ∙ (ap (λ (fs : Files). let w : World = record old { at = new.at; postings = new.postings; flights = with_entry old.flights id (Some (answered f given None)); files = fs } in w) (sym files)
           ∙ ap (λ (n : ℕ). let w : World = record old { at = new.at; postings = new.postings; flights = with_entry old.flights id (Some (answered f given None)); files = new.files; last_handle = n } in w) (sym last))));
@@ -134,7 +134,7 @@ ends_answered old mid new id f act keys answer is e =
       entered = e.entered;
       enters = subst (λ (fs : RequestsInFlight). EntersAll fs old.at old.postings keys act.found answer.given e.entered new.postings) owners
           (subst (λ (a : Lookup). EntersAll (with_entry mid.flights id (Some (answered (answered f [] None) [] None))) a old.postings keys act.found answer.given e.entered new.postings) at
-          (subst (λ (ps : List Posting). EntersAll (with_entry mid.flights id (Some (answered (answered f [] None) [] None))) mid.at ps keys act.found answer.given e.entered new.postings) postings e.enters));
+          (subst (λ (ps : Periods). EntersAll (with_entry mid.flights id (Some (answered (answered f [] None) [] None))) mid.at ps keys act.found answer.given e.entered new.postings) postings e.enters));
       altered = e.altered;
       alters = e.alters;
       opens = opens_same e.altered act.opens mid old answer.opened new.files new.last_handle (ap (λ (w : World). w.files) is) (ap (λ (w : World). w.last_handle) is) e.opens;

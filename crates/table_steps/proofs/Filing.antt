@@ -8,7 +8,7 @@ use Rattle.table_files.specs.OpenEntry.{Filing, files_of}
 use Rattle.table_files.specs.Handles.{Files, AreOpenEntries, Opened, after_close, no_files}
 use Rattle.table_requests.specs.declared.data.Given.{Given}
 use Rattle.table_requests.specs.Listed.{InFlight, requests_of}
-use Rattle.ledger.specs.declared.postings.Posting.{Posting}
+use Rattle.ledger.specs.Periods.{Periods}
 use Rattle.tree.specs.declared.nodes.Node.{Node}
 use Rattle.tree.specs.Places.{Lookup, with_node}
 use Rattle.tree.proofs.LookupLemmas.{with_same, with_other}
@@ -83,13 +83,13 @@ module _ (files : Files) where
         generation = it.generation;
       }
 
-  pub nodes_entered : (at : Lookup) (ps : List Posting) (parent : ℕ) (name : List ℕ) (g : Given) (new : Lookup) (qs : List Posting) → Enters at ps parent name g new qs → HaveNodes at files → HaveNodes new files
+  pub nodes_entered : (at : Lookup) (ps : Periods) (parent : ℕ) (name : List ℕ) (g : Given) (new : Lookup) (qs : Periods) → Enters at ps parent name g new qs → HaveNodes at files → HaveNodes new files
   nodes_entered at ps parent name g new qs (inl again) have =
       subst (λ a. HaveNodes a files) (sym again.nodes) (nodes_written at g.number again.node (record again.node { count = again.node.count + 1 }) again.here refl have)
   nodes_entered at ps parent name g new qs (inr born) have =
       subst (λ a. HaveNodes a files) (sym born.nodes) (nodes_born at g.number (newborn g parent name) born.fresh have)
 
-  pub nodes_back : (ns : List ℕ) (at new : Lookup) (ps qs : List Posting) → TakesAllBack at ps ns new qs → HaveNodes at files → HaveNodes new files
+  pub nodes_back : (ns : List ℕ) (at new : Lookup) (ps qs : Periods) → TakesAllBack at ps ns new qs → HaveNodes at files → HaveNodes new files
   nodes_back [] at new ps qs h have = subst (λ a. HaveNodes a files) (sym h.0) have
   nodes_back (n ∷ ns) at new ps qs (mid, ms, inl back, rest) have =
       nodes_back ns mid new ms qs rest (subst (λ a. HaveNodes a files) (sym back.nodes) (nodes_written at n back.node (record back.node { count = back.node.count - 1 }) back.here refl have))

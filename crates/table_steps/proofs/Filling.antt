@@ -14,7 +14,7 @@ use Rattle.table_requests.specs.declared.data.Stage.TheVariants as recorded
 use Rattle.table_requests.specs.declared.data.Work.{Work as RecordedWork}
 use Rattle.table_requests.specs.RequestMaps as flying
 use Rattle.table_requests.specs.Listed.{requests_of}
-use Rattle.ledger.specs.declared.postings.Posting.{Posting}
+use Rattle.ledger.specs.Periods.{Periods}
 use Rattle.paths.specs.Prefixes.{Name, Names}
 use Rattle.tree.specs.declared.nodes.Key.{Key}
 use Rattle.tree.specs.Places.{Lookup, IsPathOf, IsTree}
@@ -34,7 +34,7 @@ use Rattle.table_steps.proofs.Viewed.{at_work, recorded_at}
 
 -- ---- one name more
 
-entries_push : (flights : RequestsInFlight) (at mid at' : Lookup) (ps qs ps' : List Posting) (keys : List Key) (found : List Bool) (given : List (Option Given)) (key : Key) (b : Bool) (g : Option Given)
+entries_push : (flights : RequestsInFlight) (at mid at' : Lookup) (ps qs ps' : Periods) (keys : List Key) (found : List Bool) (given : List (Option Given)) (key : Key) (b : Bool) (g : Option Given)
     → EntersAll flights at ps keys found given mid qs → EntersAll flights mid qs (key ∷ []) (b ∷ []) (g ∷ []) at' ps'
     → EntersAll flights at ps (keys ++ key ∷ []) (found ++ b ∷ []) (given ++ g ∷ []) at' ps'
 entries_push flights at mid at' ps qs ps' (k ∷ keys) (true ∷ found) (Some h ∷ given) key b g (free, (m, rs, enters, more)) one =
@@ -43,11 +43,11 @@ entries_push flights at mid at' ps qs ps' (k ∷ keys) (true ∷ found) (None �
     (owned, entries_push flights at mid at' ps qs ps' keys found given key b g more one)
 entries_push flights at mid at' ps qs ps' (k ∷ keys) (false ∷ found) (None ∷ given) key b g more one = entries_push flights at mid at' ps qs ps' keys found given key b g more one
 entries_push flights at mid at' ps qs ps' [] [] [] key b g same one =
-    subst (λ (a : Lookup). EntersAll flights a ps (key ∷ []) (b ∷ []) (g ∷ []) at' ps') same.0 (subst (λ (rs : List Posting). EntersAll flights mid rs (key ∷ []) (b ∷ []) (g ∷ []) at' ps') same.1 one)
+    subst (λ (a : Lookup). EntersAll flights a ps (key ∷ []) (b ∷ []) (g ∷ []) at' ps') same.0 (subst (λ (rs : Periods). EntersAll flights mid rs (key ∷ []) (b ∷ []) (g ∷ []) at' ps') same.1 one)
 entries_push flights at mid at' ps qs ps' keys found given key b g bad one = absurd bad
 
 -- where the same names are held exclusively, the same entries are given
-entries_owners : (f g : RequestsInFlight) → ((at : Lookup) (key : Key) → HasExclusiveHolder at f key ↔ HasExclusiveHolder at g key) → (at at' : Lookup) (ps ps' : List Posting) (keys : List Key) (found : List Bool) (given : List (Option Given))
+entries_owners : (f g : RequestsInFlight) → ((at : Lookup) (key : Key) → HasExclusiveHolder at f key ↔ HasExclusiveHolder at g key) → (at at' : Lookup) (ps ps' : Periods) (keys : List Key) (found : List Bool) (given : List (Option Given))
     → EntersAll f at ps keys found given at' ps' → EntersAll g at ps keys found given at' ps'
 entries_owners f g same at at' ps ps' (key ∷ keys) (true ∷ found) (Some h ∷ given) (free, (mid, qs, enters, more)) =
     (λ o. free ((same at key).1 o), (mid, qs, enters, entries_owners f g same mid at' qs ps' keys found given more))
@@ -188,6 +188,7 @@ module _ (s : State) (id : ℕ) (key : Key) (rest : List Key) (fill : MayFill s 
       postings = omega (arith, fill.room.postings);
       nodes_within = omega (arith, fill.room.nodes_within);
       postings_within = omega (arith, fill.room.postings_within);
+      entries = omega (arith, fill.room.entries);
       files = omega (arith, fill.room.files);
       files_within = omega (arith, fill.room.files_within);
       handles = omega (arith, fill.room.handles);
@@ -206,6 +207,7 @@ module _ (s : State) (id : ℕ) (key : Key) (rest : List Key) (fill : MayFill s 
       postings = omega (arith, fill.room.postings);
       nodes_within = omega (arith, fill.room.nodes_within);
       postings_within = omega (arith, fill.room.postings_within);
+      entries = omega (arith, fill.room.entries);
       files = omega (arith, fill.room.files);
       files_within = omega (arith, fill.room.files_within);
       handles = omega (arith, fill.room.handles);

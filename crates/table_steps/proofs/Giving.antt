@@ -10,7 +10,7 @@ use Rattle.table_requests.specs.declared.data.RequestInFlight.{RequestInFlight a
 use Rattle.table_requests.specs.declared.data.Given.{Given}
 use Rattle.table_requests.specs.RequestMaps.{RequestsInFlight as Recordeds, AreLawfulRequests, PinsMore, pinning}
 use Rattle.table_requests.specs.Listed.{InFlight, requests_of}
-use Rattle.table_image.specs.Law.{IsLawful}
+use Rattle.table_steps.specs.Upheld.{IsUpheld}
 use Rattle.table_steps.specs.Keeping.{kept_by}
 use Rattle.table_steps.specs.declared.state.State.{State}
 use Rattle.table_steps.specs.Ending.{EntersName, MayEnter, MayFill, giving}
@@ -37,7 +37,7 @@ module _ (s : State) (id : ℕ) (key : Key) (may : MayEnter s id (key ∷ [])) w
     | inr named ↦ let it = named key mine in absurd (free it.0 it.1)
   ]
 
-  module _ (kept : IsKept s) (g : Given) (tree : Nodes) (ledger : Postings) (flights : InFlight) (law : IsLawful (at_in tree) ledger.made (kept_by s.flights s.files))
+  module _ (kept : IsKept s) (g : Given) (tree : Nodes) (ledger : Postings) (flights : InFlight) (law : IsUpheld (at_in tree) ledger.made (kept_by s.flights s.files))
       (enters : Enters (at_in s.tree) s.ledger.made key.parent key.name g (at_in tree) ledger.made) (entered : IsEntered s.tree s.ledger key.parent key.name tree ledger)
       (pins : PinsMore (requests_of s.flights) id may.flight g.number (requests_of flights)) (flying : AreLawfulRequests (requests_of flights)) where
     pub alive : IsAlive (at_in tree) g.number
@@ -73,10 +73,10 @@ module _ (s : State) (id : ℕ) (key : Key) (may : MayEnter s id (key ∷ [])) w
               (kept_more s.flights flights s.files (λ m h. pinned_is m ∙ or_left (all.pinned m) (g.number == m) h))
               (λ m h. elim (cases_kept flights s.files m h) [
                 | inl pin ↦ elim (or_cases (all.pinned m) (g.number == m) (sym (pinned_is m) ∙ pin)) [
-                  | inl was ↦ law.alive m (keeps_pinned s.flights s.files m was)
+                  | inl was ↦ law.booked.alive m (keeps_pinned s.flights s.files m was)
                   | inr here ↦ (alive.0, ap (at_in tree) (sym (eqb-true g.number m here)) ∙ alive.1)
                 ]
-                | inr opened ↦ law.alive m (keeps_open s.flights s.files m opened)
+                | inr opened ↦ law.booked.alive m (keeps_open s.flights s.files m opened)
               ]);
           flying = flying;
           held = held_ready (at_in s.tree) (at_in tree) (flights_in (requests_of flights)) still_ready (fewer_held all (requests_of flights) fewer (at_in s.tree) kept.held);
@@ -90,6 +90,9 @@ module _ (s : State) (id : ℕ) (key : Key) (may : MayEnter s id (key ∷ [])) w
           limited = record {
             nodes = omega (arith, pins.nodes, may.room.nodes_within, more.living, born_promised);
             postings = omega (arith, pins.postings, may.room.postings_within, may.postings, more.counts, more.postings, entered.one);
+            entries = omega (arith, pins.postings, may.room.entries, may.postings, more.entries);
+            births = omega (arith, kept.limited.births, more.entries, more.births, entered.one);
+            begun = omega (arith, kept.limited.begun, more.living, more.postings);
             flights = omega (arith, pins.many, kept.limited.flights);
             files = omega (arith, pins.files, kept.limited.files);
             handles = omega (arith, pins.files, kept.limited.handles);
@@ -137,6 +140,7 @@ module _ (s : State) (id : ℕ) (key : Key) (may : MayEnter s id (key ∷ [])) w
             postings = omega (arith, pins.postings, fill.room.postings, more.counts, more.posting_room, entered.one);
             nodes_within = omega (arith, pins.nodes, fill.room.nodes_within, more.living, entered.one);
             postings_within = omega (arith, pins.postings, fill.room.postings_within, more.counts, more.postings, entered.one);
+            entries = omega (arith, pins.postings, fill.room.entries, more.entries);
             files = omega (arith, pins.files, fill.room.files);
             files_within = omega (arith, pins.files, fill.room.files_within);
             handles = omega (arith, pins.files, fill.room.handles);

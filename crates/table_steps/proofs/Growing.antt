@@ -4,6 +4,7 @@ use Rattle.std.proofs.lemmas.Option.{none-some, same_Some}
 use Rattle.table_requests.specs.declared.data.Given.{Given}
 use Rattle.ledger.specs.declared.postings.Posting.{Posting}
 use Rattle.ledger.specs.declared.postings.Posting.TheVariants as posting
+use Rattle.ledger.specs.Periods.{Periods, continued}
 use Rattle.tree.specs.declared.nodes.Key.{Key}
 use Rattle.tree.specs.declared.nodes.Node.{Node}
 use Rattle.tree.specs.Places.{Lookup}
@@ -19,27 +20,30 @@ use Rattle.table_footprints.specs.Footprints.{Footprint}
 use Rattle.table_steps.specs.Steps.{BeginsAs, EntersAll, Finishes, Forgets, Settles}
 use Rattle.table_steps.specs.World.{Answered, RequestInFlight, RequestsInFlight, Stage, Working, World}
 
--- one list is another and more
-IsMore : List Posting → List Posting → Type 0
-IsMore ps qs = (more : List Posting) × (qs ≡ ps ++ more)
+-- the periods are the same, with more postings
+IsMore : Periods → Periods → Type 0
+IsMore ps qs = (more : List Posting) × (qs ≡ continued ps more)
 
-same_more : (ps : List Posting) → IsMore ps ps
-unfolding IsMore
-same_more ps = ([], sym (append-nil ps))
+with_last : Periods → List Posting → Periods
+with_last ps l = record ps { last = l }
 
-then_more : (ps qs rs : List Posting) → IsMore ps qs → IsMore qs rs → IsMore ps rs
-unfolding IsMore
-then_more ps qs rs (a, e) (b, g) = (a ++ b, g ∙ (ap (λ xs. xs ++ b) e ∙ append_assoc ps a b))
+same_more : (ps : Periods) → IsMore ps ps
+unfolding IsMore with_last
+same_more ps = ([], ap (with_last ps) (sym (append-nil ps.last)))
 
-more_is : (ps qs : List Posting) (more : List Posting) → qs ≡ ps ++ more → IsMore ps qs
+then_more : (ps qs rs : Periods) → IsMore ps qs → IsMore qs rs → IsMore ps rs
+unfolding IsMore with_last
+then_more ps qs rs (a, e) (b, g) = (a ++ b, g ∙ (ap (λ (xs : Periods). continued xs b) e ∙ ap (with_last ps) (append_assoc ps.last a b)))
+
+more_is : (ps qs : Periods) (more : List Posting) → qs ≡ continued ps more → IsMore ps qs
 unfolding IsMore
 more_is ps qs more e = (more, e)
 
-one_entered : (at : Lookup) (ps : List Posting) (key : Key) (g : Given) (at' : Lookup) (qs : List Posting) → Enters at ps key.parent key.name g at' qs → IsMore ps qs
+one_entered : (at : Lookup) (ps : Periods) (key : Key) (g : Given) (at' : Lookup) (qs : Periods) → Enters at ps key.parent key.name g at' qs → IsMore ps qs
 one_entered at ps key g at' qs (inl again) = more_is ps qs (posting.Entry g.number g.generation ∷ []) again.postings
-one_entered at ps key g at' qs (inr born) = more_is ps qs (posting.Born g.number g.generation ∷ posting.Entry g.number g.generation ∷ []) (born.postings ∙ append_assoc ps (posting.Born g.number g.generation ∷ []) (posting.Entry g.number g.generation ∷ []))
+one_entered at ps key g at' qs (inr born) = more_is ps qs (posting.Born g.number g.generation ∷ posting.Entry g.number g.generation ∷ []) (born.postings ∙ ap (λ (l : List Posting). record ps { last = l }) (append_assoc ps.last (posting.Born g.number g.generation ∷ []) (posting.Entry g.number g.generation ∷ [])))
 
-entered_more : (owners : RequestsInFlight) (at at' : Lookup) (ps qs : List Posting) (keys : List Key) (found : List Bool) (given : List (Option Given)) → EntersAll owners at ps keys found given at' qs → IsMore ps qs
+entered_more : (owners : RequestsInFlight) (at at' : Lookup) (ps qs : Periods) (keys : List Key) (found : List Bool) (given : List (Option Given)) → EntersAll owners at ps keys found given at' qs → IsMore ps qs
 entered_more owners at at' ps qs (key ∷ keys) (true ∷ found) (Some g ∷ given) (free, (mid, rs, enters, more)) =
     then_more ps rs qs (one_entered at ps key g mid rs enters) (entered_more owners mid at' rs qs keys found given more)
 entered_more owners at at' ps qs (key ∷ keys) (true ∷ found) (None ∷ given) (owned, more) = entered_more owners at at' ps qs keys found given more
@@ -47,11 +51,11 @@ entered_more owners at at' ps qs (key ∷ keys) (false ∷ found) (None ∷ give
 entered_more owners at at' ps qs [] [] [] same = subst (λ rs. IsMore ps rs) (sym same.1) (same_more ps)
 entered_more owners at at' ps qs keys found given bad = absurd bad
 
-one_back : (at : Lookup) (ps : List Posting) (n : ℕ) (at' : Lookup) (qs : List Posting) → TakesBack at ps n at' qs ⊎ TakesNone at ps n at' qs → IsMore ps qs
+one_back : (at : Lookup) (ps : Periods) (n : ℕ) (at' : Lookup) (qs : Periods) → TakesBack at ps n at' qs ⊎ TakesNone at ps n at' qs → IsMore ps qs
 one_back at ps n at' qs (inl back) = more_is ps qs (posting.Back n back.node.generation ∷ []) back.postings
 one_back at ps n at' qs (inr none) = subst (λ rs. IsMore ps rs) (sym none.postings) (same_more ps)
 
-back_more : (at at' : Lookup) (ps qs : List Posting) (given : List ℕ) → TakesAllBack at ps given at' qs → IsMore ps qs
+back_more : (at at' : Lookup) (ps qs : Periods) (given : List ℕ) → TakesAllBack at ps given at' qs → IsMore ps qs
 back_more at at' ps qs [] same = subst (λ rs. IsMore ps rs) (sym same.1) (same_more ps)
 back_more at at' ps qs (n ∷ given) (mid, rs, one, more) = then_more ps rs qs (one_back at ps n mid rs one) (back_more mid at' rs qs given more)
 

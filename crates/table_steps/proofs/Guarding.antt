@@ -10,7 +10,7 @@ use Rattle.tree.specs.Places.{Lookup, IsNamed, IsPathOf, IsTree, Reaches}
 use Rattle.tree.specs.Moves.{Stands, Where, after_cut, after_exchange, after_move, at_path}
 use Rattle.tree.proofs.Transfers.{path_after_cut, path_after_exchange, path_after_move}
 use Rattle.table_requests.specs.declared.data.Given.{Given}
-use Rattle.ledger.specs.declared.postings.Posting.{Posting}
+use Rattle.ledger.specs.Periods.{Periods}
 use Rattle.tree.specs.declared.nodes.Key.{Key}
 use Rattle.tree.proofs.LookupLemmas.{cases_option}
 use Rattle.table_steps.specs.Entries.{Enters, newborn}
@@ -165,16 +165,16 @@ others_left old new flights d held change tree' holds clear placed own alters =
 
 -- ---- entries
 
-pub entered_way : (at : Lookup) (ps : List Posting) (parent : ℕ) (name : Name) (g : Given) (at' : Lookup) (qs : List Posting) → Enters at ps parent name g at' qs → (n : ℕ) (way : Names) → Reaches at 1 n way → Reaches at' 1 n way
+pub entered_way : (at : Lookup) (ps : Periods) (parent : ℕ) (name : Name) (g : Given) (at' : Lookup) (qs : Periods) → Enters at ps parent name g at' qs → (n : ℕ) (way : Names) → Reaches at 1 n way → Reaches at' 1 n way
 entered_way at ps parent name g at' qs (inl again) n way h =
     subst (λ (l : Lookup). Reaches l 1 n way) (sym again.nodes) (reaches_named at _ (named_written at g.number again.node (record again.node { count = again.node.count + 1 }) again.here refl) n way h)
 entered_way at ps parent name g at' qs (inr born) n way h =
     subst (λ (l : Lookup). Reaches l 1 n way) (sym born.nodes) (reaches_named at _ (named_born at g.number (newborn g parent name) born.fresh) n way h)
 
-pub entered_path : (at : Lookup) (ps : List Posting) (parent : ℕ) (name : Name) (g : Given) (at' : Lookup) (qs : List Posting) → Enters at ps parent name g at' qs → (n : ℕ) (q : Names) → IsPathOf at n q → IsPathOf at' n q
+pub entered_path : (at : Lookup) (ps : Periods) (parent : ℕ) (name : Name) (g : Given) (at' : Lookup) (qs : Periods) → Enters at ps parent name g at' qs → (n : ℕ) (q : Names) → IsPathOf at n q → IsPathOf at' n q
 entered_path at ps parent name g at' qs enters n q h = entered_way at ps parent name g at' qs enters n (reverse q) h
 
-pub all_entered : (owners : RequestsInFlight) (at at' : Lookup) (ps qs : List Posting) (keys : List Key) (found : List Bool) (given : List (Option Given)) → EntersAll owners at ps keys found given at' qs → (n : ℕ) (q : Names) → IsPathOf at n q → IsPathOf at' n q
+pub all_entered : (owners : RequestsInFlight) (at at' : Lookup) (ps qs : Periods) (keys : List Key) (found : List Bool) (given : List (Option Given)) → EntersAll owners at ps keys found given at' qs → (n : ℕ) (q : Names) → IsPathOf at n q → IsPathOf at' n q
 all_entered owners at at' ps qs (key ∷ keys) (true ∷ found) (Some g ∷ given) (free, (mid, rs, enters, more)) n q h =
     all_entered owners mid at' rs qs keys found given more n q (entered_path at ps key.parent key.name g mid rs enters n q h)
 all_entered owners at at' ps qs (key ∷ keys) (true ∷ found) (None ∷ given) (owned, more) n q h = all_entered owners at at' ps qs keys found given more n q h

@@ -3,8 +3,13 @@ use Rattle.std.proofs.Common.{ℕ, ◌+◌, ◌-◌, ◌≤◌, ◌≡◌, ◌�
 use Rattle.std.proofs.lemmas.Option.{none-some, same_Some}
 use Rattle.paths.specs.Prefixes.{Names}
 use Rattle.ledger.specs.declared.postings.Posting.{Posting}
+use Rattle.ledger.specs.Periods.{Periods, posted}
 use Rattle.ledger.specs.declared.postings.Posting.TheVariants.{Forget}
+use Rattle.ledger.specs.declared.shares.Totals.{Totals}
 use Rattle.ledger.specs.Postings.{Postings}
+use Rattle.ledger.specs.Shares.{plus}
+use Rattle.ledger.specs.Sums.{totals_by, totals_over}
+use Rattle.ledger.proofs.SharesLemmas.{totals_over-push}
 use Rattle.tree.specs.declared.nodes.Node.{Node}
 use Rattle.tree.specs.Places.{Lookup, Nodes, at_in, with_node, IsPathOf, IsTree}
 use Rattle.tree.specs.Moves.{Writes}
@@ -13,13 +18,15 @@ use Rattle.table_files.specs.OpenEntry.{Filing, files_of}
 use Rattle.table_files.specs.Handles.{AreOpenEntries}
 use Rattle.table_requests.specs.RequestMaps.{AreLawfulRequests}
 use Rattle.table_requests.specs.Listed.{InFlight, requests_of}
-use Rattle.table_image.specs.Law.{HaveReasons, IsLawful}
+use Rattle.table_image.specs.Law.{HaveReasons}
+use Rattle.table_steps.specs.Upheld.{IsUpheld}
 use Rattle.table_steps.specs.Keeping.{kept_by}
 use Rattle.table_steps.specs.declared.state.State.{State}
 use Rattle.table_steps.specs.Kept.{IsKept, flights_in, world_of}
 use Rattle.table_steps.specs.Steps.{Forgets, Takes}
 use Rattle.table_steps.specs.Swept.{IsSwept}
-use Rattle.table_steps.specs.Sweeping.{HaveReasonsBut, IsPruned, IsSameRest, IsBooked}
+use Rattle.table_steps.specs.Sweeping.{HaveReasonsBut, IsPruned, IsSameRest}
+use Rattle.table_steps.specs.Upheld.{IsBooked}
 use Rattle.table_steps.specs.World.{AreHeld, AreReady, RequestsInFlight, HaveNodes, World}
 use Rattle.table_steps.proofs.Filing.{nodes_swept, nodes_written}
 use Rattle.table_steps.proofs.Guarding.{left_where, sweeps_harmless}
@@ -28,8 +35,28 @@ use Rattle.table_steps.proofs.Reasons.{HaveReasons-none, HaveReasons-some, HaveR
 use Rattle.table_steps.proofs.Viewed.{are_kept}
 
 -- one posting more
-pub length_push : (ps qs : List Posting) (p : Posting) → qs ≡ ps ++ p ∷ [] → length qs ≡ length ps + 1
-length_push ps qs p e = omega (arith, ap {B = ℕ} length e, length-append ps (p ∷ []))
+pub record PostsOne (ps qs : Periods) (counted : Totals) : Type 0 where
+  pub count : length qs.last ≡ length ps.last + 1
+  pub entries : (totals_over qs).entries ≡ (totals_over ps).entries + counted.entries
+  pub births : (totals_over qs).born ≡ (totals_over ps).born + counted.born
+
+pub posts_one : (ps qs : Periods) (p : Posting) → qs ≡ posted ps p → PostsOne ps qs (totals_by p)
+posts_one ps qs p e =
+    let totals : totals_over qs ≡ plus (totals_over ps) (totals_by p) = ap totals_over e ∙ totals_over-push ps p in
+    record {
+      count = omega (arith, ap {B = ℕ} (λ (rs : Periods). length rs.last) e, length-append ps.last (p ∷ []));
+      entries = ap (λ (t : Totals). t.entries) totals;
+      births = ap (λ (t : Totals). t.born) totals;
+    }
+
+-- births and entries are as they were, and no posting went
+pub record IsSameTotals (old new : Periods) : Type 0 where
+  pub grows : length old.last ≤ length new.last
+  pub entries : (totals_over new).entries ≡ (totals_over old).entries
+  pub births : (totals_over new).born ≡ (totals_over old).born
+
+pub totals_same : (ps : Periods) → IsSameTotals ps ps
+totals_same ps = record { grows = omega arith; entries = refl; births = refl }
 
 -- what a write leaves of a tree
 pub record IsWritten (old new : Nodes) : Type 0 where
@@ -77,11 +104,11 @@ paths_written at n x c stood m q h = reaches_now at n x (record x { count = c })
 
 -- nodes and ledger may change where the law stays, requests that go on have what they rely on, and there is room
 pub kept_changed : (s : State) (tree : Nodes) (ledger : Postings) (counts : ℕ) → IsKept s
-    → IsLawful (at_in tree) ledger.made (kept_by s.flights s.files) → AreReady (at_in tree) (flights_in (requests_of s.flights)) → HaveNodes (at_in tree) (files_of s.files).at
+    → IsUpheld (at_in tree) ledger.made (kept_by s.flights s.files) → AreReady (at_in tree) (flights_in (requests_of s.flights)) → HaveNodes (at_in tree) (files_of s.files).at
     → s.tree.room ≤ tree.room → tree.living ≤ s.tree.living → tree.limit ≡ s.tree.limit
-    → s.ledger.room + tree.counts ≤ ledger.room + s.tree.counts → length ledger.made + tree.counts ≤ length s.ledger.made + s.tree.counts → ledger.limit ≡ s.ledger.limit → counts ≡ tree.counts
+    → s.ledger.room + tree.counts ≤ ledger.room + s.tree.counts → length ledger.made.last + tree.counts ≤ length s.ledger.made.last + s.tree.counts → IsSameTotals s.ledger.made ledger.made → ledger.limit ≡ s.ledger.limit → counts ≡ tree.counts
     → IsKept (record s { tree = tree; ledger = ledger; counts = counts })
-kept_changed s tree ledger counts kept law ready nodes room living limit posting_room made posting_limit same = record {
+kept_changed s tree ledger counts kept law ready nodes room living limit posting_room made totals posting_limit same = record {
   law = law;
   flying = kept.flying;
   held = held_ready (at_in s.tree) (at_in tree) (flights_in (requests_of s.flights)) ready kept.held;
@@ -90,7 +117,10 @@ kept_changed s tree ledger counts kept law ready nodes room living limit posting
   reserved = record { nodes = omega (arith, kept.reserved.nodes); postings = omega (arith, kept.reserved.postings); files = kept.reserved.files };
   limited = record {
     nodes = omega (arith, kept.limited.nodes);
-    postings = omega (arith, kept.limited.postings);
+    postings = omega (arith, kept.limited.postings, made);
+    entries = omega (arith, kept.limited.entries, totals.entries);
+    births = omega (arith, kept.limited.births, totals.entries, totals.births);
+    begun = omega (arith, kept.limited.begun, totals.grows);
     flights = kept.limited.flights;
     files = kept.limited.files;
     handles = kept.limited.handles;
@@ -115,24 +145,25 @@ module _ (s : State) (kept : IsKept s) (number : ℕ) (x : Node) (stood : at_in 
         (HaveReasons-write (at_in s.tree) pinned number x (record x { count = x.count - amount }) [] stood refl (HaveReasons-some (at_in s.tree) pinned [] kept.law.reasons));
   }
 
-  module _ (ledger : Postings) (new : Nodes) (made : ledger.made ≡ s.ledger.made ++ Forget number x.generation amount ∷ []) (swept : IsSwept (kept_by s.flights s.files) (at_in tree) (at_in new)) where
+  module _ (ledger : Postings) (new : Nodes) (made : ledger.made ≡ posted s.ledger.made (Forget number x.generation amount)) (swept : IsSwept (kept_by s.flights s.files) (at_in tree) (at_in new)) where
     pub forget_kept : ledger.limit ≡ s.ledger.limit → s.ledger.room ≤ ledger.room + 1 → IsPruned (at_in new) (kept_by s.flights s.files) [] → IsSameRest tree new
         → IsKept (record s { tree = new; ledger = ledger; counts = s.counts - amount })
     forget_kept limit room pruned rest =
         let all = requests_of s.flights in
         let w = written s.tree tree number x (record x { count = x.count - amount }) writes in
+        let one = posts_one s.ledger.made ledger.made (Forget number x.generation amount) made in
         let booked : IsBooked (at_in tree) ledger.made (kept_by s.flights s.files) =
         rw (writes.nodes, made) (booked_forget (at_in s.tree) s.ledger.made (kept_by s.flights s.files) (booked_of (at_in s.tree) s.ledger.made (kept_by s.flights s.files) kept.law) number x stood amount (omega arith) fits) in
         let paths : KeepsAllPaths (at_in s.tree) (at_in tree) = subst (λ a. KeepsAllPaths (at_in s.tree) a) (sym writes.nodes) (paths_written (at_in s.tree) number x (x.count - amount) stood) in
         let files = (files_of s.files).at in
         let nodes : HaveNodes (at_in tree) files = subst (λ a. HaveNodes a files) (sym writes.nodes) (nodes_written files (at_in s.tree) number x (record x { count = x.count - amount }) stood refl kept.files) in
-        let one : AreReady (at_in tree) (flights_in all) = ready_where (at_in s.tree) (at_in tree) (flights_in all) law paths kept.ready in
+        let left : AreReady (at_in tree) (flights_in all) = ready_where (at_in s.tree) (at_in tree) (flights_in all) law paths kept.ready in
         kept_changed s new ledger (s.counts - amount) kept
         (lawful_swept (at_in tree) (at_in new) ledger.made (kept_by s.flights s.files) booked swept pruned)
-        (ready_swept (at_in tree) (at_in new) s.flights s.files kept.flying kept.filed pruned.tree swept one)
+        (ready_swept (at_in tree) (at_in new) s.flights s.files kept.flying kept.filed pruned.tree swept left)
         (nodes_swept s.flights s.files kept.filed (at_in tree) (at_in new) swept nodes)
         (omega (arith, rest.room, w.room)) (omega (arith, rest.fewer, w.living)) (rest.limit ∙ w.limit)
-        (omega (arith, writes.counts, rest.counts)) (omega (arith, writes.counts, rest.counts, length_push s.ledger.made ledger.made _ made)) limit
+        (omega (arith, writes.counts, rest.counts)) (omega (arith, writes.counts, rest.counts, one.count)) (record { grows = omega (arith, one.count); entries = omega (arith, one.entries); births = omega (arith, one.births) }) limit
         (omega (arith, writes.counts, rest.counts, kept.counts))
 
     pub takes : HaveReasons (at_in new) (kept_by s.flights s.files) → Takes (world_of s) number amount x (world_of (record s { tree = new; ledger = ledger; counts = s.counts - amount }))
@@ -143,7 +174,7 @@ module _ (s : State) (kept : IsKept s) (number : ℕ) (x : Node) (stood : at_in 
         swept = subst (λ a. IsSwept (kept_by s.flights s.files) a (at_in new)) writes.nodes swept;
         reasons = reasons;
       };
-      new_is = ap (λ (ps : List Posting). let w : World = record (world_of s) { at = at_in new; postings = ps } in w) made;
+      new_is = ap (λ (ps : Periods). let w : World = record (world_of s) { at = at_in new; postings = ps } in w) made;
     }
 
     pub forgets : IsPruned (at_in new) (kept_by s.flights s.files) [] → (n : ℕ) → amount ≡ min n x.count → Forgets (world_of s) number n amount (world_of (record s { tree = new; ledger = ledger; counts = s.counts - amount }))

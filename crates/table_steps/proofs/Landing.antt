@@ -2,7 +2,7 @@
 use Rattle.std.proofs.Common.{ℕ, ◌&&◌, ◌≡◌, Bool, true, false, List, [], ◌∷◌, ◌++◌, ◌+◌, ◌-◌, ◌⊎◌, if◌then◌else◌, Option, Some, None, drop, length, reverse, refl, sym, ap, ◌∙◌, subst, inl, inr}
 use Rattle.std.proofs.lemmas.Bool.{cases_Bool, cases_eq, cond-false, cond-true, true≢false}
 use Rattle.std.proofs.lemmas.Option.{none-some, same_Some}
-use Rattle.ledger.specs.declared.postings.Posting.{Posting}
+use Rattle.ledger.specs.Periods.{Periods}
 use Rattle.paths.specs.Prefixes.{Name, Names, is_prefix}
 use Rattle.paths.proofs.PrefixLemmas.{is_prefix-append}
 use Rattle.table_requests.specs.declared.data.Given.{Given}
@@ -113,11 +113,11 @@ written_keeps at n x y stood place mark = record {
 born_keeps : (at : Lookup) (n : ℕ) (y : Node) → at n ≡ None → KeepsPlaces at (with_node at n y)
 born_keeps at n y fresh = record { place = λ m z here. (z, with_other at n y m (λ e. none-some z (sym fresh ∙ (ap at e ∙ here))) ∙ here, refl, λ marked. marked) }
 
-entered_keeps : (at : Lookup) (ps : List Posting) (parent : ℕ) (name : Name) (g : Given) (at' : Lookup) (qs : List Posting) → Enters at ps parent name g at' qs → KeepsPlaces at at'
+entered_keeps : (at : Lookup) (ps : Periods) (parent : ℕ) (name : Name) (g : Given) (at' : Lookup) (qs : Periods) → Enters at ps parent name g at' qs → KeepsPlaces at at'
 entered_keeps at ps parent name g at' qs (inl again) = subst (λ (l : Lookup). KeepsPlaces at l) (sym again.nodes) (written_keeps at g.number again.node (record again.node { count = again.node.count + 1 }) again.here refl (λ marked. marked))
 entered_keeps at ps parent name g at' qs (inr born) = subst (λ (l : Lookup). KeepsPlaces at l) (sym born.nodes) (born_keeps at g.number (newborn g parent name) born.fresh)
 
-pub entries_keep : (owners : RequestsInFlight) (at at' : Lookup) (ps qs : List Posting) (keys : List Key) (found : List Bool) (given : List (Option Given)) → EntersAll owners at ps keys found given at' qs → KeepsPlaces at at'
+pub entries_keep : (owners : RequestsInFlight) (at at' : Lookup) (ps qs : Periods) (keys : List Key) (found : List Bool) (given : List (Option Given)) → EntersAll owners at ps keys found given at' qs → KeepsPlaces at at'
 entries_keep owners at at' ps qs (key ∷ keys) (true ∷ found) (Some g ∷ given) (free, (mid, rs, enters, more)) =
     then_keeps at mid at' (entered_keeps at ps key.parent key.name g mid rs enters) (entries_keep owners mid at' rs qs keys found given more)
 entries_keep owners at at' ps qs (key ∷ keys) (true ∷ found) (None ∷ given) (owned, more) = entries_keep owners at at' ps qs keys found given more
@@ -125,11 +125,11 @@ entries_keep owners at at' ps qs (key ∷ keys) (false ∷ found) (None ∷ give
 entries_keep owners at at' ps qs [] [] [] same = same_places at at' same.0
 entries_keep owners at at' ps qs keys found given bad = absurd bad
 
-back_keeps : (at : Lookup) (ps : List Posting) (n : ℕ) (at' : Lookup) (qs : List Posting) → TakesBack at ps n at' qs ⊎ TakesNone at ps n at' qs → KeepsPlaces at at'
+back_keeps : (at : Lookup) (ps : Periods) (n : ℕ) (at' : Lookup) (qs : Periods) → TakesBack at ps n at' qs ⊎ TakesNone at ps n at' qs → KeepsPlaces at at'
 back_keeps at ps n at' qs (inl back) = subst (λ (l : Lookup). KeepsPlaces at l) (sym back.nodes) (written_keeps at n back.node (record back.node { count = back.node.count - 1 }) back.here refl (λ marked. marked))
 back_keeps at ps n at' qs (inr none) = same_places at at' none.nodes
 
-pub backs_keep : (at : Lookup) (ps : List Posting) (ns : List ℕ) (at' : Lookup) (qs : List Posting) → TakesAllBack at ps ns at' qs → KeepsPlaces at at'
+pub backs_keep : (at : Lookup) (ps : Periods) (ns : List ℕ) (at' : Lookup) (qs : Periods) → TakesAllBack at ps ns at' qs → KeepsPlaces at at'
 backs_keep at ps [] at' qs same = same_places at at' same.0
 backs_keep at ps (n ∷ ns) at' qs (mid, rs, one, more) = then_keeps at mid at' (back_keeps at ps n mid rs one) (backs_keep mid rs ns at' qs more)
 

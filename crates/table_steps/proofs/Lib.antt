@@ -47,3 +47,7 @@ pub mod Answering
 mod Filling
 pub mod NewlyCut
 mod Exchanging
+mod NextPeriod
+mod ListingLiving
+mod PeriodKept
+pub mod PeriodSums

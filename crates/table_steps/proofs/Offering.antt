@@ -29,7 +29,7 @@ use Rattle.table_steps.specs.Answers.{Answer}
 use Rattle.table_steps.specs.Ending.{GivesAll, HasEnded, HasFileRoom, IsEnding, MayOpen, MayOpenGiven, OpensAt, IsGivenFor, OpensGiven, OpensNode, exclusive_in, is_page, giving, keys_in, name_at, with_in}
 use Rattle.table_steps.specs.Keeping.{kept_by}
 use Rattle.table_steps.specs.Kept.{IsKept, flight_of, stage_of, world_of}
-use Rattle.ledger.specs.declared.postings.Posting.{Posting}
+use Rattle.ledger.specs.Periods.{Periods}
 use Rattle.tree.proofs.LookupLemmas.{with_same}
 use Rattle.table_footprints.specs.Asked.{IsThere}
 use Rattle.table_steps.specs.Entries.{Enters, newborn}
@@ -75,7 +75,7 @@ module _ (s : State) (id : ℕ) (work : RecordedWork) (kept : IsKept s) (e : IsE
     alive : (n : ℕ) → Contains (footprint_in work).given n → IsAlive (at_in new.tree) n
     alive n given =
         let held : kept_by s.flights s.files n ≡ true = (are_kept s.flights s.files kept.flying kept.filed n).1 (inl (record { id = id; flight = flight_of e.flight; here = ap (λ o. option_map flight_of o) e.here; pin = e.ready.pinned n given })) in
-        kept'.law.alive n (ap (λ (t : State). kept_by t.flights t.files n) rest ∙ held)
+        kept'.law.booked.alive n (ap (λ (t : State). kept_by t.flights t.files n) rest ∙ held)
 
     pub may_open : (o : Opening_) → exclusive_in o ≡ opened_alone (footprint_in work) → MayOpen new id o
     may_open opens.Nothing is = tt
@@ -178,11 +178,11 @@ module _ (old : World) (id : ℕ) (f : RequestInFlight) (mid new : State) (kept 
   ends_alone act keys answer e none unopened (opens.Entry access) it = base act keys answer e none unopened it.0 it.1
 
   -- the node that an entry was given of is named so
-  named : (at new_at : Lookup) (ps qs : List Posting) (parent : ℕ) (name : List ℕ) (g : Given) → Enters at ps parent name g new_at qs → IsNamed new_at g.number parent name
+  named : (at new_at : Lookup) (ps qs : Periods) (parent : ℕ) (name : List ℕ) (g : Given) → Enters at ps parent name g new_at qs → IsNamed new_at g.number parent name
   named at new_at ps qs parent name g (inl again) = (record again.node { count = again.node.count + 1 }, ap (λ (l : Lookup). l g.number) again.nodes ∙ with_same at g.number (record again.node { count = again.node.count + 1 }), again.named)
   named at new_at ps qs parent name g (inr born) = (newborn g parent name, ap (λ (l : Lookup). l g.number) born.nodes ∙ with_same at g.number (newborn g parent name), refl)
 
-  named_all : (owners : RequestsInFlight) (at new_at : Lookup) (ps qs : List Posting) (key : Key) (g : Given) → EntersAll owners at ps (key ∷ []) (true ∷ []) (Some g ∷ []) new_at qs → IsNamed new_at g.number key.parent key.name
+  named_all : (owners : RequestsInFlight) (at new_at : Lookup) (ps qs : Periods) (key : Key) (g : Given) → EntersAll owners at ps (key ∷ []) (true ∷ []) (Some g ∷ []) new_at qs → IsNamed new_at g.number key.parent key.name
   named_all owners at new_at ps qs key g (free, (m, rs, enters, same)) = subst (λ (l : Lookup). IsNamed l g.number key.parent key.name) (sym same.0) (named at m ps rs key.parent key.name g enters)
 
   -- what is opened with the one name

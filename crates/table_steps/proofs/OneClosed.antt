@@ -10,7 +10,8 @@ use Rattle.table_steps.specs.Keeping.{kept_by}
 use Rattle.table_steps.specs.Kept.{IsKept, flights_in, world_of}
 use Rattle.table_steps.specs.Steps.{Leaves}
 use Rattle.table_steps.specs.Swept.{IsSwept}
-use Rattle.table_steps.specs.Sweeping.{IsBooked, IsClosed, IsPruned, IsSameRest}
+use Rattle.table_steps.specs.Sweeping.{IsClosed, IsPruned, IsSameRest}
+use Rattle.table_steps.specs.Upheld.{IsBooked}
 use Rattle.table_steps.specs.World.{AreReady, World}
 use Rattle.table_steps.proofs.Booked.{IsBooked-pins}
 use Rattle.table_steps.proofs.Filing.{kept_fewer, nodes_fewer, nodes_swept}
@@ -24,7 +25,7 @@ module _ (s : State) (kept : IsKept s) (handle : Option ℕ) (tree : Nodes) (fil
   now_kept = kept_fewer s.flights s.files files closed.opened
 
   booked : IsBooked (at_in s.tree) s.ledger.made (kept_by s.flights files)
-  booked = IsBooked-pins (at_in s.tree) s.ledger.made (kept_by s.flights s.files) (kept_by s.flights files) (λ n h. kept.law.alive n (now_kept n h))
+  booked = IsBooked-pins (at_in s.tree) s.ledger.made (kept_by s.flights s.files) (kept_by s.flights files) (λ n h. kept.law.booked.alive n (now_kept n h))
       (booked_of (at_in s.tree) s.ledger.made (kept_by s.flights s.files) kept.law)
 
   still_ready : AreReady (at_in tree) (flights_in (requests_of s.flights))
@@ -41,6 +42,9 @@ module _ (s : State) (kept : IsKept s) (handle : Option ℕ) (tree : Nodes) (fil
     limited = record {
       nodes = omega (arith, kept.limited.nodes, rest.fewer);
       postings = omega (arith, kept.limited.postings, rest.counts);
+      entries = kept.limited.entries;
+      births = kept.limited.births;
+      begun = omega (arith, kept.limited.begun, rest.fewer);
       flights = kept.limited.flights;
       files = omega (arith, kept.limited.files, closed.fewer);
       handles = omega (arith, kept.limited.handles, closed.last);

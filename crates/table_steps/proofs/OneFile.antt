@@ -6,7 +6,8 @@ use Rattle.table_files.specs.declared.data.Access.{Access}
 use Rattle.table_files.specs.declared.data.OpenFile.{OpenFile}
 use Rattle.table_files.specs.OpenEntry.{Filing, files_of}
 use Rattle.table_files.specs.Handles.{Files, AreOpenEntries, IsOpen, Opened, after_open}
-use Rattle.table_image.specs.Law.{HasNode, HaveReasons, IsLawful}
+use Rattle.table_image.specs.Law.{HasNode, HaveReasons}
+use Rattle.table_steps.specs.Upheld.{IsUpheld}
 use Rattle.tree.specs.declared.nodes.Node.{Node}
 use Rattle.tree.specs.declared.nodes.Key.{Key}
 use Rattle.tree.specs.Places.{at_in, IsAlive}
@@ -47,9 +48,9 @@ module _ (s : State) (files : Filing) (number : ℕ) (node : Node) (access : Acc
 
   alive : (n : ℕ) → kept_by s.flights files n ≡ true → IsAlive (at_in s.tree) n
   alive n h = elim (cases_kept s.flights files n h) [
-    | inl pin ↦ kept.law.alive n (keeps_pinned s.flights s.files n pin)
+    | inl pin ↦ kept.law.booked.alive n (keeps_pinned s.flights s.files n pin)
     | inr opened ↦ elim (or_cases ((files_of s.files).opened n) (number == n) (sym (opened_is n) ∙ opened)) [
-      | inl was ↦ kept.law.alive n (keeps_open s.flights s.files n was)
+      | inl was ↦ kept.law.booked.alive n (keeps_open s.flights s.files n was)
       | inr e ↦ (node, ap (at_in s.tree) (sym (eqb-true number n e)) ∙ here)
     ]
   ]
@@ -75,6 +76,9 @@ module _ (s : State) (files : Filing) (number : ℕ) (node : Node) (access : Acc
     limited = record {
       nodes = kept.limited.nodes;
       postings = kept.limited.postings;
+      entries = kept.limited.entries;
+      births = kept.limited.births;
+      begun = kept.limited.begun;
       flights = kept.limited.flights;
       files = omega (arith, room.within, ap (λ (o : Opened). o.many) is);
       handles = omega (arith, room.handles, ap (λ (o : Opened). o.last) is);
@@ -99,7 +103,7 @@ module _ (s : State) (kept : IsKept s) (flights : InFlight) (id handle : ℕ) (x
 
   pub note_kept : IsKept (record s { flights = flights })
   note_kept = record {
-    law = subst (λ (keeps : ℕ → Bool). IsLawful (at_in s.tree) s.ledger.made keeps) (sym (kept_same s.flights flights s.files s.files notes.pinned refl)) kept.law;
+    law = subst (λ (keeps : ℕ → Bool). IsUpheld (at_in s.tree) s.ledger.made keeps) (sym (kept_same s.flights flights s.files s.files notes.pinned refl)) kept.law;
     flying = law;
     held = fewer_held (requests_of s.flights) (requests_of flights) fewer (at_in s.tree) kept.held;
     ready = fewer_ready (requests_of s.flights) (requests_of flights) fewer (at_in s.tree) kept.ready;
@@ -108,6 +112,9 @@ module _ (s : State) (kept : IsKept s) (flights : InFlight) (id handle : ℕ) (x
     limited = record {
       nodes = omega (arith, notes.nodes, kept.limited.nodes);
       postings = omega (arith, notes.postings, kept.limited.postings);
+      entries = omega (arith, notes.postings, kept.limited.entries);
+      births = kept.limited.births;
+      begun = kept.limited.begun;
       flights = omega (arith, notes.many, kept.limited.flights);
       files = omega (arith, notes.files, kept.limited.files);
       handles = omega (arith, notes.files, kept.limited.handles);

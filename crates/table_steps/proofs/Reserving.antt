@@ -4,9 +4,10 @@ use Rattle.table_files.specs.OpenEntry.{Filing, files_of}
 use Rattle.table_files.specs.Handles.{Files, AreOpenEntries, Opened}
 use Rattle.table_requests.specs.RequestMaps.{RequestMaps, AreLawfulRequests}
 use Rattle.table_requests.specs.Listed.{InFlight, requests_of}
-use Rattle.table_image.specs.Law.{IsLawful}
-use Rattle.ledger.specs.declared.postings.Posting.{Posting}
+use Rattle.table_steps.specs.Upheld.{IsUpheld}
+use Rattle.ledger.specs.Periods.{Periods}
 use Rattle.ledger.specs.Postings.{Postings}
+use Rattle.ledger.specs.Sums.{totals_over}
 use Rattle.tree.specs.Places.{Nodes, at_in}
 use Rattle.table_steps.specs.declared.state.State.{State}
 use Rattle.table_steps.specs.Kept.{AreProvided, IsKept, flights_in}
@@ -30,9 +31,9 @@ module _ (s : State) (kept : IsKept s) (tree : Nodes) (ledger : Postings) (fligh
 
   pub room_kept : IsKept (record s { tree = tree; ledger = ledger; flights = flights; files = files })
   room_kept = record {
-    law = subst (λ (ps : List Posting). IsLawful (at_in tree) ps (kept_by flights files)) (sym made)
-        (subst (λ at. IsLawful at s.ledger.made (kept_by flights files)) at_same
-        (subst (λ (keeps : ℕ → Bool). IsLawful (at_in s.tree) s.ledger.made keeps) (sym (kept_same s.flights flights s.files files (all_same (λ all. all.pinned)) (file_same (λ all. all.opened)))) kept.law));
+    law = subst (λ (ps : Periods). IsUpheld (at_in tree) ps (kept_by flights files)) (sym made)
+        (subst (λ at. IsUpheld at s.ledger.made (kept_by flights files)) at_same
+        (subst (λ (keeps : ℕ → Bool). IsUpheld (at_in s.tree) s.ledger.made keeps) (sym (kept_same s.flights flights s.files files (all_same (λ all. all.pinned)) (file_same (λ all. all.opened)))) kept.law));
     flying = flying;
     held = subst (λ at. AreHeld at (flights_in (requests_of flights))) at_same (subst (λ fs. AreHeld (at_in s.tree) fs) (sym (all_same flights_in)) kept.held);
     ready = subst (λ at. AreReady at (flights_in (requests_of flights))) at_same (subst (λ fs. AreReady (at_in s.tree) fs) (sym (all_same flights_in)) kept.ready);
@@ -44,7 +45,10 @@ module _ (s : State) (kept : IsKept s) (tree : Nodes) (ledger : Postings) (fligh
     };
     limited = record {
       nodes = omega (arith, kept.limited.nodes, all_same (λ all. all.nodes), ap (λ (t : Nodes). t.living) tree_is);
-      postings = omega (arith, kept.limited.postings, all_same (λ all. all.postings), ap (λ (t : Nodes). t.counts) tree_is, ap {B = ℕ} length made);
+      postings = omega (arith, kept.limited.postings, all_same (λ all. all.postings), ap (λ (t : Nodes). t.counts) tree_is, ap {B = ℕ} (λ (ps : Periods). length ps.last) made);
+      entries = omega (arith, kept.limited.entries, all_same (λ all. all.postings), ap {B = ℕ} (λ (ps : Periods). (totals_over ps).entries) made);
+      births = subst (λ (ps : Periods). (totals_over ps).born ≤ (totals_over ps).entries) (sym made) kept.limited.births;
+      begun = omega (arith, kept.limited.begun, ap (λ (t : Nodes). t.living) tree_is, ap {B = ℕ} (λ (ps : Periods). length ps.last) made);
       flights = omega (arith, kept.limited.flights, all_same (λ all. all.many));
       files = omega (arith, kept.limited.files, all_same (λ all. all.files), file_same (λ all. all.many));
       handles = omega (arith, kept.limited.handles, all_same (λ all. all.files), file_same (λ all. all.last));

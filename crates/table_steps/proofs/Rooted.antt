@@ -235,6 +235,7 @@ module _ (s : State) (id : ℕ) (work : RecordedWork) (kept : IsKept s) (e : IsE
           postings = omega (arith, postings, e.room.postings);
           nodes_within = omega (arith, nodes, e.room.nodes_within);
           postings_within = omega (arith, postings, e.room.postings_within);
+          entries = omega (arith, postings, e.room.entries);
           files = omega (arith, e.room.files);
           files_within = omega (arith, e.room.files_within);
           handles = omega (arith, e.room.handles);

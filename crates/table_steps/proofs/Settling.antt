@@ -4,7 +4,7 @@ use Rattle.std.specs.Prelude.{option_map}
 use Rattle.std.specs.List.{list_any}
 use Rattle.std.proofs.lemmas.Option.{same_Some}
 use Rattle.std.proofs.lemmas.Bool.{or_cases, or_left, true≢false, eqb-true}
-use Rattle.ledger.specs.declared.postings.Posting.{Posting}
+use Rattle.ledger.specs.Periods.{Periods}
 use Rattle.ledger.specs.Postings.{Postings}
 use Rattle.tree.specs.Places.{Lookup, Nodes, at_in, IsPathOf}
 use Rattle.table_requests.specs.declared.data.Ended.{Ended}
@@ -24,7 +24,8 @@ use Rattle.table_steps.specs.Entries.{TakesAllBack, untaken_of}
 use Rattle.table_steps.specs.Kept.{IsKept, flight_of, flights_in, stage_of, world_of}
 use Rattle.table_steps.specs.Steps.{EndsFor, IsAnswered, Settles, files_without, untaken_file}
 use Rattle.table_steps.specs.Swept.{IsSwept}
-use Rattle.table_steps.specs.Sweeping.{IsAmong, IsBooked, IsClosed, IsPruned, IsSameRest, IsNearly, IsTakenBack}
+use Rattle.table_steps.specs.Sweeping.{IsAmong, IsClosed, IsPruned, IsSameRest, IsNearly, IsTakenBack}
+use Rattle.table_steps.specs.Upheld.{IsBooked}
 use Rattle.table_steps.specs.World.{AreReady, Answered, RequestInFlight, RequestsInFlight, Stage, Working, World, with_entry}
 use Rattle.table_steps.proofs.Booked.{IsBooked-pins}
 use Rattle.table_steps.proofs.Filing.{cases_kept, keeps_open, keeps_pinned, kept_fewer, kept_more, nodes_back, nodes_fewer, nodes_swept}
@@ -51,7 +52,7 @@ among_any (m ∷ ms) n h = elim (or_cases (m == n) (list_any (λ a. a == n) ms) 
 ]
 
 -- no node moves where entries are taken back
-paths_back : (ns : List ℕ) (at new : Lookup) (ps qs : List Posting) → TakesAllBack at ps ns new qs → KeepsAllPaths at new
+paths_back : (ns : List ℕ) (at new : Lookup) (ps qs : Periods) → TakesAllBack at ps ns new qs → KeepsAllPaths at new
 paths_back [] at new ps qs h n q leads = subst (λ a. IsPathOf a n q) (sym h.0) leads
 paths_back (m ∷ ns) at new ps qs (mid, ms, inl back, rest) n q leads =
     paths_back ns mid new ms qs rest n q (subst (λ a. IsPathOf a n q) (sym back.nodes) (paths_written at m back.node (back.node.count - 1) back.here n q leads))
@@ -76,7 +77,7 @@ module _ (s : State) (kept : IsKept s) (flights : InFlight) (id : ℕ) (ended : 
         | inr opened ↦ inl (keeps_open flights s.files m opened)
       ] in
       record {
-        booked = IsBooked-pins (at_in s.tree) s.ledger.made old new (λ m h. kept.law.alive m (was m h)) (booked_of (at_in s.tree) s.ledger.made old kept.law);
+        booked = IsBooked-pins (at_in s.tree) s.ledger.made old new (λ m h. kept.law.booked.alive m (was m h)) (booked_of (at_in s.tree) s.ledger.made old kept.law);
         pruned = record {
           tree = kept.law.tree;
           reasons = HaveReasons-unpin (at_in s.tree) old new [] pins gone (λ m h. absurd h) (HaveReasons-some (at_in s.tree) old [] kept.law.reasons);
@@ -121,6 +122,9 @@ module _ (s : State) (kept : IsKept s) (flights : InFlight) (id : ℕ) (ended : 
           limited = record {
             nodes = omega (arith, kept.limited.nodes, goes.nodes, rest.living, after.fewer);
             postings = omega (arith, kept.limited.postings, goes.postings, rest.postings, after.counts);
+            entries = omega (arith, kept.limited.entries, goes.postings, rest.entries);
+            births = omega (arith, kept.limited.births, rest.entries, rest.births);
+            begun = omega (arith, kept.limited.begun, rest.living, rest.grows, after.fewer);
             flights = omega (arith, kept.limited.flights, goes.many);
             files = omega (arith, kept.limited.files, goes.files, closed.fewer);
             handles = omega (arith, kept.limited.handles, goes.files, closed.last);

@@ -18,8 +18,10 @@ use Rattle.table_requests.specs.RequestMaps as flying
 use Rattle.table_requests.specs.RequestMaps.{Adds, RequestMaps, AreLawfulRequests, nodes_promised, postings_promised, pins_number}
 use Rattle.table_requests.specs.Listed.{InFlight, requests_of}
 use Rattle.table_requests.proofs.ById.{Adds_found}
-use Rattle.table_image.specs.Law.{AreAlive, IsLawful, IsGivenPath}
-use Rattle.ledger.specs.declared.postings.Posting.{Posting}
+use Rattle.table_image.specs.Law.{AreAlive, IsGivenPath}
+use Rattle.table_steps.specs.Upheld.{IsUpheld}
+use Rattle.ledger.specs.Sums.{totals_over}
+use Rattle.ledger.specs.Periods.{Periods}
 use Rattle.tree.specs.Places.{Lookup, Nodes, at_in, IsAlive, IsTree}
 use Rattle.tree.proofs.Climbing.{climbs_alive}
 use Rattle.table_footprints.specs.declared.data.NewRequest.{NewRequest}
@@ -39,6 +41,7 @@ use Rattle.table_steps.specs.Steps.{GoesOn, HoldsUp, Leaves, MayBegin, files_wit
 use Rattle.table_steps.specs.World.{AreHeld, AreReady, RequestInFlight, RequestsInFlight, IsAtWork, IsReady, Work, World, seen_in, with_entry}
 use Rattle.table_steps.proofs.Apart.{AreApart, at_work_more, apart_more, held_up_recorded, known_held}
 use Rattle.table_steps.proofs.Beginning.{ready_begun}
+use Rattle.table_steps.proofs.Booked.{IsBooked-pins}
 use Rattle.table_steps.proofs.Filing.{cases_kept, keeps_open, keeps_pinned, kept_more}
 use Rattle.table_steps.proofs.Staying.{given_path}
 use Rattle.table_steps.proofs.Viewed.{flights_with, in_any_of}
@@ -46,14 +49,10 @@ use Rattle.table_steps.proofs.Viewed.{flights_with, in_any_of}
 -- ---- more pins
 
 -- more numbers are pinned, all of them alive
-lawful_pins : (at : Lookup) (ps : List Posting) (old new : ℕ → Bool) → IsLawful at ps old → ((n : ℕ) → old n ≡ true → new n ≡ true) → AreAlive at new → IsLawful at ps new
+lawful_pins : (at : Lookup) (ps : Periods) (old new : ℕ → Bool) → IsUpheld at ps old → ((n : ℕ) → old n ≡ true → new n ≡ true) → AreAlive at new → IsUpheld at ps new
 lawful_pins at ps old new law more alive = record {
   tree = law.tree;
-  root = law.root;
-  counted = law.counted;
-  born = law.born;
-  marks = law.marks;
-  alive = alive;
+  booked = IsBooked-pins at ps old new alive law.booked;
   reasons = λ n x here other. elim (law.reasons n x here other) [
     | inl count ↦ inl count
     | inr (inl mark) ↦ inr (inl mark)
@@ -243,15 +242,15 @@ module _ (s mid : State) (unique id : ℕ) (new_request : NewRequest) (is : IsNe
     pinned_now : (n : ℕ) → (requests_of flights).pinned n ≡ ((requests_of mid.flights).pinned n || pins_number begun n)
     pinned_now n = ap (λ (g : ℕ → Bool). g n) adds.pinned
 
-    all_lawful : IsLawful (at_in mid.tree) mid.ledger.made (kept_by flights mid.files)
+    all_lawful : IsUpheld (at_in mid.tree) mid.ledger.made (kept_by flights mid.files)
     all_lawful = lawful_pins (at_in mid.tree) mid.ledger.made (kept_by mid.flights mid.files) (kept_by flights mid.files) kept.law
         (kept_more mid.flights flights mid.files (λ n h. pinned_now n ∙ or_left ((requests_of mid.flights).pinned n) (pins_number begun n) h))
         (λ n h. elim (cases_kept flights mid.files n h) [
           | inl pin ↦ elim (or_cases ((requests_of mid.flights).pinned n) (pins_number begun n) (sym (pinned_now n) ∙ pin)) [
-            | inl was ↦ kept.law.alive n (keeps_pinned mid.flights mid.files n was)
+            | inl was ↦ kept.law.booked.alive n (keeps_pinned mid.flights mid.files n was)
             | inr here ↦ new_alive n here
           ]
-          | inr opened ↦ kept.law.alive n (keeps_open mid.flights mid.files n opened)
+          | inr opened ↦ kept.law.booked.alive n (keeps_open mid.flights mid.files n opened)
         ])
 
     same_file : {X : Type 0} → (of : Opened → X) → of (files_of mid.files) ≡ of (record (files_of s.files) { room = (files_of mid.files).room })
@@ -260,7 +259,10 @@ module _ (s mid : State) (unique id : ℕ) (new_request : NewRequest) (is : IsNe
     all_limited : IsLimited (record mid { flights = flights; counter = counter })
     all_limited = record {
       nodes = omega (arith, adds.nodes, allows.nodes, ap (λ (t : Nodes). t.living) same.tree, ap (λ (x : RequestMaps). x.nodes) same.flights, ap (λ (l : Limits). l.nodes) same.limits);
-      postings = omega (arith, adds.postings, allows.postings, ap {B = ℕ} length same.made, ap (λ (t : Nodes). t.counts) same.tree, ap (λ (x : RequestMaps). x.postings) same.flights, ap (λ (l : Limits). l.postings) same.limits);
+      entries = omega (arith, adds.postings, allows.entries, ap {B = ℕ} (λ (ps : Periods). (totals_over ps).entries) same.made, ap (λ (x : RequestMaps). x.postings) same.flights);
+      births = kept.limited.births;
+      begun = kept.limited.begun;
+      postings = omega (arith, adds.postings, allows.postings, ap {B = ℕ} (λ (ps : Periods). length ps.last) same.made, ap (λ (t : Nodes). t.counts) same.tree, ap (λ (x : RequestMaps). x.postings) same.flights, ap (λ (l : Limits). l.postings) same.limits);
       flights = omega (arith, adds.many, allows.flights, ap (λ (x : RequestMaps). x.many) same.flights, ap (λ (l : Limits). l.flights) same.limits);
       files = omega (arith, adds.files, allows.handles.files, same_file (λ x. x.many), ap (λ (x : RequestMaps). x.files) same.flights, ap (λ (l : Limits). l.files) same.limits);
       handles = omega (arith, adds.files, allows.handles.handles, same_file (λ x. x.last), ap (λ (x : RequestMaps). x.files) same.flights);

@@ -1,6 +1,7 @@
 -- The parts of a beginning, as the running totals judge them.
-use Rattle.std.specs.Prelude.{ℕ, ℤ, Option, Some, None, ◌+◌, ◌^◌, ◌<◌, ◌≤◌, ◌≡◌, ◌⊎◌, length}
+use Rattle.std.specs.Prelude.{ℕ, ℤ, Option, Some, None, ◌+◌, ◌*◌, ◌^◌, ◌<◌, ◌≤◌, ◌≡◌, ◌⊎◌, length}
 use Rattle.errno.specs.declared.TheConstants.{EAGAIN, EBADF, ENFILE}
+use Rattle.ledger.specs.Sums.{totals_over}
 use Rattle.table_files.specs.OpenEntry.{files_of}
 use Rattle.table_requests.specs.declared.data.Case.{Case}
 use Rattle.table_requests.specs.declared.data.Handle.{Handle}
@@ -22,16 +23,18 @@ pub record HasHandles (s : State) (p : Promise) : Type 0 where
 -- the limits allow one request more that is promised so much
 pub record Allows (s : State) (p : Promise) : Type 0 where
   pub nodes : s.tree.living + (requests_of s.flights).nodes + p.nodes ≤ s.limits.nodes
-  pub postings : length s.ledger.made + s.tree.counts + (requests_of s.flights).postings + p.postings ≤ s.limits.postings
+  pub postings : length s.ledger.made.last + s.tree.counts + (requests_of s.flights).postings + p.postings ≤ s.limits.postings
+  pub entries : 3 * (totals_over s.ledger.made).entries + (requests_of s.flights).postings + p.postings < 3 * 2 ^ 64
   pub flights : (requests_of s.flights).many + 1 ≤ s.limits.flights
   pub handles : HasHandles s p
 
--- with what is promised, the nodes, the postings, the open files or the handles would pass their limit
+-- with what is promised, the nodes, the postings, the entries, the open files or the handles would pass their limit
 abbrev pub IsTooMuch : State → Promise → Type 0
 IsTooMuch s p =
     (s.limits.nodes < s.tree.living + (requests_of s.flights).nodes + p.nodes)
-    ⊎ ((s.limits.postings < length s.ledger.made + s.tree.counts + (requests_of s.flights).postings + p.postings)
-    ⊎ (HasHandles s p → ⊥))
+    ⊎ ((s.limits.postings < length s.ledger.made.last + s.tree.counts + (requests_of s.flights).postings + p.postings)
+    ⊎ ((3 * 2 ^ 64 ≤ 3 * (totals_over s.ledger.made).entries + (requests_of s.flights).postings + p.postings)
+    ⊎ (HasHandles s p → ⊥)))
 
 -- they do not: the first test that fails
 abbrev pub Forbids : State → Promise → ℤ → Type 0

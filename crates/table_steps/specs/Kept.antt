@@ -1,5 +1,5 @@
 -- The parts of a table as a world, and what holds of the parts.
-use Rattle.std.specs.Prelude.{ℕ, ◌+◌, ◌^◌, ◌<◌, ◌≤◌, ◌≡◌, Some, length, option_map}
+use Rattle.std.specs.Prelude.{ℕ, ◌+◌, ◌*◌, ◌^◌, ◌<◌, ◌≤◌, ◌≡◌, Some, length, option_map}
 use Rattle.table_files.specs.OpenEntry.{files_of}
 use Rattle.table_files.specs.Handles.{AreOpenEntries, Opened}
 use Rattle.table_requests.specs.declared.data.RequestInFlight.{RequestInFlight as Recorded}
@@ -9,8 +9,9 @@ use Rattle.table_requests.specs.declared.data.Stage.TheVariants as recorded
 use Rattle.table_requests.specs.declared.data.Work.{Work as RecordedWork}
 use Rattle.table_requests.specs.RequestMaps.{RequestMaps, AreLawfulRequests}
 use Rattle.table_requests.specs.Listed.{requests_of}
-use Rattle.table_image.specs.Law.{IsLawful}
+use Rattle.table_steps.specs.Upheld.{IsUpheld}
 use Rattle.ledger.specs.Postings.{Postings}
+use Rattle.ledger.specs.Sums.{totals_over}
 use Rattle.tree.specs.Places.{Nodes, at_in}
 use Rattle.table_footprints.specs.NewRequests.{IsProvided, footprint_in}
 use Rattle.table_steps.specs.declared.state.State.{State}
@@ -68,7 +69,11 @@ pub record IsReserved (tree : Nodes) (ledger : Postings) (flying : RequestMaps) 
 -- what stands and what is promised keeps within the limits
 pub record IsLimited (s : State) : Type 0 where
   pub nodes : s.tree.living + (requests_of s.flights).nodes ≤ s.limits.nodes
-  pub postings : length s.ledger.made + s.tree.counts + (requests_of s.flights).postings ≤ s.limits.postings
+  pub postings : length s.ledger.made.last + s.tree.counts + (requests_of s.flights).postings ≤ s.limits.postings
+  pub entries : 3 * (totals_over s.ledger.made).entries + (requests_of s.flights).postings < 3 * 2 ^ 64
+  -- each birth came with an entry, and each life was begun by a posting of the last period
+  pub births : (totals_over s.ledger.made).born ≤ (totals_over s.ledger.made).entries
+  pub begun : s.tree.living ≤ length s.ledger.made.last + 1
   pub flights : (requests_of s.flights).many ≤ s.limits.flights
   pub files : (files_of s.files).many + (requests_of s.flights).files ≤ s.limits.files
   pub handles : (files_of s.files).last + (requests_of s.flights).files < 2 ^ 64
@@ -79,7 +84,7 @@ pub record IsLimited (s : State) : Type 0 where
 
 -- the parts fit each other
 pub record IsKept (s : State) : Type 0 where
-  pub law : IsLawful (at_in s.tree) s.ledger.made (kept_by s.flights s.files)
+  pub law : IsUpheld (at_in s.tree) s.ledger.made (kept_by s.flights s.files)
   pub flying : AreLawfulRequests (requests_of s.flights)
   pub held : AreHeld (at_in s.tree) (flights_in (requests_of s.flights))
   pub ready : AreReady (at_in s.tree) (flights_in (requests_of s.flights))
@@ -100,7 +105,8 @@ pub record IsRoomFor (s : State) (promise : Promise) : Type 0 where
   pub nodes : (requests_of s.flights).nodes + promise.nodes ≤ s.tree.room
   pub postings : s.tree.counts + (requests_of s.flights).postings + promise.postings ≤ s.ledger.room
   pub nodes_within : s.tree.living + (requests_of s.flights).nodes + promise.nodes ≤ s.limits.nodes
-  pub postings_within : length s.ledger.made + s.tree.counts + (requests_of s.flights).postings + promise.postings ≤ s.limits.postings
+  pub postings_within : length s.ledger.made.last + s.tree.counts + (requests_of s.flights).postings + promise.postings ≤ s.limits.postings
+  pub entries : 3 * (totals_over s.ledger.made).entries + (requests_of s.flights).postings + promise.postings < 3 * 2 ^ 64
   pub files : (requests_of s.flights).files + promise.files ≤ (files_of s.files).room
   pub files_within : (files_of s.files).many + (requests_of s.flights).files + promise.files ≤ s.limits.files
   pub handles : (files_of s.files).last + (requests_of s.flights).files + promise.files < 2 ^ 64

@@ -6,6 +6,8 @@ use Rattle.table_requests.specs.declared.data.Given.{Given}
 use Rattle.table_requests.specs.declared.data.Want.{Want}
 use Rattle.holds.specs.declared.held.Held.{Held}
 use Rattle.ledger.specs.declared.postings.Posting.{Posting}
+use Rattle.ledger.specs.Periods.{Periods, continued}
+use Rattle.ledger.specs.Sums.{births_of, count_of, totals_over}
 use Rattle.paths.specs.Prefixes.{Names}
 use Rattle.tree.specs.declared.nodes.Key.{Key}
 use Rattle.tree.specs.Places.{Lookup, IsTree}
@@ -16,9 +18,9 @@ use Rattle.table_footprints.specs.Footprints.{Change, Footprint, Location, AtNod
 use Rattle.table_steps.specs.declared.data.Begin.{Begin}
 use Rattle.table_steps.specs.declared.data.Outcome.{Outcome}
 use Rattle.table_steps.specs.Answers.{Answer, Claim, Settlement}
-use Rattle.table_steps.specs.Steps.{Alters, Begins, Ends, EntersAll, Finishes, Forgets, GoesOn, HoldsUp, IsAnswered, MayBegin, Settles, act_of, numbers_of}
+use Rattle.table_steps.specs.Steps.{Alters, Begins, ClosesPeriod, Ends, EntersAll, Finishes, Forgets, GoesOn, HoldsUp, IsAnswered, MayBegin, Settles, act_of, numbers_of}
 use Rattle.table_steps.specs.Swept.{IsSwept}
-use Rattle.table_steps.specs.World.{AreKept, RequestInFlight, RequestsInFlight, IsAtWork, IsReady, IsTally, Tally, Work, Working, World, seen_in, with_entry}
+use Rattle.table_steps.specs.World.{AreKept, RequestInFlight, RequestsInFlight, IsAtWork, IsLawfulWorld, IsReady, IsTally, Tally, Work, Working, World, seen_in, with_entry}
 
 -- ---- what others were given stays
 
@@ -47,7 +49,7 @@ AreOthersLeft = (old new : Lookup) (flights : RequestsInFlight) (d : Footprint) 
 
 -- so do entries and births, and so does a sweep
 abbrev pub AreEntriesHarmless : Type 0
-AreEntriesHarmless = (flights owners : RequestsInFlight) (old new : Lookup) (ps qs : List Posting) (keys : List Key) (found : List Bool) (given : List (Option Given)) → IsTree new
+AreEntriesHarmless = (flights owners : RequestsInFlight) (old new : Lookup) (ps qs : Periods) (keys : List Key) (found : List Bool) (given : List (Option Given)) → IsTree new
     → EntersAll owners old ps keys found given new qs → LeavesWork old new flights
 
 abbrev pub AreSweepsHarmless : Type 0
@@ -79,14 +81,20 @@ AreAnswersRecorded = (old new : World) (id : ℕ) (outcome : Outcome) (answer : 
 abbrev pub AreTalliesFixed : Type 0
 AreTalliesFixed = (w : World) (s t : Tally) → IsTally w s → IsTally w t → s ≡ t
 
--- the ledger has the same postings, and maybe more
+-- the ledger has the same periods, and maybe more postings in the last
 pub record Grows (old new : World) : Type 0 where
   pub more : List Posting
-  pub grown : new.postings ≡ old.postings ++ more
+  pub grown : new.postings ≡ continued old.postings more
 
--- no step takes a posting away
+-- no request takes a posting away
 pub record AreLedgersGrown : Type 0 where
   pub begin : (old : World) (unique : ℕ) (want : Want) (answer : Begin) (new : World) → Begins old unique want answer new → Grows old new
   pub finish : (old : World) (id : ℕ) (outcome : Outcome) (answer : Answer) (new : World) → Finishes old id outcome answer new → Grows old new
   pub settle : (old : World) (answer : Answer) (taken : Bool) (settled : Settlement) (new : World) → Settles old answer taken settled new → Grows old new
   pub forget : (old : World) (number n amount : ℕ) (new : World) → Forgets old number n amount new → Grows old new
+
+-- the end of a period, which alone does, leaves each count, the births of each number, and what was posted in all
+pub record AreSumsKept : Type 0 where
+  pub counts : (old new : World) (fewer : ℕ) → IsLawfulWorld old → IsLawfulWorld new → ClosesPeriod old fewer new → (n g : ℕ) → count_of n g new.postings ≡ count_of n g old.postings
+  pub births : (old new : World) (fewer : ℕ) → ClosesPeriod old fewer new → (n : ℕ) → births_of n new.postings ≡ births_of n old.postings
+  pub totals : (old new : World) (fewer : ℕ) → ClosesPeriod old fewer new → totals_over new.postings ≡ totals_over old.postings

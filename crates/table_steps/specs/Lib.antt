@@ -9,3 +9,5 @@ pub mod Sweeping
 pub mod Beginning
 pub mod Laws
 pub mod Ending
+pub mod Upheld
+pub mod Living

@@ -1,5 +1,5 @@
 -- The steps of a table. Each says the whole new world.
-use Rattle.std.specs.Prelude.{ℕ, ℤ, is_some, ◌+◌, ◌-◌, ◌%◌, ◌^◌, ◌<◌, ◌≡◌, ◌==◌, ◌&&◌, ◌↔◌, not, if◌then◌else◌, Bool, true, false, List, [], ◌∷◌, ◌++◌, Option, Some, None, Contains, length, drop, map, min}
+use Rattle.std.specs.Prelude.{ℕ, ℤ, is_some, ◌+◌, ◌-◌, ◌%◌, ◌^◌, ◌<◌, ◌≡◌, ◌≢◌, ◌==◌, ◌&&◌, ◌↔◌, not, if◌then◌else◌, Bool, true, false, List, [], ◌∷◌, ◌++◌, Option, Some, None, AllPairs, Contains, length, drop, map, min}
 use Rattle.errno.specs.declared.TheConstants.{EAGAIN, EBADF, ENFILE}
 use Rattle.std.specs.List.{slice_get}
 use Rattle.table_files.specs.declared.data.OpenFile.{OpenFile}
@@ -9,8 +9,11 @@ use Rattle.table_requests.specs.declared.data.Given.{Given}
 use Rattle.table_requests.specs.declared.data.Want.{Want}
 use Rattle.holds.specs.declared.held.Held.{Held}
 use Rattle.holds.specs.Conflicts.{Conflict}
+use Rattle.ledger.specs.declared.births.KeptBirths.{KeptBirths}
 use Rattle.ledger.specs.declared.postings.Posting.{Posting}
 use Rattle.ledger.specs.declared.postings.Posting.TheVariants as posting
+use Rattle.ledger.specs.Periods.{Periods, posted}
+use Rattle.ledger.specs.Sums.{births_closed, births_of, number_of, totals_over}
 use Rattle.paths.specs.Prefixes.{Names, is_prefix}
 use Rattle.tree.specs.declared.nodes.Key.{Key}
 use Rattle.tree.specs.declared.nodes.Node.{Node}
@@ -30,7 +33,7 @@ use Rattle.table_steps.specs.World.{AreKept, Answered, RequestInFlight, Requests
 
 -- what the ledger gained by a step
 abbrev pub gained : World → World → List Posting
-gained old new = drop (length old.postings) new.postings
+gained old new = drop (length old.postings.last) new.postings.last
 
 -- the new nodes are these, less those that nothing keeps any more, and none is left that nothing keeps
 pub record Sweeps (mid : Lookup) (new : World) : Type 0 where
@@ -49,7 +52,7 @@ files_without (Some handle) files = with_entry files handle None
 -- so much is taken from the node's count
 pub record Takes (old : World) (number amount : ℕ) (x : Node) (new : World) : Type 0 where
   pub sweeps : Sweeps (with_node old.at number (record x { count = x.count - amount })) new
-  pub new_is : new ≡ record old { at = new.at; postings = old.postings ++ posting.Forget number x.generation amount ∷ [] }
+  pub new_is : new ≡ record old { at = new.at; postings = posted old.postings (posting.Forget number x.generation amount) }
 
 -- the smaller of n and the node's count is taken and posted, and what nothing keeps any more goes
 pub record Forgets (old : World) (number n amount : ℕ) (new : World) : Type 0 where
@@ -91,7 +94,7 @@ pub record IsAdmissible (w : World) (d : Footprint) : Type 0 where
   pub usable : IsBadHandle w d → ⊥
   pub sound : IsSound w.at d
 
--- with what is promised, the nodes, the postings, the open files or the handles would pass their limit
+-- with what is promised, the nodes, the postings, the entries, the open files or the handles would pass their limit
 pub record IsFull (w : World) (d : Footprint) : Type 0 where
   pub tally : Tally
   pub tallied : IsTally w tally
@@ -251,9 +254,9 @@ pub record HasExclusiveHolder (at : Lookup) (flights : RequestsInFlight) (key : 
   pub exclusive : Contains work.held.exclusive path
 
 -- each name in turn: an entry of it is given, with a birth where no node stands, if it was found and no request holds it exclusively
-abbrev pub EntersAll : RequestsInFlight → Lookup → List Posting → List Key → List Bool → List (Option Given) → Lookup → List Posting → Type 0
+abbrev pub EntersAll : RequestsInFlight → Lookup → Periods → List Key → List Bool → List (Option Given) → Lookup → Periods → Type 0
 EntersAll flights at ps (key ∷ keys) (true ∷ found) (Some g ∷ given) at' ps' =
-    (HasExclusiveHolder at flights key → ⊥) × ((mid : Lookup) × (qs : List Posting) × Enters at ps key.parent key.name g mid qs × EntersAll flights mid qs keys found given at' ps')
+    (HasExclusiveHolder at flights key → ⊥) × ((mid : Lookup) × (qs : Periods) × Enters at ps key.parent key.name g mid qs × EntersAll flights mid qs keys found given at' ps')
 EntersAll flights at ps (key ∷ keys) (true ∷ found) (None ∷ given) at' ps' = HasExclusiveHolder at flights key × EntersAll flights at ps keys found given at' ps'
 EntersAll flights at ps (key ∷ keys) (false ∷ found) (None ∷ given) at' ps' = EntersAll flights at ps keys found given at' ps'
 EntersAll flights at ps [] [] [] at' ps' = (at' ≡ at) × (ps' ≡ ps)
@@ -405,3 +408,28 @@ pub record Settles (old : World) (answer : Answer) (taken : Bool) (settled : Set
   pub lost : answer.lost ≡ true → new ≡ old
   pub unknown : (IsAnswered old.flights answer.id → ⊥) → new ≡ old
   pub found : answer.lost ≡ false → (a : IsAnswered old.flights answer.id) → EndsFor old answer.id a taken new
+
+-- ---- the end of a period
+
+-- what a period begins with, of one node
+pub record IsOpeningOf (at : Lookup) (p : Posting) : Type 0 where
+  pub number : ℕ
+  pub node : Node
+  pub here : at number ≡ Some node
+  pub not_root : number ≢ 1
+  pub posting_is : p ≡ posting.Opening number node.generation node.count
+
+-- these are all of them, by rising number
+pub record AreOpenings (at : Lookup) (ps : List Posting) : Type 0 where
+  pub rising : AllPairs (λ p q. number_of p < number_of q) ps
+  pub each : (p : Posting) → Contains ps p ↔ IsOpeningOf at p
+
+-- births and totals are kept, the next period begins with the count of each node but the root, also where it is 0, and all else
+-- stays: so many postings fewer are made
+pub record ClosesPeriod (old : World) (fewer : ℕ) (new : World) : Type 0 where
+  pub births : (n : ℕ) → births_closed n new.postings.births ≡ births_of n old.postings
+  pub births_once : AllPairs (λ (b c : KeptBirths). b.number ≢ c.number) new.postings.births
+  pub totals : new.postings.totals ≡ totals_over old.postings
+  pub openings : AreOpenings old.at new.postings.last
+  pub fewer_is : fewer + length new.postings.last ≡ length old.postings.last
+  pub new_is : new ≡ record old { postings = new.postings }

@@ -7,21 +7,15 @@ use Rattle.tree.specs.declared.nodes.Place.{Place}
 use Rattle.tree.specs.declared.nodes.Place.TheVariants.{Root, Named, Cut}
 use Rattle.tree.specs.Places.{Lookup, Nodes, at_in, IsCut, IsNamed, IsTree}
 use Rattle.ledger.specs.Postings.{Postings}
-use Rattle.ledger.specs.declared.postings.Posting.{Posting}
+use Rattle.ledger.specs.Periods.{Periods}
+use Rattle.ledger.specs.Sums.{totals_over}
 use Rattle.table_steps.specs.Steps.{files_without}
-use Rattle.table_image.specs.Law.{HasPlainRoot, IsCounted, IsBornInOrder, AreMarksNamed, AreAlive, HasReason}
+use Rattle.table_image.specs.Law.{HasReason}
+use Rattle.table_steps.specs.Upheld.{IsBooked}
 
 abbrev pub IsAmong : ℕ → List ℕ → Type 0
 IsAmong n [] = ⊥
 IsAmong n (b ∷ bs) = (n ≡ b) ⊎ IsAmong n bs
-
--- what the law says of nodes, ledger and what is kept, but for the tree and the reasons
-pub record IsBooked (at : Lookup) (ps : List Posting) (kept : ℕ → Bool) : Type 0 where
-  pub root : HasPlainRoot at ps
-  pub counted : IsCounted at ps
-  pub born : IsBornInOrder at ps
-  pub marks : AreMarksNamed at
-  pub alive : AreAlive at kept
 
 -- each node but the root has a reason, those that are left out aside
 abbrev pub HaveReasonsBut : Lookup → (ℕ → Bool) → List ℕ → Type 0
@@ -47,7 +41,7 @@ pub record IsPruned (at : Lookup) (kept : ℕ → Bool) (but : List ℕ) : Type 
   pub reasons : HaveReasonsBut at kept but
 
 -- the law, but that some nodes may lack a reason
-pub record IsNearly (at : Lookup) (ps : List Posting) (kept : ℕ → Bool) (but : List ℕ) : Type 0 where
+pub record IsNearly (at : Lookup) (ps : Periods) (kept : ℕ → Bool) (but : List ℕ) : Type 0 where
   pub booked : IsBooked at ps kept
   pub pruned : IsPruned at kept but
 
@@ -84,7 +78,9 @@ pub record IsOneMore (born : ℕ) (old : Nodes) (made : Postings) (new : Nodes) 
   pub room : old.room ≤ new.room + born
   pub counts : new.counts ≡ old.counts + 1
   pub limit : new.limit ≡ old.limit
-  pub postings : length more.made ≡ length made.made + 1 + born
+  pub postings : length more.made.last ≡ length made.made.last + 1 + born
+  pub entries : (totals_over more.made).entries ≡ (totals_over made.made).entries + 1
+  pub births : (totals_over more.made).born ≡ (totals_over made.made).born + born
   pub posting_room : made.room ≤ more.room + 1 + born
   pub posting_limit : more.limit ≡ made.limit
 
@@ -100,6 +96,9 @@ pub record IsTakenBack (old : Nodes) (made : Postings) (new : Nodes) (more : Pos
   pub living : new.living ≡ old.living
   pub room : new.room ≡ old.room
   pub limit : new.limit ≡ old.limit
-  pub postings : length more.made + new.counts ≤ length made.made + old.counts
+  pub postings : length more.made.last + new.counts ≤ length made.made.last + old.counts
+  pub grows : length made.made.last ≤ length more.made.last
+  pub entries : (totals_over more.made).entries ≡ (totals_over made.made).entries
+  pub births : (totals_over more.made).born ≡ (totals_over made.made).born
   pub posting_room : made.room + new.counts ≤ more.room + old.counts
   pub posting_limit : more.limit ≡ made.limit

@@ -1,9 +1,10 @@
 -- All that a table keeps, and the law of it. No number stands here that the rest already fixes: what the limits are judged
 -- by is added up over what stands.
-use Rattle.std.specs.Prelude.{ℕ, ℤ, ◌+◌, ◌^◌, ◌<◌, ◌≤◌, ◌≡◌, ◌≢◌, ◌==◌, ◌↔◌, ◌⊎◌, ◌&&◌, Bool, true, not, if◌then◌else◌, List, [], ◌∷◌, Option, Some, None, All, Contains, length}
+use Rattle.std.specs.Prelude.{ℕ, ℤ, ◌+◌, ◌*◌, ◌^◌, ◌<◌, ◌≤◌, ◌≡◌, ◌≢◌, ◌==◌, ◌↔◌, ◌⊎◌, ◌&&◌, Bool, true, not, if◌then◌else◌, List, [], ◌∷◌, Option, Some, None, All, Contains, length}
 use Rattle.holds.specs.declared.held.Held.{Held}
 use Rattle.holds.specs.Conflicts.{Conflict}
-use Rattle.ledger.specs.declared.postings.Posting.{Posting}
+use Rattle.ledger.specs.Periods.{Periods, unclosed}
+use Rattle.ledger.specs.Sums.{totals_over}
 use Rattle.table_requests.specs.declared.data.Case.{Case}
 use Rattle.table_requests.specs.declared.data.Promise.{Promise}
 use Rattle.table_requests.specs.declared.data.Want.{Want}
@@ -13,7 +14,8 @@ use Rattle.table_files.specs.Handles.{Files, IsOpen, no_files}
 use Rattle.tree.specs.declared.nodes.Key.{Key}
 use Rattle.tree.specs.declared.nodes.Node.{Node}
 use Rattle.tree.specs.Places.{Lookup, IsNamed, no_nodes, root_node, with_node}
-use Rattle.table_image.specs.Law.{HasNode, IsLawful, IsGivenPath}
+use Rattle.table_image.specs.Law.{HasNode, IsGivenPath}
+use Rattle.table_steps.specs.Upheld.{IsUpheld}
 use Rattle.sums.specs.Sum.{IsSum}
 use Rattle.table_steps.specs.declared.data.Limits.{Limits}
 use Rattle.table_footprints.specs.Asked.{Holds, IsMisplaced, IsThere, promise_of}
@@ -46,8 +48,8 @@ RequestsInFlight = ℕ → Option RequestInFlight
 pub record World : Type 0 where
   -- nodes by their numbers, with their lookup counts and hidden marks
   pub at : Lookup
-  -- the ledger: all postings, the oldest first
-  pub postings : List Posting
+  -- the ledger: the postings of the last period, the oldest first, and what is kept of those that are closed
+  pub postings : Periods
   pub flights : RequestsInFlight
   pub limits : Limits
   -- open files by their handles
@@ -110,11 +112,12 @@ pub record IsTally (w : World) (t : Tally) : Type 0 where
   pub opening : IsSum w.flights (λ f. (promised_to f.stage).files) t.promised.files
   pub files : IsSum w.files (λ f. 1) t.files
 
--- beside what stands and what is promised there is room for this: each lookup count may be forgotten one by one, and a handle is
--- a number of 64 bits that is never given again
+-- beside what stands and what is promised there is room for this: each lookup count may be forgotten one by one, all entries ever keep
+-- within 64 bits, three postings being promised for each, and a handle is a number of 64 bits that is never given again
 pub record HasRoom (w : World) (t : Tally) (p : Promise) : Type 0 where
   pub nodes : t.living + t.promised.nodes + p.nodes ≤ w.limits.nodes
-  pub postings : length w.postings + t.counts + t.promised.postings + p.postings ≤ w.limits.postings
+  pub postings : length w.postings.last + t.counts + t.promised.postings + p.postings ≤ w.limits.postings
+  pub entries : 3 * (totals_over w.postings).entries + t.promised.postings + p.postings < 3 * 2 ^ 64
   pub files : t.files + t.promised.files + p.files ≤ w.limits.files
   pub handles : w.last_handle + t.promised.files + p.files < 2 ^ 64
 
@@ -205,7 +208,7 @@ AreReady at flights = (id : ℕ) (f : RequestInFlight) (work : Work) → IsAtWor
 pub record IsLawfulWorld (w : World) : Type 0 where
   pub kept : ℕ → Bool
   pub keeps : AreKept w.flights w.files kept
-  pub law : IsLawful w.at w.postings kept
+  pub law : IsUpheld w.at w.postings kept
   pub held : AreHeld w.at w.flights
   pub ready : AreReady w.at w.flights
   pub undisturbed : AreUndisturbed w.at w.files w.flights
@@ -217,7 +220,7 @@ pub record IsLawfulWorld (w : World) : Type 0 where
 abbrev pub opened_world : Limits → World
 opened_world limits = record {
   at = with_node no_nodes 1 root_node;
-  postings = [];
+  postings = unclosed [];
   flights = no_flights;
   limits = limits;
   files = no_files;

@@ -1,8 +1,10 @@
 //! The beginning of a request.
 
-ghost use Rattle.std.specs.Prelude.{ℕ, ◌≡◌, ◌≤◌, ◌<◌, ◌+◌, ◌%◌, ◌^◌, if◌then◌else◌, ◌==◌, not, length, ◌↔◌, true, IfErr, IsTrue, OnOk};
+ghost use Rattle.std.specs.Prelude.{ℕ, ◌≡◌, ◌≤◌, ◌<◌, ◌+◌, ◌*◌, ◌%◌, ◌^◌, if◌then◌else◌, ◌==◌, not, length, ◌↔◌, true, IfErr, IsTrue, OnOk};
+ghost use Rattle.ledger.specs.Sums.{totals_over};
 ghost use Rattle.table_files.specs.OpenEntry.{files_of};
 ghost use Rattle.table_steps.specs.Beginning.{Allows, Forbids, HasHandles, IsHandleUsable, IsRefusedHandle, IsRoomForOne, IsSameButRoom, used_in};
+ghost use Rattle.table_requests.specs.Listed.{requests_of};
 ghost use Rattle.table_steps.specs.Kept.{IsKept, tally_of, world_of};
 ghost use Rattle.table_steps.specs.Steps.{Begins, IsUsable, is_cut, is_last};
 ghost use Rattle.table_steps.specs.World.{IsTally};
@@ -245,13 +247,16 @@ impl State {
         ensures tally { IsTally (world_of self.now) (tally_of self.now) }
     {
         let promised = self.flights.promised();
-        let made = self.ledger.postings().len() as u64;
+        let made = self.ledger.made() as u64;
         let free_nodes = self.limits.nodes - self.tree.len() - promised.nodes;
         let free_postings = self.limits.postings - made - self.counts - promised.postings;
         if free_nodes < promise.nodes {
             return Err(ENFILE);
         }
         if free_postings < promise.postings {
+            return Err(ENFILE);
+        }
+        if !self.has_entries(promise) {
             return Err(ENFILE);
         }
         if !self.has_handles(promise) {
@@ -261,6 +266,17 @@ impl State {
             return Err(EAGAIN);
         }
         Ok(())
+    }
+
+    /// Whether all entries ever, with those that are promised, keep within 64 bits. Three postings are promised for each.
+    fn has_entries(&self, promise: &Promise) -> bool
+        requires kept { IsKept self.now }
+        requires few { (requests_of self.now.flights).postings + promise.now.postings < 2 ^ 64 }
+        ensures { IsTrue result ↔ (3 * (totals_over self.now.ledger.made).entries + (requests_of self.now.flights).postings + promise.now.postings < 3 * 2 ^ 64) }
+    {
+        let promised = self.flights.promised();
+        let free = u64::MAX - self.ledger.totals().entries;
+        (promised.postings + promise.postings) / 3 <= free
     }
 
     /// Whether the files that it may open keep within the limit, and handles are left for them.

@@ -1,7 +1,8 @@
 //! Entries of names that are given to the client.
 
-ghost use Rattle.std.specs.Prelude.{◌≡◌, ◌≤◌, ◌<◌, ◌+◌, ◌^◌, ℕ, length};
-ghost use Rattle.table_image.specs.Law.{IsLawful};
+ghost use Rattle.std.specs.Prelude.{◌≡◌, ◌≤◌, ◌<◌, ◌+◌, ◌^◌, ℕ};
+ghost use Rattle.ledger.specs.Sums.{totals_over};
+ghost use Rattle.table_steps.specs.Upheld.{IsUpheld};
 ghost use Rattle.table_steps.specs.Entries.{Bears, Enters, EntersAgain};
 ghost use Rattle.table_steps.specs.Keeping.{kept_by};
 ghost use Rattle.table_steps.specs.Sweeping.{IsEntered, IsOneMore};
@@ -22,12 +23,12 @@ fn enter_again(
     number: u64,
     _key: &Key,
 ) -> Given
-    requires law { IsLawful (at_in tree.old) ledger.old.made (kept_by _flights.now _files.now) }
+    requires law { IsUpheld (at_in tree.old) ledger.old.made (kept_by _flights.now _files.now) }
     requires named { IsNamed (at_in tree.old) number _key.now.parent _key.now.name }
     requires room { 0 < ledger.old.room }
-    requires short { length ledger.old.made + 1 < 2 ^ 64 }
+    requires short { (totals_over ledger.old.made).entries + 1 < 2 ^ 64 }
     ensures enters { EntersAgain (at_in tree.old) ledger.old.made _key.now.parent _key.now.name result (at_in tree.new) ledger.new.made }
-    ensures law { IsLawful (at_in tree.new) ledger.new.made (kept_by _flights.now _files.now) }
+    ensures law { IsUpheld (at_in tree.new) ledger.new.made (kept_by _flights.now _files.now) }
     ensures more { IsOneMore 0 tree.old ledger.old tree.new ledger.new }
 {
     let Some(node) = tree.at(number) else {
@@ -47,13 +48,15 @@ fn bear(
     _files: &Files,
     keys: Keys,
 ) -> Given
-    requires law { IsLawful (at_in tree.old) ledger.old.made (kept_by _flights.now _files.now) }
+    requires law { IsUpheld (at_in tree.old) ledger.old.made (kept_by _flights.now _files.now) }
     requires free { IsFree (at_in tree.old) keys.key.parent keys.key.name }
     requires above { Leads (at_in tree.old) keys.key.parent }
     requires node_room { 0 < tree.old.room }
     requires room { 2 ≤ ledger.old.room }
+    requires short { (totals_over ledger.old.made).entries + 1 < 2 ^ 64 }
+    requires births { (totals_over ledger.old.made).born ≤ (totals_over ledger.old.made).entries }
     ensures bears { Bears (at_in tree.old) ledger.old.made keys.key.parent keys.key.name result (at_in tree.new) ledger.new.made }
-    ensures law { IsLawful (at_in tree.new) ledger.new.made (kept_by _flights.now _files.now) }
+    ensures law { IsUpheld (at_in tree.new) ledger.new.made (kept_by _flights.now _files.now) }
     ensures more { IsOneMore 1 tree.old ledger.old tree.new ledger.new }
 {
     let Keys { key, copy } = keys;
@@ -74,13 +77,14 @@ pub(crate) fn enter(
     files: &Files,
     keys: Keys,
 ) -> Given
-    requires law { IsLawful (at_in tree.old) ledger.old.made (kept_by flights.now files.now) }
+    requires law { IsUpheld (at_in tree.old) ledger.old.made (kept_by flights.now files.now) }
     requires above { Leads (at_in tree.old) keys.key.parent }
     requires node_room { IsFree (at_in tree.old) keys.key.parent keys.key.name → 0 < tree.old.room }
     requires room { 2 ≤ ledger.old.room }
-    requires short { length ledger.old.made + 1 < 2 ^ 64 }
+    requires short { (totals_over ledger.old.made).entries + 1 < 2 ^ 64 }
+    requires births { (totals_over ledger.old.made).born ≤ (totals_over ledger.old.made).entries }
     ensures enters { Enters (at_in tree.old) ledger.old.made keys.key.parent keys.key.name result (at_in tree.new) ledger.new.made }
-    ensures law { IsLawful (at_in tree.new) ledger.new.made (kept_by flights.now files.now) }
+    ensures law { IsUpheld (at_in tree.new) ledger.new.made (kept_by flights.now files.now) }
     ensures more { IsEntered tree.old ledger.old keys.key.parent keys.key.name tree.new ledger.new }
 {
     match tree.find(&keys.key) {

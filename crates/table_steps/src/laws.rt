@@ -1,6 +1,6 @@
 //! What is proved of the steps, whatever the want: each law on a function that does nothing.
 
-ghost use Rattle.table_steps.specs.Laws.{AreActsOwn, AreOthersLeft, AreEntriesHarmless, AreSweepsHarmless, AreEndsHarmless, AreLedgersGrown, AreAnswersRecorded, AreBegunReady, AreTalliesFixed};
+ghost use Rattle.table_steps.specs.Laws.{AreActsOwn, AreOthersLeft, AreEntriesHarmless, AreSumsKept, AreSweepsHarmless, AreEndsHarmless, AreLedgersGrown, AreAnswersRecorded, AreBegunReady, AreTalliesFixed};
 
 /// Whatever the outcome, a request changes no names but those that its footprint holds exclusively.
 pub fn acts_are_own()
@@ -42,7 +42,12 @@ pub fn tallies_are_fixed()
     ensures { AreTalliesFixed }
 {}
 
-/// No step takes a posting away.
+/// No request takes a posting away.
 pub fn ledgers_are_grown()
     ensures { AreLedgersGrown }
+{}
+
+/// The end of a period leaves each count, the births of each number, and what was posted in all.
+pub fn sums_are_kept()
+    ensures { AreSumsKept }
 {}

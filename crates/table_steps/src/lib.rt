@@ -16,6 +16,7 @@ mod hiding;
 mod keys;
 mod laws;
 mod opening;
+mod periods;
 mod places;
 mod settle;
 mod state;
@@ -25,6 +26,6 @@ pub use data::{Answered, Begin, Limits, Outcome, Seeds, Settled, Ticket};
 pub use found::FoundNames;
 pub use laws::{
     acts_are_own, begun_are_ready, ends_are_harmless, entries_are_harmless, ledgers_are_grown,
-    others_are_left, sweeps_are_harmless, tallies_are_fixed,
+    others_are_left, sums_are_kept, sweeps_are_harmless, tallies_are_fixed,
 };
 pub use state::State;

@@ -1,9 +1,10 @@
 //! Images made by hand, lawful and not.
 
-use crate::sketch::{Living, ROOT, Sketch, Spot, image};
-use ledger::Posting;
+use crate::sketch::{Living, NO_PAST, Past, ROOT, Sketch, Spot, image};
+use ledger::{KeptBirths, Posting, Totals};
 use std::alloc::Global;
 use std::test::Fail;
+use table_image::{Image, ImageOne};
 
 const BORN: Posting = Posting::Born {
     number: 2,
@@ -41,11 +42,34 @@ const OTHER_BORN: Posting = Posting::Born {
     generation: 0,
 };
 
+const OPENING: Posting = Posting::Opening {
+    number: 2,
+    generation: 1,
+    count: 2,
+};
+
+/// Number 2 was born twice, and of three entries one came back.
+const PAST: Past = Past {
+    births: &[KeptBirths {
+        number: 2,
+        count: 2,
+    }],
+    totals: Totals {
+        born: 2,
+        entries: 3,
+        backs: 0,
+        forgotten: 1,
+    },
+};
+
+const TWICE_COUNTED: Living = Living(2, 1, Spot::At(1, "a"), 2);
+
 const LAWFUL: &[(&str, Sketch)] = &[
     (
         "the root alone",
         Sketch {
             nodes: &[ROOT],
+            past: NO_PAST,
             postings: &[],
             pinning: &[],
             opened: &[],
@@ -55,6 +79,7 @@ const LAWFUL: &[(&str, Sketch)] = &[
         "a node that is counted",
         Sketch {
             nodes: &[ROOT, Living(2, 0, Spot::At(1, "a"), 1)],
+            past: NO_PAST,
             postings: &[BORN, ENTRY],
             pinning: &[],
             opened: &[],
@@ -64,6 +89,7 @@ const LAWFUL: &[(&str, Sketch)] = &[
         "a cut node that lives by a pin",
         Sketch {
             nodes: &[ROOT, Living(2, 0, Spot::Cut, 0)],
+            past: NO_PAST,
             postings: &[BORN, ENTRY, BACK],
             pinning: &[(5, 2)],
             opened: &[],
@@ -73,6 +99,7 @@ const LAWFUL: &[(&str, Sketch)] = &[
         "a number that was born again",
         Sketch {
             nodes: &[Living(2, 1, Spot::At(1, "b"), 1), ROOT],
+            past: NO_PAST,
             postings: &[BORN, ENTRY, BACK, BORN_AGAIN, ENTRY_AGAIN],
             pinning: &[],
             opened: &[],
@@ -82,15 +109,63 @@ const LAWFUL: &[(&str, Sketch)] = &[
         "a cut node that lives by two open files",
         Sketch {
             nodes: &[ROOT, Living(2, 0, Spot::Cut, 0)],
+            past: NO_PAST,
             postings: &[BORN, ENTRY, BACK],
             pinning: &[],
             opened: &[(2, 2, 0), (1, 2, 0)],
         },
     ),
     (
+        "a node of a period that is closed",
+        Sketch {
+            nodes: &[ROOT, TWICE_COUNTED],
+            past: PAST,
+            postings: &[OPENING],
+            pinning: &[],
+            opened: &[],
+        },
+    ),
+    (
+        "a number whose births were kept",
+        Sketch {
+            nodes: &[ROOT, Living(2, 2, Spot::At(1, "a"), 1)],
+            past: Past {
+                births: &[
+                    KeptBirths {
+                        number: 2,
+                        count: 1,
+                    },
+                    KeptBirths {
+                        number: 2,
+                        count: 1,
+                    },
+                ],
+                totals: Totals {
+                    born: 2,
+                    entries: 2,
+                    backs: 1,
+                    forgotten: 1,
+                },
+            },
+            postings: &[
+                Posting::Born {
+                    number: 2,
+                    generation: 2,
+                },
+                Posting::Entry {
+                    number: 2,
+                    generation: 2,
+                },
+            ],
+            pinning: &[],
+            opened: &[],
+        },
+    ),
+    (
         "an open file under the handle 0",
         Sketch {
             nodes: &[ROOT],
+            past: NO_PAST,
             postings: &[],
             pinning: &[],
             opened: &[(0, 1, 0)],
@@ -103,6 +178,7 @@ const UNLAWFUL: &[(&str, Sketch)] = &[
         "nothing at all",
         Sketch {
             nodes: &[],
+            past: NO_PAST,
             postings: &[],
             pinning: &[],
             opened: &[],
@@ -112,6 +188,7 @@ const UNLAWFUL: &[(&str, Sketch)] = &[
         "a node that was entered once more",
         Sketch {
             nodes: &[ROOT, Living(2, 0, Spot::At(1, "a"), 1)],
+            past: NO_PAST,
             postings: &[BORN, ENTRY, ENTRY],
             pinning: &[],
             opened: &[],
@@ -121,6 +198,7 @@ const UNLAWFUL: &[(&str, Sketch)] = &[
         "a cut node alone",
         Sketch {
             nodes: &[ROOT, Living(2, 0, Spot::Cut, 0)],
+            past: NO_PAST,
             postings: &[BORN, ENTRY, BACK],
             pinning: &[],
             opened: &[],
@@ -130,6 +208,7 @@ const UNLAWFUL: &[(&str, Sketch)] = &[
         "two requests with one id",
         Sketch {
             nodes: &[ROOT],
+            past: NO_PAST,
             postings: &[],
             pinning: &[(5, 1), (5, 1)],
             opened: &[],
@@ -143,7 +222,104 @@ const UNLAWFUL: &[(&str, Sketch)] = &[
                 Living(2, 0, Spot::At(3, "a"), 0),
                 Living(3, 0, Spot::At(2, "a"), 0),
             ],
+            past: NO_PAST,
             postings: &[BORN, OTHER_BORN],
+            pinning: &[],
+            opened: &[],
+        },
+    ),
+    (
+        "an opening where nothing was closed",
+        Sketch {
+            nodes: &[ROOT, TWICE_COUNTED],
+            past: NO_PAST,
+            postings: &[OPENING],
+            pinning: &[],
+            opened: &[],
+        },
+    ),
+    (
+        "an opening that carries what was given back",
+        Sketch {
+            nodes: &[ROOT, Living(2, 1, Spot::At(1, "a"), 3)],
+            past: PAST,
+            postings: &[Posting::Opening {
+                number: 2,
+                generation: 1,
+                count: 3,
+            }],
+            pinning: &[],
+            opened: &[],
+        },
+    ),
+    (
+        "an opening twice",
+        Sketch {
+            nodes: &[ROOT, TWICE_COUNTED],
+            past: PAST,
+            postings: &[
+                OPENING,
+                Posting::Opening {
+                    number: 2,
+                    generation: 1,
+                    count: 0,
+                },
+            ],
+            pinning: &[],
+            opened: &[],
+        },
+    ),
+    (
+        "an opening of a generation that was not born",
+        Sketch {
+            nodes: &[ROOT, Living(2, 2, Spot::At(1, "a"), 2)],
+            past: PAST,
+            postings: &[Posting::Opening {
+                number: 2,
+                generation: 2,
+                count: 2,
+            }],
+            pinning: &[],
+            opened: &[],
+        },
+    ),
+    (
+        "an opening that stands behind an entry",
+        Sketch {
+            nodes: &[ROOT, Living(2, 1, Spot::At(1, "a"), 3)],
+            past: PAST,
+            postings: &[ENTRY_AGAIN, OPENING],
+            pinning: &[],
+            opened: &[],
+        },
+    ),
+    (
+        "births that were not all kept",
+        Sketch {
+            nodes: &[ROOT, TWICE_COUNTED],
+            past: Past {
+                births: &[KeptBirths {
+                    number: 2,
+                    count: 2,
+                }],
+                totals: Totals {
+                    born: 3,
+                    entries: 3,
+                    backs: 0,
+                    forgotten: 1,
+                },
+            },
+            postings: &[OPENING],
+            pinning: &[],
+            opened: &[],
+        },
+    ),
+    (
+        "a closed node that is not carried on",
+        Sketch {
+            nodes: &[ROOT],
+            past: PAST,
+            postings: &[],
             pinning: &[],
             opened: &[],
         },
@@ -152,6 +328,7 @@ const UNLAWFUL: &[(&str, Sketch)] = &[
         "forgets whose sum has 65 bits",
         Sketch {
             nodes: &[ROOT],
+            past: NO_PAST,
             postings: &[BORN, ENTRY, FORGET_ALL, FORGET_ALL],
             pinning: &[],
             opened: &[],
@@ -161,6 +338,7 @@ const UNLAWFUL: &[(&str, Sketch)] = &[
         "an open file of a node that does not live",
         Sketch {
             nodes: &[ROOT],
+            past: NO_PAST,
             postings: &[],
             pinning: &[],
             opened: &[(1, 2, 0)],
@@ -170,6 +348,7 @@ const UNLAWFUL: &[(&str, Sketch)] = &[
         "an open file of an earlier node of that number",
         Sketch {
             nodes: &[ROOT, Living(2, 1, Spot::At(1, "a"), 1)],
+            past: NO_PAST,
             postings: &[BORN, ENTRY, BACK, BORN_AGAIN, ENTRY_AGAIN],
             pinning: &[],
             opened: &[(1, 2, 0)],
@@ -179,6 +358,7 @@ const UNLAWFUL: &[(&str, Sketch)] = &[
         "two open files with one handle",
         Sketch {
             nodes: &[ROOT],
+            past: NO_PAST,
             postings: &[],
             pinning: &[],
             opened: &[(1, 1, 0), (1, 1, 0)],
@@ -188,6 +368,7 @@ const UNLAWFUL: &[(&str, Sketch)] = &[
         "a handle that was not given yet",
         Sketch {
             nodes: &[ROOT],
+            past: NO_PAST,
             postings: &[],
             pinning: &[],
             opened: &[(3, 1, 0)],
@@ -213,4 +394,45 @@ fn images_are_lawful(rt: HostRuntime) -> Result<(), Fail> {
 #[test]
 fn images_are_not_lawful(rt: HostRuntime) -> Result<(), Fail> {
     judge(rt.alloc(), UNLAWFUL, false)
+}
+
+/// The same image as the struct of before has it.
+fn before(image: Image) -> ImageOne {
+    ImageOne {
+        nodes: image.nodes,
+        postings: image.postings,
+        records: image.records,
+        holds: image.holds,
+        files: image.files,
+        counter: image.counter,
+        last_handle: image.last_handle,
+    }
+}
+
+const BEFORE: Sketch = Sketch {
+    nodes: &[ROOT, Living(2, 1, Spot::At(1, "a"), 1)],
+    past: NO_PAST,
+    postings: &[BORN, ENTRY, BACK, BORN_AGAIN, ENTRY_AGAIN],
+    pinning: &[],
+    opened: &[(1, 2, 1)],
+};
+
+const OPENED: Sketch = Sketch {
+    nodes: &[ROOT, TWICE_COUNTED],
+    past: NO_PAST,
+    postings: &[OPENING],
+    pinning: &[],
+    opened: &[],
+};
+
+/// Nothing was closed then, so that an opening is never lawful.
+#[test]
+fn images_of_before_are_taken_over(rt: HostRuntime) -> Result<(), Fail> {
+    let taken = Image::take_over(before(image(rt.alloc(), &BEFORE)?));
+    assert!(rt; taken.lawful());
+    assert_eq!(rt; taken.births.as_slice().len(), 0);
+    assert_eq!(rt; taken.closed, Totals::nothing());
+    assert_eq!(rt; taken.postings.as_slice(), BEFORE.postings);
+    assert!(rt; !Image::take_over(before(image(rt.alloc(), &OPENED)?)).lawful());
+    Ok(())
 }

@@ -1,11 +1,13 @@
 //! Images that are made from sketches.
 
 use holds::{GivenPaths, Held, Paths};
-use ledger::Posting;
+use ledger::{KeptBirths, Posting, Totals};
 use paths::Name;
 use std::alloc::{AllocError, Global};
 use table_files::{Access, OpenEntry, OpenFile};
-use table_image::{Holds, Image, Nodes, Numbers, OpenFiles, Postings, Record, Records, Stage};
+use table_image::{
+    Births, Holds, Image, Nodes, Numbers, OpenFiles, Postings, Record, Records, Stage,
+};
 use tree::{Key, Node, Place};
 
 /// Where a node stands.
@@ -23,11 +25,29 @@ pub struct Living<'a>(pub u64, pub u64, pub Spot<'a>, pub u64);
 
 pub const ROOT: Living = Living(1, 0, Spot::Root, 0);
 
-/// The nodes, the postings, the oldest first, and the requests, whose work goes on: of each its id, and the number that it
-/// pins; and the open files: of each its handle, and the number and the generation of its node. No name is held, and the last
-/// handle is 2.
+/// What is kept of periods that are closed: how often each number was born, and the totals.
+pub struct Past<'a> {
+    pub births: &'a [KeptBirths],
+    pub totals: Totals,
+}
+
+/// No period is closed.
+pub const NO_PAST: Past = Past {
+    births: &[],
+    totals: Totals {
+        born: 0,
+        entries: 0,
+        backs: 0,
+        forgotten: 0,
+    },
+};
+
+/// The nodes, what is closed, the postings, the oldest first, and the requests, whose work goes on: of each its id, and the
+/// number that it pins; and the open files: of each its handle, and the number and the generation of its node. No name is held,
+/// and the last handle is 2.
 pub struct Sketch<'a> {
     pub nodes: &'a [Living<'a>],
+    pub past: Past<'a>,
     pub postings: &'a [Posting],
     pub pinning: &'a [(u64, u64)],
     pub opened: &'a [(u64, u64, u64)],
@@ -107,6 +127,8 @@ fn files_of(alloc: Global, opened: &[(u64, u64, u64)]) -> Result<OpenFiles, Allo
 pub fn image(alloc: Global, sketch: &Sketch) -> Result<Image, AllocError> {
     Ok(Image {
         nodes: nodes_of(alloc, sketch.nodes)?,
+        births: Births::from(Vec::from_slice(alloc, sketch.past.births)?),
+        closed: sketch.past.totals,
         postings: Postings::from(Vec::from_slice(alloc, sketch.postings)?),
         records: records_of(alloc, sketch.pinning)?,
         holds: Holds::from(Vec::new(alloc)),

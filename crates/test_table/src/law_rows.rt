@@ -3,13 +3,13 @@
 use crate::shows::path_of;
 use crate::story::{Holding, ROOT};
 use holds::{GivenPath, GivenPaths, Held, Paths};
-use ledger::Posting;
+use ledger::{Posting, Totals};
 use paths::Name;
 use std::alloc::{AllocError, Global};
 use std::test::Fail;
 use table_image::Stage::{Answered, Working};
 use table_image::{
-    Hold, Holds, Image, Nodes, Numbers, OpenFiles, Postings, Record, Records, Stage,
+    Births, Hold, Holds, Image, Nodes, Numbers, OpenFiles, Postings, Record, Records, Stage,
 };
 use tree::{Key, Node, Place};
 
@@ -113,6 +113,8 @@ const POSTINGS: &[Posting] = &[
 fn image_of(alloc: Global, case: &Case) -> Result<Image, AllocError> {
     Ok(Image {
         nodes: nodes(alloc)?,
+        births: Births::new(alloc),
+        closed: Totals::nothing(),
         postings: Postings::from(Vec::from_slice(alloc, POSTINGS)?),
         records: records_of(alloc, case.requests)?,
         holds: holds_of(alloc, case.holds)?,

@@ -50,6 +50,8 @@ mod order_rows;
 #[cfg(test)]
 mod page_rows;
 #[cfg(test)]
+mod period_rows;
+#[cfg(test)]
 mod release_rows;
 #[cfg(test)]
 mod removal_rows;

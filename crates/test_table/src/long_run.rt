@@ -60,6 +60,7 @@ fn sum_of(image: &Image) -> Sum {
             Posting::Entry { .. } => entries = entries.saturating_add(1),
             Posting::Back { .. } => backs = backs.saturating_add(1),
             Posting::Forget { amount, .. } => forgotten = forgotten.saturating_add(amount),
+            Posting::Opening { .. } => {}
         }
     }
     Sum::All(born, entries, backs, forgotten)

@@ -23,6 +23,7 @@ enum Made<'a> {
     Finish(usize, Outcome<'a>),
     Settle(usize, Reply),
     Forget(u64, u64),
+    ClosePeriod,
 }
 
 /// `b` is given first, then `c` is removed, then `a` is given, and last a page of `a` and `d`. Where nothing is pending, nothing is done.
@@ -82,6 +83,7 @@ fn call_of(alloc: Global, made: Made) -> Result<Call, AllocError> {
             taken: reply == Reply::Taken,
         },
         Made::Forget(number, n) => Call::Forget { number, n },
+        Made::ClosePeriod => Call::ClosePeriod,
     })
 }
 
@@ -98,6 +100,7 @@ fn told_of(told: CallTold, pending: &Pending) -> Told {
         },
         CallTold::Settled(settled) => Told::Settled(settled.entries()),
         CallTold::Forgot(amount) => Told::Amount(amount),
+        CallTold::Closed(shorter) => Told::Closed(shorter),
     }
 }
 
@@ -111,6 +114,7 @@ fn agrees(told: &CallTold, said: Told) -> bool {
         (CallTold::Refused(errno), Told::Refused(other)) => *errno == other,
         (CallTold::Settled(settled), Told::Settled(entries)) => settled.entries() == entries,
         (CallTold::Forgot(amount), Told::Amount(other)) => *amount == other,
+        (CallTold::Closed(shorter), Told::Closed(other)) => *shorter == other,
         _ => false,
     }
 }

@@ -31,6 +31,11 @@ impl From<&Posting> for Posted {
                 generation,
                 amount,
             } => Posted::Forget(number, generation, amount),
+            Posting::Opening {
+                number,
+                generation,
+                count,
+            } => Posted::Opening(number, generation, count),
         }
     }
 }

@@ -105,6 +105,8 @@ pub enum Told {
     Settled(u64),
     /// So many lookups were given back.
     Amount(u64),
+    /// The period ended, and the ledger became so much shorter.
+    Closed(u64),
     /// Nothing was in hand, so that nothing was done.
     Nothing,
     /// What the step says of the table is so.
@@ -120,13 +122,14 @@ pub enum Reply {
     Untaken,
 }
 
-/// A posting: of which number, in which generation, and of a Forget how many lookups.
+/// A posting: of which number, in which generation, and of a Forget how many lookups, or of an Opening the count.
 #[derive(Clone, Copy, PartialEq, Eq)]
 pub enum Posted {
     Born(u64, u64),
     Entry(u64, u64),
     Back(u64, u64),
     Forget(u64, u64, u64),
+    Opening(u64, u64, u64),
 }
 
 /// Where a node stands.
@@ -163,6 +166,8 @@ pub enum Step<'a> {
     Settle(u64, Reply, Told),
     /// Gives so many lookups of a node back.
     Forget(u64, u64, Told),
+    /// Ends the period of the ledger.
+    ClosePeriod(Told),
     /// A LOOKUP of a name under a parent, from its begin to its settle as taken, and what its finish must tell.
     LookUp(u64, &'a str, Told),
     /// The share of that worker is passed from now on: the first one's is 0, and is passed first.
@@ -206,6 +211,7 @@ impl Step<'_> {
             | Step::Finish(_, _, told)
             | Step::Settle(_, _, told)
             | Step::Forget(_, _, told)
+            | Step::ClosePeriod(told)
             | Step::LookUp(_, _, told) => told,
             _ => Told::Shown,
         }

@@ -130,6 +130,7 @@ impl<T: Ledgers> TestTable<T> {
             Step::Finish(unique, outcome, _) => self.finish(unique, outcome),
             Step::Settle(unique, reply, _) => Ok(self.settle(unique, reply)),
             Step::Forget(number, n, _) => Ok(self.forget(number, n)),
+            Step::ClosePeriod(_) => Ok(Told::Closed(self.table.close_period()?)),
             Step::LookUp(parent, name, _) => self.look_up(parent, name),
             Step::Stranger(unique) => self.take_stranger(unique),
             Step::StrangersAnswer(unique, after) => self.take_answer(unique, after),

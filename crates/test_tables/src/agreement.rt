@@ -45,6 +45,7 @@ fn posted(posting: Posting, bearer: Bearer) -> Posted {
         Posting::Entry { .. } => Posted::Entry(bearer),
         Posting::Back { .. } => Posted::Back(bearer),
         Posting::Forget { amount, .. } => Posted::Forget(bearer, amount),
+        Posting::Opening { count, .. } => Posted::Opening(bearer, count),
     }
 }
 
@@ -57,6 +58,11 @@ fn bearer_of(posting: Posting) -> Bearer {
             number,
             generation,
             amount: _,
+        }
+        | Posting::Opening {
+            number,
+            generation,
+            count: _,
         } => (number, generation),
     }
 }

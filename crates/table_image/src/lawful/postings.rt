@@ -1,54 +1,34 @@
-//! The law of the ledger by itself: the order of its postings, and that no count was ever negative.
+//! The law of the postings of a period by themselves: their order, and that no count was ever negative.
 
-ghost use Rattle.std.specs.Prelude.{◌≡◌, ◌↔◌, ◌+◌, false, if◌then◌else◌, IsTrue, IfSome, IfNone, Contains};
-ghost use Rattle.ledger.specs.declared.postings.Posting.TheVariants as Posting;
-ghost use Rattle.ledger.specs.Sums.{number_of, generation_of, is_birth, is_entry, given_by, births_of, entries_of, given_back_of, totals_by, IsAllowed, IsNeverNegative};
-ghost use Rattle.table_image.specs.Law.{MayStand, IsOrdered};
-ghost use Rattle.table_image.specs.Parts.{entered_in_all, given_in_all};
+ghost use Rattle.std.specs.Prelude.{◌≡◌, ◌↔◌, ◌+◌, ◌<◌, ◌^◌, true, IsTrue, All};
+ghost use Rattle.ledger.specs.Sums.{number_of, generation_of, births_of, entries_of, given_back_of, is_opening, carried_by, totals_by, IsAllowed, IsNeverNegative};
+ghost use Rattle.table_image.specs.Law.{IsBegun, IsOrdered, MayOpen, MayStand};
+ghost use Rattle.table_image.specs.Parts.{Begins, after_closed, births_summed, entered_in_all, given_in_all};
 
-use ledger::Posting;
-
-/// The generation with which the posting bears the number.
-fn birth_of(posting: &Posting, number: u64) -> Option<u64>
-    ensures some { IfSome result (λ g. posting.now ≡ Posting.Born number g) }
-    ensures none { IfNone result (is_birth number posting.now ≡ false) }
-{
-    match *posting {
-        Posting::Born {
-            number: born,
-            generation,
-        } if born == number => Some(generation),
-        _ => None,
-    }
-}
-
-/// Whether the posting is the birth of that number and generation.
-fn is_birth_of(posting: &Posting, number: u64, generation: u64) -> bool
-    ensures { IsTrue result ↔ (posting.now ≡ Posting.Born number generation) }
-{
-    birth_of(posting, number) == Some(generation)
-}
+use crate::lawful::births::{births_closed, last_generation};
+use ledger::{KeptBirths, Posting};
 
 /// Whether the posting is about that number and generation.
-fn is_about(posting: &Posting, node: u64, life: u64) -> bool
-    ensures { IsTrue result ↔ (number_of posting.now ≡ node) × (generation_of posting.now ≡ life) }
+fn is_about(posting: &Posting, number: u64, generation: u64) -> bool
+    ensures { IsTrue result ↔ (number_of posting.now ≡ number) × (generation_of posting.now ≡ generation) }
+{
+    posting.number() == number && posting.generation() == generation
+}
+
+/// Whether the posting begins the life of that number and generation, or goes on with it in a new period.
+fn begins(posting: &Posting, number: u64, generation: u64) -> bool
+    ensures { IsTrue result ↔ Begins posting.now number generation }
 {
     match *posting {
-        Posting::Born { number, generation }
-        | Posting::Entry { number, generation }
-        | Posting::Back { number, generation }
-        | Posting::Forget {
-            number,
-            generation,
-            ..
-        } => number == node && generation == life,
+        Posting::Born { .. } | Posting::Opening { .. } => is_about(posting, number, generation),
+        _ => false,
     }
 }
 
-/// Whether the number was born with the generation: only then is any posting about them.
-fn has_birth(postings: &[Posting], number: u64, generation: u64) -> bool
-    requires { IsOrdered postings.now }
-    ensures { IsTrue result ↔ Contains postings.now (Posting.Born number generation) }
+/// Whether the number and generation were begun: only then is any posting about them.
+fn is_begun(_kept: &[KeptBirths], postings: &[Posting], number: u64, generation: u64) -> bool
+    requires { IsOrdered (after_closed _kept.now postings.now) }
+    ensures { IsTrue result ↔ IsBegun (after_closed _kept.now postings.now) number generation }
 {
     for k in (0..postings.len()).rev() {
         if is_about(&postings[k], number, generation) {
@@ -58,88 +38,94 @@ fn has_birth(postings: &[Posting], number: u64, generation: u64) -> bool
     false
 }
 
-/// How often the number was born: its last birth bears the number of births before it.
-pub fn births(postings: &[Posting], number: u64) -> u64
-    requires { IsOrdered postings.now }
-    ensures { result ≡ births_of number postings.now }
-{
-    for k in (0..postings.len()).rev() {
-        if let Some(generation) = birth_of(&postings[k], number) {
-            return generation + 1;
-        }
-    }
-    0
-}
-
-/// How many entries of the number in that generation the posting makes.
-fn entered(posting: &Posting, node: u64, life: u64) -> u64
-    ensures { result ≡ (if is_entry node life posting.now then 1 else 0) }
-{
-    match *posting {
-        Posting::Entry { number, generation } if number == node && generation == life => 1,
-        _ => 0,
-    }
-}
-
-/// How many entries of the number in that generation the posting takes back or forgets.
-fn given(posting: &Posting, node: u64, life: u64) -> u64
-    ensures { result ≡ given_by node life posting.now }
-{
-    match *posting {
-        Posting::Back { number, generation } if number == node && generation == life => 1,
-        Posting::Forget {
-            number,
-            generation,
-            amount,
-        } if number == node && generation == life => amount,
-        _ => 0,
-    }
-}
-
 /// The lookup count of the number in that generation: its entries less what came back and was forgotten.
 ///
-/// The last postings are read first, down to the birth.
-pub fn count(postings: &[Posting], number: u64, generation: u64) -> u64
-    requires ordered { IsOrdered postings.now }
-    requires never_negative { IsNeverNegative postings.now }
-    ensures { result + given_back_of number generation postings.now ≡ entries_of number generation postings.now }
+/// The last postings are read first, down to the one that began it.
+pub fn count(_kept: &[KeptBirths], postings: &[Posting], number: u64, generation: u64) -> u128
+    requires ordered { IsOrdered (after_closed _kept.now postings.now) }
+    requires never_negative { IsNeverNegative (after_closed _kept.now postings.now) }
+    ensures { result + given_back_of number generation (after_closed _kept.now postings.now) ≡ entries_of number generation (after_closed _kept.now postings.now) }
 {
-    let mut entries: u64 = 0;
-    let mut gone: u64 = 0;
+    let mut entries: u128 = 0;
+    let mut gone: u128 = 0;
     for k in (0..postings.len()).rev() {
         let posting = postings[k];
-        if is_birth_of(&posting, number, generation) {
+        entries += u128::from(posting.entered(number, generation));
+        gone += u128::from(posting.given(number, generation));
+        if begins(&posting, number, generation) {
             return entries - gone;
         }
-        entries += entered(&posting, number, generation);
-        gone += given(&posting, number, generation);
     }
     entries - gone
 }
 
+/// Whether a period begins with the posting.
+fn is_opening(posting: &Posting) -> bool
+    ensures { result ≡ is_opening posting.now }
+{
+    matches!(*posting, Posting::Opening { .. })
+}
+
+/// Whether a period begins with all of them.
+fn are_openings(postings: &[Posting]) -> bool
+    ensures { IsTrue result ↔ All (λ p. is_opening p ≡ true) postings.now }
+{
+    postings.iter().all(is_opening)
+}
+
+/// Whether an opening of that number and generation may stand after the others.
+fn may_open(kept: &[KeptBirths], before: &[Posting], number: u64, generation: u64) -> bool
+    requires ordered { IsOrdered (after_closed kept.now before.now) }
+    requires small { births_summed kept.now < 2 ^ 64 }
+    ensures { IsTrue result ↔ MayOpen (after_closed kept.now before.now) number generation }
+{
+    are_openings(before)
+        && !is_begun(kept, before, number, generation)
+        && generation < births_closed(kept, number)
+}
+
+/// Whether the generation is the number of births so far.
+fn is_next(kept: &[KeptBirths], before: &[Posting], number: u64, generation: u64) -> bool
+    requires ordered { IsOrdered (after_closed kept.now before.now) }
+    requires small { births_summed kept.now < 2 ^ 64 }
+    ensures { IsTrue result ↔ (generation ≡ births_of number (after_closed kept.now before.now)) }
+{
+    match last_generation(kept, before, number) {
+        Some(last) => last.checked_add(1) == Some(generation),
+        None => generation == 0,
+    }
+}
+
 /// Whether the posting may stand after the others.
-fn may_stand(before: &[Posting], posting: &Posting) -> bool
-    requires { IsOrdered before.now }
-    ensures { IsTrue result ↔ MayStand before.now posting.now }
+fn may_stand(kept: &[KeptBirths], before: &[Posting], posting: &Posting) -> bool
+    requires ordered { IsOrdered (after_closed kept.now before.now) }
+    requires small { births_summed kept.now < 2 ^ 64 }
+    ensures { IsTrue result ↔ MayStand (after_closed kept.now before.now) posting.now }
 {
     match *posting {
-        Posting::Born { number, generation } => generation == births(before, number),
-        Posting::Entry { number, generation } => has_birth(before, number, generation),
-        Posting::Back { number, generation } => has_birth(before, number, generation),
+        Posting::Born { number, generation } => is_next(kept, before, number, generation),
+        Posting::Entry { number, generation } => is_begun(kept, before, number, generation),
+        Posting::Back { number, generation } => is_begun(kept, before, number, generation),
         Posting::Forget {
             number,
             generation,
             ..
-        } => has_birth(before, number, generation),
+        } => is_begun(kept, before, number, generation),
+        Posting::Opening {
+            number,
+            generation,
+            ..
+        } => may_open(kept, before, number, generation),
     }
 }
 
-/// Whether each birth bears the number of births before it, and all else stands after its birth.
-pub fn are_ordered(postings: &[Posting]) -> bool
-    ensures { IsTrue result ↔ IsOrdered postings.now }
+/// Whether openings stand first, each birth bears the number of births before it, and all else stands after what began it.
+pub fn are_ordered(kept: &[KeptBirths], postings: &[Posting]) -> bool
+    requires { births_summed kept.now < 2 ^ 64 }
+    ensures { IsTrue result ↔ IsOrdered (after_closed kept.now postings.now) }
 {
     for (k, posting) in postings.iter().enumerate() {
-        if !may_stand(&postings[..k], posting) {
+        if !may_stand(kept, &postings[..k], posting) {
             return false;
         }
     }
@@ -147,41 +133,42 @@ pub fn are_ordered(postings: &[Posting]) -> bool
 }
 
 /// Whether the posting takes no more than is there after the others.
-fn is_allowed(before: &[Posting], posting: &Posting) -> bool
-    requires ordered { IsOrdered before.now }
-    requires never_negative { IsNeverNegative before.now }
-    ensures { IsTrue result ↔ IsAllowed before.now posting.now }
+fn is_allowed(kept: &[KeptBirths], before: &[Posting], posting: &Posting) -> bool
+    requires ordered { IsOrdered (after_closed kept.now before.now) }
+    requires never_negative { IsNeverNegative (after_closed kept.now before.now) }
+    ensures { IsTrue result ↔ IsAllowed (after_closed kept.now before.now) posting.now }
 {
     match *posting {
-        Posting::Born { .. } | Posting::Entry { .. } => true,
-        Posting::Back { number, generation } => count(before, number, generation) > 0,
+        Posting::Born { .. } | Posting::Entry { .. } | Posting::Opening { .. } => true,
+        Posting::Back { number, generation } => count(kept, before, number, generation) > 0,
         Posting::Forget {
             number,
             generation,
             amount,
-        } => amount <= count(before, number, generation),
+        } => u128::from(amount) <= count(kept, before, number, generation),
     }
 }
 
 /// Whether never more was given back and forgotten than entered.
-pub fn are_never_negative(postings: &[Posting]) -> bool
-    requires { IsOrdered postings.now }
-    ensures { IsTrue result ↔ IsNeverNegative postings.now }
+pub fn are_never_negative(kept: &[KeptBirths], postings: &[Posting]) -> bool
+    requires { IsOrdered (after_closed kept.now postings.now) }
+    ensures { IsTrue result ↔ IsNeverNegative (after_closed kept.now postings.now) }
 {
     for (k, posting) in postings.iter().enumerate() {
-        if !is_allowed(&postings[..k], posting) {
+        if !is_allowed(kept, &postings[..k], posting) {
             return false;
         }
     }
     true
 }
 
-/// How many entries the posting makes.
+/// How many entries the posting makes, or carries over.
 fn made(posting: &Posting) -> u64
-    ensures { result ≡ (totals_by posting.now).entries }
+    ensures { result ≡ carried_by posting.now + (totals_by posting.now).entries }
 {
     match *posting {
         Posting::Entry { .. } => 1,
+        Posting::Opening { count, .. } => count,
         _ => 0,
     }
 }
@@ -198,14 +185,14 @@ fn taken(posting: &Posting) -> u64
 }
 
 /// The entries of all nodes together, less what came back and was forgotten.
-pub fn count_in_all(postings: &[Posting]) -> u64
-    requires { IsNeverNegative postings.now }
+pub fn count_in_all(_kept: &[KeptBirths], postings: &[Posting]) -> u128
+    requires { IsNeverNegative (after_closed _kept.now postings.now) }
     ensures { result + given_in_all postings.now ≡ entered_in_all postings.now }
 {
-    let mut left: u64 = 0;
+    let mut left: u128 = 0;
     for posting in postings {
-        left += made(posting);
-        left -= taken(posting);
+        left += u128::from(made(posting));
+        left -= u128::from(taken(posting));
     }
     left
 }

@@ -1,7 +1,7 @@
 use Rattle.std.proofs.Common.{[], false, take, ap, inl, refl, subst, sym, ◌∙◌, ℕ, List, arith}
 use Rattle.table_steps.specs.Kept.{world_of}
 use Rattle.wire.specs.Stream.{Cutting, IsPartial}
-use Rattle.table.proofs.Gaining.{gains_on, gains_same}
+use Rattle.table.proofs.Gaining.{gains_totals, in_all_on}
 use Rattle.engine.specs.Serving.{does}
 use Rattle.engine.specs.Tables.{worlds}
 use Rattle.engine.specs.Walks.{side, stand}
@@ -17,7 +17,7 @@ loop-init g c =
       on = ap (λ (k : Cutting). k.stopped) c.new-cutter.ensures;
       settings = refl;
       idle = c.requires.fresh;
-      gains = gains_same (world_of c.args.table.now) (world_of c.args.table.now) c.args.share.now c.args.share.now c.attest.ensures refl refl;
+      gains = gains_totals (world_of c.args.table.now) (world_of c.args.table.now) c.args.share.now c.attest.ensures refl;
       walks = walks_from worlds c.args.settings g.L.LinkIn.receives g.L.LinkOut.sends (does g.C.Calls.gives g.D.Folders.keeps) c.args.link.now c.args.served.now (stand (world_of c.args.table.now) false) c.new-cutter.result.kept empty;
     }
 
@@ -26,9 +26,7 @@ returns-in-End g c =
     record {
       serves = at_end worlds c.args.settings g.L.LinkIn.receives g.L.LinkOut.sends (does g.C.Calls.gives g.D.Folders.keeps) c.args.link.now c.loop.link c.args.served.now c.loop.served (world_of c.args.table.now) (stand (world_of c.loop.table) c.loop.session.agreed) c.loop.cutter.kept
           c.requires.fresh c.loop.invariant.partial c.loop.invariant.walks c.receive.new.self c.rest.result c.in-End.ensures.brought c.rest.ensures;
-      lawful = c.loop.invariant.gains.lawful;
-      grows = c.loop.invariant.gains.grows;
-      share = c.loop.invariant.gains.share;
+      gains = c.loop.invariant.gains;
     }
 
 pub returns-in-Broken : goal.returns-in-Broken
@@ -36,9 +34,7 @@ returns-in-Broken g c =
     record {
       serves = at_break worlds c.args.settings g.L.LinkIn.receives g.L.LinkOut.sends (does g.C.Calls.gives g.D.Folders.keeps) c.args.link.now c.loop.link c.args.served.now c.loop.served (world_of c.args.table.now) (stand (world_of c.loop.table) c.loop.session.agreed) c.loop.cutter.kept
           c.requires.fresh c.loop.invariant.partial c.loop.invariant.walks c.receive.new.self c.in-Broken.ensures.brought;
-      lawful = c.loop.invariant.gains.lawful;
-      grows = c.loop.invariant.gains.grows;
-      share = c.loop.invariant.gains.share;
+      gains = c.loop.invariant.gains;
     }
 
 pub returns-in-Err : goal.returns-in-Err
@@ -46,23 +42,19 @@ returns-in-Err g c =
     record {
       serves = unfed worlds c.args.settings g.L.LinkIn.receives g.L.LinkOut.sends (does g.C.Calls.gives g.D.Folders.keeps) c.args.link.now c.loop.link c.args.served.now c.loop.served (world_of c.args.table.now) (stand (world_of c.loop.table) c.loop.session.agreed) c.loop.cutter.kept
           c.requires.fresh c.loop.invariant.partial c.loop.invariant.walks c.receive.new.self (take c.in-Bytes.count c.receive.new.room) c.in-Bytes.ensures.brought;
-      lawful = c.loop.invariant.gains.lawful;
-      grows = c.loop.invariant.gains.grows;
-      share = c.loop.invariant.gains.share;
+      gains = c.loop.invariant.gains;
     }
 
 pub returns-in-Some-work_off_frames : goal.returns-in-Some-work_off_frames
 returns-in-Some-work_off_frames g c =
     let inv = c.loop.invariant in
-    let gains = gains_on (world_of c.args.table.now) (world_of c.loop.table) (world_of c.work_off_frames.new.table) c.args.share.now c.loop.share c.work_off_frames.new.share inv.gains c.work_off_frames.ensures.gains in
+    let gains = in_all_on (world_of c.args.table.now) (world_of c.loop.table) (world_of c.work_off_frames.new.table) c.args.share.now c.loop.share c.work_off_frames.new.share inv.gains c.work_off_frames.ensures.gains in
     let fed = ap (λ (k : Cutting). k.kept) c.in-Ok.ensures.ok in
     let walks = piece_on worlds c.args.settings g.L.LinkIn.receives g.L.LinkOut.sends (does g.C.Calls.gives g.D.Folders.keeps) (side c.args.link.now c.args.served.now (stand (world_of c.args.table.now) false) []) c.loop.link c.receive.new.self c.loop.served (stand (world_of c.loop.table) c.loop.session.agreed) c.loop.cutter.kept (take c.in-Bytes.count c.receive.new.room) c.feed.new.self.kept inv.walks inv.partial c.in-Bytes.ensures.brought fed in
     record {
       serves = drained_end worlds c.args.settings g.L.LinkIn.receives g.L.LinkOut.sends (does g.C.Calls.gives g.D.Folders.keeps) c.args.link.now c.receive.new.self c.work_off_frames.new.link c.args.served.now c.loop.served c.work_off_frames.new.served (world_of c.args.table.now) (stand (world_of c.loop.table) c.loop.session.agreed) (stand (world_of c.work_off_frames.new.table) c.work_off_frames.new.session.agreed)
           c.feed.new.self.kept c.work_off_frames.new.cutter.kept c.work_off_frames.result c.in-Some-work_off_frames.end c.loop.session.settings inv.settings c.requires.fresh walks c.in-Some-work_off_frames.is c.work_off_frames.ensures.drains;
-      lawful = gains.lawful;
-      grows = gains.grows;
-      share = gains.share;
+      gains = gains;
     }
 
 pub loop-preserved : goal.loop-preserved
@@ -77,6 +69,6 @@ loop-preserved g c =
       on = c.in-None-work_off_frames.ensures.on ∙ (ap (λ (k : Cutting). k.stopped) c.in-Ok.ensures.ok ∙ inv.on);
       settings = c.work_off_frames.ensures.settings ∙ inv.settings;
       idle = c.work_off_frames.ensures.idle;
-      gains = gains_on (world_of c.args.table.now) (world_of c.loop.table) (world_of c.work_off_frames.new.table) c.args.share.now c.loop.share c.work_off_frames.new.share inv.gains c.work_off_frames.ensures.gains;
+      gains = in_all_on (world_of c.args.table.now) (world_of c.loop.table) (world_of c.work_off_frames.new.table) c.args.share.now c.loop.share c.work_off_frames.new.share inv.gains c.work_off_frames.ensures.gains;
       walks = on.0;
     }

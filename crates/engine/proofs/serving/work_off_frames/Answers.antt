@@ -1,7 +1,7 @@
 use Rattle.std.proofs.Common.{Some, None, Err, refl, sym, ap, ◌∙◌}
 use Rattle.table_steps.specs.Kept.{world_of}
 use Rattle.wire.specs.Stream.{Cutting}
-use Rattle.table.proofs.Gaining.{gains_on, gains_same}
+use Rattle.table.proofs.Gaining.{gains_totals, in_all_on}
 use Rattle.engine.specs.Serving.{does}
 use Rattle.engine.specs.Tables.{worlds}
 use Rattle.engine.specs.Walks.{side, stand}
@@ -13,7 +13,7 @@ loop-frame-init g c = record {
   stopped = refl;
   settings = refl;
   idle = c.requires.idle;
-  gains = gains_same (world_of c.args.table.now) (world_of c.args.table.now) c.args.share.now c.args.share.now c.attest.ensures refl refl;
+  gains = gains_totals (world_of c.args.table.now) (world_of c.args.table.now) c.args.share.now c.attest.ensures refl;
   walks = walks_none worlds c.args.session.now.settings g.L.LinkIn.receives g.L.LinkOut.sends (does g.C.Calls.gives g.D.Folders.keeps) (side c.args.link.now c.args.served.now (stand (world_of c.args.table.now) c.args.session.now.agreed) c.args.cutter.now.kept);
 }
 
@@ -32,7 +32,7 @@ returns-in-Some-clause-drains g c =
     }
 
 pub returns-in-Some-clause-gains : goal.returns-in-Some-clause-gains
-returns-in-Some-clause-gains g c = gains_on (world_of c.args.table.now) (world_of c.loop-frame.table) (world_of c.handle_frame.new.table) c.args.share.now c.loop-frame.share c.handle_frame.new.share c.loop-frame.invariant.gains c.handle_frame.ensures.gains
+returns-in-Some-clause-gains g c = in_all_on (world_of c.args.table.now) (world_of c.loop-frame.table) (world_of c.handle_frame.new.table) c.args.share.now c.loop-frame.share c.handle_frame.new.share c.loop-frame.invariant.gains c.handle_frame.ensures.gains
 
 pub loop-frame-preserved : goal.loop-frame-preserved
 loop-frame-preserved g c =
@@ -42,7 +42,7 @@ loop-frame-preserved g c =
       stopped = frame.stopped ∙ inv.stopped;
       settings = c.handle_frame.ensures.settings ∙ inv.settings;
       idle = c.handle_frame.ensures.idle;
-      gains = gains_on (world_of c.args.table.now) (world_of c.loop-frame.table) (world_of c.handle_frame.new.table) c.args.share.now c.loop-frame.share c.handle_frame.new.share inv.gains c.handle_frame.ensures.gains;
+      gains = in_all_on (world_of c.args.table.now) (world_of c.loop-frame.table) (world_of c.handle_frame.new.table) c.args.share.now c.loop-frame.share c.handle_frame.new.share inv.gains c.handle_frame.ensures.gains;
       walks = frame_on worlds c.args.session.now.settings g.L.LinkIn.receives g.L.LinkOut.sends (does g.C.Calls.gives g.D.Folders.keeps)
           (side c.args.link.now c.args.served.now (stand (world_of c.args.table.now) c.args.session.now.agreed) c.args.cutter.now.kept)
           c.loop-frame.link c.handle_frame.new.link c.loop-frame.served c.handle_frame.new.served (stand (world_of c.loop-frame.table) c.loop-frame.session.agreed) (stand (world_of c.handle_frame.new.table) c.handle_frame.new.self.agreed)

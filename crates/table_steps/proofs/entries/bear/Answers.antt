@@ -1,5 +1,5 @@
 use Rattle.std.proofs.Common.{ℕ, ◌≡◌, Some, List, ◌∷◌, ◌++◌, [], ap, ◌∙◌, subst, sym}
-use Rattle.ledger.specs.declared.postings.Posting.{Posting}
+use Rattle.ledger.specs.Periods.{Periods, posted}
 use Rattle.ledger.specs.declared.postings.Posting.TheVariants.{Entry}
 use Rattle.ledger.specs.Sums.{births_of}
 use Rattle.tree.specs.declared.nodes.Node.{Node}
@@ -30,4 +30,4 @@ returns-clause-law c =
     let stood : at_in c.birth-number.new.self n ≡ Some y = ap (λ (a : Lookup). a n) nodes ∙ with_same at n y in
     law_born at (at_in c.birth-number.new.self) (at_in c.set_count.new.self) c.args.ledger.now.made c.post-2.new.self.made (kept_by c.args._flights.now c.args._files.now)
     n g key.parent key.name c.requires.law (ap at c.birth-number.ensures.number ∙ c.next_free-next.ensures.free) born nodes (c.set_count.ensures.writes y stood).nodes
-    (c.post-2.ensures.made ∙ ap (λ (ps : List Posting). ps ++ Entry n g ∷ []) c.post.ensures.made) c.birth-number.ensures.tree c.set_count.ensures.tree
+    (c.post-2.ensures.made ∙ ap (λ (ps : Periods). posted ps (Entry n g)) c.post.ensures.made) c.birth-number.ensures.tree c.set_count.ensures.tree

@@ -6,11 +6,11 @@ use Rattle.table.proofs.table.Table.finish.Goals as goal
 
 pub post_since-requires-clause-within : goal.post_since-requires-clause-within
 post_since-requires-clause-within g c =
-    rw c.postings-made.ensures.made (length_longer (world_of c.self.inside.state) (world_of c.finish-answered.new.self) (ledgers_grown.finish (world_of c.self.inside.state) c.args.ticket.id c.args.outcome c.finish-answered.result (world_of c.finish-answered.new.self) c.finish-answered.ensures.finishes))
+    rw c.made-made.ensures (length_longer (world_of c.self.inside.state) (world_of c.finish-answered.new.self) (ledgers_grown.finish (world_of c.self.inside.state) c.args.ticket.id c.args.outcome c.finish-answered.result (world_of c.finish-answered.new.self) c.finish-answered.ensures.finishes))
 
 pub post_since-requires-clause-so_far : goal.post_since-requires-clause-so_far
 post_since-requires-clause-so_far g c =
-    rw c.postings-made.ensures.made (totals_longer (world_of c.self.inside.state) (world_of c.finish-answered.new.self) (ledgers_grown.finish (world_of c.self.inside.state) c.args.ticket.id c.args.outcome c.finish-answered.result (world_of c.finish-answered.new.self) c.finish-answered.ensures.finishes) c.self.inside.book c.self.invariant.1)
+    rw c.made-made.ensures (totals_longer (world_of c.self.inside.state) (world_of c.finish-answered.new.self) (ledgers_grown.finish (world_of c.self.inside.state) c.args.ticket.id c.args.outcome c.finish-answered.result (world_of c.finish-answered.new.self) c.finish-answered.ensures.finishes) c.self.inside.book c.self.invariant.1)
 
 pub returns-clause-grows : goal.returns-clause-grows
 returns-clause-grows g c =

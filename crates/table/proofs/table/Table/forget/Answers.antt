@@ -6,11 +6,11 @@ use Rattle.table.proofs.table.Table.forget.Goals as goal
 
 pub post_since-requires-clause-within : goal.post_since-requires-clause-within
 post_since-requires-clause-within g c =
-    rw c.postings-made.ensures.made (length_longer (world_of c.self.inside.state) (world_of c.forget-amount.new.self) (ledgers_grown.forget (world_of c.self.inside.state) c.args.number c.args.n c.forget-amount.result (world_of c.forget-amount.new.self) c.forget-amount.ensures.forgets))
+    rw c.made-made.ensures (length_longer (world_of c.self.inside.state) (world_of c.forget-amount.new.self) (ledgers_grown.forget (world_of c.self.inside.state) c.args.number c.args.n c.forget-amount.result (world_of c.forget-amount.new.self) c.forget-amount.ensures.forgets))
 
 pub post_since-requires-clause-so_far : goal.post_since-requires-clause-so_far
 post_since-requires-clause-so_far g c =
-    rw c.postings-made.ensures.made (totals_longer (world_of c.self.inside.state) (world_of c.forget-amount.new.self) (ledgers_grown.forget (world_of c.self.inside.state) c.args.number c.args.n c.forget-amount.result (world_of c.forget-amount.new.self) c.forget-amount.ensures.forgets) c.self.inside.book c.self.invariant.1)
+    rw c.made-made.ensures (totals_longer (world_of c.self.inside.state) (world_of c.forget-amount.new.self) (ledgers_grown.forget (world_of c.self.inside.state) c.args.number c.args.n c.forget-amount.result (world_of c.forget-amount.new.self) c.forget-amount.ensures.forgets) c.self.inside.book c.self.invariant.1)
 
 pub returns-clause-grows : goal.returns-clause-grows
 returns-clause-grows g c =

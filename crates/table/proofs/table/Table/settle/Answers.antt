@@ -6,11 +6,11 @@ use Rattle.table.proofs.table.Table.settle.Goals as goal
 
 pub post_since-requires-clause-within : goal.post_since-requires-clause-within
 post_since-requires-clause-within g c =
-    rw c.postings-made.ensures.made (length_longer (world_of c.self.inside.state) (world_of c.settle-settled.new.self) (ledgers_grown.settle (world_of c.self.inside.state) c.args.answered c.args.taken c.settle-settled.result (world_of c.settle-settled.new.self) c.settle-settled.ensures.settles))
+    rw c.made-made.ensures (length_longer (world_of c.self.inside.state) (world_of c.settle-settled.new.self) (ledgers_grown.settle (world_of c.self.inside.state) c.args.answered c.args.taken c.settle-settled.result (world_of c.settle-settled.new.self) c.settle-settled.ensures.settles))
 
 pub post_since-requires-clause-so_far : goal.post_since-requires-clause-so_far
 post_since-requires-clause-so_far g c =
-    rw c.postings-made.ensures.made (totals_longer (world_of c.self.inside.state) (world_of c.settle-settled.new.self) (ledgers_grown.settle (world_of c.self.inside.state) c.args.answered c.args.taken c.settle-settled.result (world_of c.settle-settled.new.self) c.settle-settled.ensures.settles) c.self.inside.book c.self.invariant.1)
+    rw c.made-made.ensures (totals_longer (world_of c.self.inside.state) (world_of c.settle-settled.new.self) (ledgers_grown.settle (world_of c.self.inside.state) c.args.answered c.args.taken c.settle-settled.result (world_of c.settle-settled.new.self) c.settle-settled.ensures.settles) c.self.inside.book c.self.invariant.1)
 
 pub returns-clause-grows : goal.returns-clause-grows
 returns-clause-grows g c =

@@ -1,14 +1,14 @@
 use Rattle.std.proofs.Common.{ℕ, ◌↔◌, IsTrue, All, rules, ap, sym, ◌∙◌}
 use Rattle.ledger.specs.Sums.{births_of}
 use Rattle.tree.proofs.LookupLemmas.{node_at_number}
-use Rattle.table_image.specs.Parts.{BearsLastBirth}
+use Rattle.table_image.specs.Parts.{BearsLastBirth, after_closed}
 use Rattle.table_image.proofs.Listed.{each_led, each_listed}
 use Rattle.table_image.proofs.lawful.counts.bear_last_births.Goals as goal
 
 pub returns : goal.returns
 returns c =
     let xs = c.args.nodes.now in
-    let ps = c.args.postings.now in
+    let ps = after_closed c.args.kept.now c.args.postings.now in
     let each : IsTrue c.all.result ↔ All (BearsLastBirth ps) xs = search rules in (
       λ yes. record {
         generations = λ n x h other.

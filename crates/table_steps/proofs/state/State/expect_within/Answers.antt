@@ -15,3 +15,6 @@ returns-clause-tally c = tallied c.args.self.now c.len.ensures.census c.promised
 
 pub returns-then-not-has_handles-clause-tally : goal.returns-then-not-has_handles-clause-tally
 returns-then-not-has_handles-clause-tally c = tallied c.args.self.now c.len.ensures.census c.promised-promised.ensures.tallied c.requires.provided c.requires.filed
+
+pub returns-then-not-has_entries-clause-tally : goal.returns-then-not-has_entries-clause-tally
+returns-then-not-has_entries-clause-tally c = tallied c.args.self.now c.len.ensures.census c.promised-promised.ensures.tallied c.requires.provided c.requires.filed

@@ -1,5 +1,5 @@
 use Rattle.std.proofs.Common.{ℕ, Bool, false, refl, rules, sym, subst}
-use Rattle.table_image.specs.Law.{IsLawful}
+use Rattle.table_steps.specs.Upheld.{IsUpheld}
 use Rattle.table_requests.specs.Listed.{requests_of}
 use Rattle.tree.specs.Places.{at_in}
 use Rattle.table_steps.proofs.Filing.{none_kept}
@@ -11,9 +11,9 @@ returns-clause-opened c = rw (c.in_ok-tree.ensures.nodes, c.new-2.ensures.made, 
 
 pub returns-clause-kept : goal.returns-clause-kept
 returns-clause-kept c =
-    let plain : IsLawful (at_in c.in_ok-tree.tree) c.new-2.result.made (λ _. false) = root_lawful (at_in c.in_ok-tree.tree) c.new-2.result.made c.in_ok-tree.ensures.nodes c.in_ok-tree.ensures.tree c.new-2.ensures.made in
+    let plain : IsUpheld (at_in c.in_ok-tree.tree) c.new-2.result.made (λ _. false) = root_lawful (at_in c.in_ok-tree.tree) c.new-2.result.made c.in_ok-tree.ensures.nodes c.in_ok-tree.ensures.tree c.new-2.ensures.made in
     record {
-      law = subst (λ (kept : ℕ → Bool). IsLawful (at_in c.in_ok-tree.tree) c.new-2.result.made kept) (sym (none_kept c.new-3.result c.new-4.result c.new-3.ensures.pinned c.new-4.ensures.law c.new-4.ensures.at)) plain;
+      law = subst (λ (kept : ℕ → Bool). IsUpheld (at_in c.in_ok-tree.tree) c.new-2.result.made kept) (sym (none_kept c.new-3.result c.new-4.result c.new-3.ensures.pinned c.new-4.ensures.law c.new-4.ensures.at)) plain;
       flying = search rules;
       held = none_held (at_in c.in_ok-tree.tree) (requests_of c.new-3.result) c.new-3.ensures.at;
       ready = search rules;

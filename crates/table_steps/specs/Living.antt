@@ -1,0 +1,24 @@
+-- The nodes that live, as a period's end lists them.
+use Rattle.std.specs.Prelude.{ℕ, ◌<◌, ◌≤◌, ◌≡◌, List, Some, All, AllPairs, Contains}
+use Rattle.tree.specs.declared.nodes.Node.{Node}
+use Rattle.tree.specs.Places.{Lookup}
+
+-- another node than the root bears the number with that generation, and the number is no higher than the last
+pub record IsLivingUpTo (at : Lookup) (last : ℕ) (a : ℕ × ℕ) : Type 0 where
+  pub node : Node
+  pub here : at a.0 ≡ Some node
+  pub generation : node.generation ≡ a.1
+  pub not_root : 1 < a.0
+  pub within : a.0 ≤ last
+
+-- these are the numbers and generations of all of them, by rising number
+pub record AreLivingUpTo (at : Lookup) (last : ℕ) (pairs : List (ℕ × ℕ)) : Type 0 where
+  pub rising : AllPairs (λ (a b : ℕ × ℕ). a.0 < b.0) pairs
+  pub each : All (IsLivingUpTo at last) pairs
+  pub all : (n : ℕ) (x : Node) → at n ≡ Some x → 1 < n → n ≤ last → Contains pairs (n, x.generation)
+
+-- the numbers and generations of all nodes but the root, by rising number
+pub record AreLiving (at : Lookup) (pairs : List (ℕ × ℕ)) : Type 0 where
+  pub last : ℕ
+  pub up_to : AreLivingUpTo at last pairs
+  pub no_more : (n : ℕ) (x : Node) → at n ≡ Some x → (0 < n) × (n ≤ last)
