@@ -59,7 +59,7 @@ module _ {W L C D : Type 0} (table : Table W) (settings : Settings) (sends : L â
     turn = silent frame;
     frame_is = refl;
     end_is = refl;
-    meets = met_as Ignored frame (silent frame) s s refl is (record { no_offer = refl; no_call = refl; no_folder = refl; no_place = refl }, refl, record { lives = refl; agreed = refl });
+    meets = met_as Ignored frame (silent frame) s s refl is (record { no_offer = refl; no_call = refl; no_folder = refl; no_place = refl; not_kept = refl }, refl, record { lives = refl; agreed = refl });
     draws = record { makes = refl; keeps = refl };
     passes = refl;
   }
@@ -72,7 +72,7 @@ module _ {W L C D : Type 0} (table : Table W) (settings : Settings) (sends : L â
         turn = turn;
         frame_is = refl;
         end_is = ends;
-        meets = met_as Unexpected frame turn s s refl is ((Failed EIO, refl, record { offers = refl; no_call = refl; folders_are = refl; same = refl }), record { lives = refl; agreed = refl });
+        meets = met_as Unexpected frame turn s s refl is ((Failed EIO, refl, record { offers = refl; no_call = refl; folders_are = refl; same = refl; kept_is = refl }), record { lives = refl; agreed = refl });
         draws = record { makes = refl; keeps = refl };
         passes = offer;
       }
@@ -114,7 +114,7 @@ module _ {W L C D : Type 0} (table : Table W) (settings : Settings) (sends : L â
         turn = turn;
         frame_is = refl;
         end_is = ends âˆ™ ap (Î» d. ending (Some sent) d) w.3;
-        meets = met_as DestroyFrame frame turn s s refl is (refl, inl (w.0, w.1, (Done, refl, record { offers = refl; no_call = refl; folders_are = refl; same = refl }), refl));
+        meets = met_as DestroyFrame frame turn s s refl is (refl, inl (w.0, w.1, (Done, refl, record { offers = refl; no_call = refl; folders_are = refl; same = refl; kept_is = refl }), refl));
         draws = record { makes = refl; keeps = refl };
         passes = w.2;
       }
@@ -124,7 +124,7 @@ module _ {W L C D : Type 0} (table : Table W) (settings : Settings) (sends : L â
         turn = turn;
         frame_is = refl;
         end_is = ends âˆ™ ap (Î» d. ending (Some sent) d) on;
-        meets = met_as DestroyFrame frame turn s s refl is (refl, inr (f.fault, f.first, (Failed (fault_errno f.fault), refl, record { offers = refl; no_call = refl; folders_are = refl; same = refl }), refl));
+        meets = met_as DestroyFrame frame turn s s refl is (refl, inr (f.fault, f.first, (Failed (fault_errno f.fault), refl, record { offers = refl; no_call = refl; folders_are = refl; same = refl; kept_is = refl }), refl));
         draws = record { makes = refl; keeps = refl };
         passes = f.offer;
       }

@@ -1,5 +1,5 @@
 -- What came of one frame.
-use Rattle.std.proofs.Common.{ℕ, ℤ, ◌≡◌, true, false, List, [], ◌++◌, Option, Some, None, IfSome, IfNone, inl, inr, refl, sym, ap, ◌∙◌, subst, append_assoc, append-nil}
+use Rattle.std.proofs.Common.{ℕ, ℤ, ◌≡◌, Bool, true, false, List, [], ◌++◌, Option, Some, None, IfSome, IfNone, inl, inr, refl, sym, ap, ◌∙◌, subst, append_assoc, append-nil}
 use Rattle.errno.specs.declared.TheConstants.{ENOMEM}
 use Rattle.table_files.specs.declared.data.OpenFile.{OpenFile}
 use Rattle.table_requests.specs.declared.data.Want.{Want}
@@ -34,10 +34,11 @@ use Rattle.engine.specs.Walks.{IsAnswered, WorkedOff, RunsScript, RunsOut, Tells
 use Rattle.engine.proofs.Runs.{chain_append}
 
 -- a frame with its reply
-abbrev pub acting : List ℕ → Option Place → List Made → List FolderCall → ℕ → ReplyBody → Sent → Turn
-acting frame refused made folders unique said sent = record {
+abbrev pub acting : List ℕ → Option Place → (kept : Bool) → List Made → List FolderCall → ℕ → ReplyBody → Sent → Turn
+acting frame refused kept made folders unique said sent = record {
   frame = frame;
   refused = refused;
+  kept = kept;
   made = made;
   folders = folders;
   offer = Some (record { reply = record { unique = unique; body = said }; sent = sent });
@@ -46,11 +47,11 @@ acting frame refused made folders unique said sent = record {
 
 -- the same that makes no call of the open folders
 abbrev pub answering : List ℕ → Option Place → List Made → ℕ → ReplyBody → Sent → Turn
-answering frame refused made unique said sent = acting frame refused made [] unique said sent
+answering frame refused made unique said sent = acting frame refused false made [] unique said sent
 
 -- a frame without one
 abbrev pub silent : List ℕ → Turn
-silent frame = record { frame = frame; refused = None; made = []; folders = []; offer = None; destroyed = false }
+silent frame = record { frame = frame; refused = None; kept = false; made = []; folders = []; offer = None; destroyed = false }
 
 -- the same from the same link
 pub sent_from : {L : Type 0} (sends : L → List ℕ → Sent → L → Type 0) (old mid new : L) (bytes : List ℕ) (sent : Sent) → mid ≡ old → sends mid bytes sent new → sends old bytes sent new
@@ -75,7 +76,7 @@ module _ {W L C D : Type 0} (table : Table W) (settings : Settings) (sends : L �
         frame_is = refl;
         sent_is = refl;
         lives = refl;
-        asks = inr (fault, is, rw some.0 (Failed (fault_errno fault), refl, record { offers = refl; no_call = refl; folders_are = refl; same = refl }));
+        asks = inr (fault, is, rw some.0 (Failed (fault_errno fault), refl, record { offers = refl; no_call = refl; folders_are = refl; same = refl; kept_is = refl }));
         draws = record { makes = refl; keeps = refl };
         passes = some.1;
       }
@@ -84,7 +85,7 @@ module _ {W L C D : Type 0} (table : Table W) (settings : Settings) (sends : L �
     frame_is = refl;
     sent_is = refl;
     lives = refl;
-    asks = inr (fault, is, rw none.0 (record { no_offer = refl; no_call = refl; no_folder = refl; no_place = refl }, refl));
+    asks = inr (fault, is, rw none.0 (record { no_offer = refl; no_call = refl; no_folder = refl; no_place = refl; not_kept = refl }, refl));
     draws = record { makes = refl; keeps = refl };
     passes = none.1;
   }
@@ -100,7 +101,7 @@ module _ {W L C D : Type 0} (table : Table W) (settings : Settings) (sends : L �
         frame_is = refl;
         sent_is = refl;
         lives = refl;
-        asks = inl (q, is, subst (λ (x : Intent). Serves table settings q x world turn world) i (a.said, a.said_is, record { offers = refl; no_call = refl; folders_are = refl; same = refl }));
+        asks = inl (q, is, subst (λ (x : Intent). Serves table settings q x world turn world) i (a.said, a.said_is, record { offers = refl; no_call = refl; folders_are = refl; same = refl; kept_is = refl }));
         draws = record { makes = refl; keeps = refl };
         passes = a.offer;
       }
@@ -116,7 +117,7 @@ module _ {W L C D : Type 0} (table : Table W) (settings : Settings) (sends : L �
         frame_is = refl;
         sent_is = refl;
         lives = refl;
-        asks = inl (q, is, subst (λ (x : Intent). Serves table settings q x world turn world) i (file, found, (a.said, subst (λ (body : ReplyBody). IsSaid a.refused body a.said) e a.said_is, record { offers = refl; no_call = refl; folders_are = refl; same = refl })));
+        asks = inl (q, is, subst (λ (x : Intent). Serves table settings q x world turn world) i (file, found, (a.said, subst (λ (body : ReplyBody). IsSaid a.refused body a.said) e a.said_is, record { offers = refl; no_call = refl; folders_are = refl; same = refl; kept_is = refl })));
         draws = record { makes = refl; keeps = refl };
         passes = a.offer;
       }
@@ -129,7 +130,7 @@ module _ {W L C D : Type 0} (table : Table W) (settings : Settings) (sends : L �
     frame_is = refl;
     sent_is = refl;
     lives = refl;
-    asks = inl (q, is, subst (λ (x : Intent). Serves table settings q x world (silent frame) world') i (record { no_offer = refl; no_call = refl; no_folder = refl; no_place = refl }, f));
+    asks = inl (q, is, subst (λ (x : Intent). Serves table settings q x world (silent frame) world') i (record { no_offer = refl; no_call = refl; no_folder = refl; no_place = refl; not_kept = refl }, f));
     draws = record { makes = refl; keeps = refl };
     passes = refl;
   }
@@ -143,7 +144,7 @@ module _ {W L C D : Type 0} (table : Table W) (settings : Settings) (sends : L �
   begun_with frame q fh uses.Sync link link' served served' world world' sent is i t = absurd t
   begun_with frame q fh (uses.ReadEntries offset size) link link' served served' world world' sent is i t =
       let a = t.runs in
-      let turn = acting frame a.refused a.made (t.lends.folders ++ a.more) q.unique a.said sent in
+      let turn = acting frame a.refused a.kept a.made (t.lends.folders ++ a.more) q.unique a.said sent in
       record {
         turn = turn;
         frame_is = refl;
@@ -160,7 +161,7 @@ module _ {W L C D : Type 0} (table : Table W) (settings : Settings) (sends : L �
       → WorkedOff table settings sends does frame link served world (Some sent) link' served' world'
   used frame q fh usage link link' served served' world world' sent is i (inr t) = begun_with frame q fh usage link link' served served' world world' sent is i t
   used frame q fh usage link link' served served' world world' sent is i (inl (u, same_calls, same)) =
-      let turn = acting frame u.told.refused [] u.uses.folders q.unique u.told.said sent in
+      let turn = acting frame u.told.refused false [] u.uses.folders q.unique u.told.said sent in
       record {
         turn = turn;
         frame_is = refl;
@@ -177,6 +178,7 @@ module _ {W L C D : Type 0} (table : Table W) (settings : Settings) (sends : L �
             offers = refl;
             no_call = refl;
             same = same;
+            not_kept = refl;
           })),
         );
         draws = record { makes = same_calls; keeps = u.uses.chain };
@@ -190,7 +192,7 @@ module _ {W L C D : Type 0} (table : Table W) (settings : Settings) (sends : L �
     frame_is = refl;
     sent_is = refl;
     lives = refl;
-    asks = inl (q, is, subst (λ (x : Intent). Serves table settings q x world (silent frame) world) i (record { no_offer = refl; no_call = refl; no_folder = refl; no_place = refl }, refl));
+    asks = inl (q, is, subst (λ (x : Intent). Serves table settings q x world (silent frame) world) i (record { no_offer = refl; no_call = refl; no_folder = refl; no_place = refl; not_kept = refl }, refl));
     draws = record { makes = refl; keeps = refl };
     passes = refl;
   }
@@ -200,7 +202,7 @@ module _ {W L C D : Type 0} (table : Table W) (settings : Settings) (sends : L �
       → RunsOut table settings sends does q want [] no_page link served world sent link' served' world'
       → WorkedOff table settings sends does frame link served world (Some sent) link' served' world'
   carried frame q want link link' served served' world world' sent is i a =
-      let turn = acting frame a.refused a.made a.more q.unique a.said sent in
+      let turn = acting frame a.refused a.kept a.made a.more q.unique a.said sent in
       record {
         turn = turn;
         frame_is = refl;
@@ -222,7 +224,7 @@ module _ {W L C D : Type 0} (table : Table W) (settings : Settings) (sends : L �
         frame_is = refl;
         sent_is = refl;
         lives = refl;
-        asks = inl (q, is, subst (λ (x : Intent). Serves table settings q x world turn world) i (record { offers = refl; no_call = refl; folders_are = refl; same = refl }));
+        asks = inl (q, is, subst (λ (x : Intent). Serves table settings q x world turn world) i (record { offers = refl; no_call = refl; folders_are = refl; same = refl; kept_is = refl }));
         draws = record { makes = refl; keeps = refl };
         passes = s;
       }
@@ -237,20 +239,21 @@ module _ {W L C D : Type 0} (table : Table W) (settings : Settings) (sends : L �
   works_by (Some AtListing) q want lends page old turn new meant said is c = c
   works_by (Some AtReply) q want lends page old turn new meant said is c = c
 
-  pub goes_on : (q : Request) (want : Want) (lends : List FolderCall) (page : Paged) (ticket : Claim) (link link' : L) (served served' : Served C D) (world begun world' : W) (sent : Sent) → table.begins world q.unique want (Go ticket) begun
+  pub goes_on : (q : Request) (want : Want) (lends : List FolderCall) (page : Paged) (ticket : Claim) (link link' : L) (served served' : Served C D) (world begun world' : W) (sent : Sent) (kept : Bool) → table.begins world kept q.unique want (Go ticket) begun
       → (p : RunsScript table settings sends does q page ticket link served begun sent link' served' world') → table.knows p.concludes.so.answer
       → RunsOut table settings sends does q want lends page link served world sent link' served' world'
-  goes_on q want lends page ticket link link' served served' world begun world' sent b p kept =
+  goes_on q want lends page ticket link link' served served' world begun world' sent kept b p known =
       let e = p.concludes.so in
       let more = p.concludes.folders in
       record {
         refused = e.refused;
+        kept = kept;
         made = p.made;
         more = more;
         said = e.said;
         draws = record { makes = p.makes; keeps = p.concludes.chain };
         offer = e.offer;
-        works = λ frame. works_by e.refused q want lends page world (acting frame e.refused p.made (lends ++ more) q.unique e.said sent) world' _ e.said e.said_is (record {
+        works = λ frame. works_by e.refused q want lends page world (acting frame e.refused kept p.made (lends ++ more) q.unique e.said sent) world' _ e.said e.said_is (record {
           ticket = ticket;
           begun = begun;
           begins = b;
@@ -259,7 +262,7 @@ module _ {W L C D : Type 0} (table : Table W) (settings : Settings) (sends : L �
           answer = e.answer;
           finished = e.finished;
           finishes = e.finishes;
-          known = kept;
+          known = known;
           put = e.put;
           first = e.first;
           stores = e.stores;
@@ -273,26 +276,27 @@ module _ {W L C D : Type 0} (table : Table W) (settings : Settings) (sends : L �
         });
       }
 
-  by_refusal : (refused : Option Place) (q : Request) (want : Want) (lends : List FolderCall) (page : Paged) (errno : ℤ) (said : ReplyBody) (world world' : W) (turn : Turn) → IsSaid refused (Failed errno) said → table.begins world q.unique want (Refused errno) world' → Says lends q.unique said world turn world'
+  by_refusal : (refused : Option Place) (q : Request) (want : Want) (lends : List FolderCall) (page : Paged) (errno : ℤ) (said : ReplyBody) (world world' : W) (turn : Turn) → IsSaid refused (Failed errno) said → table.begins world turn.kept q.unique want (Refused errno) world' → Says turn.kept lends q.unique said world' turn world'
       → WorksOff table settings refused q want lends page world turn world'
-  by_refusal None q want lends page errno said world world' turn is b says = inl (record { errno = errno; begins = b; says = subst (λ (body : ReplyBody). Says lends q.unique body world turn world') is says })
+  by_refusal None q want lends page errno said world world' turn is b says = inl (record { errno = errno; begins = b; says = subst (λ (body : ReplyBody). Says turn.kept lends q.unique body world' turn world') is says })
   by_refusal (Some AtBegin) q want lends page errno said world world' turn is b says = absurd is
   by_refusal (Some AtScript) q want lends page errno said world world' turn is b says = absurd is
   by_refusal (Some AtListing) q want lends page errno said world world' turn is b says = absurd is
   by_refusal (Some AtReply) q want lends page errno said world world' turn is b says = absurd is.0
 
   -- the table refuses it
-  pub table_refused : (q : Request) (want : Want) (lends : List FolderCall) (page : Paged) (errno : ℤ) (link link' : L) (served : Served C D) (world world' : W) (sent : Sent) → table.begins world q.unique want (Refused errno) world' → world' ≡ world
+  pub table_refused : (q : Request) (want : Want) (lends : List FolderCall) (page : Paged) (errno : ℤ) (link link' : L) (served : Served C D) (world world' : W) (sent : Sent) (kept : Bool) → table.begins world kept q.unique want (Refused errno) world'
       → IsAnswered sends (refusal q.unique errno) link sent link'
       → RunsOut table settings sends does q want lends page link served world sent link' served world'
-  table_refused q want lends page errno link link' served world world' sent b same a = record {
+  table_refused q want lends page errno link link' served world world' sent kept b a = record {
     refused = a.refused;
+    kept = kept;
     made = [];
     more = [];
     said = a.said;
     draws = record { makes = refl; keeps = refl };
     offer = a.offer;
-    works = λ frame. by_refusal a.refused q want lends page errno a.said world world' (acting frame a.refused [] (lends ++ []) q.unique a.said sent) a.said_is b (record { offers = refl; no_call = refl; folders_are = append-nil lends; same = same });
+    works = λ frame. by_refusal a.refused q want lends page errno a.said world world' (acting frame a.refused kept [] (lends ++ []) q.unique a.said sent) a.said_is b (record { offers = refl; no_call = refl; folders_are = append-nil lends; same = refl; kept_is = refl });
   }
 
   -- a page is lent, and there is no memory to begin
@@ -300,10 +304,11 @@ module _ {W L C D : Type 0} (table : Table W) (settings : Settings) (sends : L �
       → RunsOut table settings sends does q want lends page link served world sent link' served world
   page_unbegun q want lends page link link' served world sent s = record {
     refused = Some AtBegin;
+    kept = false;
     made = [];
     more = [];
     said = Failed ENOMEM;
     draws = record { makes = refl; keeps = refl };
     offer = s;
-    works = λ frame. record { offers = refl; no_call = refl; folders_are = append-nil lends; same = refl };
+    works = λ frame. record { offers = refl; no_call = refl; folders_are = append-nil lends; same = refl; kept_is = refl };
   }

@@ -11,6 +11,7 @@ use Rattle.table_steps.specs.declared.data.Limits.{Limits}
 use Rattle.table_steps.specs.Steps.{Begins, Finishes, Forgets, Settles, answered}
 use Rattle.table_steps.specs.declared.data.Outcome.{Outcome}
 use Rattle.table_steps.specs.declared.data.Begin.TheVariants.{Busy, Go, Refused}
+use Rattle.table.specs.Renewing.{BeginsAnew}
 use Rattle.engine.specs.Tables.{IsIdle}
 
 -- one request is in flight, and it was answered
@@ -77,8 +78,12 @@ forgets_idle old new number n amount idle h = λ id. elim (cases_eq amount 0) [
 ]
 
 -- An error number of the table is written and read as it is.
-pub refused_bits : (old new : World) (unique : ℕ) (want : Want) (errno : ℤ) → Begins old unique want (Refused errno) new → Begins old unique want (Refused (to_z w32 (of_z w32 errno))) new
-refused_bits old new unique want errno b = record { footprint = b.footprint; footprint_is = b.footprint_is; begins = (refusal_bits old b.footprint errno b.begins.0, b.begins.1) }
+pub refused_bits : (old new : World) (kept : Bool) (unique : ℕ) (want : Want) (errno : ℤ) → BeginsAnew old kept unique want (Refused errno) new → BeginsAnew old kept unique want (Refused (to_z w32 (of_z w32 errno))) new
+refused_bits old new kept unique want errno a = record {
+  renewed = a.renewed;
+  renews = a.renews;
+  begins = let b = a.begins in record { footprint = b.footprint; footprint_is = b.footprint_is; begins = (refusal_bits a.renewed b.footprint errno b.begins.0, b.begins.1) };
+}
 
 -- A table that was opened is idle.
 pub opened_idle : (limits : Limits) (w : World) → w ≡ opened_world limits → IsIdle w

@@ -1,5 +1,6 @@
 -- A table that one thread has alone, as a way to reach it.
-use Rattle.std.proofs.Common.{ℕ, ℤ, ◌≡◌, Bool, Option, to_z, of_z, w32}
+use Rattle.std.proofs.Common.{ℕ, ℤ, ◌≡◌, Bool, Option, to_z, of_z, w32, sym, ap, ◌∙◌}
+use Rattle.std.proofs.lemmas.Option.{none-some}
 use Rattle.table_requests.specs.declared.data.Want.{Want}
 use Rattle.ledger.specs.Shares.{Part}
 use Rattle.table_steps.specs.Answers.{Answer, Claim}
@@ -8,22 +9,26 @@ use Rattle.table_steps.specs.declared.data.Begin.TheVariants.{Busy, Go, Refused}
 use Rattle.table_steps.specs.declared.data.Outcome.{Outcome}
 use Rattle.table.specs.Gains.{GainsInAll}
 use Rattle.table.proofs.Gaining as gaining
+use Rattle.table.proofs.Closing.{flights_renewed}
 use Rattle.engine.specs.Tables.{worlds, IsIdle}
 use Rattle.engine.specs.Alone.{finishes_one, forgets_idle, refused_bits, settles_one}
 
 pub gains_on : (old mid new : World) (before between after : Part) → GainsInAll old before mid between → GainsInAll mid between new after → GainsInAll old before new after
 gains_on = gaining.in_all_on
 
-pub waits : (old new : World) (unique : ℕ) (want : Want) → worlds.begins old unique want Busy new → new ≡ old
-waits old new unique want b = b.0.begins.2
+-- No request is in flight that could be in the way.
+pub waits : (old new : World) (kept : Bool) (unique : ℕ) (want : Want) → IsIdle old → worlds.begins old kept unique want Busy new → new ≡ old
+waits old new kept unique want idle b =
+    let up = b.0.begins.begins.1.up in
+    absurd (none-some (sym (flights_renewed old b.0.renewed kept b.0.renews up.id ∙ idle up.id) ∙ up.here.here))
 
-pub refuses : (old new : World) (unique : ℕ) (want : Want) (errno : ℤ) → worlds.begins old unique want (Refused errno) new → (worlds.begins old unique want (Refused (to_z w32 (of_z w32 errno))) new) × (new ≡ old)
-refuses old new unique want errno b = ((refused_bits old new unique want errno b.0, b.1), b.0.begins.1)
+pub refuses : (old new : World) (kept : Bool) (unique : ℕ) (want : Want) (errno : ℤ) → IsIdle old → worlds.begins old kept unique want (Refused errno) new → (worlds.begins old kept unique want (Refused (to_z w32 (of_z w32 errno))) new) × IsIdle new
+refuses old new kept unique want errno idle b = ((refused_bits old new kept unique want errno b.0, b.1), λ id. ap (λ (w : World). w.flights id) b.0.begins.begins.1 ∙ (flights_renewed old b.0.renewed kept b.0.renews id ∙ idle id))
 
-pub completes : (old mid fin new : World) (unique : ℕ) (want : Want) (claim : Claim) (outcome : Outcome) (answer : Answer) (put : Option ℕ) (taken : Bool) → IsIdle old
-    → worlds.begins old unique want (Go claim) mid → worlds.finishes mid claim.id outcome answer fin → worlds.settles fin answer put taken new → worlds.knows answer × IsIdle new
-completes old mid fin new unique want claim outcome answer put taken idle begins finishes settles =
-    let alone = finishes_one old mid fin unique want claim outcome answer idle begins.0 finishes.0 in
+pub completes : (old mid fin new : World) (kept : Bool) (unique : ℕ) (want : Want) (claim : Claim) (outcome : Outcome) (answer : Answer) (put : Option ℕ) (taken : Bool) → IsIdle old
+    → worlds.begins old kept unique want (Go claim) mid → worlds.finishes mid claim.id outcome answer fin → worlds.settles fin answer put taken new → worlds.knows answer × IsIdle new
+completes old mid fin new kept unique want claim outcome answer put taken idle begins finishes settles =
+    let alone = finishes_one begins.0.renewed mid fin unique want claim outcome answer (λ id. flights_renewed old begins.0.renewed kept begins.0.renews id ∙ idle id) begins.0.begins finishes.0 in
     (alone.not_lost, settles_one fin new claim.id answer taken settles.0 alone settles.1)
 
 pub forgets : (old new : World) (number n : ℕ) → IsIdle old → worlds.forgets old number n new → IsIdle new

@@ -59,11 +59,12 @@ pub record Offer : Type 0 where
   pub reply : Reply
   pub sent : Sent
 
--- a frame, where memory was refused for it, the calls that it made of the directory and of the open folders with their answers, what
--- was replied, and whether the client ended the session with it
+-- a frame, where memory was refused for it, whether a period of the ledger that was due to end was kept, since memory was refused for
+-- that, the calls that it made of the directory and of the open folders with their answers, what was replied, and whether the client ended the session with it
 pub record Turn : Type 0 where
   pub frame : List ℕ
   pub refused : Option Place
+  pub kept : Bool
   pub made : List Made
   pub folders : List FolderCall
   pub offer : Option Offer
@@ -109,16 +110,17 @@ IsTold (Some AtScript) meant said = said ≡ Failed ENOMEM
 IsTold (Some AtListing) meant said = said ≡ Failed ENOMEM
 IsTold refused meant said = IsSaid refused meant said
 
--- a frame that makes no call of the directory, these of the open folders, and changes nothing
-pub record Says {W : Type 0} (folders : List FolderCall) (unique : ℕ) (said : ReplyBody) (old : W) (turn : Turn) (new : W) : Type 0 where
+-- a frame that makes no call of the directory, these of the open folders, and changes nothing, but where a request was refused the period may have been kept before
+pub record Says {W : Type 0} (kept : Bool) (folders : List FolderCall) (unique : ℕ) (said : ReplyBody) (old : W) (turn : Turn) (new : W) : Type 0 where
   pub offers : Offers turn.offer unique said
   pub no_call : turn.made ≡ []
   pub folders_are : turn.folders ≡ folders
   pub same : new ≡ old
+  pub kept_is : turn.kept ≡ kept
 
 -- it is answered at once
 abbrev pub Answers : {W : Type 0} → ℕ → ReplyBody → W → Turn → W → Type 0
-Answers unique meant old turn new = (said : ReplyBody) × IsSaid turn.refused meant said × Says [] unique said old turn new
+Answers unique meant old turn new = (said : ReplyBody) × IsSaid turn.refused meant said × Says false [] unique said old turn new
 
 -- a frame that gets no reply
 pub record IsSilent (turn : Turn) : Type 0 where
@@ -126,6 +128,7 @@ pub record IsSilent (turn : Turn) : Type 0 where
   pub no_call : turn.made ≡ []
   pub no_folder : turn.folders ≡ []
   pub no_place : turn.refused ≡ None
+  pub not_kept : turn.kept ≡ false
 
 -- a request that uses an open folder, is answered at once and changes nothing in the table
 pub record UsesFolder {W : Type 0} (q : Request) (fh : ℕ) (usage : FolderUse) (old : W) (turn : Turn) (new : W) : Type 0 where
@@ -136,6 +139,7 @@ pub record UsesFolder {W : Type 0} (q : Request) (fh : ℕ) (usage : FolderUse) 
   pub offers : Offers turn.offer q.unique said
   pub no_call : turn.made ≡ []
   pub same : new ≡ old
+  pub not_kept : turn.kept ≡ false
 
 -- the listing of an OPENDIR is put, unless there was no memory for it
 abbrev pub Stores : Option Place → ℕ → ScriptResult → List FolderCall → (put : Option ℕ) → Type 0
@@ -204,7 +208,7 @@ module _ {W : Type 0} (table : Table W) (settings : Settings) where
   pub record RunsRequest (q : Request) (want : Want) (lends : List FolderCall) (page : Paged) (old : W) (turn : Turn) (new : W) : Type 0 where
     pub ticket : Claim
     pub begun : W
-    pub begins : table.begins old q.unique want (Go ticket) begun
+    pub begins : table.begins old turn.kept q.unique want (Go ticket) begun
     pub end : End
     pub script : Plays turn.refused q.operation ticket turn.made end
     pub answer : Answer
@@ -225,13 +229,13 @@ module _ {W : Type 0} (table : Table W) (settings : Settings) where
   -- the table refuses it
   pub record IsRefused (q : Request) (want : Want) (lends : List FolderCall) (old : W) (turn : Turn) (new : W) : Type 0 where
     pub errno : ℤ
-    pub begins : table.begins old q.unique want (Refused errno) new
-    pub says : Says lends q.unique (Failed errno) old turn new
+    pub begins : table.begins old turn.kept q.unique want (Refused errno) new
+    pub says : Says turn.kept lends q.unique (Failed errno) new turn new
 
   -- No other request is in flight, so none is in its way.
   abbrev pub WorksOff : Option Place → Request → Want → (lends : List FolderCall) → (page : Paged) → W → Turn → W → Type 0
   WorksOff None q want lends page old turn new = IsRefused q want lends old turn new ⊎ RunsRequest q want lends page old turn new
-  WorksOff (Some AtBegin) q want lends page old turn new = Says lends q.unique (Failed ENOMEM) old turn new
+  WorksOff (Some AtBegin) q want lends page old turn new = Says false lends q.unique (Failed ENOMEM) old turn new
   WorksOff (Some AtScript) q want lends page old turn new = RunsRequest q want lends page old turn new
   WorksOff (Some AtListing) q want lends page old turn new = RunsRequest q want lends page old turn new
   WorksOff (Some AtReply) q want lends page old turn new = RunsRequest q want lends page old turn new

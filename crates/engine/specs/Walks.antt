@@ -224,12 +224,13 @@ module _ {W L C D : Type 0} (table : Table W) (settings : Settings) (sends : L �
   -- a request that is begun, whatever frame it stands in, after these calls of the open folders
   pub record RunsOut (q : Request) (want : Want) (lends : List FolderCall) (page : Paged) (link : L) (served : Served C D) (world : W) (sent : Sent) (link' : L) (served' : Served C D) (world' : W) : Type 0 where
     pub refused : Option Place
+    pub kept : Bool
     pub made : List Made
     pub more : List FolderCall
     pub said : ReplyBody
     pub draws : Draws does served made more served'
     pub offer : sends link (reply_bytes (record { unique = q.unique; body = said })) sent link'
-    pub works : (frame : List ℕ) → WorksOff table settings refused q want lends page world (record { frame = frame; refused = refused; made = made; folders = lends ++ more; offer = Some (record { reply = record { unique = q.unique; body = said }; sent = sent }); destroyed = false }) world'
+    pub works : (frame : List ℕ) → WorksOff table settings refused q want lends page world (record { frame = frame; refused = refused; kept = kept; made = made; folders = lends ++ more; offer = Some (record { reply = record { unique = q.unique; body = said }; sent = sent }); destroyed = false }) world'
 
   -- entries of an open folder are told by a request that begins
   pub record TellsPage (q : Request) (fh offset size : ℕ) (link : L) (served : Served C D) (world : W) (sent : Sent) (link' : L) (served' : Served C D) (world' : W) : Type 0 where

@@ -1,5 +1,5 @@
 -- What a call at the hall is to a visit.
-use Rattle.std.proofs.Common.{ℕ, ◌≡◌, List, [], ◌∷◌, ◌++◌, ap, sym, subst, ◌∙◌, append_assoc}
+use Rattle.std.proofs.Common.{ℕ, ◌≡◌, Bool, List, [], ◌∷◌, ◌++◌, ap, sym, subst, ◌∙◌, append_assoc}
 use Rattle.std.proofs.lemmas.List.{append-nil}
 use Rattle.table_requests.specs.declared.data.Want.{Want}
 use Rattle.table_steps.specs.declared.data.Begin.{Begin}
@@ -38,10 +38,10 @@ module _ {L : Type 0} where
     there = l.there;
   }
 
-  pub begins_as : (start : World) (unique : ℕ) (want : Want) (told : Begin) (old new : Turned) → Steps L start (began unique want told) (began unique want told) old new → BeginsAs L start unique want told old new
-  begins_as start unique want (Go claim) old new s = s
-  begins_as start unique want Busy old new s = s
-  begins_as start unique want (Refused e) old new s = (e, s)
+  pub begins_as : (start : World) (kept : Bool) (unique : ℕ) (want : Want) (told : Begin) (old new : Turned) → Steps L start (began kept unique want told) (began kept unique want told) old new → BeginsAs L start kept unique want told old new
+  begins_as start kept unique want (Go claim) old new s = s
+  begins_as start kept unique want Busy old new s = s
+  begins_as start kept unique want (Refused e) old new s = (e, s)
 
   -- what was looked at leaves the visit as it was
   pub unchanged : (start : World) (holds : World → Type 0) (old new : View (Entry L)) (c : ComeTo) → Looks start holds old new → turned c new ≡ turned c old

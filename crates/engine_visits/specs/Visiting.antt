@@ -24,29 +24,29 @@ module _ (L : Type 0) (start : World) where
       let c : new.calls ≡ old.calls = s.calls_are ∙ (ap (λ (cs : List Call). old.calls ++ cs) none ∙ append-nil old.calls) in
       λ i. record { visited = v i; by = s.by_is i; calls = c i }
 
-  pub waits : (old new : Turned) (unique : ℕ) (want : Want) → (visits L start).begins old unique want Busy new → new ≡ old
-  waits old new unique want b = same old new (began unique want Busy) (began unique want Busy) refl b.0 b.1
+  pub waits : (old new : Turned) (kept : Bool) (unique : ℕ) (want : Want) → (visits L start).is_idle old → (visits L start).begins old kept unique want Busy new → new ≡ old
+  waits old new kept unique want idle b = same old new (began kept unique want Busy) (began kept unique want Busy) refl b.0 b.1
 
-  pub refuses : (old new : Turned) (unique : ℕ) (want : Want) (errno : ℤ) → (visits L start).begins old unique want (Refused errno) new → ((visits L start).begins old unique want (Refused (to_z w32 (of_z w32 errno))) new) × (new ≡ old)
-  refuses old new unique want errno ((made, s), v) =
-      let t : Steps L start (began unique want (Refused made)) (began unique want (Refused (to_z w32 (of_z w32 errno)))) old new = record {
+  pub refuses : (old new : Turned) (kept : Bool) (unique : ℕ) (want : Want) (errno : ℤ) → (visits L start).is_idle old → (visits L start).begins old kept unique want (Refused errno) new → ((visits L start).begins old kept unique want (Refused (to_z w32 (of_z w32 errno))) new) × (visits L start).is_idle new
+  refuses old new kept unique want errno idle ((made, s), v) =
+      let t : Steps L start (began kept unique want (Refused made)) (began kept unique want (Refused (to_z w32 (of_z w32 errno)))) old new = record {
         log = s.log;
         entry = s.entry;
         run = s.run;
         call_is = s.call_is;
-        steps = refused_bits (end_of start s.log) (after (old.by, s.entry)) unique want errno s.steps;
+        steps = refused_bits (end_of start s.log) (after (old.by, s.entry)) kept unique want errno s.steps;
         own_is = s.own_is;
         calls_are = s.calls_are;
         by_is = s.by_is;
       } in
-      (((made, t), v), same old new (began unique want (Refused made)) (began unique want (Refused errno)) refl s v)
+      (((made, t), v), tt)
 
-  pub begins_free : (old new : Turned) (unique : ℕ) (want : Want) (claim : Claim) → (visits L start).is_free old → (visits L start).begins old unique want (Go claim) new → (visits L start).is_free new
-  begins_free old new unique want claim free b = b.1 ∙ free
+  pub begins_free : (old new : Turned) (kept : Bool) (unique : ℕ) (want : Want) (claim : Claim) → (visits L start).is_free old → (visits L start).begins old kept unique want (Go claim) new → (visits L start).is_free new
+  begins_free old new kept unique want claim free b = b.1 ∙ free
 
-  pub completes : (old mid fin new : Turned) (unique : ℕ) (want : Want) (claim : Claim) (outcome : Outcome) (answer : Answer) (put : Option ℕ) (taken : Bool) → (visits L start).is_idle old
-      → (visits L start).begins old unique want (Go claim) mid → (visits L start).finishes mid claim.id outcome answer fin → (visits L start).settles fin answer put taken new → (visits L start).knows answer × (visits L start).is_idle new
-  completes old mid fin new unique want claim outcome answer put taken idle b f s = (tt, tt)
+  pub completes : (old mid fin new : Turned) (kept : Bool) (unique : ℕ) (want : Want) (claim : Claim) (outcome : Outcome) (answer : Answer) (put : Option ℕ) (taken : Bool) → (visits L start).is_idle old
+      → (visits L start).begins old kept unique want (Go claim) mid → (visits L start).finishes mid claim.id outcome answer fin → (visits L start).settles fin answer put taken new → (visits L start).knows answer × (visits L start).is_idle new
+  completes old mid fin new kept unique want claim outcome answer put taken idle b f s = (tt, tt)
 
   pub forgets_idle : (old new : Turned) (number n : ℕ) → (visits L start).is_idle old → (visits L start).forgets old number n new → (visits L start).is_idle new
   forgets_idle old new number n idle f = tt

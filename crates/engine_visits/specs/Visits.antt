@@ -34,16 +34,16 @@ listed (Given answer) = entries_in answer.given
 listed (Leaves left) = entries_in left.answered.given
 listed (Settled settlement) = settlement.entries
 
--- a begin that did not go on is no change
+-- a begin that did not go on is no change, but that it may have ended a period of the ledger
 abbrev pub goes : Call → List Call
-goes (began unique want (begin.Go claim)) = began unique want (begin.Go claim) ∷ []
-goes (began unique want begin.Busy) = []
-goes (began unique want (begin.Refused e)) = []
+goes (began kept unique want (begin.Go claim)) = began kept unique want (begin.Go claim) ∷ []
+goes (began kept unique want begin.Busy) = []
+goes (began kept unique want (begin.Refused e)) = []
 goes (finished id outcome told) = finished id outcome told ∷ []
 goes (settled answer taken told) = settled answer taken told ∷ []
 goes (forgot number n told) = forgot number n told ∷ []
 
--- the calls of these entries that changed the table, or might have
+-- the calls of these entries that changed more than the period, or might have
 abbrev pub going : {L : Type 0} → List (Entry L) → List Call
 going [] = []
 going (e ∷ es) = goes (call_of e.event) ++ going es
@@ -69,10 +69,10 @@ pub record Steps (L : Type 0) (start : World) (made call : Call) (old new : Turn
   pub by_is : new.by ≡ old.by
 
 -- a refusal may name its error by another number of the same bits
-abbrev pub BeginsAs : (L : Type 0) → World → ℕ → Want → Begin → Turned → Turned → Type 0
-BeginsAs L start unique want (begin.Go claim) old new = Steps L start (began unique want (begin.Go claim)) (began unique want (begin.Go claim)) old new
-BeginsAs L start unique want begin.Busy old new = Steps L start (began unique want begin.Busy) (began unique want begin.Busy) old new
-BeginsAs L start unique want (begin.Refused e) old new = (made : ℤ) × Steps L start (began unique want (begin.Refused made)) (began unique want (begin.Refused e)) old new
+abbrev pub BeginsAs : (L : Type 0) → World → (kept : Bool) → ℕ → Want → Begin → Turned → Turned → Type 0
+BeginsAs L start kept unique want (begin.Go claim) old new = Steps L start (began kept unique want (begin.Go claim)) (began kept unique want (begin.Go claim)) old new
+BeginsAs L start kept unique want begin.Busy old new = Steps L start (began kept unique want begin.Busy) (began kept unique want begin.Busy) old new
+BeginsAs L start kept unique want (begin.Refused e) old new = (made : ℤ) × Steps L start (began kept unique want (begin.Refused made)) (began kept unique want (begin.Refused e)) old new
 
 -- at the end of some run in which these are the calls of the index
 pub record Within (L : Type 0) (start : World) (old : Turned) (holds : World → Type 0) : Type 0 where
@@ -93,7 +93,7 @@ pub data SettlesAs (L : Type 0) (start : World) (answer : Answer) (put : Option 
 
 abbrev pub visits : Type 0 → World → Table Turned
 visits L start = record {
-  begins = λ old unique want told new. BeginsAs L start unique want told old new × (new.visited ≡ old.visited);
+  begins = λ old kept unique want told new. BeginsAs L start kept unique want told old new × (new.visited ≡ old.visited);
   finishes = λ old id outcome answer new. Steps L start (finished id outcome answer) (finished id outcome answer) old new × (new.visited ≡ Given answer);
   settles = λ old answer put taken new. SettlesAs L start answer put taken old new;
   forgets = λ old number n new. ((amount : ℕ) × Steps L start (forgot number n amount) (forgot number n amount) old new) × (new.visited ≡ old.visited);

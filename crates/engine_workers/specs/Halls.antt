@@ -2,7 +2,8 @@
 use Rattle.std.specs.Prelude.{ℕ, ◌≡◌, ◌+◌, Bool, true, false, Option, Some, None, if◌then◌else◌}
 use Rattle.ledger.specs.Shares.{Part}
 use Rattle.table_steps.specs.Answers.{Answer, Settlement, entries_in}
-use Rattle.table_steps.specs.Steps.{Begins, Finishes, Settles, Forgets}
+use Rattle.table.specs.Renewing.{BeginsAnew}
+use Rattle.table_steps.specs.Steps.{Finishes, Settles, Forgets}
 use Rattle.table_steps.specs.World.{IsLawfulWorld, World}
 use Rattle.engine.specs.Tables.{Table}
 use Rattle.engine_jobs.specs.declared.left.Left.{Left}
@@ -54,7 +55,7 @@ pub record GainsListed (old : Visited) (before : Part) (new : Visited) (after : 
 
 abbrev pub halls : Table Visited
 halls = record {
-  begins = λ old unique want begin new. Somewhere (λ w v. Begins w unique want begin v) × (new ≡ old);
+  begins = λ old kept unique want begin new. Somewhere (λ w v. BeginsAnew w kept unique want begin v) × (new ≡ old);
   finishes = λ old id outcome answer new. Somewhere (λ w v. Finishes w id outcome answer v) × (new ≡ Given answer);
   settles = λ old answer put taken new. new ≡ settled_as answer put taken;
   forgets = λ old number n new. Somewhere (λ w v. (amount : ℕ) × Forgets w number n amount v) × (new ≡ old);

@@ -14,18 +14,18 @@ gains_on old mid new before between after first next = record {
   index = next.index ∙ first.index;
 }
 
-pub waits : (old new : Visited) (unique : ℕ) (want : Want) → halls.begins old unique want Busy new → new ≡ old
-waits old new unique want b = b.1
+pub waits : (old new : Visited) (kept : Bool) (unique : ℕ) (want : Want) → halls.is_idle old → halls.begins old kept unique want Busy new → new ≡ old
+waits old new kept unique want idle b = b.1
 
-pub refuses : (old new : Visited) (unique : ℕ) (want : Want) (errno : ℤ) → halls.begins old unique want (Refused errno) new → (halls.begins old unique want (Refused (to_z w32 (of_z w32 errno))) new) × (new ≡ old)
-refuses old new unique want errno (s, same) = ((record { old = s.old; new = s.new; lawful = s.lawful; steps = refused_bits s.old s.new unique want errno s.steps }, same), same)
+pub refuses : (old new : Visited) (kept : Bool) (unique : ℕ) (want : Want) (errno : ℤ) → halls.is_idle old → halls.begins old kept unique want (Refused errno) new → (halls.begins old kept unique want (Refused (to_z w32 (of_z w32 errno))) new) × halls.is_idle new
+refuses old new kept unique want errno idle (s, same) = ((record { old = s.old; new = s.new; lawful = s.lawful; steps = refused_bits s.old s.new kept unique want errno s.steps }, same), tt)
 
-pub begins_free : (old new : Visited) (unique : ℕ) (want : Want) (claim : Claim) → halls.is_free old → halls.begins old unique want (Go claim) new → halls.is_free new
-begins_free old new unique want claim free b = b.1 ∙ free
+pub begins_free : (old new : Visited) (kept : Bool) (unique : ℕ) (want : Want) (claim : Claim) → halls.is_free old → halls.begins old kept unique want (Go claim) new → halls.is_free new
+begins_free old new kept unique want claim free b = b.1 ∙ free
 
-pub completes : (old mid fin new : Visited) (unique : ℕ) (want : Want) (claim : Claim) (outcome : Outcome) (answer : Answer) (put : Option ℕ) (taken : Bool) → halls.is_idle old
-    → halls.begins old unique want (Go claim) mid → halls.finishes mid claim.id outcome answer fin → halls.settles fin answer put taken new → halls.knows answer × halls.is_idle new
-completes old mid fin new unique want claim outcome answer put taken idle b f s = (tt, tt)
+pub completes : (old mid fin new : Visited) (kept : Bool) (unique : ℕ) (want : Want) (claim : Claim) (outcome : Outcome) (answer : Answer) (put : Option ℕ) (taken : Bool) → halls.is_idle old
+    → halls.begins old kept unique want (Go claim) mid → halls.finishes mid claim.id outcome answer fin → halls.settles fin answer put taken new → halls.knows answer × halls.is_idle new
+completes old mid fin new kept unique want claim outcome answer put taken idle b f s = (tt, tt)
 
 pub forgets_idle : (old new : Visited) (number n : ℕ) → halls.is_idle old → halls.forgets old number n new → halls.is_idle new
 forgets_idle old new number n idle f = tt

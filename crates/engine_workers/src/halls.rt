@@ -1,8 +1,9 @@
 //! The table behind its lock.
 
-ghost use Rattle.std.specs.Prelude.{◌≡◌, ◌+◌};
+ghost use Rattle.std.specs.Prelude.{◌≡◌, ◌+◌, Bool};
 ghost use Rattle.table_steps.specs.Answers.{entries_in};
-ghost use Rattle.table_steps.specs.Steps.{Begins, Finishes, Forgets};
+ghost use Rattle.table.specs.Renewing.{BeginsAnew};
+ghost use Rattle.table_steps.specs.Steps.{Finishes, Forgets};
 ghost use Rattle.engine_workers.specs.Halls.{Somewhere};
 
 use ledger::{Ledgers, Share};
@@ -32,12 +33,14 @@ impl<T: Ledgers> Hall<T> {
         table.into_inner()
     }
 
-    /// Takes up a request. Where another one is in its way this waits until some request has finished, and then answers Busy.
+    /// Ends the period of the ledger where that is due, and takes up a request. Where another one is in its way this waits until some
+    /// request has finished, and then answers Busy.
     pub fn begin<H: Wait>(&self, rt: &H, unique: u64, want: Want) -> Begin
-        ensures { Somewhere (λ w v. Begins w unique want result v) }
+        ensures { (kept : Bool) × Somewhere (λ w v. BeginsAnew w kept unique want result v) }
     {
         let mut table = self.table.lock(rt);
         table.attest(); // proof: its law
+        let _kept = table.renew();
         let begin = table.begin(unique, want);
         if is_busy(&begin) {
             // No finish falls between: it takes the lock.

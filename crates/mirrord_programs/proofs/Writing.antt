@@ -11,7 +11,7 @@ use Rattle.engine.specs.declared.links.Sent.TheVariants as sent
 use Rattle.mirrord_programs.specs.Lines.{Hexing, HasPiece, Receives, Sends, broken_line, line, lines_in}
 use Rattle.engine_streams.proofs.Passed.{BreaksLast, breaks_last}
 use Rattle.mirrord_server.specs.Known.{ServesKnown}
-use Rattle.mirrord_programs.specs.Runs.{ServesHex, failed_in, nobody}
+use Rattle.mirrord_programs.specs.Runs.{ServesHex, failed_in, unowned}
 use Rattle.mirrord_programs.specs.Samples.{IsStart}
 
 same_output : (old mid : Hexing) (kept : List ℕ) → old.kept ≡ kept → HasPiece old mid → mid.output ≡ old.output
@@ -48,9 +48,9 @@ written old new (Out frame sent.Broken ∷ events) chain last =
     (n, subst (λ (l : Hexing). Appends old.output l.output (lines_in events ++ take n (line frame))) (sym over) (subst (λ (xs : List ℕ). Appends old.output chain.0.output (xs ++ take n (line frame))) (sym none) chain.1.0.1))
 
 -- a link that was served from a new tree
-pub hex_served : (sampled : Bool) (tree : MemTree) (old : Hexing) (over : SessionEnd) (new : Hexing) → IsStart sampled tree → ServesKnown nobody Receives Sends Gives memory_tree failed_in tree old over new → ServesHex sampled old over new
-hex_served sampled tree old over new start (inl known) =
+pub hex_served : (sampled : Bool) (postings : ℕ) (tree : MemTree) (old : Hexing) (over : SessionEnd) (new : Hexing) → IsStart sampled tree → ServesKnown (unowned postings) Receives Sends Gives memory_tree failed_in tree old over new → ServesHex sampled postings old over new
+hex_served sampled postings tree old over new start (inl known) =
     let client = known.served.run.client in
     let wrote = written old new (events_of client.steps) client.passes (breaks_last [] client.steps client.kept client.paces) in
     inl (record { tree = tree; start = start; known = known; part = wrote.0; written = wrote.1 })
-hex_served sampled tree old over new start (inr none) = inr none
+hex_served sampled postings tree old over new start (inr none) = inr none

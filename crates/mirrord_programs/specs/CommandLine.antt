@@ -35,23 +35,27 @@ flag_rule id = record (new_rule id) { long = Some id; action = Some SetTrue }
 abbrev pub single_rule : Rule
 single_rule = record (flag_rule (codes "single")) { short = Some 115 }
 
+-- told how many postings a period of the ledger may have, too
+abbrev pub bounded : App → App
+bounded app = with_rule app (number_rule (codes "postings") 1 1048576 (codes "1048576"))
+
 -- the subcommands
 abbrev pub hex_app : App
-hex_app = with_rule (new_app (codes "hex")) (flag_rule (codes "sample"))
+hex_app = bounded (with_rule (new_app (codes "hex")) (flag_rule (codes "sample")))
 
 -- told a user and a group, too
 abbrev pub owned : App → App
 owned app = with_rule (with_rule app (user (codes "uid"))) (user (codes "gid"))
 
 abbrev pub pipe_app : App
-pipe_app = owned (with_rule (new_app (codes "pipe")) (text_rule (codes "root")))
+pipe_app = bounded (owned (with_rule (new_app (codes "pipe")) (text_rule (codes "root"))))
 
 -- told how many threads work on requests, too
 abbrev pub staffed : App → App
 staffed app = with_rule (with_rule app (number_rule (codes "workers") 1 4 (codes "2"))) single_rule
 
 abbrev pub serve_app : App
-serve_app = owned (staffed (with_rule (with_rule (new_app (codes "serve")) (text_rule (codes "root"))) (text_rule (codes "socket"))))
+serve_app = bounded (owned (staffed (with_rule (with_rule (new_app (codes "serve")) (text_rule (codes "root"))) (text_rule (codes "socket")))))
 
 -- the program, whose version can be asked for, without its subcommands
 abbrev pub bare_app : App
@@ -94,13 +98,14 @@ IsFlag id rows = FlagReads (one_of id rows)
 
 -- what is asked for by the subcommand of that name, which was met with these rows
 abbrev pub IsAskedBy : Text → List Row → Options → Type 0
-IsAskedBy name rows (Serve root socket workers single uid gid) =
+IsAskedBy name rows (Serve root socket workers single uid gid postings) =
     (name ≡ codes "serve") × IsText (codes "root") rows root.now × IsText (codes "socket") rows socket.now
     × IsNumber 8 (codes "workers") rows workers × IsFlag (codes "single") rows single × IsNumber 32 (codes "uid") rows uid × IsNumber 32 (codes "gid") rows gid
-IsAskedBy name rows (Pipe root uid gid) =
-    (name ≡ codes "pipe") × IsText (codes "root") rows root.now × IsNumber 32 (codes "uid") rows uid × IsNumber 32 (codes "gid") rows gid
-IsAskedBy name rows (Hex sample) = (name ≢ codes "serve") × (name ≢ codes "pipe") × IsFlag (codes "sample") rows sample
+    × IsNumber 32 (codes "postings") rows postings
+IsAskedBy name rows (Pipe root uid gid postings) =
+    (name ≡ codes "pipe") × IsText (codes "root") rows root.now × IsNumber 32 (codes "uid") rows uid × IsNumber 32 (codes "gid") rows gid × IsNumber 32 (codes "postings") rows postings
+IsAskedBy name rows (Hex sample postings) = (name ≢ codes "serve") × (name ≢ codes "pipe") × IsFlag (codes "sample") rows sample × IsNumber 32 (codes "postings") rows postings
 
 abbrev pub IsAsked : Option (Text × List Row) → Options → Type 0
-IsAsked None options = options ≡ Hex false
+IsAsked None options = options ≡ Hex false 1048576
 IsAsked (Some met) options = IsAskedBy met.0 met.1 options

@@ -9,10 +9,10 @@ use Rattle.clap.specs.declared.error.kind.ErrorKind.TheVariants.{OutOfMemory, Di
 use Rattle.engine.specs.Serving.{events_of}
 use Rattle.engine.specs.declared.ends.SessionEnd.{SessionEnd}
 use Rattle.engine.specs.declared.ends.SessionEnd.TheVariants as end
-use Rattle.ops.specs.declared.replies.Settings.{Settings}
 use Rattle.mirrord_server.specs.Folders.{ServesFolder, ServesSocket, ServesWorkers}
 use Rattle.mirrord_server.specs.Known.{IsKnownServed}
 use Rattle.mirrord_server.specs.declared.folder.Unserved.{Unserved}
+use Rattle.mirrord_server.specs.declared.terms.Terms.{Terms}
 use Rattle.mirrord_programs.specs.CommandLine.{mirrord_app, IsAsked}
 use Rattle.mirrord_programs.specs.Ends.{exit_of, failure_after, failure_of, Tells}
 use Rattle.mirrord_programs.specs.Lines.{Hexing, Receives, Sends, broken_line, lines_in, unread}
@@ -26,8 +26,8 @@ use Rattle.mirrord_programs.specs.declared.options.Options.TheVariants.{Serve, P
 -- ---- the program `hex`
 
 -- nobody owns what is mirrored
-abbrev pub nobody : Settings
-nobody = record { uid = 0; gid = 0 }
+abbrev pub unowned : (postings : ℕ) → Terms
+unowned postings = record { settings = record { uid = 0; gid = 0 }; postings = postings }
 
 -- how often calls of a memory tree have failed
 abbrev pub failed_in : MemTree → ℕ
@@ -35,22 +35,22 @@ failed_in m = m.failed
 
 -- A link of hexadecimal lines is served from a new tree in memory. Its writer is given the replies that were taken, a line each,
 -- then the first bytes of the line of one that broke it, if one did, and nothing else.
-pub record IsHexServed (sampled : Bool) (old : Hexing) (over : SessionEnd) (new : Hexing) : Type 0 where
+pub record IsHexServed (sampled : Bool) (postings : ℕ) (old : Hexing) (over : SessionEnd) (new : Hexing) : Type 0 where
   pub tree : MemTree
   pub start : IsStart sampled tree
-  pub known : IsKnownServed nobody Receives Sends Gives memory_tree failed_in tree old over new
+  pub known : IsKnownServed (unowned postings) Receives Sends Gives memory_tree failed_in tree old over new
   pub part : ℕ
   pub written : Appends old.output new.output (lines_in (events_of known.served.run.client.steps) ++ take part (broken_line (events_of known.served.run.client.steps)))
 
 -- the same, unless there is no memory for a tree or a table
-abbrev pub ServesHex : Bool → Hexing → SessionEnd → Hexing → Type 0
-ServesHex sampled old over new = IsHexServed sampled old over new ⊎ ((over ≡ end.Memory) × (new ≡ old))
+abbrev pub ServesHex : Bool → (postings : ℕ) → Hexing → SessionEnd → Hexing → Type 0
+ServesHex sampled postings old over new = IsHexServed sampled postings old over new ⊎ ((over ≡ end.Memory) × (new ≡ old))
 
 -- its status, and all that it writes
-pub record RunsHex (sampled : Bool) (input output output' faults faults' : Option (List ℕ)) (status : ℕ) (told : Bool) : Type 0 where
+pub record RunsHex (sampled : Bool) (postings : ℕ) (input output output' faults faults' : Option (List ℕ)) (status : ℕ) (told : Bool) : Type 0 where
   pub over : SessionEnd
   pub last : Hexing
-  pub serves : ServesHex sampled (unread input output) over last
+  pub serves : ServesHex sampled postings (unread input output) over last
   pub output_is : output' ≡ last.output
   pub status_is : status ≡ exit_of (failure_of over last.cause)
   pub tells : Tells (failure_of over last.cause) told faults faults'
@@ -61,9 +61,9 @@ pub record HasNoSeed (output output' faults faults' : Option (List ℕ)) (status
   pub status_is : status ≡ 4
   pub tells : Tells (Some (Stopped Seed)) told faults faults'
 
-abbrev pub RunsSeeded : (sampled : Bool) → (input output output' faults faults' : Option (List ℕ)) → (status : ℕ) → (told : Bool) → Type 0
-RunsSeeded sampled input output output' faults faults' status told =
-    RunsHex sampled input output output' faults faults' status told ⊎ HasNoSeed output output' faults faults' status told
+abbrev pub RunsSeeded : (sampled : Bool) → (postings : ℕ) → (input output output' faults faults' : Option (List ℕ)) → (status : ℕ) → (told : Bool) → Type 0
+RunsSeeded sampled postings input output output' faults faults' status told =
+    RunsHex sampled postings input output output' faults faults' status told ⊎ HasNoSeed output output' faults faults' status told
 
 -- ---- the programs `pipe` and `serve`
 
@@ -73,20 +73,20 @@ IsEnded ended root path faults faults' status told =
     (status ≡ exit_of (failure_after ended root path)) × Tells (failure_after ended root path) told faults faults'
 
 -- A folder is served over standard input and output.
-pub record RunsPipe (root : Bor Text) (settings : Settings) (input output output' faults faults' : Option (List ℕ)) (status : ℕ) (told : Bool) : Type 0 where
+pub record RunsPipe (root : Bor Text) (terms : Terms) (input output output' faults faults' : Option (List ℕ)) (status : ℕ) (told : Bool) : Type 0 where
   pub ended : Result SessionEnd Unserved
-  pub serves : ServesFolder settings input output ended output'
+  pub serves : ServesFolder terms input output ended output'
   pub path : Bor Text
   pub ends : IsEnded ended root path faults faults' status told
 
 -- by one thread, or by threads
-abbrev pub ServesBy : Serving → Settings → Result SessionEnd Unserved → Type 0
-ServesBy threads settings ended = (threads.single ≡ true → ServesSocket settings ended) × (threads.single ≡ false → ServesWorkers threads.workers ended)
+abbrev pub ServesBy : Serving → Terms → Result SessionEnd Unserved → Type 0
+ServesBy threads terms ended = (threads.single ≡ true → ServesSocket terms ended) × (threads.single ≡ false → ServesWorkers threads.workers ended)
 
 -- A folder is served over a socket.
-pub record RunsServe (root path : Bor Text) (threads : Serving) (settings : Settings) (faults faults' : Option (List ℕ)) (status : ℕ) (told : Bool) : Type 0 where
+pub record RunsServe (root path : Bor Text) (threads : Serving) (terms : Terms) (faults faults' : Option (List ℕ)) (status : ℕ) (told : Bool) : Type 0 where
   pub ended : Result SessionEnd Unserved
-  pub serves : ServesBy threads settings ended
+  pub serves : ServesBy threads terms ended
   pub ends : IsEnded ended root path faults faults' status told
 
 -- ---- from the command line
@@ -107,11 +107,11 @@ pub record IsRefused (words : List Text) (kind : ErrorKind) : Type 0 where
 
 -- the program that was asked for
 abbrev pub RunsAsked : Options → (input output output' faults faults' : Option (List ℕ)) → (status : ℕ) → (told : Bool) → Type 0
-RunsAsked (Serve root socket workers single uid gid) input output output' faults faults' status told =
-    RunsServe root socket (record { workers = workers; single = single }) (record { uid = uid; gid = gid }) faults faults' status told × (output' ≡ output)
-RunsAsked (Pipe root uid gid) input output output' faults faults' status told =
-    RunsPipe root (record { uid = uid; gid = gid }) input output output' faults faults' status told
-RunsAsked (Hex sampled) input output output' faults faults' status told = RunsSeeded sampled input output output' faults faults' status told
+RunsAsked (Serve root socket workers single uid gid postings) input output output' faults faults' status told =
+    RunsServe root socket (record { workers = workers; single = single }) (record { settings = record { uid = uid; gid = gid }; postings = postings }) faults faults' status told × (output' ≡ output)
+RunsAsked (Pipe root uid gid postings) input output output' faults faults' status told =
+    RunsPipe root (record { settings = record { uid = uid; gid = gid }; postings = postings }) input output output' faults faults' status told
+RunsAsked (Hex sampled postings) input output output' faults faults' status told = RunsSeeded sampled postings input output output' faults faults' status told
 
 -- The program does what the words ask for where clap has nothing against them. Else, or where memory is refused, it ends as a
 -- refusal does.

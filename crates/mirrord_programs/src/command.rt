@@ -3,7 +3,7 @@
 ghost use Rattle.std.specs.Prelude.{◌≡◌, codes, false, IfOk, pos};
 ghost use Rattle.clap.specs.Words.{app_of, rule_of};
 ghost use Rattle.clap.specs.declared.builder.command.Command.TheViews.{out-Command as fields_of};
-ghost use Rattle.mirrord_programs.specs.CommandLine.{bare_app, flag_rule, hex_app, mirrord_app, owned, number_rule, pipe_app, serve_app, single_rule, staffed, text_rule, user};
+ghost use Rattle.mirrord_programs.specs.CommandLine.{bare_app, bounded, flag_rule, hex_app, mirrord_app, owned, number_rule, pipe_app, serve_app, single_rule, staffed, text_rule, user};
 
 use clap::builder::ValueParser;
 use clap::{Arg, ArgAction, Command};
@@ -49,6 +49,12 @@ const SINGLE: &str = "One thread does all, whatever --workers says: the least ti
 const UID: &str = "The user that each file and folder is told to belong to";
 
 const GID: &str = "The group that each file and folder is told to belong to";
+
+const POSTINGS: &str =
+    "How many entries of the ledger a period may have; the next begins where half of them are made";
+
+/// The most that a period may have.
+pub const MOST_POSTINGS: u32 = 1_048_576;
 
 const SAMPLE: &str = "Start with a file `a` holding `abc`, a folder `d` and an empty file `e`";
 
@@ -114,14 +120,23 @@ fn single_flag<'a>(alloc: Global) -> Arg<'a>
     flag(alloc, "single", SINGLE).short('s')
 }
 
+/// A command that is also told how many postings a period of the ledger may have.
+fn with_postings<'a>(alloc: Global, command: Command<'a>) -> Result<Command<'a>, AllocError>
+    ensures app { IfOk result (λ c. app_of c ≡ bounded (app_of command.entry)) }
+    ensures local { (fields_of command.entry).has_globals ≡ false → IfOk result (λ c. (fields_of c).has_globals ≡ false) }
+{
+    command.arg(number_option(alloc, "postings", 1, MOST_POSTINGS, "1048576", POSTINGS))
+}
+
 fn hex_command<'a>(alloc: Global) -> Result<Command<'a>, AllocError>
     ensures app { IfOk result (λ c. app_of c ≡ hex_app) }
     ensures local { IfOk result (λ c. (fields_of c).has_globals ≡ false) }
 {
-    Command::new(alloc, "hex")
+    let sampled = Command::new(alloc, "hex")
         .about(HEX)
         .after_help(HEX_EXAMPLE)
-        .arg(flag(alloc, "sample", SAMPLE))
+        .arg(flag(alloc, "sample", SAMPLE))?;
+    with_postings(alloc, sampled)
 }
 
 /// A command that is also told a user and a group.
@@ -152,7 +167,8 @@ fn pipe_command<'a>(alloc: Global) -> Result<Command<'a>, AllocError>
         .about(PIPE)
         .after_help(PIPE_EXAMPLE)
         .arg(text_option(alloc, "root", "DIR", ROOT))?;
-    with_owner(alloc, rooted)
+    let owned = with_owner(alloc, rooted)?;
+    with_postings(alloc, owned)
 }
 
 fn serve_command<'a>(alloc: Global) -> Result<Command<'a>, AllocError>
@@ -165,7 +181,8 @@ fn serve_command<'a>(alloc: Global) -> Result<Command<'a>, AllocError>
         .arg(text_option(alloc, "root", "DIR", ROOT))?
         .arg(text_option(alloc, "socket", "PATH", SOCKET))?;
     let staffed = with_workers(alloc, placed)?;
-    with_owner(alloc, staffed)
+    let owned = with_owner(alloc, staffed)?;
+    with_postings(alloc, owned)
 }
 
 /// The program without its subcommands.

@@ -4,8 +4,7 @@ ghost use Rattle.std.specs.Prelude.{◌≡◌};
 ghost use Rattle.mirrord_programs.specs.Runs.{RunsPipe, RunsServe};
 
 use crate::ended::{Ended, failure_after, status_after, tell_any};
-use engine::Settings;
-use mirrord_server::{serve_folder, serve_socket, serve_socket_by};
+use mirrord_server::{Terms, serve_folder, serve_socket, serve_socket_by};
 use std::fs::File;
 use std::io::{Read, Write};
 use std::net::Net;
@@ -23,10 +22,10 @@ pub fn pipe_run<
     I: Read + Drop,
     O: Write + Drop,
     F: Write,
->(rt: &H, root: &str, settings: Settings, input: I, output: O, faults: &mut F) -> Ended<O>
-    ensures { RunsPipe root.entry settings (I.remaining input) (O.contents output) (O.contents result.output) (F.contents faults.old) (F.contents faults.new) result.status result.told }
+>(rt: &H, root: &str, terms: Terms, input: I, output: O, faults: &mut F) -> Ended<O>
+    ensures { RunsPipe root.entry terms (I.remaining input) (O.contents output) (O.contents result.output) (F.contents faults.old) (F.contents faults.new) result.status result.told }
 {
-    let served = serve_folder(rt, root, settings, input, output);
+    let served = serve_folder(rt, root, terms, input, output);
     let failure = failure_after(served.ended, root, STANDARD_INPUT);
     Ended {
         status: status_after(failure),
@@ -66,17 +65,17 @@ pub fn serve_run<
     root: &str,
     path: &str,
     threads: Serving,
-    settings: Settings,
+    terms: Terms,
     output: O,
     faults: &mut F,
 ) -> Ended<O>
-    ensures runs { RunsServe root.entry path.entry threads settings (F.contents faults.old) (F.contents faults.new) result.status result.told }
+    ensures runs { RunsServe root.entry path.entry threads terms (F.contents faults.old) (F.contents faults.new) result.status result.told }
     ensures output { result.output ≡ output }
 {
     let ended = if threads.single {
-        serve_socket(rt, root, path, settings)
+        serve_socket(rt, root, path, terms)
     } else {
-        serve_socket_by(rt, host, root, path, threads.workers, settings)
+        serve_socket_by(rt, host, root, path, threads.workers, terms)
     };
     let failure = failure_after(ended, root, path);
     Ended {

@@ -5,7 +5,7 @@ ghost use Rattle.clap.specs.Words.{fault_of, found_of, kind_of, rows_of, subcomm
 ghost use Rattle.clap.specs.declared.error.kind.ErrorKind.TheVariants.{OutOfMemory};
 ghost use Rattle.mirrord_programs.specs.CommandLine.{mirrord_app, IsAsked, IsAskedBy, IsFlag, IsNumber, IsText, NumberReads};
 
-use crate::command::command;
+use crate::command::{MOST_POSTINGS, command};
 use clap::{ArgMatches, Error};
 use std::alloc::Global;
 use std::convert::AsStr;
@@ -26,6 +26,8 @@ pub enum Options<'a> {
         /// Who all of it is told to belong to.
         uid: u32,
         gid: u32,
+        /// How many postings a period of the ledger may have.
+        postings: u32,
     },
     /// Serve a folder over standard input and output.
     Pipe {
@@ -34,11 +36,15 @@ pub enum Options<'a> {
         /// Who all of it is told to belong to.
         uid: u32,
         gid: u32,
+        /// How many postings a period of the ledger may have.
+        postings: u32,
     },
     /// Serve a tree in memory over hexadecimal lines.
     Hex {
         /// Whether the tree has the sample names.
         sample: bool,
+        /// How many postings a period of the ledger may have.
+        postings: u32,
     },
 }
 
@@ -101,6 +107,7 @@ fn serve_asked<'a>(matches: &ArgMatches<'a>) -> Options<'a>
         single: flag_in(matches, "single"),
         uid: number_in(matches, "uid"),
         gid: number_in(matches, "gid"),
+        postings: number_in(matches, "postings"),
     }
 }
 
@@ -112,6 +119,7 @@ fn pipe_asked<'a>(matches: &ArgMatches<'a>) -> Options<'a>
         root: text_in(matches, "root"),
         uid: number_in(matches, "uid"),
         gid: number_in(matches, "gid"),
+        postings: number_in(matches, "postings"),
     }
 }
 
@@ -125,8 +133,10 @@ fn asked_by<'a>(name: &str, matches: &ArgMatches<'a>) -> Options<'a>
     if name == "pipe" {
         return pipe_asked(matches);
     }
-    let sample = flag_in(matches, "sample");
-    Options::Hex { sample }
+    Options::Hex {
+        sample: flag_in(matches, "sample"),
+        postings: number_in(matches, "postings"),
+    }
 }
 
 /// What a command line that was read asks for.
@@ -135,7 +145,10 @@ fn asked<'a>(matches: &ArgMatches<'a>) -> Options<'a>
 {
     match matches.subcommand() {
         Some((name, met)) => asked_by(name, met),
-        None => Options::Hex { sample: false },
+        None => Options::Hex {
+            sample: false,
+            postings: MOST_POSTINGS,
+        },
     }
 }
 

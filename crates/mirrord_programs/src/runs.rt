@@ -12,7 +12,7 @@ use crate::options::{Options, read_options};
 use crate::samples::new_tree;
 use clap::error::ErrorKind;
 use engine::{SessionEnd, Settings};
-use mirrord_server::serve_known;
+use mirrord_server::{Terms, serve_known};
 use std::alloc::Global;
 use std::convert::AsStr;
 use std::fs::File;
@@ -24,39 +24,50 @@ use std::sync::Wait;
 use std::thread::Threads;
 use table::Seeds;
 
-/// Nobody owns what is mirrored.
-const NOBODY: Settings = Settings { uid: 0, gid: 0 };
+/// What a session is served by, by the numbers of a command line.
+fn terms_of(uid: u32, gid: u32, postings: u32) -> Terms
+    ensures { result ≡ record { settings = record { uid = uid; gid = gid }; postings = postings } }
+{
+    Terms {
+        settings: Settings { uid, gid },
+        postings: u64::from(postings),
+    }
+}
 
 /// Serves a new tree in memory over a link of hexadecimal lines.
 fn serve_new<H: Wait, I: BufRead + Drop, O: Write + Drop>(
     rt: &H,
     alloc: Global,
     sample: bool,
+    postings: u32,
     seeds: Seeds,
     link: &mut HexLink<I, O>,
 ) -> SessionEnd
-    ensures { ServesHex sample link.old result link.new }
+    ensures { ServesHex sample postings link.old result link.new }
 {
     let Ok(tree) = new_tree(alloc, sample) else {
         return SessionEnd::Memory;
     };
-    serve_known(rt, alloc, seeds, tree, link, NOBODY)
+    // Nobody owns what is mirrored.
+    serve_known(rt, alloc, seeds, tree, link, terms_of(0, 0, postings))
 }
 
-/// Serves a tree in memory over hexadecimal lines: the program `hex` but for its command line.
+/// Serves a tree in memory over hexadecimal lines: the program `hex` but for its command line. A period of the ledger may have so many
+/// postings.
 pub fn hex_run<H: Wait, I: BufRead + Drop, O: Write + Drop, F: Write>(
     rt: &H,
     alloc: Global,
     sample: bool,
+    postings: u32,
     seeds: Seeds,
     input: I,
     output: O,
     faults: &mut F,
 ) -> Ended<O>
-    ensures { RunsHex sample (I.remaining input) (O.contents output) (O.contents result.output) (F.contents faults.old) (F.contents faults.new) result.status result.told }
+    ensures { RunsHex sample postings (I.remaining input) (O.contents output) (O.contents result.output) (F.contents faults.old) (F.contents faults.new) result.status result.told }
 {
     let mut link = HexLink::new(alloc, input, output);
-    let end = serve_new(rt, alloc, sample, seeds, &mut link);
+    let end = serve_new(rt, alloc, sample, postings, seeds, &mut link);
     let failure = failure_of(end, link.cause());
     let told = tell_any(faults, failure);
     Ended {
@@ -70,11 +81,12 @@ pub fn hex_run<H: Wait, I: BufRead + Drop, O: Write + Drop, F: Write>(
 fn run_hex<H: Wait + RandomSource + AllocGlobal, I: BufRead + Drop, O: Write + Drop, F: Write>(
     rt: &H,
     sample: bool,
+    postings: u32,
     input: I,
     output: O,
     faults: &mut F,
 ) -> Ended<O>
-    ensures { RunsSeeded sample (I.remaining input) (O.contents output) (O.contents result.output) (F.contents faults.old) (F.contents faults.new) result.status result.told }
+    ensures { RunsSeeded sample postings (I.remaining input) (O.contents output) (O.contents result.output) (F.contents faults.old) (F.contents faults.new) result.status result.told }
 {
     let Ok(seeds) = Seeds::new(rt) else {
         let told = tell(faults, Failure::Stopped(Fault::Seed));
@@ -84,7 +96,16 @@ fn run_hex<H: Wait + RandomSource + AllocGlobal, I: BufRead + Drop, O: Write + D
             output,
         };
     };
-    hex_run(rt, rt.alloc(), sample, seeds, input, output, faults)
+    hex_run(
+        rt,
+        rt.alloc(),
+        sample,
+        postings,
+        seeds,
+        input,
+        output,
+        faults,
+    )
 }
 
 /// Says what clap has to say: help and the version go to the output, and a fault to standard error.
@@ -149,16 +170,31 @@ pub fn run<
                 single,
                 uid,
                 gid,
+                postings,
             },
         ) => {
             let threads = Serving { workers, single };
-            let settings = Settings { uid, gid };
-            serve_run(rt, host, root, socket, threads, settings, output, faults)
+            let terms = terms_of(uid, gid, postings);
+            serve_run(rt, host, root, socket, threads, terms, output, faults)
         }
-        Ok(Options::Pipe { root, uid, gid }) => {
-            pipe_run(rt, root, Settings { uid, gid }, input, output, faults)
+        Ok(
+            Options::Pipe {
+                root,
+                uid,
+                gid,
+                postings,
+            },
+        ) => pipe_run(
+            rt,
+            root,
+            terms_of(uid, gid, postings),
+            input,
+            output,
+            faults,
+        ),
+        Ok(Options::Hex { sample, postings }) => {
+            run_hex(rt, sample, postings, input, output, faults)
         }
-        Ok(Options::Hex { sample }) => run_hex(rt, sample, input, output, faults),
         Err(error) => explain(&error, output, faults),
     }
 }

@@ -10,7 +10,7 @@ use Rattle.engine.specs.declared.ends.SessionEnd.{SessionEnd}
 use Rattle.engine.specs.declared.ends.SessionEnd.TheVariants as end
 use Rattle.engine.specs.declared.links.Sent.{Sent}
 use Rattle.ops.specs.Scripts.{Made}
-use Rattle.ops.specs.declared.replies.Settings.{Settings}
+use Rattle.mirrord_server.specs.declared.terms.Terms.{Terms}
 use Rattle.mirrord_server.specs.Sessions.{IsServed}
 
 -- how many of them fail
@@ -26,13 +26,13 @@ OnTree old (device ∷ devices) [] new = ⊥
 OnTree old (device ∷ devices) (made ∷ more) new = (mid : Tree) × Performs old device made.call made.answer mid × OnTree mid devices more new
 
 -- All calls of a session are those of the tree from first to last, with the faults of its device as inputs; each is counted, and nothing else is.
-pub record IsKnownServed {L C : Type 0} (settings : Settings) (receives : L → Heard → L → Type 0) (sends : L → List ℕ → Sent → L → Type 0) (gives : C → Asked → Answer → C → Type 0) (tree_of : C → Tree) (faults : C → ℕ) (tree : C) (old : L) (over : SessionEnd) (new : L) : Type 0 where
-  pub served : IsServed settings receives sends gives tree old over new
+pub record IsKnownServed {L C : Type 0} (terms : Terms) (receives : L → Heard → L → Type 0) (sends : L → List ℕ → Sent → L → Type 0) (gives : C → Asked → Answer → C → Type 0) (tree_of : C → Tree) (faults : C → ℕ) (tree : C) (old : L) (over : SessionEnd) (new : L) : Type 0 where
+  pub served : IsServed terms receives sends gives tree old over new
   pub devices : List Device
   pub on_tree : OnTree (tree_of tree) devices (made_of (turns_of served.run.client.steps) ++ served.run.removal.removals) (tree_of served.left)
   pub counts : faults served.left ≡ counted (faults tree) (faults_in devices)
 
 -- the same, unless there is no memory for a table
-abbrev pub ServesKnown : {L C : Type 0} → Settings → (L → Heard → L → Type 0) → (L → List ℕ → Sent → L → Type 0) → (C → Asked → Answer → C → Type 0) → (C → Tree) → (C → ℕ) → C → L → SessionEnd → L → Type 0
-ServesKnown settings receives sends gives tree_of faults tree old over new =
-    IsKnownServed settings receives sends gives tree_of faults tree old over new ⊎ ((over ≡ end.Memory) × (new ≡ old))
+abbrev pub ServesKnown : {L C : Type 0} → Terms → (L → Heard → L → Type 0) → (L → List ℕ → Sent → L → Type 0) → (C → Asked → Answer → C → Type 0) → (C → Tree) → (C → ℕ) → C → L → SessionEnd → L → Type 0
+ServesKnown terms receives sends gives tree_of faults tree old over new =
+    IsKnownServed terms receives sends gives tree_of faults tree old over new ⊎ ((over ≡ end.Memory) × (new ≡ old))

@@ -11,29 +11,29 @@ use Rattle.engine.specs.Tables.{worlds}
 use Rattle.engine.specs.declared.ends.SessionEnd.{SessionEnd}
 use Rattle.engine.specs.declared.ends.SessionEnd.TheVariants as end
 use Rattle.engine.specs.declared.links.Sent.{Sent}
-use Rattle.ops.specs.declared.replies.Settings.{Settings}
+use Rattle.mirrord_server.specs.declared.terms.Terms.{Terms}
 use Rattle.table_steps.specs.World.{World, opened_world}
 use Rattle.table_steps.specs.declared.data.Limits.{Limits}
 
--- how far the table may grow (own)
-abbrev pub limits : Limits
-limits = record { nodes = 65536; postings = 1048576; flights = 64; files = 4096 }
+-- how far a table may grow, with so many postings in a period (own)
+abbrev pub limits_with : ℕ → Limits
+limits_with postings = record { nodes = 65536; postings = postings; flights = 64; files = 4096 }
 
 -- how far the open folders may grow (own)
 abbrev pub folder_limits : FolderLimits
 folder_limits = record { folders = 4096; names = 1048576 }
 
 -- a session over a new table, with open folders of these limits
-pub record IsServed {L C : Type 0} (settings : Settings) (receives : L → Heard → L → Type 0) (sends : L → List ℕ → Sent → L → Type 0) (gives : C → Asked → Answer → C → Type 0) (tree : C) (old : L) (over : SessionEnd) (new : L) : Type 0 where
+pub record IsServed {L C : Type 0} (terms : Terms) (receives : L → Heard → L → Type 0) (sends : L → List ℕ → Sent → L → Type 0) (gives : C → Asked → Answer → C → Type 0) (tree : C) (old : L) (over : SessionEnd) (new : L) : Type 0 where
   pub world : World
-  pub opened : world ≡ opened_world limits
+  pub opened : world ≡ opened_world (limits_with terms.postings)
   pub last : World
   pub dirs : Bor FolderLimits
   pub limits_are : dirs.now ≡ folder_limits
   pub left : C
   pub dirs_left : Bor FolderLimits
-  pub run : IsSessionRun worlds settings receives sends (does gives Shares) old (record { calls = tree; dirs = dirs }) world new (record { calls = left; dirs = dirs_left }) last over
+  pub run : IsSessionRun worlds terms.settings receives sends (does gives Shares) old (record { calls = tree; dirs = dirs }) world new (record { calls = left; dirs = dirs_left }) last over
 
 -- the same, unless there is no memory for a table
-abbrev pub ServesLink : {L C : Type 0} → Settings → (L → Heard → L → Type 0) → (L → List ℕ → Sent → L → Type 0) → (C → Asked → Answer → C → Type 0) → C → L → SessionEnd → L → Type 0
-ServesLink settings receives sends gives tree old over new = IsServed settings receives sends gives tree old over new ⊎ ((over ≡ end.Memory) × (new ≡ old))
+abbrev pub ServesLink : {L C : Type 0} → Terms → (L → Heard → L → Type 0) → (L → List ℕ → Sent → L → Type 0) → (C → Asked → Answer → C → Type 0) → C → L → SessionEnd → L → Type 0
+ServesLink terms receives sends gives tree old over new = IsServed terms receives sends gives tree old over new ⊎ ((over ≡ end.Memory) × (new ≡ old))

@@ -5,8 +5,9 @@ ghost use Rattle.mirrord_server.specs.Folders.{IsFolderServed, ServesFolder};
 ghost use Rattle.mirrord_server.specs.declared.folder.Unserved.TheVariants.{NoSocket};
 
 use crate::hosting::serve_alone;
+use crate::terms::Terms;
 use backing_folder::{Folder, System};
-use engine::{SessionEnd, Settings};
+use engine::SessionEnd;
 use engine_streams::StreamLink;
 use std::fs::File;
 use std::io;
@@ -84,15 +85,15 @@ pub(crate) fn serve_opened<
     rt: &H,
     folder: Folder<System<H>>,
     seeds: Seeds,
-    settings: Settings,
+    terms: Terms,
     input: I,
     output: O,
 ) -> (SessionEnd, O)
     requires { folder ≡ 0 }
-    ensures { IsFolderServed settings (I.remaining input) (O.contents output) result.0 (O.contents result.1) }
+    ensures { IsFolderServed terms (I.remaining input) (O.contents output) result.0 (O.contents result.1) }
 {
     let mut link = StreamLink::new(input, output);
-    let end = serve_alone(rt, rt.alloc(), seeds, folder, &mut link, settings);
+    let end = serve_alone(rt, rt.alloc(), seeds, folder, &mut link, terms);
     (end, link.into_writer())
 }
 
@@ -101,8 +102,8 @@ pub fn serve_folder<
     H: Wait + RandomSource + Files<File = File> + AllocGlobal + Clone + Drop,
     I: Read + Drop,
     O: Write + Drop,
->(rt: &H, root: &str, settings: Settings, input: I, output: O) -> Served<O>
-    ensures { ServesFolder settings (I.remaining input) (O.contents output) result.ended (O.contents result.output) }
+>(rt: &H, root: &str, terms: Terms, input: I, output: O) -> Served<O>
+    ensures { ServesFolder terms (I.remaining input) (O.contents output) result.ended (O.contents result.output) }
 {
     let folder = match open_folder(rt, root) {
         Ok(folder) => folder,
@@ -122,7 +123,7 @@ pub fn serve_folder<
             };
         }
     };
-    let (end, output) = serve_opened(rt, folder, seeds, settings, input, output);
+    let (end, output) = serve_opened(rt, folder, seeds, terms, input, output);
     Served {
         ended: Ok(end),
         output,

@@ -4,14 +4,15 @@ ghost use Rattle.std.specs.Prelude.{◌≡◌};
 ghost use Rattle.mirrord_server.specs.Known.{ServesKnown};
 ghost use Rattle.mirrord_server.specs.Sessions.{ServesLink};
 
+use crate::terms::Terms;
 use backing::{Calls, KnownTree};
-use engine::{Link, Served, SessionEnd, Settings, serve};
+use engine::{Link, Served, SessionEnd, serve};
 use handles::Dirs;
 use ledger::{Blanks, Ledgers};
 use std::alloc::Global;
 use std::marker::Brand;
 use std::sync::Wait;
-use table::{Limits, Seeds, Table};
+use table::{Seeds, Table};
 
 /// Serves a tree over a link with a table of one share.
 fn serve_link<H: Wait, T: Ledgers, L: Link, C: Calls + Drop>(
@@ -21,13 +22,13 @@ fn serve_link<H: Wait, T: Ledgers, L: Link, C: Calls + Drop>(
     seeds: Seeds,
     tree: C,
     link: &mut L,
-    settings: Settings,
+    terms: Terms,
 ) -> SessionEnd
     requires names { blanks ≡ T.names }
     requires shares { T.names.parts ≡ 1 }
-    ensures { ServesLink settings L.receives L.sends C.gives tree link.old result link.new }
+    ensures { ServesLink terms L.receives L.sends C.gives tree link.old result link.new }
 {
-    let opened = Table::<T>::open(alloc, Limits::default(), seeds, blanks, 1);
+    let opened = Table::<T>::open(alloc, terms.limits(), seeds, blanks, 1);
     let Ok((mut table, mut shares)) = opened else {
         return SessionEnd::Memory;
     };
@@ -48,7 +49,7 @@ fn serve_link<H: Wait, T: Ledgers, L: Link, C: Calls + Drop>(
         &mut served,
         &mut table,
         &mut share,
-        settings,
+        terms.settings,
     );
     share.leave();
     end
@@ -61,11 +62,11 @@ pub fn serve_alone<H: Wait, L: Link, C: Calls + Drop>(
     seeds: Seeds,
     tree: C,
     link: &mut L,
-    settings: Settings,
+    terms: Terms,
 ) -> SessionEnd
-    ensures { ServesLink settings L.receives L.sends C.gives tree link.old result link.new }
+    ensures { ServesLink terms L.receives L.sends C.gives tree link.old result link.new }
 {
-    serve_link::<H, Brand, L, C>(rt, alloc, Blanks::new(1), seeds, tree, link, settings)
+    serve_link::<H, Brand, L, C>(rt, alloc, Blanks::new(1), seeds, tree, link, terms)
 }
 
 /// The same from a tree that tells itself.
@@ -75,9 +76,9 @@ pub fn serve_known<H: Wait, L: Link, C: KnownTree + Drop>(
     seeds: Seeds,
     tree: C,
     link: &mut L,
-    settings: Settings,
+    terms: Terms,
 ) -> SessionEnd
-    ensures { ServesKnown settings L.receives L.sends C.gives C.tree C.faults tree link.old result link.new }
+    ensures { ServesKnown terms L.receives L.sends C.gives C.tree C.faults tree link.old result link.new }
 {
-    serve_alone(rt, alloc, seeds, tree, link, settings)
+    serve_alone(rt, alloc, seeds, tree, link, terms)
 }

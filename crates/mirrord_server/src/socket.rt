@@ -4,9 +4,10 @@ ghost use Rattle.std.specs.Prelude.{◌≡◌};
 ghost use Rattle.mirrord_server.specs.Folders.{ServesSocket, ServesWorkers};
 
 use crate::folder::{Unserved, new_seeds, open_folder, serve_opened};
+use crate::terms::Terms;
 use crate::workers::{open_folders, serve_workers};
 use backing_folder::{Folder, System};
-use engine::{SessionEnd, Settings};
+use engine::SessionEnd;
 use std::fs::File;
 use std::io::{BufReader, ErrorKind};
 use std::net::Net;
@@ -35,15 +36,15 @@ fn serve_client<H: Wait + Files<File = File> + AllocGlobal + Clone + Drop>(
     rt: &H,
     folder: Folder<System<H>>,
     seeds: Seeds,
-    settings: Settings,
+    terms: Terms,
     stream: &UnixStream,
 ) -> Result<SessionEnd, Unserved>
     requires { folder ≡ 0 }
-    ensures { ServesSocket settings result }
+    ensures { ServesSocket terms result }
 {
     match BufReader::with_capacity(rt.alloc(), RECEIVED, stream) {
         Ok(input) => {
-            let (end, _) = serve_opened(rt, folder, seeds, settings, input, stream);
+            let (end, _) = serve_opened(rt, folder, seeds, terms, input, stream);
             Ok(end)
         }
         Err(_) => Err(Unserved::Memory),
@@ -106,15 +107,15 @@ pub fn serve_socket<H: Wait + Net + RandomSource + Files<File = File> + AllocGlo
     rt: &H,
     root: &str,
     path: &str,
-    settings: Settings,
+    terms: Terms,
 ) -> Result<SessionEnd, Unserved>
-    ensures { ServesSocket settings result }
+    ensures { ServesSocket terms result }
 {
     let folder = open_folder(rt, root)?;
     let seeds = new_seeds(rt)?;
     let place = Place::new(rt, path)?;
     let ended = match place.accept() {
-        Ok(stream) => serve_client(rt, folder, seeds, settings, &stream),
+        Ok(stream) => serve_client(rt, folder, seeds, terms, &stream),
         Err(why) => Err(why),
     };
     remove_socket(rt, path, place.made);
@@ -141,7 +142,7 @@ pub fn serve_socket_by<
     root: &str,
     path: &str,
     workers: u8,
-    settings: Settings,
+    terms: Terms,
 ) -> Result<SessionEnd, Unserved>
     ensures { ServesWorkers workers result }
 {
@@ -149,7 +150,7 @@ pub fn serve_socket_by<
     let seeds = new_seeds(rt)?;
     let place = Place::new(rt, path)?;
     let ended = match place.accept() {
-        Ok(stream) => serve_workers(rt, folders, seeds, settings, stream),
+        Ok(stream) => serve_workers(rt, folders, seeds, terms, stream),
         Err(why) => Err(why),
     };
     remove_socket(rt, path, place.made);

@@ -5,8 +5,9 @@ ghost use Rattle.mirrord_server.specs.Folders.{ServesWorkers};
 
 use crate::folder::{Unserved, open_folder};
 use crate::socket::RECEIVED;
+use crate::terms::Terms;
 use backing_folder::{Folder, System};
-use engine::{SessionEnd, Settings};
+use engine::SessionEnd;
 use engine_streams::StreamLink;
 use engine_threads::serve_threads;
 use std::fs::ReadDir;
@@ -15,7 +16,7 @@ use std::io::BufReader;
 use std::os::unix::net::UnixStream;
 use std::sync::Wait;
 use std::thread::Threads;
-use table::{Limits, Seeds};
+use table::Seeds;
 
 /// A folder that a thread of its own may use. A bound of a type parameter would be one of the thread that makes it, so the
 /// runtime is named.
@@ -43,7 +44,7 @@ pub(crate) fn serve_workers<H: Threads + Wait + AllocGlobal + Clone + Send + Syn
     rt: &H,
     folders: Vec<HostFolder>,
     seeds: Seeds,
-    settings: Settings,
+    terms: Terms,
     stream: UnixStream,
 ) -> Result<SessionEnd, Unserved>
     ensures { ServesWorkers (vec_len folders) result }
@@ -63,9 +64,9 @@ pub(crate) fn serve_workers<H: Threads + Wait + AllocGlobal + Clone + Send + Syn
         link_in,
         link_out,
         folders,
-        Limits::default(),
+        terms.limits(),
         seeds,
-        settings,
+        terms.settings,
     );
     Ok(ended.end)
 }

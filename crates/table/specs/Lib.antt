@@ -4,6 +4,7 @@ pub use Rattle.table_steps.specs.Steps
 pub use Rattle.table_steps.specs.Kept
 pub mod Gains
 pub mod Made
+pub mod Renewing
 pub mod Exports
 pub mod Copies
 pub mod Leftovers

@@ -5,9 +5,11 @@
 
 mod export;
 mod leftover;
+mod periods;
 mod table;
 
-pub use table::{Made, Table};
+pub use periods::Made;
+pub use table::Table;
 pub use table_files::{Access, Need, OpenFile};
 pub use table_requests::{Given, Handle, Names, Want};
 pub use table_steps::{Answered, Begin, FoundNames, Limits, Outcome, Seeds, Settled, Ticket};

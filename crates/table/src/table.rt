@@ -15,6 +15,7 @@ ghost use Rattle.table_steps.specs.World.{IsLawfulWorld, opened_world};
 
 use crate::export::export;
 use crate::leftover::leftover;
+use crate::periods::Made;
 use holds::Paths;
 use ledger::{Blanks, Book, Gather, Ledger, Ledgers, Share, Totals};
 use std::alloc::{AllocError, Global};
@@ -23,17 +24,6 @@ use table_files::OpenFile;
 use table_image::Image;
 use table_requests::Want;
 use table_steps::{Answered, Begin, Limits, Outcome, Seeds, Settled, State, Ticket};
-
-/// How far the last period of a ledger has come.
-#[derive(Clone, Copy, Debug, PartialEq, Eq)]
-pub struct Made {
-    /// The postings of the period.
-    pub postings: u64,
-    /// How many it may have.
-    pub limit: u64,
-    /// The nodes that live, but the root.
-    pub living: u64,
-}
 
 /// The state that all workers share, under one lock. Its type parameter names the four ledgers of its book.
 #[derive(Drop)]

@@ -1,6 +1,6 @@
 //! The table behind its lock.
 
-ghost use Rattle.std.specs.Prelude.{◌≡◌, ◌+◌, ◌<◌, ◌↔◌, [], IfOk, IsErr, map, vec_len};
+ghost use Rattle.std.specs.Prelude.{◌≡◌, ◌+◌, ◌<◌, ◌↔◌, Bool, [], IfOk, IsErr, map, vec_len};
 ghost use Rattle.std.specs.List.{range_with_len};
 ghost use Rattle.table_histories.specs.Views.{front};
 ghost use Rattle.ledger.specs.Shares.{sum_of};
@@ -106,7 +106,8 @@ impl<T: Ledgers, O: Opening> Hall<T, O> {
         }
     }
 
-    /// Takes up a request. Where another one is in its way this waits until some request has finished, and then answers Busy.
+    /// Ends the period of the ledger where that is due, and takes up a request. Where another one is in its way this waits until some
+    /// request has finished, and then answers Busy.
     pub fn begin<H: Wait>(
         &self,
         rt: &H,
@@ -114,7 +115,7 @@ impl<T: Ledgers, O: Opening> Hall<T, O> {
         unique: u64,
         want: Want,
     ) -> Begin
-        ensures { Makes (opened_world O.limits) (Call.began unique want result) me.old me.new }
+        ensures { (kept : Bool) × Makes (opened_world O.limits) (Call.began kept unique want result) me.old me.new }
     {
         let mut table = self.table.lock(rt);
         let begin = table.begin(&self.history, me, unique, want);

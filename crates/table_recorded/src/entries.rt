@@ -11,6 +11,8 @@ use table_requests::Want;
 #[derive(Drop)]
 pub enum Event {
     Begin {
+        /// Whether a period of the ledger that was due to end was kept, since there was no memory for its end.
+        kept: bool,
         unique: u64,
         want: Snapshot<Want>,
         told: Snapshot<Begin>,

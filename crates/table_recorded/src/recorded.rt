@@ -1,6 +1,6 @@
 //! The table under a lock, beside the keeper of its history.
 
-ghost use Rattle.std.specs.Prelude.{◌≡◌, ◌+◌, []};
+ghost use Rattle.std.specs.Prelude.{◌≡◌, ◌+◌, [], Bool};
 ghost use Rattle.ledger.specs.Shares.{plus};
 ghost use Rattle.ledger.specs.Sums.{totals_of};
 ghost use Rattle.table_histories.specs.Views.{front};
@@ -63,7 +63,7 @@ impl<T: Ledgers, O: Opening> Recorded<T, O> {
         (history, Recorded { table, keeper })
     }
 
-    /// Takes up a request. Busy and a refusal change nothing.
+    /// Ends the period of the ledger where that is due, and takes up a request. Busy and a refusal change nothing else.
     pub fn begin(
         &mut self,
         history: &History<Entry<T>, Runs<O>>,
@@ -71,12 +71,14 @@ impl<T: Ledgers, O: Opening> Recorded<T, O> {
         unique: u64,
         want: Want,
     ) -> Begin
-        ensures makes { Makes (opened_world O.limits) (Call.began unique want result) me.old me.new }
+        ensures makes { (kept : Bool) × Makes (opened_world O.limits) (Call.began kept unique want result) me.old me.new }
         ensures log { self.new.log ≡ me.new.seen }
     {
         let asked = Snapshot::of(&want);
+        let kept = self.table.renew();
         let begin = self.table.begin(unique, want);
         let event = Event::Begin {
+            kept,
             unique,
             want: asked,
             told: Snapshot::of(&begin),

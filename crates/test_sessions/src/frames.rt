@@ -1,6 +1,6 @@
 //! The frames that the tests send and the replies that they wait for, in hexadecimal digits. Spaces are for reading.
 
-use mirrord_programs::{hex_run, run};
+use mirrord_programs::{MOST_POSTINGS, hex_run, run};
 use std::alloc::{AllocError, Global};
 use std::fs::File;
 use std::io;
@@ -65,6 +65,13 @@ pub const ABSENT: &str = "10000000 feffffff 0700000000000000";
 pub const FORGET_FIVE: &str =
     "30000000 02000000 0900000000000000 0200000000000000 00000000 00000000 00000000 00000000 0500000000000000";
 
+/// FORGET of node 2, unique 9, nlookup 3.
+pub const FORGET_THREE: &str =
+    "30000000 02000000 0900000000000000 0200000000000000 00000000 00000000 00000000 00000000 0300000000000000";
+
+/// ENFILE for unique 7.
+pub const FULL: &str = "10000000 e9ffffff 0700000000000000";
+
 /// DESTROY, unique 2.
 pub const DESTROY: &str =
     "28000000 26000000 0200000000000000 0000000000000000 00000000 00000000 00000000 00000000";
@@ -104,6 +111,7 @@ pub fn run_from(
         rt,
         alloc,
         sample,
+        MOST_POSTINGS,
         seeds,
         input,
         Vec::new(alloc),
@@ -130,7 +138,16 @@ pub fn run_into(
 ) -> io::Result<Run> {
     let mut faults = Vec::new(alloc);
     let seeds = Seeds::new(rt)?;
-    let ended = hex_run(rt, alloc, true, seeds, input, room, &mut faults);
+    let ended = hex_run(
+        rt,
+        alloc,
+        true,
+        MOST_POSTINGS,
+        seeds,
+        input,
+        room,
+        &mut faults,
+    );
     Ok(Run {
         status: ended.status,
         output: Vec::new(alloc),

@@ -1,7 +1,10 @@
 //! The whole program, from its words to its exit status.
 
-use crate::frames::{ABSENT, AGREED, ENTRY_A, INIT, LOOKUP_A, lines_of, run_from, run_words};
-use mirrord_programs::hex_run;
+use crate::frames::{
+    ABSENT, AGREED, ENTRY_A, ENTRY_E_REBORN, FORGET_THREE, FULL, INIT, LOOKUP_A, LOOKUP_E,
+    lines_of, run_from, run_words,
+};
+use mirrord_programs::{MOST_POSTINGS, hex_run};
 use std::io;
 use std::io::{ErrorKind, Write};
 use std::test::Fail;
@@ -22,6 +25,28 @@ fn sample_names_or_none(rt: HostRuntime) -> Result<(), Fail> {
     let input = lines_of(alloc, &[INIT, LOOKUP_A])?;
     let unasked = run_from(&rt, alloc, false, &input)?;
     assert!(rt; unasked.output.as_slice() == lines_of(alloc, &[AGREED, ABSENT])?.as_slice());
+    Ok(())
+}
+
+// With room for six postings a period ends before the third LOOKUP. The fourth has no room for its postings. Once all is forgotten another
+// period ends, and number 2 is born again with the next generation.
+#[test]
+fn periods_end(rt: HostRuntime) -> Result<(), Fail> {
+    let words = ["mirrord", "hex", "--sample", "--postings", "6"];
+    let asked = [
+        INIT,
+        LOOKUP_A,
+        LOOKUP_A,
+        LOOKUP_A,
+        LOOKUP_A,
+        FORGET_THREE,
+        LOOKUP_E,
+    ];
+    let told = [AGREED, ENTRY_A, ENTRY_A, ENTRY_A, FULL, ENTRY_E_REBORN];
+    let run = run_words(&rt, &rt, &words, &asked)?;
+    assert_eq!(rt; run.status, 0);
+    assert!(rt; run.output.as_slice() == lines_of(rt.alloc(), &told)?.as_slice());
+    assert!(rt; run.faults.is_empty());
     Ok(())
 }
 
@@ -94,6 +119,7 @@ fn broken_output(rt: HostRuntime) -> Result<(), Fail> {
         &rt,
         alloc,
         true,
+        MOST_POSTINGS,
         Seeds::new(&rt)?,
         input.as_slice(),
         broken,
@@ -110,6 +136,7 @@ fn broken_output(rt: HostRuntime) -> Result<(), Fail> {
         &rt,
         alloc,
         true,
+        MOST_POSTINGS,
         Seeds::new(&rt)?,
         input.as_slice(),
         full,
@@ -131,6 +158,7 @@ fn broken_standard_error(rt: HostRuntime) -> Result<(), Fail> {
         &rt,
         alloc,
         true,
+        MOST_POSTINGS,
         Seeds::new(&rt)?,
         b"2".as_slice(),
         Vec::new(alloc),

@@ -7,9 +7,17 @@ use std::test::Fail;
 #[test]
 fn hex_with_and_without_samples(rt: HostRuntime) -> Result<(), Fail> {
     let bare = read_options(rt.alloc(), &["mirrord", "hex"])?;
-    assert_eq!(rt; bare, Options::Hex { sample: false });
-    let sample = read_options(rt.alloc(), &["mirrord", "hex", "--sample"])?;
-    assert_eq!(rt; sample, Options::Hex { sample: true });
+    let unsampled = Options::Hex {
+        sample: false,
+        postings: 1_048_576,
+    };
+    assert_eq!(rt; bare, unsampled);
+    let words = ["mirrord", "hex", "--sample", "--postings", "6"];
+    let sampled = Options::Hex {
+        sample: true,
+        postings: 6,
+    };
+    assert_eq!(rt; read_options(rt.alloc(), &words)?, sampled);
     Ok(())
 }
 
@@ -28,6 +36,7 @@ fn serve_and_pipe(rt: HostRuntime) -> Result<(), Fail> {
         "--uid",
         "4294967295",
         "--gid=7",
+        "--postings=1",
     ];
     let given = Options::Serve {
         root: "/srv",
@@ -36,6 +45,7 @@ fn serve_and_pipe(rt: HostRuntime) -> Result<(), Fail> {
         single: true,
         uid: 4_294_967_295,
         gid: 7,
+        postings: 1,
     };
     assert_eq!(rt; read_options(rt.alloc(), &words)?, given);
     let words = ["mirrord", "serve", "--socket=/tmp/s", "--root=/srv"];
@@ -46,6 +56,7 @@ fn serve_and_pipe(rt: HostRuntime) -> Result<(), Fail> {
         single: false,
         uid: 0,
         gid: 0,
+        postings: 1_048_576,
     };
     assert_eq!(rt; read_options(rt.alloc(), &words)?, left_out);
     let words = ["mirrord", "pipe", "--gid", "1", "--root", "/srv"];
@@ -53,6 +64,7 @@ fn serve_and_pipe(rt: HostRuntime) -> Result<(), Fail> {
         root: "/srv",
         uid: 0,
         gid: 1,
+        postings: 1_048_576,
     };
     assert_eq!(rt; read_options(rt.alloc(), &words)?, pipe);
     Ok(())
@@ -84,7 +96,7 @@ fn help_and_version(rt: HostRuntime) {
 // A command line that is not understood ends with status 2, on standard error.
 #[test]
 fn bad_command_lines(rt: HostRuntime) {
-    let bad: [&[&str]; 12] = [
+    let bad: [&[&str]; 14] = [
         &["mirrord"],
         &["mirrord", "mount"],
         &["mirrord", "hex", "--smaple"],
@@ -93,6 +105,8 @@ fn bad_command_lines(rt: HostRuntime) {
         &["mirrord", "pipe", "--root"],
         &["mirrord", "pipe", "--root", "/", "--uid", "4294967296"],
         &["mirrord", "pipe", "--root", "/", "--gid", "-1"],
+        &["mirrord", "hex", "--postings", "0"],
+        &["mirrord", "hex", "--postings", "1048577"],
         &["mirrord", "serve", "--root", "/"],
         &["mirrord", "serve", "--socket", "/s"],
         &[

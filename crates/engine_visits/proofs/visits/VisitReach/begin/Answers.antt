@@ -8,4 +8,5 @@ pub returns-clause-begins : goal.returns-clause-begins
 returns-clause-begins g c =
     let start = opened_world g.O.Opening.limits in
     let old = c.args.self.now in
-    (begins_as start c.args.unique c.args.want c.begin-begin.result _ _ (steps_of start (began c.args.unique c.args.want c.begin-begin.result) old.front c.begin-begin.new.me old.come_to old.come_to c.begin-begin.ensures c.attest.ensures.own), refl)
+    let kept = c.begin-begin.ensures.0 in
+    (kept, (begins_as start kept c.args.unique c.args.want c.begin-begin.result _ _ (steps_of start (began kept c.args.unique c.args.want c.begin-begin.result) old.front c.begin-begin.new.me old.come_to old.come_to c.begin-begin.ensures.1 c.attest.ensures.own), refl))

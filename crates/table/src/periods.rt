@@ -1,0 +1,47 @@
+//! How far the last period of a ledger has come, and its end where that is due.
+
+ghost use Rattle.std.specs.Prelude.{◌≡◌, ◌↔◌, true};
+ghost use Rattle.table.specs.Made.{IsDueBy};
+ghost use Rattle.table.specs.Renewing.{Renews};
+ghost use Rattle.table_steps.specs.Kept.{world_of};
+ghost use Rattle.table_steps.specs.World.{IsLawfulWorld};
+
+use crate::table::Table;
+use ledger::Ledgers;
+
+/// How far the last period of a ledger has come.
+#[derive(Clone, Copy, Debug, PartialEq, Eq)]
+pub struct Made {
+    /// The postings of the period.
+    pub postings: u64,
+    /// How many it may have.
+    pub limit: u64,
+    /// The nodes that live, but the root.
+    pub living: u64,
+}
+
+impl Made {
+    /// Whether the period is due to end: at least half of what it may have is posted, and more than two postings a node.
+    pub fn is_due(self) -> bool
+        ensures { (result ≡ true) ↔ IsDueBy self.entry }
+    {
+        self.postings >= self.limit / 2 && self.postings.div_ceil(2) > self.living
+    }
+}
+
+impl<T: Ledgers> Table<T> {
+    /// Ends the period where it is due. True says that it was, and that there was no memory for its end: then nothing has changed.
+    pub fn renew(&mut self) -> bool
+        ensures renews { Renews (world_of self.old) result (world_of self.new) }
+        ensures lawful { IsLawfulWorld (world_of self.new) }
+    {
+        self.attest(); // proof: its law
+        if !self.made().is_due() {
+            return false;
+        }
+        match self.close_period() {
+            Ok(_) => false,
+            Err(_) => true,
+        }
+    }
+}
