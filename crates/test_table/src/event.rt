@@ -119,6 +119,8 @@ pub enum Event {
     /// Fewer, since the count is less.
     Partly,
     NothingForgotten,
+    /// A period of the ledger has ended, and of each node but the root an opening is left.
+    PeriodEnded,
 }
 
 /// What a call came to that may change nothing.

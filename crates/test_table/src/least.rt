@@ -76,4 +76,5 @@ pub const LEAST: &[(Event, u64)] = &[
     (Event::Forgotten, 21),
     (Event::Partly, 21),
     (Event::NothingForgotten, 21),
+    (Event::PeriodEnded, 40),
 ];

@@ -6,7 +6,7 @@ use crate::change::Change;
 use crate::choices::hidden_name;
 use crate::draws::Draws;
 use crate::endings::{entries_of, finished};
-use crate::event::Event;
+use crate::event::{Event, still};
 use crate::givings_back::{Gains, forgotten, settled};
 use crate::looks::count_of;
 use crate::story::{Asks, DEFAULT, Outcome, Reply, Step, Sum, TOP, Told};
@@ -14,7 +14,7 @@ use crate::tallies::Tallies;
 use crate::task::Task;
 use crate::teller::{Play, expect_lawful, misgathered, mistold, play_new};
 use crate::under_test::TestTable;
-use ledger::{Ledgers, Posting};
+use ledger::{Ledgers, Posting, Totals};
 use std::alloc::{AllocError, Global};
 use std::random::RandomSource;
 use std::test::Fail;
@@ -51,9 +51,14 @@ fn take_out<T: Copy>(values: &mut Vec<(u64, T)>, unique: u64) -> Option<T> {
     Some(value)
 }
 
-/// What the postings add up to.
+/// What the postings of all periods add up to.
 fn sum_of(image: &Image) -> Sum {
-    let (mut born, mut entries, mut backs, mut forgotten) = (0u64, 0u64, 0u64, 0u64);
+    let Totals {
+        mut born,
+        mut entries,
+        mut backs,
+        mut forgotten,
+    } = image.closed;
     for posting in image.postings.as_slice() {
         match *posting {
             Posting::Born { .. } => born = born.saturating_add(1),
@@ -75,6 +80,21 @@ fn gains_of(told: Told, change: Change, after: &Image) -> Gains {
     Gains {
         entries: entries_of(told),
         handle,
+    }
+}
+
+/// What the end of a period came to: of each node but the root an opening is left, and nothing else has changed.
+fn period_ended(told: Told, before: &Image, after: &Image) -> Option<Event> {
+    let Told::Closed(fewer) = told else {
+        return None;
+    };
+    let left = after.postings.as_slice().len() as u64;
+    let was = before.postings.as_slice().len() as u64;
+    let nodes = after.nodes.as_slice().len() as u64;
+    if left.saturating_add(fewer) == was && left.saturating_add(1) == nodes {
+        still(Change::between(before, after), Event::PeriodEnded)
+    } else {
+        None
     }
 }
 
@@ -146,6 +166,7 @@ impl LongRun {
                 None => Ok(None),
             },
             Step::Forget(number, n, _) => Ok(forgotten(n, count_of(before, number), told, change)),
+            Step::ClosePeriod(_) => Ok(period_ended(told, before, after)),
             _ => Ok(None),
         }
     }
@@ -184,7 +205,7 @@ impl LongRun {
         }
     }
 
-    /// Draws a call, the one at that place, and makes it. The image follows the table.
+    /// Draws a call, the one at that place, and makes it. After each 250th a period ends. The image follows the table.
     fn turn<T: Ledgers>(
         &mut self,
         under_test: &mut TestTable<T>,
@@ -192,11 +213,14 @@ impl LongRun {
         image: &mut Image,
     ) -> Result<(), Fail> {
         let _passed = under_test.pass(self.draws.place(2));
-        let Some(step) = self.draw(place as u64, image) else {
-            return Ok(());
-        };
-        let after = self.go(under_test, place, &step, image)?;
-        *image = after;
+        if let Some(step) = self.draw(place as u64, image) {
+            let after = self.go(under_test, place, &step, image)?;
+            *image = after;
+        }
+        if place % 250 == 249 {
+            let after = self.go(under_test, place, &Step::ClosePeriod(Told::Shown), image)?;
+            *image = after;
+        }
         Ok(())
     }
 
@@ -205,7 +229,7 @@ impl LongRun {
         let mut image = under_test.image()?;
         for place in 0..STEPS {
             self.turn(under_test, place, &mut image)?;
-            if place < 500 || place % 50 == 0 {
+            if place < 500 || place % 50 == 0 || place % 250 == 249 {
                 expect_lawful(&image, place)?;
             }
         }
