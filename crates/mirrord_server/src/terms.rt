@@ -18,7 +18,7 @@ pub struct Terms {
 impl Terms {
     /// How far the table may grow.
     pub(crate) fn limits(self) -> Limits
-        ensures { result ≡ limits_with self.entry.postings }
+        ensures { result ≡ limits_with self.postings }
     {
         Limits {
             postings: self.postings,

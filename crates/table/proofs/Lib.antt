@@ -4,4 +4,5 @@ pub mod Holders
 pub mod Exporting
 pub mod Gaining
 pub mod Leaving
+pub mod Renewing
 pub mod Closing

@@ -23,7 +23,7 @@ pub struct Made {
 impl Made {
     /// Whether the period is due to end: at least half of what it may have is posted, and more than two postings a node.
     pub fn is_due(self) -> bool
-        ensures { (result ≡ true) ↔ IsDueBy self.entry }
+        ensures { (result ≡ true) ↔ IsDueBy self }
     {
         self.postings >= self.limit / 2 && self.postings.div_ceil(2) > self.living
     }
