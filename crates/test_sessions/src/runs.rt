@@ -1,8 +1,8 @@
 //! The whole program, from its words to its exit status.
 
 use crate::frames::{
-    ABSENT, AGREED, ENTRY_A, ENTRY_E_REBORN, FORGET_THREE, FULL, INIT, LOOKUP_A, LOOKUP_E,
-    lines_of, run_from, run_words,
+    ABSENT, AGREED, ENTRY_A, ENTRY_E_REBORN, FORGET_FIVE, FORGET_THREE, FULL, INIT, LOOKUP_A,
+    LOOKUP_E, lines_of, run_from, run_words,
 };
 use mirrord_programs::{MOST_POSTINGS, hex_run};
 use std::io;
@@ -28,25 +28,38 @@ fn sample_names_or_none(rt: HostRuntime) -> Result<(), Fail> {
     Ok(())
 }
 
-// With room for six postings a period ends before the third LOOKUP. The fourth has no room for its postings. Once all is forgotten another
-// period ends, and number 2 is born again with the next generation.
+/// With room for six postings: requests, and their replies.
+const WITH_SIX: [(&[&str], &[&str]); 2] = [
+    // A period ends before the third LOOKUP. The fourth has no room for its postings. Once all is forgotten another one ends, and number 2 is
+    // born again with the next generation.
+    (
+        &[
+            INIT,
+            LOOKUP_A,
+            LOOKUP_A,
+            LOOKUP_A,
+            LOOKUP_A,
+            FORGET_THREE,
+            LOOKUP_E,
+        ],
+        &[AGREED, ENTRY_A, ENTRY_A, ENTRY_A, FULL, ENTRY_E_REBORN],
+    ),
+    // A table alone has no room for the last of these.
+    (
+        &[INIT, LOOKUP_A, LOOKUP_A, FORGET_FIVE, LOOKUP_E],
+        &[AGREED, ENTRY_A, ENTRY_A, ENTRY_E_REBORN],
+    ),
+];
+
 #[test]
 fn periods_end(rt: HostRuntime) -> Result<(), Fail> {
     let words = ["mirrord", "hex", "--sample", "--postings", "6"];
-    let asked = [
-        INIT,
-        LOOKUP_A,
-        LOOKUP_A,
-        LOOKUP_A,
-        LOOKUP_A,
-        FORGET_THREE,
-        LOOKUP_E,
-    ];
-    let told = [AGREED, ENTRY_A, ENTRY_A, ENTRY_A, FULL, ENTRY_E_REBORN];
-    let run = run_words(&rt, &rt, &words, &asked)?;
-    assert_eq!(rt; run.status, 0);
-    assert!(rt; run.output.as_slice() == lines_of(rt.alloc(), &told)?.as_slice());
-    assert!(rt; run.faults.is_empty());
+    for (asked, told) in WITH_SIX {
+        let run = run_words(&rt, &rt, &words, asked)?;
+        assert_eq!(rt; run.status, 0);
+        assert!(rt; run.output.as_slice() == lines_of(rt.alloc(), told)?.as_slice());
+        assert!(rt; run.faults.is_empty());
+    }
     Ok(())
 }
 
