@@ -20,7 +20,7 @@ gains_on = gaining.in_all_on
 pub waits : (old new : World) (kept : Bool) (unique : ℕ) (want : Want) → IsIdle old → worlds.begins old kept unique want Busy new → new ≡ old
 waits old new kept unique want idle b =
     let up = b.0.begins.begins.1.up in
-    absurd (none-some (sym (flights_renewed old b.0.renewed kept b.0.renews up.id ∙ idle up.id) ∙ up.here.here))
+    absurd (none-some up.flight (sym (flights_renewed old b.0.renewed kept b.0.renews up.id ∙ idle up.id) ∙ up.here.here))
 
 pub refuses : (old new : World) (kept : Bool) (unique : ℕ) (want : Want) (errno : ℤ) → IsIdle old → worlds.begins old kept unique want (Refused errno) new → (worlds.begins old kept unique want (Refused (to_z w32 (of_z w32 errno))) new) × IsIdle new
 refuses old new kept unique want errno idle b = ((refused_bits old new kept unique want errno b.0, b.1), λ id. ap (λ (w : World). w.flights id) b.0.begins.begins.1 ∙ (flights_renewed old b.0.renewed kept b.0.renews id ∙ idle id))

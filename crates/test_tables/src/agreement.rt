@@ -38,14 +38,14 @@ fn stands_at(image: &Image, number: u64, path: &Path) -> bool {
     number == ROOT
 }
 
-/// The posting as the list table would have it, of that number and generation.
-fn posted(posting: Posting, bearer: Bearer) -> Posted {
+/// The posting as the list table would have it, of that number and generation. It knows no periods.
+fn posted(posting: Posting, bearer: Bearer) -> Option<Posted> {
     match posting {
-        Posting::Born { .. } => Posted::Born(bearer),
-        Posting::Entry { .. } => Posted::Entry(bearer),
-        Posting::Back { .. } => Posted::Back(bearer),
-        Posting::Forget { amount, .. } => Posted::Forget(bearer, amount),
-        Posting::Opening { count, .. } => Posted::Opening(bearer, count),
+        Posting::Born { .. } => Some(Posted::Born(bearer)),
+        Posting::Entry { .. } => Some(Posted::Entry(bearer)),
+        Posting::Back { .. } => Some(Posted::Back(bearer)),
+        Posting::Forget { amount, .. } => Some(Posted::Forget(bearer, amount)),
+        Posting::Opening { .. } => None,
     }
 }
 
@@ -95,7 +95,7 @@ impl Pairs {
         if let Posted::Born(born) = list {
             self.add(born, bearer)?;
         }
-        Ok(posted(other, list.bearer()) == list && self.are(list.bearer(), bearer))
+        Ok(posted(other, list.bearer()) == Some(list) && self.are(list.bearer(), bearer))
     }
 
     /// Whether the postings after those that were seen are the same.

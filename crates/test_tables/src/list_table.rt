@@ -62,8 +62,6 @@ pub enum Posted {
     Entry(Bearer),
     Back(Bearer),
     Forget(Bearer, u64),
-    /// What was left of it when a period began.
-    Opening(Bearer, u64),
 }
 
 /// An open file.
