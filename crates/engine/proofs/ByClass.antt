@@ -87,7 +87,7 @@ module _ {W L C D : Type 0} (table : Table W) (settings : Settings) (sends : L â
         turn = turn;
         frame_is = refl;
         end_is = ends;
-        meets = met_as InitFrame frame turn old new refl is (refl, inl (q, request, rw (â† by) ((w.told.said, w.told.said_is, record { offers = refl; no_call = refl; folders_are = refl; same = same }), w.agreed)));
+        meets = met_as InitFrame frame turn old new refl is (refl, inl (q, request, rw (â† by) ((w.told.said, w.told.said_is, record { offers = refl; no_call = refl; folders_are = refl; same = same; kept_is = refl }), w.agreed)));
         draws = record { makes = refl; keeps = refl };
         passes = w.told.offer;
       }
@@ -101,7 +101,7 @@ module _ {W L C D : Type 0} (table : Table W) (settings : Settings) (sends : L â
         turn = turn;
         frame_is = refl;
         end_is = ends;
-        meets = met_as InitFrame frame turn old new refl is (refl, inr (f.fault, f.first, (Failed (fault_errno f.fault), refl, record { offers = refl; no_call = refl; folders_are = refl; same = same }), keeps));
+        meets = met_as InitFrame frame turn old new refl is (refl, inr (f.fault, f.first, (Failed (fault_errno f.fault), refl, record { offers = refl; no_call = refl; folders_are = refl; same = same; kept_is = refl }), keeps));
         draws = record { makes = refl; keeps = refl };
         passes = f.offer;
       }
