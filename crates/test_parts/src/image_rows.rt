@@ -425,14 +425,23 @@ const OPENED: Sketch = Sketch {
     opened: &[],
 };
 
+/// Whether nothing is closed in an image, and these are its postings.
+fn is_unclosed(image: &Image, postings: &[Posting]) -> bool {
+    image.births.as_slice().is_empty()
+        && image.closed == Totals::nothing()
+        && image.postings.as_slice() == postings
+}
+
+/// An image of before that is taken over: whether it is lawful, and whether nothing is closed in it and its postings are as they were.
+fn take_over(alloc: Global, said: &Sketch) -> Result<(bool, bool), Fail> {
+    let taken = Image::take_over(before(image(alloc, said)?));
+    Ok((taken.lawful(), is_unclosed(&taken, said.postings)))
+}
+
 /// Nothing was closed then, so that an opening is never lawful.
 #[test]
 fn images_of_before_are_taken_over(rt: HostRuntime) -> Result<(), Fail> {
-    let taken = Image::take_over(before(image(rt.alloc(), &BEFORE)?));
-    assert!(rt; taken.lawful());
-    assert_eq!(rt; taken.births.as_slice().len(), 0);
-    assert_eq!(rt; taken.closed, Totals::nothing());
-    assert_eq!(rt; taken.postings.as_slice(), BEFORE.postings);
-    assert!(rt; !Image::take_over(before(image(rt.alloc(), &OPENED)?)).lawful());
+    assert_eq!(rt; take_over(rt.alloc(), &BEFORE)?, (true, true));
+    assert_eq!(rt; take_over(rt.alloc(), &OPENED)?, (false, true));
     Ok(())
 }

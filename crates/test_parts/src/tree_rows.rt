@@ -25,30 +25,50 @@ fn plant(tree: &mut Tree, alloc: Global, parent: u64, name: &str) -> Result<u64,
     Ok(tree.birth(0, key, copy))
 }
 
+/// A file in a folder: how many nodes live then, the bytes of its path, and whether it has these names and no node more may be born.
+fn tell_file(
+    tree: &mut Tree,
+    alloc: Global,
+    names: &[&str],
+) -> Result<(u64, Option<usize>, bool, bool), Fail> {
+    let folder = plant(tree, alloc, 1, "d")?;
+    let file = plant(tree, alloc, folder, "x")?;
+    let path = tree.path(alloc, file)?;
+    Ok((
+        tree.len(),
+        path.bytes(),
+        spells(path.names(), names),
+        tree.reserve(1).is_err(),
+    ))
+}
+
 #[test]
 fn path_of_a_file_in_a_folder(rt: HostRuntime) -> Result<(), Fail> {
     let mut tree = Tree::new(rt.alloc(), 3, RandomState::new(&rt)?)?;
-    let folder = plant(&mut tree, rt.alloc(), 1, "d")?;
-    let file = plant(&mut tree, rt.alloc(), folder, "x")?;
-    let path = tree.path(rt.alloc(), file)?;
-    let told = (tree.len(), path.bytes(), path.len());
-    assert_eq!(rt; told, (3, Some(4), 2));
-    assert!(rt; spells(path.names(), &["d", "x"]));
-    assert!(rt; tree.reserve(1).is_err());
+    let told = tell_file(&mut tree, rt.alloc(), &["d", "x"])?;
+    assert_eq!(rt; told, (3, Some(4), true, true));
     Ok(())
+}
+
+/// The bytes of the path of a name that is absent in a folder, and whether it has these names.
+fn tell_absent(
+    tree: &mut Tree,
+    alloc: Global,
+    names: &[&str],
+) -> Result<(Option<usize>, bool), Fail> {
+    let key = Key {
+        parent: plant(tree, alloc, 1, "d")?,
+        name: Name::copy_of(alloc, "absent")?,
+    };
+    let path = tree.path_of_name(alloc, &key)?;
+    Ok((path.bytes(), spells(path.names(), names)))
 }
 
 #[test]
 fn path_of_an_absent_name(rt: HostRuntime) -> Result<(), Fail> {
     let mut tree = Tree::new(rt.alloc(), 2, RandomState::new(&rt)?)?;
-    let folder = plant(&mut tree, rt.alloc(), 1, "d")?;
-    let key = Key {
-        parent: folder,
-        name: Name::copy_of(rt.alloc(), "absent")?,
-    };
-    let path = tree.path_of_name(rt.alloc(), &key)?;
-    assert_eq!(rt; path.bytes(), Some(9));
-    assert!(rt; spells(path.names(), &["d", "absent"]));
+    let told = tell_absent(&mut tree, rt.alloc(), &["d", "absent"])?;
+    assert_eq!(rt; told, (Some(9), true));
     Ok(())
 }
 
