@@ -1,6 +1,5 @@
 //! Handles rise, and none is given twice.
 
-use std::alloc::AllocError;
 use std::test::Fail;
 use table_files::{Access, Files, Need, OpenFile};
 
@@ -10,21 +9,6 @@ fn file_of(number: u64, access: Access) -> OpenFile {
         generation: 0,
         access,
     }
-}
-
-/// Opens a file twice: the handles.
-fn open_two(files: &mut Files) -> Result<[u64; 2], AllocError> {
-    files.reserve(2)?;
-    let first = files.open(file_of(2, Access::Reading));
-    let second = files.open(file_of(2, Access::Both));
-    Ok([first, second])
-}
-
-/// Opens another one: its handle, what it leads to, and what the handle leads to that was closed.
-fn open_third(files: &mut Files) -> Result<(u64, Option<OpenFile>, Option<OpenFile>), AllocError> {
-    files.reserve(1)?;
-    let third = files.open(file_of(5, Access::Writing));
-    Ok((third, files.get(3), files.get(2)))
 }
 
 /// How often the first file is open, whether it is, how many files are open, and how many handles are left.
@@ -40,14 +24,24 @@ fn counts(files: &Files) -> (u64, bool, usize, u64) {
 #[test]
 fn a_closed_handle_is_not_given_again(rt: HostRuntime) -> Result<(), Fail> {
     let mut files = Files::new(rt.alloc());
-    assert_eq!(rt; open_two(&mut files)?, [1, 2]);
-    assert_eq!(rt; counts(&files), (2, true, 2, u64::MAX - 2));
-    let closed = [files.close(2), files.close(2)];
+    files.reserve(2)?;
+    let first = files.open(file_of(2, Access::Reading));
+    let second = files.open(file_of(2, Access::Both));
+    let opened = counts(&files);
+    let closed = [files.close(second), files.close(second)];
+    let left = counts(&files);
+    files.reserve(1)?;
+    let third = files.open(file_of(5, Access::Writing));
+    let found = [files.get(third), files.get(second)];
+    let last = counts(&files);
+    // What is told outlives the files: each assertion would else have them to drop.
+    drop(files);
+    assert_eq!(rt; [first, second, third], [1, 2, 3]);
     assert_eq!(rt; closed, [Some(file_of(2, Access::Both)), None]);
-    assert_eq!(rt; counts(&files), (1, true, 1, u64::MAX - 2));
-    let third = (3, Some(file_of(5, Access::Writing)), None);
-    assert_eq!(rt; open_third(&mut files)?, third);
-    assert_eq!(rt; counts(&files), (1, true, 2, u64::MAX - 3));
+    assert_eq!(rt; found, [Some(file_of(5, Access::Writing)), None]);
+    assert_eq!(rt; opened, (2, true, 2, u64::MAX - 2));
+    assert_eq!(rt; left, (1, true, 1, u64::MAX - 2));
+    assert_eq!(rt; last, (1, true, 2, u64::MAX - 3));
     Ok(())
 }
 
