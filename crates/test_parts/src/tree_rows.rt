@@ -7,8 +7,10 @@ use std::hash::RandomState;
 use std::test::Fail;
 use tree::{Key, Tree};
 
-/// A node is born at the name.
+/// A node is born at the name. What may fail comes before there is anything to drop.
 fn plant(tree: &mut Tree, alloc: Global, parent: u64, name: &str) -> Result<u64, Fail> {
+    tree.path(alloc, parent)?;
+    tree.reserve(1)?;
     let key = Key {
         parent,
         name: Name::copy_of(alloc, name)?,
@@ -17,12 +19,10 @@ fn plant(tree: &mut Tree, alloc: Global, parent: u64, name: &str) -> Result<u64,
         parent,
         name: key.name.copy()?,
     };
-    tree.path(alloc, parent)?;
-    let None = tree.find(&key) else {
-        return Err(Fail::from("the name is taken"));
-    };
-    tree.reserve(1)?;
-    Ok(tree.birth(0, key, copy))
+    match tree.find(&key) {
+        None => Ok(tree.birth(0, key, copy)),
+        Some(_) => Err(Fail::from("the name is taken")),
+    }
 }
 
 /// A file in a folder: how many nodes live then, the bytes of its path, and whether it has these names and no node more may be born.
@@ -72,20 +72,30 @@ fn path_of_an_absent_name(rt: HostRuntime) -> Result<(), Fail> {
     Ok(())
 }
 
+/// A folder and a file in it, and a walk over all nodes.
+fn tell_walk(tree: &mut Tree, alloc: Global) -> Result<(u64, u64, [Option<u64>; 4]), Fail> {
+    let folder = plant(tree, alloc, 1, "d")?;
+    let file = plant(tree, alloc, folder, "x")?;
+    let walk = [
+        tree.after(0),
+        tree.after(1),
+        tree.after(folder.min(file)),
+        tree.after(folder.max(file)),
+    ];
+    Ok((folder, file, walk))
+}
+
 #[test]
 fn walk_meets_the_root_and_both_nodes(rt: HostRuntime) -> Result<(), Fail> {
     let mut tree = Tree::new(rt.alloc(), 3, RandomState::new(&rt)?)?;
     let next = tree.next_free();
-    let folder = plant(&mut tree, rt.alloc(), 1, "d")?;
-    let file = plant(&mut tree, rt.alloc(), folder, "x")?;
-    let (low, high) = (folder.min(file), folder.max(file));
-    let walk = [
-        tree.after(0),
-        tree.after(1),
-        tree.after(low),
-        tree.after(high),
+    let (folder, file, walk) = tell_walk(&mut tree, rt.alloc())?;
+    let wanted = [
+        Some(1),
+        Some(folder.min(file)),
+        Some(folder.max(file)),
+        None,
     ];
-    assert_eq!(rt; folder, next);
-    assert_eq!(rt; walk, [Some(1), Some(low), Some(high), None]);
+    assert_eq!(rt; (folder, walk), (next, wanted));
     Ok(())
 }
