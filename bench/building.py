@@ -1,4 +1,4 @@
-"""Compiles the C programs of this folder into a temporary place."""
+"""Reads the command lines of the scripts of this folder, and compiles its C programs into a temporary place."""
 import contextlib
 import glob
 import os
@@ -124,3 +124,12 @@ def cores(text):
 def numbers(text):
     """The value of an option that is a list of numbers."""
     return [int(word) for word in text.split(",")]
+
+
+def parsed(asked):
+    """The command line, with what stands behind `--` as further words for the server."""
+    own = sys.argv[1:]
+    at = own.index("--") if "--" in own else len(own)
+    given = asked.parse_args(own[:at])
+    given.words = own[at + 1:]
+    return given
