@@ -147,29 +147,37 @@ fn last_of(bytes: &[u8]) -> u64 {
     number
 }
 
-fn came_of(ended: &Ended, heard: &Heard, story: &Story<'_>) -> Came {
-    let (born, totals) = match &ended.totals {
-        Some(sums) => {
-            let totals = sums.totals();
-            (
-                Some(totals.born),
-                Some((totals.entries, totals.backs, totals.forgotten)),
-            )
-        }
-        None => (None, None),
+/// The births, if the story asks for them, and the entries, those that came back and those that were forgotten.
+fn totals_of(ended: &Ended, story: &Story<'_>) -> (Option<u64>, Option<(u64, u64, u64)>) {
+    let Some(sums) = &ended.totals else {
+        return (None, None);
     };
+    let totals = sums.totals();
+    let born = match story.births {
+        Some(_) => Some(totals.born),
+        None => None,
+    };
+    (born, Some((totals.entries, totals.backs, totals.forgotten)))
+}
+
+/// The last reply, if the story asks for it.
+fn last_heard(heard: &Heard, story: &Story<'_>) -> u64 {
+    match story.last {
+        0 => 0,
+        _ => last_of(heard.bytes.as_slice()),
+    }
+}
+
+fn came_of(ended: &Ended, heard: &Heard, story: &Story<'_>) -> Came {
+    let (births, totals) = totals_of(ended, story);
     Came {
         end: ended.end,
         is_read: heard.receives > 0,
         offers: heard.offers,
-        last: if story.last == 0 {
-            0
-        } else {
-            last_of(heard.bytes.as_slice())
-        },
+        last: last_heard(heard, story),
         workers: ended.taken.len(),
         taken: summed(ended.taken.as_slice()),
-        births: if story.births.is_some() { born } else { None },
+        births,
         totals,
     }
 }

@@ -83,7 +83,20 @@ fn lone_worker<H: Wait + Clone + Drop>(rt: &H, alloc: Global) -> Result<Worker, 
     Ok(worker)
 }
 
-/// Both jobs are worked on. What the table is then is the result.
+/// Both jobs are worked on.
+fn work_both<H: Wait + Drop, T: Ledgers>(
+    rt: &H,
+    hall: &Hall<T>,
+    share: &mut Share<T>,
+    worker: &mut Worker,
+    served: &mut Served<Shared<H>, &Dirs>,
+) {
+    for _ in 0..2 {
+        let _turn = worker.turn(rt, hall, share, served);
+    }
+}
+
+/// The same. What the table is then is the result.
 fn work<H: Wait + Drop, T: Ledgers>(
     rt: &H,
     table: Table<T>,
@@ -94,9 +107,7 @@ fn work<H: Wait + Drop, T: Ledgers>(
 ) -> Result<Image, AllocError> {
     let hall = Hall::new(table);
     let mut served = Served { calls: tree, dirs };
-    for _ in 0..2 {
-        let _turn = worker.turn(rt, &hall, &mut share, &mut served);
-    }
+    work_both(rt, &hall, &mut share, &mut worker, &mut served);
     share.leave();
     hall.into_table().export()
 }
