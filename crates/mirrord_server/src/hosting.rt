@@ -28,16 +28,15 @@ fn serve_link<H: Wait, T: Ledgers, L: Link, C: Calls + Drop>(
     requires shares { T.names.parts ≡ 1 }
     ensures { ServesLink terms L.receives L.sends C.gives tree link.old result link.new }
 {
+    let Ok(dirs) = Dirs::new(alloc) else {
+        return SessionEnd::Memory;
+    };
     let opened = Table::<T>::open(alloc, terms.limits(), seeds, blanks, 1);
     let Ok((mut table, mut shares)) = opened else {
         return SessionEnd::Memory;
     };
     let mut share = shares.pop().unwrap();
     shares.destroy_empty();
-    let Ok(dirs) = Dirs::new(alloc) else {
-        share.leave();
-        return SessionEnd::Memory;
-    };
     let mut served = Served {
         calls: tree,
         dirs: &dirs,

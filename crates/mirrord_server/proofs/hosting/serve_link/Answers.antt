@@ -5,15 +5,15 @@ use Rattle.table_steps.specs.World.{opened_world}
 use Rattle.mirrord_server.proofs.hosting.serve_link.Goals as goal
 
 pub serve-end-requires : goal.serve-end-requires
-serve-end-requires g c = record { fresh = opened_idle _ (world_of c.in-Ok.table) c.in-Ok.ensures.opened }
+serve-end-requires g c = record { fresh = opened_idle _ (world_of c.in-Ok-opened.table) c.in-Ok-opened.ensures.opened }
 
 pub returns : goal.returns
 returns g c = inl (record {
-  world = world_of c.in-Ok.table;
-  opened = c.in-Ok.ensures.opened ∙ ap opened_world c.limits.ensures;
+  world = world_of c.in-Ok-opened.table;
+  opened = c.in-Ok-opened.ensures.opened ∙ ap opened_world c.limits.ensures;
   last = world_of c.serve-end.new.table;
   dirs = _;
-  limits_are = c.in-Ok-new.ensures;
+  limits_are = c.in-Ok.ensures;
   left = c.serve-end.new.served.calls;
   dirs_left = c.serve-end.new.served.dirs;
   run = c.serve-end.ensures.serves;
