@@ -1,11 +1,13 @@
 //! A client that is scripted, and sessions with it.
 
-ghost use Rattle.std.specs.Prelude.{◌≡◌};
+ghost use Rattle.std.specs.Prelude.{◌≡◌, ◌≤◌, IfOk};
+ghost use Rattle.table_steps.specs.Kept.{world_of};
+ghost use Rattle.table_steps.specs.World.{opened_world};
 
 use crate::watched::Watched;
 use engine::{Link, LinkIn, LinkOut, Received, Sent, Served, SessionEnd, Settings, serve};
 use handles::Dirs;
-use ledger::{Blanks, Ledgers};
+use ledger::{Blanks, Ledgers, Share};
 use std::alloc::{AllocError, Global};
 use std::random::RandomSource;
 use std::sync::Wait;
@@ -115,6 +117,24 @@ pub struct Over {
     pub image: Image,
 }
 
+/// A new table, and its one share.
+fn open_one<T: Ledgers>(
+    alloc: Global,
+    limits: Limits,
+    seeds: Seeds,
+    blanks: Blanks,
+) -> Result<(Table<T>, Share<T>), AllocError>
+    requires names { blanks ≡ T.names }
+    requires shares { T.names.parts ≡ 1 }
+    requires root { 1 ≤ limits.nodes }
+    ensures opened { IfOk result (λ (table, _). world_of table ≡ opened_world limits) }
+{
+    let (table, mut shares) = Table::<T>::open(alloc, limits, seeds, blanks, 1)?;
+    let share = shares.pop().unwrap();
+    shares.destroy_empty();
+    Ok((table, share))
+}
+
 /// Serves a tree to a client, with a new table.
 pub fn serve_on<H: Wait + RandomSource, T: Ledgers>(
     rt: &H,
@@ -129,10 +149,7 @@ pub fn serve_on<H: Wait + RandomSource, T: Ledgers>(
     let Ok(seeds) = Seeds::new(rt) else {
         return Err(AllocError);
     };
-    let limits = Limits::default();
-    let (mut table, mut shares) = Table::<T>::open(alloc, limits, seeds, blanks, 1)?;
-    let mut share = shares.pop().unwrap();
-    shares.destroy_empty();
+    let (mut table, mut share) = open_one::<T>(alloc, Limits::default(), seeds, blanks)?;
     let settings = Settings { uid: 0, gid: 0 };
     let end = serve(rt, alloc, client, served, &mut table, &mut share, settings);
     share.leave();

@@ -84,21 +84,9 @@ fn serve_pieces<H: Wait + RandomSource, T: Ledgers>(
     Ok((over, taken))
 }
 
-/// Fails where the row comes otherwise.
-fn run_row<H: Wait + RandomSource, T: Ledgers>(
-    rt: &H,
-    alloc: Global,
-    blanks: Blanks,
-    row: &Row,
-) -> Result<(), Fail>
-    requires names { blanks ≡ T.names }
-    requires shares { T.names.parts ≡ 1 }
-{
-    let pieces = pieces_of(alloc, row.frames)?;
-    let (over, taken) = serve_pieces::<H, T>(rt, alloc, blanks, pieces)?;
-    let mut replies = bytes_of(alloc, AGREED)?;
-    replies.extend_from_slice(&joined(alloc, row.replies)?)?;
-    let are_replies = taken.as_slice() == replies.as_slice();
+/// Fails where the row came otherwise.
+fn judge(row: &Row, over: &Over, taken: &[u8], replies: &[u8]) -> Result<(), Fail> {
+    let are_replies = taken == replies;
     let is_ledger = over.image.postings.as_slice() == row.ledger && over.image.lawful();
     let is_end = over.end == SessionEnd::Closed { rest: 0 };
     if are_replies && is_ledger && is_end {
@@ -111,6 +99,23 @@ fn run_row<H: Wait + RandomSource, T: Ledgers>(
         is_end,
     }
     .into())
+}
+
+/// Serves a row. What is waited for is made first, so that nothing fails once there is a session to drop.
+fn run_row<H: Wait + RandomSource, T: Ledgers>(
+    rt: &H,
+    alloc: Global,
+    blanks: Blanks,
+    row: &Row,
+) -> Result<(), Fail>
+    requires names { blanks ≡ T.names }
+    requires shares { T.names.parts ≡ 1 }
+{
+    let mut replies = bytes_of(alloc, AGREED)?;
+    replies.extend_from_slice(&joined(alloc, row.replies)?)?;
+    let pieces = pieces_of(alloc, row.frames)?;
+    let (over, taken) = serve_pieces::<H, T>(rt, alloc, blanks, pieces)?;
+    judge(row, &over, &taken, &replies)
 }
 
 #[test]

@@ -77,18 +77,29 @@ fn frames_of_the_session(rt: HostRuntime) -> Result<(), Fail> {
     Ok(())
 }
 
+/// What came of a run: whether it ended with DESTROY and offered all replies, whether these were taken and the calls were those that are due, whether the
+/// ledger is as it should be, and at how many names that stands which is to stand there. Told by one function, since each assertion over a run would have it to drop.
+fn tell_fixed(
+    alloc: Global,
+    ran: &mut Ran,
+    replies: &[u8],
+) -> Result<(bool, bool, bool, usize), AllocError> {
+    Ok((
+        ran.end == SessionEnd::Destroyed && ran.offers == REPLIES,
+        ran.taken.as_slice() == replies && ran.are_due,
+        ran.image.postings.as_slice() == LEDGER && ran.image.lawful(),
+        count_right(alloc, ran)?,
+    ))
+}
+
 // Without a failure: replies, calls, ledger and tree as they are typed in.
 #[test]
 fn fixed_session(rt: HostRuntime) -> Result<(), Fail> {
     let alloc = rt.alloc();
+    let replies = replies_of(alloc)?;
     let mut ran = serve_session::<HostRuntime, Brand>(&rt, alloc, Blanks::new(1), &PLAIN, ASKS)?;
-    assert_eq!(rt; ran.end, SessionEnd::Destroyed);
-    assert!(rt; ran.taken.as_slice() == replies_of(alloc)?.as_slice());
-    assert_eq!(rt; ran.offers, REPLIES);
-    assert!(rt; ran.are_due);
-    assert!(rt; ran.image.postings.as_slice() == LEDGER);
-    assert!(rt; ran.image.lawful());
-    assert_eq!(rt; count_right(alloc, &mut ran)?, STANDS.len());
+    let told = tell_fixed(alloc, &mut ran, &replies)?;
+    assert_eq!(rt; told, (true, true, true, STANDS.len()));
     Ok(())
 }
 
@@ -103,6 +114,28 @@ fn slow_session(rt: HostRuntime) -> Result<(), Fail> {
     Ok(())
 }
 
+/// The replies where UNLINK's move fails.
+fn replies_of_failed_hiding(alloc: Global) -> Result<Vec<u8>, Fail> {
+    let mut replies = joined(alloc, &FIRST_REPLIES[..4])?;
+    replies.extend_from_slice(&bytes_of(alloc, "10000000 fbffffff 0500000000000000")?)?;
+    replies.extend_from_slice(&joined(alloc, &FIRST_REPLIES[5..])?)?;
+    replies.extend_from_slice(&joined(alloc, LAST_REPLIES)?)?;
+    Ok(replies)
+}
+
+/// The same of a run whose hiding failed: whether the replies and the calls are right, whether the node keeps its name, and whether the file lies where it was moved.
+fn tell_hiding(
+    alloc: Global,
+    ran: &mut Ran,
+    replies: &[u8],
+) -> Result<(bool, bool, bool), AllocError> {
+    Ok((
+        ran.taken.as_slice() == replies && ran.are_due,
+        is_named(&ran.image, 2, "a"),
+        has_bytes(alloc, &mut ran.tree, HIDDEN, b"abcde")?,
+    ))
+}
+
 // UNLINK's move is made and fails: its reply is EIO, the node keeps its name, RELEASE removes nothing, and the file is left where it was moved.
 #[test]
 fn failed_hiding(rt: HostRuntime) -> Result<(), Fail> {
@@ -114,17 +147,26 @@ fn failed_hiding(rt: HostRuntime) -> Result<(), Fail> {
         }),
         ..PLAIN
     };
+    let replies = replies_of_failed_hiding(alloc)?;
     let due = &ASKS[..13];
     let mut ran = serve_session::<HostRuntime, Brand>(&rt, alloc, Blanks::new(1), &plan, due)?;
-    let mut replies = joined(alloc, &FIRST_REPLIES[..4])?;
-    replies.extend_from_slice(&bytes_of(alloc, "10000000 fbffffff 0500000000000000")?)?;
-    replies.extend_from_slice(&joined(alloc, &FIRST_REPLIES[5..])?)?;
-    replies.extend_from_slice(&joined(alloc, LAST_REPLIES)?)?;
-    assert!(rt; ran.taken.as_slice() == replies.as_slice());
-    assert!(rt; ran.are_due);
-    assert!(rt; is_named(&ran.image, 2, "a"));
-    assert!(rt; has_bytes(alloc, &mut ran.tree, HIDDEN, b"abcde")?);
+    let told = tell_hiding(alloc, &mut ran, &replies)?;
+    assert_eq!(rt; told, (true, true, true));
     Ok(())
+}
+
+/// The same of a run whose removal failed: whether the replies and the calls are right, whether the node keeps its hidden name, and at how many names that stands which
+/// is to stand there.
+fn tell_removal(
+    alloc: Global,
+    ran: &mut Ran,
+    replies: &[u8],
+) -> Result<(bool, bool, usize), AllocError> {
+    Ok((
+        ran.taken.as_slice() == replies && ran.are_due,
+        is_named(&ran.image, 2, HIDDEN),
+        count_right(alloc, ran)?,
+    ))
 }
 
 // RELEASE's removal fails: its reply is 0, the mark stays, and the end of the session removes the file by one more call.
@@ -138,13 +180,12 @@ fn failed_removal(rt: HostRuntime) -> Result<(), Fail> {
         }),
         ..PLAIN
     };
+    let replies = replies_of(alloc)?;
     let mut due = Vec::from_slice(alloc, ASKS)?;
     due.push(Ask::Remove(HIDDEN))?;
     let mut ran = serve_session::<HostRuntime, Brand>(&rt, alloc, Blanks::new(1), &plan, &due)?;
-    assert!(rt; ran.taken.as_slice() == replies_of(alloc)?.as_slice());
-    assert!(rt; ran.are_due);
-    assert!(rt; is_named(&ran.image, 2, HIDDEN));
-    assert_eq!(rt; count_right(alloc, &mut ran)?, STANDS.len());
+    let told = tell_removal(alloc, &mut ran, &replies)?;
+    assert_eq!(rt; told, (true, true, STANDS.len()));
     Ok(())
 }
 
