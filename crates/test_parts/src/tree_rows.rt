@@ -7,10 +7,9 @@ use std::hash::RandomState;
 use std::test::Fail;
 use tree::{Key, Tree};
 
-/// A node is born at the name. What may fail comes before there is anything to drop.
+/// A node is born at the name.
 fn plant(tree: &mut Tree, alloc: Global, parent: u64, name: &str) -> Result<u64, Fail> {
     tree.path(alloc, parent)?;
-    tree.reserve(1)?;
     let key = Key {
         parent,
         name: Name::copy_of(alloc, name)?,
@@ -19,10 +18,11 @@ fn plant(tree: &mut Tree, alloc: Global, parent: u64, name: &str) -> Result<u64,
         parent,
         name: key.name.copy()?,
     };
-    match tree.find(&key) {
-        None => Ok(tree.birth(0, key, copy)),
-        Some(_) => Err(Fail::from("the name is taken")),
-    }
+    let None = tree.find(&key) else {
+        return Err(Fail::from("the name is taken"));
+    };
+    tree.reserve(1)?;
+    Ok(tree.birth(0, key, copy))
 }
 
 /// A file in a folder: how many nodes live then, the bytes of its path, and whether it has these names and no node more may be born.
