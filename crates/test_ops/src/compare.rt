@@ -201,6 +201,79 @@ fn want_of(alloc: Global, request: &Request<'_>) -> Result<Option<Want>, AllocEr
     }
 }
 
+/// The same, where the ticket is of the row's form. Else all lists differ.
+fn other_of(alloc: Global, row: &Row<'_>, ticket: &Ticket) -> Result<Option<u32>, AllocError> {
+    if form_of(ticket) == row.form {
+        first_other(alloc, row, ticket)
+    } else {
+        Ok(Some(LISTS))
+    }
+}
+
+/// The same of a request that is begun, which is then ended. Where it does not begin all lists differ.
+fn other_begun<T: Ledgers>(
+    alloc: Global,
+    table: &mut Table<T>,
+    share: &mut Share<T>,
+    row: &Row<'_>,
+    want: Want,
+) -> Result<Option<u32>, AllocError> {
+    match table.begin(1, want) {
+        Begin::Go(ticket) => {
+            let other = other_of(alloc, row, &ticket);
+            let answered = table.finish(share, ticket, Outcome::Failed);
+            table.settle(share, answered, true);
+            other
+        }
+        Begin::Busy | Begin::Refused(_) => Ok(Some(LISTS)),
+    }
+}
+
+/// Whether the files of the row are open, and that list.
+fn tell_row<T: Ledgers>(
+    alloc: Global,
+    table: &mut Table<T>,
+    share: &mut Share<T>,
+    row: &Row<'_>,
+    want: Want,
+) -> Result<(bool, Option<u32>), AllocError> {
+    let are_open = prepare(alloc, table, share, row.before)?;
+    let other = other_begun(alloc, table, share, row, want)?;
+    Ok((are_open, other))
+}
+
+/// A new table, and its one share.
+fn open_one<T: Ledgers>(
+    alloc: Global,
+    seeds: Seeds,
+    blanks: Blanks,
+) -> Result<(Table<T>, Share<T>), AllocError>
+    requires names { blanks ≡ T.names }
+    requires shares { T.names.parts ≡ 1 }
+{
+    let (table, mut shares) = Table::<T>::open(alloc, Limits::default(), seeds, blanks, 1)?;
+    let share = shares.pop().unwrap();
+    shares.destroy_empty();
+    Ok((table, share))
+}
+
+/// The same on a table of its own, which is gone before anything is judged: a table that has to be dropped on many ways is dear to check.
+fn tell_alone<T: Ledgers>(
+    alloc: Global,
+    seeds: Seeds,
+    blanks: Blanks,
+    row: &Row<'_>,
+    want: Want,
+) -> Result<(bool, Option<u32>), AllocError>
+    requires names { blanks ≡ T.names }
+    requires shares { T.names.parts ≡ 1 }
+{
+    let (mut table, mut share) = open_one::<T>(alloc, seeds, blanks)?;
+    let told = tell_row(alloc, &mut table, &mut share, row, want);
+    share.leave();
+    told
+}
+
 /// Compares the script of a request with the slow program's, on a table of its own. Fails with the number of the first list of answers after
 /// which they differ, or with how many there are where it does not begin in its form.
 pub fn compare<T: Ledgers>(
@@ -220,27 +293,9 @@ pub fn compare<T: Ledgers>(
     let Some(want) = want_of(alloc, &request)? else {
         return Err(Fail::from(("no want", request.unique)));
     };
-    let (mut table, mut shares) = Table::<T>::open(alloc, Limits::default(), seeds, blanks, 1)?;
-    let mut share = shares.pop().unwrap();
-    shares.destroy_empty();
-    let are_open = prepare(alloc, &mut table, &mut share, row.before);
-    let other = match table.begin(request.unique, want) {
-        Begin::Go(ticket) => {
-            let other = if form_of(&ticket) == row.form {
-                first_other(alloc, row, &ticket)
-            } else {
-                Ok(Some(LISTS))
-            };
-            let answered = table.finish(&mut share, ticket, Outcome::Failed);
-            table.settle(&mut share, answered, true);
-            other
-        }
-        Begin::Busy | Begin::Refused(_) => Ok(Some(LISTS)),
-    };
-    share.leave();
-    match other? {
-        None if are_open? => Ok(()),
-        None => Err(Fail::from(("a file is not open", request.unique))),
-        Some(number) => Err(Fail::from(("differs after list", number))),
+    match tell_alone::<T>(alloc, seeds, blanks, row, want)? {
+        (true, None) => Ok(()),
+        (false, None) => Err(Fail::from(("a file is not open", request.unique))),
+        (_, Some(number)) => Err(Fail::from(("differs after list", number))),
     }
 }
