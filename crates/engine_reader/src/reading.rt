@@ -22,25 +22,28 @@ pub struct ReaderEnd {
     pub farewell: Option<Job>,
 }
 
-fn ended(reader: Reader, end: SessionEnd) -> ReaderEnd
-    ensures seat { IsSeatAt (sends_on reader.to) result.pass }
-    ensures same { (view result.pass ≡ view reader.pass) × (result.end ≡ end) × (result.farewell ≡ reader.farewell) }
-    ensures takes_none { length (view result.pass).taken ≡ 0 }
-{
-    let Reader {
-        to,
-        pass,
-        next: _,
-        agreed: _,
-        cutter: _,
-        room: _,
-        farewell,
-    } = reader;
-    drop(to);
-    ReaderEnd {
-        pass,
-        end,
-        farewell,
+impl ReaderEnd {
+    /// What a reader leaves that has ended so.
+    pub fn new(reader: Reader, end: SessionEnd) -> ReaderEnd
+        ensures seat { IsSeatAt (sends_on reader.to) result.pass }
+        ensures same { (view result.pass ≡ view reader.pass) × (result.end ≡ end) × (result.farewell ≡ reader.farewell) }
+        ensures takes_none { length (view result.pass).taken ≡ 0 }
+    {
+        let Reader {
+            to,
+            pass,
+            next: _,
+            agreed: _,
+            cutter: _,
+            room: _,
+            farewell,
+        } = reader;
+        drop(to);
+        ReaderEnd {
+            pass,
+            end,
+            farewell,
+        }
     }
 }
 
@@ -60,10 +63,10 @@ pub fn read_all<H: Wait, L: LinkIn + Drop>(
     let mut link = link;
     for _ in rt.forever() {
         if is_broken.load(Ordering::SeqCst) {
-            return ended(reader, SessionEnd::LinkBroken);
+            return ReaderEnd::new(reader, SessionEnd::LinkBroken);
         }
         match reader.turn(rt, &mut link) {
-            Some(end) => return ended(reader, end),
+            Some(end) => return ReaderEnd::new(reader, end),
             None => {}
         }
     }

@@ -1,9 +1,21 @@
 -- What a session on threads leaves.
-use Rattle.std.specs.Prelude.{◌≡◌, ℕ, List, [], ◌∷◌, ◌++◌, length, map}
+use Rattle.std.specs.Prelude.{◌≡◌, ℕ, Bool, true, false, List, [], ◌∷◌, ◌++◌, length, map}
+use Rattle.std.specs.List.{flat_map}
 use Rattle.ledger.specs.Shares.{Part, sum_of}
 use Rattle.ledger.specs.Sums.{totals_over}
 use Rattle.ledger.specs.declared.shares.Totals.{Totals}
 use Rattle.table_steps.specs.World.{IsLawfulWorld, World}
+use Rattle.engine.specs.declared.ends.SessionEnd.{SessionEnd}
+use Rattle.engine.specs.declared.ends.SessionEnd.TheVariants.{LinkBroken}
+use Rattle.engine_jobs.specs.declared.jobs.Job.{Job}
+use Rattle.engine_queues.specs.Gathered.{puts_of, takings_of}
+use Rattle.engine_queues.specs.Jobs.{Accounts}
+use Rattle.engine_queues.specs.Letters.{IsWhole}
+use Rattle.engine_queues.specs.declared.jobs.Hand.{Hand}
+use Rattle.engine_queues.specs.declared.letters.Letter.{Letter}
+use Rattle.engine_queues.specs.declared.letters.ReplyLane.{ReplyLane}
+use Rattle.engine_queues.specs.declared.passes.Passes.{Passes}
+use Rattle.engine_workers.specs.declared.replies.Reply.{Reply}
 
 -- what the ledger of a lawful table holds, and these shares sum to it
 pub record IsGathered (totals : Totals) : Type 0 where
@@ -13,7 +25,20 @@ pub record IsGathered (totals : Totals) : Type 0 where
   pub shares : List Part
   pub sums : totals ≡ sum_of shares
 
--- how many jobs each worker took, of whom the starter comes last; or none where nothing was served
-pub data AreCounts {J : Type 0} (taken : List ℕ) (takings : List (List J)) : Type 0 where
-  of_all : (own : ℕ) → taken ++ own ∷ [] ≡ map (λ js. length js) takings → AreCounts taken takings
-  of_none : taken ≡ [] → AreCounts taken takings
+-- how many jobs each worker took, of whom the starter comes last
+pub record AreCounts {J : Type 0} (taken : List ℕ) (takings : List (List J)) : Type 0 where
+  pub own : ℕ
+  pub all : taken ++ own ∷ [] ≡ map (λ js. length js) takings
+
+-- how a session ended: a link that broke ends it, whatever else did
+abbrev pub ends_as : (input : SessionEnd) → (is_broken : Bool) → SessionEnd
+ends_as input true = LinkBroken
+ends_as input false = input
+
+-- Of the jobs that were read each was taken by one of these or is left, as often as it was read; and of the replies of each of these the
+-- writer got the first ones, in their order, and the others are left.
+pub record IsShared (read : Hand Job) (passes : List (Passes Job Reply)) (written : ReplyLane Reply) : Type 0 where
+  pub jobs_left : List Job
+  pub jobs : Accounts read.put (flat_map (λ js. js) (takings_of passes)) jobs_left
+  pub replies_left : List (Letter Reply)
+  pub replies : IsWhole (puts_of passes) written.got replies_left

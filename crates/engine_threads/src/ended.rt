@@ -6,10 +6,11 @@ ghost use Rattle.engine_threads.specs.Ended.{AreCounts, IsGathered};
 
 use engine::SessionEnd;
 use engine_jobs::Job;
+use engine_queues::jobs::JobPass;
+use engine_queues::letters::ReplyPass;
 use engine_queues::passes::Passes;
 use engine_workers::Reply;
 use ledger::{Ledgers, Share, Totals};
-use std::alloc::Global;
 use std::snapshot::Snapshot;
 use table::Table;
 
@@ -38,55 +39,64 @@ impl Sums {
     }
 }
 
+/// What passed through the queues and the link of a session. It takes no memory: what its parts show stands in proofs alone.
+#[derive(Drop)]
+pub struct Passed {
+    /// How the input ended.
+    pub input: SessionEnd,
+    /// Whether the link broke as a reply was offered.
+    pub is_broken: bool,
+    /// The jobs that the reader put.
+    pub read: Snapshot<JobPass<Job>>,
+    /// The replies that the writer got.
+    pub written: Snapshot<ReplyPass<Reply>>,
+    /// Which jobs each worker took and which replies it put. The starter, who answers the last frame and takes no job, comes last.
+    pub passes: Snapshot<Vec<Passes<Job, Reply>>>,
+}
+
+/// What was served.
+#[derive(Drop)]
+pub struct Account {
+    /// What was posted in all.
+    pub sums: Sums,
+    /// How many jobs each worker took.
+    pub taken: Vec<u64>,
+    pub passed: Passed,
+    pub ghost counted: { ∥ AreCounts taken.items (takings_of passed.passes.value.items) ∥₁ },
+}
+
+impl Account {
+    /// What was served, by the counts of all who took jobs.
+    pub(crate) fn new(sums: Sums, counts: Vec<u64>, passed: Passed) -> Account
+        requires some { 0 < vec_len counts }
+        requires counts { counts.items ≡ map (λ js. length js) (takings_of passed.passes.value.items) }
+        ensures sums { result.sums ≡ sums }
+        ensures taken { vec_len result.taken + 1 ≡ vec_len counts }
+        ensures passed { result.passed ≡ passed }
+    {
+        let mut taken = counts;
+        let _own = taken.pop();
+        Account {
+            sums,
+            taken,
+            passed,
+        }
+    }
+}
+
 /// How a session on threads ended.
 #[derive(Drop)]
 pub struct Ended {
     pub end: SessionEnd,
-    /// What was posted in all. None where nothing was served: for want of memory or a thread, or without workers.
-    pub totals: Option<Sums>,
-    /// How many jobs each worker took.
-    pub taken: Vec<u64>,
-    /// What the workers left of their queues. It takes no memory.
-    pub passes: Snapshot<Vec<Passes<Job, Reply>>>,
-    pub ghost counted: { ∥ AreCounts taken.items (takings_of passes.value.items) ∥₁ },
+    /// None where nothing was served: for want of memory or a thread, or without workers.
+    pub account: Option<Account>,
 }
 
 impl Ended {
     /// Nothing was served.
-    pub(crate) fn unserved(alloc: Global, end: SessionEnd) -> Ended
-        ensures end { result.end ≡ end }
-        ensures totals { result.totals ≡ None }
-        ensures taken { result.taken.items ≡ [] }
+    pub(crate) fn unserved(end: SessionEnd) -> Ended
+        ensures { (result.end ≡ end) × (result.account ≡ None) }
     {
-        let passes: Vec<Passes<Job, Reply>> = Vec::new(alloc);
-        Ended {
-            end,
-            totals: None,
-            taken: Vec::new(alloc),
-            passes: Snapshot::of(&passes),
-        }
-    }
-
-    /// What was served, by the counts of all who took jobs. The starter, who took none, comes last.
-    pub(crate) fn served(
-        end: SessionEnd,
-        sums: Sums,
-        counts: Vec<u64>,
-        passes: Snapshot<Vec<Passes<Job, Reply>>>,
-    ) -> Ended
-        requires some { 0 < vec_len counts }
-        requires counts { counts.items ≡ map (λ js. length js) (takings_of passes.value.items) }
-        ensures end { result.end ≡ end }
-        ensures totals { result.totals ≡ Some sums }
-        ensures taken { vec_len result.taken + 1 ≡ vec_len counts }
-    {
-        let mut taken = counts;
-        let _own = taken.pop();
-        Ended {
-            end,
-            totals: Some(sums),
-            taken,
-            passes,
-        }
+        Ended { end, account: None }
     }
 }

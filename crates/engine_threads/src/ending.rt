@@ -1,172 +1,134 @@
-//! The end of all threads, in its order.
+//! What is left to do once all threads have ended, in its order.
 
-ghost use Rattle.std.specs.Prelude.{◌≡◌, ◌≢◌, ◌<◌, ◌≤◌, ◌+◌, [], length, map, true, vec_len, vec_capacity};
-ghost use Rattle.std.specs.List.{All, range_with_len};
+ghost use Rattle.std.specs.Prelude.{◌≡◌, ◌≢◌, ◌<◌, ◌≤◌, ◌+◌, [], length, map, false, Some, vec_len, vec_capacity};
+ghost use Rattle.std.specs.List.{All, flat_map, range_with_len};
 ghost use Rattle.crossbeam_channel.specs.Claims.{view, IsSeatAt};
 ghost use Rattle.crossbeam_channel.specs.Ends.{sends_on, receives_on};
-ghost use Rattle.engine_queues.specs.Gathered.{IsReading, IsWriting, takings_of};
-ghost use Rattle.engine.specs.declared.ends.SessionEnd.TheVariants.{NoWorkers};
+ghost use Rattle.engine_jobs.specs.declared.jobs.Job.{Job as Queued};
+ghost use Rattle.engine_queues.specs.Gathered.{numbers_of, takings_of};
+ghost use Rattle.engine_reader.specs.Shown.{queued_of};
+ghost use Rattle.engine_roles.specs.Reads.{HasReadAll};
+ghost use Rattle.engine_roles.specs.Writes.{HasWrittenAll};
+ghost use Rattle.engine_threads.specs.Ended.{ends_as, IsShared};
 
-use crate::places::{Common, Shares};
-use crate::starting::{Working, join_all};
-use crate::stopping::{Starter, answer_last, stop_workers, stop_writer};
-use crate::working::WriterEnd;
+use crate::ended::Passed;
+use crate::farewell::{Starter, bid_farewell};
+use crate::places::Common;
 use backing::Calls;
-use engine::{Served, SessionEnd};
+use engine::{LinkIn, LinkOut, SessionEnd};
 use engine_jobs::Job;
 use engine_queues::gathering::gather;
-use engine_queues::jobs::{JobPass, JobSender};
-use engine_queues::letters::{ReplyPass, ReplySender};
+use engine_queues::jobs::JobSender;
+use engine_queues::letters::ReplySender;
 use engine_queues::passes::Passes;
 use engine_reader::ReaderEnd;
-use engine_workers::Reply;
+use engine_roles::{Shares, Sink, Source, WriterEnd, WriterRole};
+use engine_workers::{Hall, Reply};
+use handles::Dirs;
 use ledger::Ledgers;
 use std::snapshot::Snapshot;
 use std::sync::Wait;
-use std::thread::{Promise, PromisedHandle, Threads};
+use table::Table;
 
-/// What the writer's thread keeps.
-#[derive(Drop)]
-pub struct WriterKeeps {
-    pub replies: Snapshot<ReplySender<Reply>>,
-    pub count: usize,
-}
-
-impl<T: Ledgers> Promise<WriterEnd<T>> for WriterKeeps {
-    ghost use Rattle.crossbeam_channel.specs.Claims.{view, IsSeatAt};
-    ghost use Rattle.crossbeam_channel.specs.Ends.{sends_on};
-    ghost use Rattle.engine_queues.specs.Gathered.{IsWriting};
-
-    ghost kept_by = { λ p r. IsSeatAt (sends_on p.replies.value) r.pass × IsWriting (view r.pass) p.count };
-}
-
-pub type Writing<T> = PromisedHandle<WriterEnd<T>, WriterKeeps>;
-
-/// What all threads have left.
+/// What the threads of a session have left.
 #[derive(Drop)]
 pub struct Over<T: Ledgers, C: Calls + Drop> {
-    pub end: SessionEnd,
+    pub passed: Passed,
     pub taken: Vec<u64>,
-    pub passes: Snapshot<Vec<Passes<Job, Reply>>>,
+    pub table: Table<T>,
     pub shares: Shares<T>,
     pub first: Option<C>,
-    pub ghost counted: { taken.items ≡ map (λ js. length js) (takings_of passes.value.items) },
 }
 
-/// The room for what the threads leave, and what the starter has.
+/// What the starter has of its own: passes, and what it answers the last frame with.
 #[derive(Drop)]
 pub struct Room<T: Ledgers, C: Calls + Drop> {
     pub own: Passes<Job, Reply>,
     pub starter: Starter,
-    pub ended: Vec<Passes<Job, Reply>>,
     pub taken: Vec<u64>,
     pub shares: Shares<T>,
     pub first: Option<C>,
 }
 
-/// Answers the frame that ended the session, if one did, with the share and the directory of a worker that has ended.
-fn bid_farewell<H: Wait + Drop, T: Ledgers, C: Calls + Drop>(
+/// Offers all that is still queued.
+fn offer_all<H: Wait, T: Ledgers, O: LinkOut + Drop, S: Sink<O>>(
     rt: &H,
-    common: &Common<H, T>,
-    jobs: &JobSender<Job>,
-    replies: &ReplySender<Reply>,
-    starter: Starter,
-    own: Passes<Job, Reply>,
-    shares: &mut Shares<T>,
-    first: &mut Option<C>,
-    farewell: Option<Job>,
-) -> Passes<Job, Reply>
-    requires work { receives_on starter.work ≡ sends_on jobs.now }
-    requires ring { sends_on starter.replies ≡ sends_on replies.now }
-    requires jobs { IsSeatAt (sends_on jobs.now) own.job_pass }
-    requires replies { IsSeatAt (sends_on replies.now) own.reply_pass }
-    ensures jobs { IsSeatAt (sends_on jobs.now) result.job_pass }
-    ensures replies { IsSeatAt (sends_on replies.now) result.reply_pass }
-    ensures number { result.number ≡ own.number }
-{
-    let Some(job) = farewell else {
-        return own;
-    };
-    let Some(mut kept) = shares.take() else {
-        return own;
-    };
-    let Some(calls) = first.take() else {
-        return own;
-    };
-    let mut served = Served {
-        calls,
-        dirs: &common.dirs,
-    };
-    let own = answer_last(rt, &common.hall, starter, own, &mut kept, &mut served, &job);
-    let Served { calls, dirs: _ } = served;
-    shares.put(kept);
-    *first = Some(calls);
-    own
-}
-
-/// How the session ended: a link that broke ends it whatever else did.
-fn end_of(read: SessionEnd, is_broken: bool) -> SessionEnd
-    requires { read ≢ NoWorkers }
-    ensures { result ≢ NoWorkers }
-{
-    if is_broken {
-        SessionEnd::LinkBroken
-    } else {
-        read
+    hall: &Hall<T>,
+    dirs: &Dirs,
+    writer: &mut WriterRole<T, O, S>,
+) {
+    let mut dirs = dirs;
+    for _ in rt.forever() {
+        if writer.turn(rt, hall, &mut dirs) == 0 {
+            return;
+        }
     }
 }
 
-/// Ends the workers and the writer once the reader has ended, and gathers what all passes tell. The last number is that of the
-/// starter, who takes no job.
-pub fn end_all<H: Threads + Wait + Drop, T: Ledgers, C: Calls + Drop>(
+/// Answers the frame that ended the session, offers what is still queued, and gathers what all passes tell. The last of these that have
+/// ended is the starter, who takes no job.
+pub fn end_all<
+    H: Wait + Drop,
+    T: Ledgers,
+    I: LinkIn + Drop,
+    O: LinkOut + Drop,
+    C: Calls + Drop,
+    S: Source<I> + Sink<O>,
+>(
     rt: &H,
-    common: &Common<H, T>,
+    common: Common<H, T, I, O, S>,
     jobs: &JobSender<Job>,
     replies: &ReplySender<Reply>,
-    read: ReaderEnd,
-    handles: Vec<Working<T, C>>,
-    writing: Writing<T>,
+    ended: Vec<Passes<Job, Reply>>,
     room: Room<T, C>,
 ) -> Over<T, C>
-    requires read { IsSeatAt (sends_on jobs.now) read.pass }
-    requires reading { IsReading (view read.pass) (vec_len handles + 1) }
-    requires served { read.end ≢ NoWorkers }
-    requires rings { All (λ h. (sends_on h.promise.jobs.value ≡ sends_on jobs.now) × (sends_on h.promise.replies.value ≡ sends_on replies.now)) handles.items }
-    requires numbers { map (λ h. h.promise.number) handles.items ≡ range_with_len 0 (vec_len handles) }
-    requires few { vec_len handles ≤ 4 }
-    requires writer { sends_on writing.promise.replies.value ≡ sends_on replies.now }
-    requires count { writing.promise.count ≡ vec_len handles + 1 }
+    requires jobs { S.jobs ≡ Some (sends_on jobs.now) }
+    requires replies { S.replies ≡ Some (sends_on replies.now) }
+    requires parted { S.parted ≡ vec_len ended + 1 }
+    requires senders { S.senders ≡ vec_len ended + 1 }
+    requires seats { All (λ p. IsSeatAt (sends_on jobs.now) p.job_pass × IsSeatAt (sends_on replies.now) p.reply_pass) ended.items }
+    requires numbers { numbers_of ended.items ≡ range_with_len 0 (vec_len ended) }
+    requires few { vec_len ended ≤ 4 }
+    requires space { vec_len ended < vec_capacity ended }
     requires job_seat { IsSeatAt (sends_on jobs.now) room.own.job_pass }
     requires reply_seat { IsSeatAt (sends_on replies.now) room.own.reply_pass }
-    requires number { room.own.number ≡ vec_len handles }
+    requires number { room.own.number ≡ vec_len ended }
     requires work { receives_on room.starter.work ≡ sends_on jobs.now }
-    requires replies { sends_on room.starter.replies ≡ sends_on replies.now }
-    requires ended { vec_len handles < vec_capacity room.ended }
-    requires taken { vec_len handles + 1 ≤ vec_capacity room.taken }
-    requires none_ended { room.ended.items ≡ [] }
+    requires ring { sends_on room.starter.replies ≡ sends_on replies.now }
+    requires taken { vec_len ended + 1 ≤ vec_capacity room.taken }
     requires none_taken { room.taken.items ≡ [] }
-    ensures taken { vec_len result.taken ≡ vec_len handles + 1 }
-    ensures served { result.end ≢ NoWorkers }
+    ensures taken { vec_len result.taken ≡ vec_len ended + 1 }
+    ensures counted { result.taken.items ≡ map (λ js. length js) (takings_of result.passed.passes.value.items) }
+    ensures reads { ∥ HasReadAll I.receives S.heard_from result.passed.input (queued_of (view result.passed.read.value).put) ∥₁ }
+    ensures writes { ∥ HasWrittenAll O.sends S.sent_to S.senders (view result.passed.written.value) result.passed.is_broken ∥₁ }
+    ensures shared { IsShared (view result.passed.read.value) result.passed.passes.value.items (view result.passed.written.value) }
 {
     let Room {
-        mut own,
+        own,
         starter,
-        ended,
         taken,
         mut shares,
         mut first,
     } = room;
+    let Common {
+        rt: _,
+        hall,
+        dirs,
+        reader,
+        writer,
+        sleepers: _,
+        signs: _,
+    } = common;
     let ReaderEnd {
         pass,
         end,
         farewell,
-    } = read;
-    let count = handles.len();
-    stop_workers(rt, jobs, &mut own, count);
-    let mut ended = join_all(rt, jobs, replies, handles, ended, &mut shares, &mut first);
-    let mut own = bid_farewell(
+    } = reader.into_inner().into_end();
+    let mut writer = writer.into_inner();
+    let own = bid_farewell(
         rt,
-        common,
+        &hall,
+        &dirs,
         jobs,
         replies,
         starter,
@@ -175,51 +137,28 @@ pub fn end_all<H: Threads + Wait + Drop, T: Ledgers, C: Calls + Drop>(
         &mut first,
         farewell,
     );
-    stop_writer(rt, replies, &mut own);
-    let (written, is_broken) = part_writer(writing.join(rt), &mut shares);
+    offer_all(rt, &hall, &dirs, &mut writer);
+    let WriterEnd {
+        pass: written,
+        is_broken,
+        kept,
+    } = writer.into_end();
+    shares.put(kept);
+    let mut ended = ended;
     ended.push_reserved(own);
-    let passes = Snapshot::of(&ended);
+    let passed = Passed {
+        input: end,
+        is_broken,
+        read: Snapshot::of(&pass),
+        written: Snapshot::of(&written),
+        passes: Snapshot::of(&ended),
+    };
     let taken = gather(jobs, replies, pass, ended, written, taken);
     Over {
-        end: end_of(end, is_broken),
+        passed,
         taken,
-        passes,
+        table: hall.into_table(),
         shares,
         first,
     }
-}
-
-/// What the writer leaves is taken apart: its share goes back.
-fn part_writer<T: Ledgers>(end: WriterEnd<T>, shares: &mut Shares<T>) -> (ReplyPass<Reply>, bool)
-    ensures { (result.0 ≡ end.pass) × (result.1 ≡ end.is_broken) }
-{
-    let WriterEnd {
-        pass,
-        is_broken,
-        kept,
-    } = end;
-    shares.put(kept);
-    (pass, is_broken)
-}
-
-/// Ends what was started, where not all could be.
-pub fn halt<H: Threads + Wait, T: Ledgers, C: Calls + Drop>(
-    rt: &H,
-    jobs: &JobSender<Job>,
-    replies: &ReplySender<Reply>,
-    handles: Vec<Working<T, C>>,
-    writing: Writing<T>,
-    own: Passes<Job, Reply>,
-)
-    requires job_seat { IsSeatAt (sends_on jobs.now) own.job_pass }
-    requires reply_seat { IsSeatAt (sends_on replies.now) own.reply_pass }
-{
-    let mut own = own;
-    let count = handles.len();
-    stop_workers(rt, jobs, &mut own, count);
-    for handle in handles {
-        drop(handle.join(rt));
-    }
-    stop_writer(rt, replies, &mut own);
-    drop(writing.join(rt));
 }

@@ -1,11 +1,11 @@
 //! The ends and passes of a number of workers, and of the one who starts them.
 
-ghost use Rattle.std.specs.Prelude.{◌≡◌, ◌<◌, ◌≤◌, ◌+◌, [], length, map, true, IfSome, vec_len, vec_capacity};
+ghost use Rattle.std.specs.Prelude.{◌≡◌, ◌<◌, ◌≤◌, ◌+◌, [], length, map, IfSome, vec_len, vec_capacity};
 ghost use Rattle.std.specs.List.{All, range_with_len};
 ghost use Rattle.crossbeam_channel.specs.Claims.{view, IsSeatAt};
 ghost use Rattle.crossbeam_channel.specs.Ends.{sends_on, receives_on};
+ghost use Rattle.engine_queues.specs.Letters.{writer};
 
-use crate::places::{Kept, Shares};
 use crate::working::Staff;
 use backing::Calls;
 use engine::Settings;
@@ -13,6 +13,7 @@ use engine_jobs::Job;
 use engine_queues::jobs::{Cut, JobPass, JobReceiver, JobSender};
 use engine_queues::letters::{ReplyPass, ReplySender, Roles};
 use engine_queues::passes::Passes;
+use engine_roles::{Kept, Shares};
 use engine_workers::{Reply, Worker};
 use ledger::Ledgers;
 use std::alloc::Global;
@@ -28,13 +29,12 @@ pub fn cut_passes(
     requires read { IsSeatAt (sends_on jobs.now) read.old }
     requires parts { 1 < (view read.old).parts }
     requires written { IsSeatAt (sends_on replies.now) written.old }
-    requires gets { (view written.old).gets ≡ true }
-    requires made { (view written.old).made ≡ number }
+    requires writes { view written.old ≡ writer [] number [] }
     ensures read { IsSeatAt (sends_on jobs.now) read.new }
     ensures parts { (view read.new).parts + 1 ≡ (view read.old).parts }
     ensures reads { ((view read.new).put ≡ (view read.old).put) × ((view read.new).taken ≡ (view read.old).taken) }
     ensures written { IsSeatAt (sends_on replies.now) written.new }
-    ensures writes { ((view written.new).gets ≡ true) × ((view written.new).made ≡ number + 1) × ((view written.new).known ≡ (view written.old).known) }
+    ensures writes { view written.new ≡ writer [] (number + 1) [] }
     ensures seats { IsSeatAt (sends_on jobs.now) result.job_pass × IsSeatAt (sends_on replies.now) result.reply_pass }
     ensures number { result.number ≡ number }
 {
@@ -81,14 +81,13 @@ pub fn hire_all(
     requires parts { (view read.old).parts ≡ 8 }
     requires none { length (view read.old).taken ≡ 0 }
     requires written { IsSeatAt (sends_on replies.now) written.old }
-    requires writes { ((view written.old).gets ≡ true) × ((view written.old).made ≡ 0) }
+    requires writes { view written.old ≡ writer [] 0 [] }
     ensures read { IsSeatAt (sends_on jobs.now) read.new }
     ensures parts { IfSome result (λ v. (view read.new).parts + count ≡ 8) }
     ensures reads { ((view read.new).put ≡ (view read.old).put) × ((view read.new).taken ≡ (view read.old).taken) }
     ensures none { length (view read.new).taken ≡ 0 }
     ensures written { IsSeatAt (sends_on replies.now) written.new }
-    ensures writes { IfSome result (λ v. ((view written.new).gets ≡ true) × ((view written.new).made ≡ count)) }
-    ensures known { (view written.new).known ≡ (view written.old).known }
+    ensures writes { IfSome result (λ v. view written.new ≡ writer [] count []) }
     ensures hired { IfSome result (λ v. All (λ w. (receives_on w.jobs ≡ sends_on jobs.now) × (sends_on w.replies ≡ sends_on replies.now)) v.items) }
     ensures numbers { IfSome result (λ v. map (λ w. w.number) v.items ≡ range_with_len 0 count) }
     ensures len { IfSome result (λ v. vec_len v ≡ count) }

@@ -1,15 +1,16 @@
-//! A session on threads: a reader, one to four workers and a writer, from their start to their end.
+//! A session on one to four threads, each of which takes whatever turn is due: it offers replies, works on a job, or reads.
 #![tactic(auto)]
 
 mod ended;
 mod ending;
+mod farewell;
 mod hiring;
 mod places;
 mod running;
 mod serving;
 mod starting;
-mod stopping;
+mod turns;
 mod working;
 
-pub use ended::{Ended, Sums};
+pub use ended::{Account, Ended, Passed, Sums};
 pub use serving::serve_threads;

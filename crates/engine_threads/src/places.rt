@@ -1,88 +1,65 @@
-//! What threads share, and what each of them has of its own.
+//! What the threads of a session share.
 
-ghost use Rattle.std.specs.Prelude.{◌≡◌};
-
+use engine::{LinkIn, LinkOut};
+use engine_roles::{ReaderRole, Sink, Sleepers, Source, WriterRole};
 use engine_workers::Hall;
 use handles::Dirs;
-use ledger::{Gather, Ledgers, Share, Totals};
-use std::sync::Arc;
-use std::sync::atomic::AtomicBool;
-use table::Table;
+use ledger::Ledgers;
+use std::sync::atomic::{AtomicBool, AtomicU64, Ordering};
+use std::sync::{Arc, Mutex};
 
-/// What all threads of a session share.
+/// What threads tell one another without a lock.
 #[derive(Drop)]
-pub struct Common<H: Drop, T: Ledgers> {
-    pub rt: H,
-    pub hall: Hall<T>,
-    pub dirs: Dirs,
+pub struct Signs {
+    /// Whether there may be replies that nobody offers yet.
+    pub is_ready: AtomicBool,
     /// Whether the writer saw the link break.
     pub is_broken: AtomicBool,
+    /// Whether no more jobs will be queued.
+    pub is_over: AtomicBool,
+    /// How many receives have ended.
+    pub receives: AtomicU64,
 }
 
-pub type Shared<H, T> = Arc<Common<H, T>>;
-
-/// A thread's share of the table's book. Where it is dropped it is left, and the book is not gathered.
-pub struct Kept<T: Ledgers> {
-    pub share: Share<T>,
-}
-
-impl<T: Ledgers> Drop for Kept<T> {
-    fn drop(self) {
-        let Kept { share } = self;
-        share.leave();
-    }
-}
-
-impl<T: Ledgers> Kept<T> {
-    fn into_share(self) -> Share<T> {
-        let Kept { share } = self;
-        share
-    }
-}
-
-/// The shares that no thread has. Where they are dropped they are left.
-pub struct Shares<T: Ledgers> {
-    shares: Vec<Share<T>>,
-}
-
-impl<T: Ledgers> Drop for Shares<T> {
-    fn drop(self) {
-        let Shares { shares } = self;
-        leave_all(shares);
-    }
-}
-
-fn leave_all<T: Ledgers>(mut shares: Vec<Share<T>>) {
-    while let Some(share) = shares.pop() {
-        share.leave();
-    }
-    shares.destroy_empty();
-}
-
-impl<T: Ledgers> Shares<T> {
-    pub fn new(shares: Vec<Share<T>>) -> Shares<T> {
-        Shares { shares }
-    }
-
-    /// One for a thread, if one is there.
-    pub fn take(&mut self) -> Option<Kept<T>> {
-        let share = self.shares.pop()?;
-        Some(Kept { share })
-    }
-
-    /// One comes back. There is room for all that were taken.
-    pub fn put(&mut self, kept: Kept<T>) {
-        let share = kept.into_share();
-        if self.shares.len() < self.shares.capacity() {
-            self.shares.push_reserved(share);
-        } else {
-            share.leave();
+impl Signs {
+    pub fn new() -> Signs {
+        Signs {
+            is_ready: AtomicBool::new(false),
+            is_broken: AtomicBool::new(false),
+            is_over: AtomicBool::new(false),
+            receives: AtomicU64::new(0),
         }
     }
 
-    /// All of them.
-    pub fn into_all(self) -> Vec<Share<T>> {
-        let Shares { shares } = self;
-        shares
+    pub fn tell_ready(&self) {
+        self.is_ready.store(true, Ordering::SeqCst);
+    }
+
+    pub fn tell_over(&self) {
+        self.is_over.store(true, Ordering::SeqCst);
+    }
+
+    pub fn is_over(&self) -> bool {
+        self.is_over.load(Ordering::SeqCst)
     }
 }
+
+/// What all threads of a session share. Both roles are only ever tried: who finds one taken goes on to another turn.
+#[derive(Drop)]
+pub struct Common<
+    H: Drop,
+    T: Ledgers,
+    I: LinkIn + Drop,
+    O: LinkOut + Drop,
+    S: Source<I> + Sink<O>,
+> {
+    pub rt: H,
+    pub hall: Hall<T>,
+    pub dirs: Dirs,
+    pub reader: Mutex<ReaderRole<I, S>>,
+    pub writer: Mutex<WriterRole<T, O, S>>,
+    pub sleepers: Sleepers,
+    pub signs: Signs,
+}
+
+pub type Shared<H, T, I, O, S> = Arc<Common<H, T, I, O, S>>;

@@ -1,174 +1,192 @@
 //! All threads, from the first start to the last end.
 
-ghost use Rattle.std.specs.Prelude.{◌≡◌, ◌≢◌, ◌<◌, ◌≤◌, ◌+◌, [], length, map, true, IfSome, vec_len, vec_capacity};
+ghost use Rattle.std.specs.Prelude.{◌≡◌, ◌<◌, ◌≤◌, ◌+◌, [], length, map, false, Some, IfSome, vec_len, vec_capacity};
 ghost use Rattle.std.specs.List.{All, range_with_len};
 ghost use Rattle.crossbeam_channel.specs.Claims.{view, IsSeatAt};
 ghost use Rattle.crossbeam_channel.specs.Ends.{sends_on, receives_on};
-ghost use Rattle.engine_queues.specs.Gathered.{IsReading, IsWriting};
-ghost use Rattle.engine.specs.declared.ends.SessionEnd.TheVariants.{NoWorkers};
+ghost use Rattle.engine_queues.specs.Gathered.{numbers_of, takings_of};
+ghost use Rattle.engine_queues.specs.Letters.{writer};
+ghost use Rattle.engine_reader.specs.Shown.{queued_of, reading};
+ghost use Rattle.engine_roles.specs.Reads.{beginning, HasReadAll};
+ghost use Rattle.engine_roles.specs.Writes.{HasWrittenAll};
+ghost use Rattle.engine_threads.specs.Ended.{IsShared};
 
-use crate::ending::{Over, Room, WriterKeeps, Writing, end_all, halt};
-use crate::places::{Kept, Shared};
-use crate::starting::{Working, start_all};
-use crate::working::{Staff, receive_all, write_all};
+use crate::ending::{Over, Room, end_all};
+use crate::places::{Common, Shared, Signs};
+use crate::starting::{Working, join_all, start_all};
+use crate::working::Staff;
 use backing::Calls;
 use engine::{LinkIn, LinkOut};
 use engine_jobs::Job;
 use engine_queues::jobs::JobSender;
 use engine_queues::letters::ReplySender;
-use engine_reader::{Reader, ReaderEnd};
-use engine_workers::{Reply, Writer};
+use engine_queues::passes::Passes;
+use engine_reader::Reader;
+use engine_roles::{Kept, ReaderRole, Sink, Sleepers, Source, WriterRole};
+use engine_workers::{Hall, Reply, Writer};
+use handles::Dirs;
 use ledger::Ledgers;
-use std::snapshot::Snapshot;
-use std::sync::{Arc, Wait};
-use std::thread;
-use std::thread::{Promise, PromisedHandle, Threads};
+use std::alloc::Global;
+use std::sync::{Arc, Mutex, Wait};
+use std::thread::Threads;
 
-/// What the reader's thread keeps.
+/// What the threads of a session will share.
 #[derive(Drop)]
-pub struct ReaderKeeps {
-    pub jobs: Snapshot<JobSender<Job>>,
-    pub count: usize,
-}
-
-impl Promise<ReaderEnd> for ReaderKeeps {
-    ghost use Rattle.crossbeam_channel.specs.Claims.{view, IsSeatAt};
-    ghost use Rattle.crossbeam_channel.specs.Ends.{sends_on};
-    ghost use Rattle.engine_queues.specs.Gathered.{IsReading};
-    ghost use Rattle.engine.specs.declared.ends.SessionEnd.TheVariants.{NoWorkers};
-    ghost use Rattle.std.specs.Prelude.{◌≢◌};
-
-    ghost kept_by = { λ p r. IsSeatAt (sends_on p.jobs.value) r.pass × IsReading (view r.pass) p.count × (r.end ≢ NoWorkers) };
-}
-
-/// What the writer's thread gets.
-#[derive(Drop)]
-pub struct Writes<T: Ledgers, O: LinkOut + Drop> {
+pub struct Parts<H: Drop, T: Ledgers, I: LinkIn + Drop, O: LinkOut + Drop> {
+    pub rt: H,
+    pub hall: Hall<T>,
+    pub dirs: Dirs,
+    pub reader: Reader,
+    pub link_in: I,
     pub writer: Writer,
-    pub link: O,
+    pub link_out: O,
     pub kept: Kept<T>,
 }
 
-/// What the reader's thread gets.
-#[derive(Drop)]
-pub struct Reads<I: LinkIn + Drop> {
-    pub reader: Reader,
-    pub link: I,
-}
-
-/// Starts the writer. None where no thread can be made.
-fn start_writer<
-    H: Threads + Wait + Send + Sync + Drop + 'static,
-    T: Ledgers + Send + Sync + 'static,
-    O: LinkOut + Send + Drop + 'static,
+/// Both roles at their beginning. None is want of memory.
+fn share<
+    H: Drop,
+    T: Ledgers,
+    I: LinkIn + Drop,
+    O: LinkOut + Drop,
+    S: Source<I> + Sink<O>,
 >(
-    rt: &H,
-    common: &Shared<H, T>,
-    replies: &ReplySender<Reply>,
-    writes: Writes<T, O>,
-    count: usize,
-) -> Option<Writing<T>>
-    requires ring { receives_on writes.writer.replies ≡ sends_on replies.now }
-    requires made { (view writes.writer.pass).made ≡ count }
-    ensures { IfSome result (λ h. (sends_on h.promise.replies.value ≡ sends_on replies.now) × (h.promise.count ≡ count)) }
+    alloc: Global,
+    parts: Parts<H, T, I, O>,
+) -> Option<Shared<H, T, I, O, S>>
+    requires jobs { S.jobs ≡ Some (sends_on parts.reader.to) }
+    requires parts { (view parts.reader.pass).parts + S.parted ≡ 8 }
+    requires from { S.heard_from ≡ Some parts.link_in }
+    requires unheard { reading parts.link_in parts.reader.cutter.kept parts.reader.agreed (view parts.reader.pass).put ≡ beginning parts.link_in }
+    requires replies { S.replies ≡ Some (receives_on parts.writer.replies) }
+    requires to { S.sent_to ≡ Some parts.link_out }
+    requires unsent { view parts.writer.pass ≡ writer [] S.senders [] }
+    requires whole { parts.writer.is_broken ≡ false }
 {
-    let common = Arc::try_clone(common).ok()?;
-    let Writes { writer, link, kept } = writes;
-    let keeps = WriterKeeps {
-        replies: Snapshot::of(replies),
-        count,
+    let Parts {
+        rt,
+        hall,
+        dirs,
+        reader,
+        link_in,
+        writer,
+        link_out,
+        kept,
+    } = parts;
+    let common = Common {
+        rt,
+        hall,
+        dirs,
+        reader: Mutex::new(ReaderRole::new(reader, link_in)),
+        writer: Mutex::new(WriterRole::new(writer, link_out, kept)),
+        sleepers: Sleepers::new(),
+        signs: Signs::new(),
     };
-    match thread::spawn_with(rt, keeps, move || write_all(common, writer, link, kept)) {
-        Ok(handle) => Some(handle),
-        Err(_) => None,
-    }
+    Arc::new(alloc, common).ok()
 }
 
-/// Starts the reader. None where no thread can be made.
-fn start_reader<
+/// Starts a thread for each of the staff. Where one cannot be started, those that were end at once. Nothing is read before all stand.
+fn start_staff<
     H: Threads + Wait + Send + Sync + Drop + 'static,
     T: Ledgers + Send + Sync + 'static,
     I: LinkIn + Send + Drop + 'static,
+    O: LinkOut + Send + Drop + 'static,
+    C: Calls + Send + Drop + 'static,
+    S: Source<I> + Sink<O> + Send + Sync + 'static,
 >(
     rt: &H,
-    common: &Shared<H, T>,
+    common: &Shared<H, T, I, O, S>,
     jobs: &JobSender<Job>,
-    reads: Reads<I>,
-    count: usize,
-) -> Option<PromisedHandle<ReaderEnd, ReaderKeeps>>
-    requires ring { sends_on reads.reader.to ≡ sends_on jobs.now }
-    requires parts { (view reads.reader.pass).parts + count ≡ 8 }
-    ensures { IfSome result (λ h. (sends_on h.promise.jobs.value ≡ sends_on jobs.now) × (h.promise.count ≡ count)) }
+    replies: &ReplySender<Reply>,
+    staff: Vec<Staff<T, C>>,
+    handles: Vec<Working<T, C>>,
+) -> Vec<Working<T, C>>
+    requires rings { All (λ s. (receives_on s.worker.jobs ≡ sends_on jobs.now) × (sends_on s.worker.replies ≡ sends_on replies.now)) staff.items }
+    requires room { vec_len staff ≤ vec_capacity handles }
+    requires empty { handles.items ≡ [] }
+    ensures rings { All (λ h. (sends_on h.promise.jobs.value ≡ sends_on jobs.now) × (sends_on h.promise.replies.value ≡ sends_on replies.now)) result.items }
+    ensures numbers { vec_len result ≡ vec_len staff → map (λ h. h.promise.number) result.items ≡ map (λ s. s.worker.number) staff.items }
 {
-    let common = Arc::try_clone(common).ok()?;
-    let Reads { reader, link } = reads;
-    let keeps = ReaderKeeps {
-        jobs: Snapshot::of(jobs),
-        count,
-    };
-    match thread::spawn_with(rt, keeps, move || receive_all(common, reader, link)) {
-        Ok(handle) => Some(handle),
-        Err(_) => None,
+    let count = staff.len();
+    let unread = common.reader.try_lock();
+    let handles = start_all(rt, common, jobs, replies, staff, handles);
+    if handles.len() != count {
+        common.signs.tell_over();
     }
+    drop(unread);
+    common.sleepers.wake(u64::MAX);
+    handles
 }
 
-/// Starts all threads, the writer first and the reader last, and waits for their end. Where one cannot be started, those that
-/// were end, and there is none.
+/// Runs a session: starts its threads, waits for their end, and does what is left. None where memory or a thread was wanting.
 pub fn run<
     H: Threads + Wait + Send + Sync + Drop + 'static,
     T: Ledgers + Send + Sync + 'static,
     I: LinkIn + Send + Drop + 'static,
     O: LinkOut + Send + Drop + 'static,
     C: Calls + Send + Drop + 'static,
+    S: Source<I> + Sink<O> + Send + Sync + 'static,
 >(
     rt: &H,
-    common: &Shared<H, T>,
+    alloc: Global,
     jobs: &JobSender<Job>,
     replies: &ReplySender<Reply>,
-    reads: Reads<I>,
-    writes: Writes<T, O>,
+    parts: Parts<H, T, I, O>,
     staff: Vec<Staff<T, C>>,
     handles: Vec<Working<T, C>>,
+    ended: Vec<Passes<Job, Reply>>,
     room: Room<T, C>,
 ) -> Option<Over<T, C>>
     requires few { vec_len staff ≤ 4 }
-    requires reads { sends_on reads.reader.to ≡ sends_on jobs.now }
-    requires parts { (view reads.reader.pass).parts + (vec_len staff + 1) ≡ 8 }
-    requires writes { receives_on writes.writer.replies ≡ sends_on replies.now }
-    requires made { (view writes.writer.pass).made ≡ vec_len staff + 1 }
+    requires jobs { S.jobs ≡ Some (sends_on jobs.now) }
+    requires replies { S.replies ≡ Some (sends_on replies.now) }
+    requires parted { S.parted ≡ vec_len staff + 1 }
+    requires senders { S.senders ≡ vec_len staff + 1 }
+    requires from { S.heard_from ≡ Some parts.link_in }
+    requires to { S.sent_to ≡ Some parts.link_out }
+    requires reads { sends_on parts.reader.to ≡ sends_on jobs.now }
+    requires parts { (view parts.reader.pass).parts + (vec_len staff + 1) ≡ 8 }
+    requires unheard { reading parts.link_in parts.reader.cutter.kept parts.reader.agreed (view parts.reader.pass).put ≡ beginning parts.link_in }
+    requires writes { receives_on parts.writer.replies ≡ sends_on replies.now }
+    requires unsent { view parts.writer.pass ≡ writer [] (vec_len staff + 1) [] }
+    requires whole { parts.writer.is_broken ≡ false }
     requires staff { All (λ s. (receives_on s.worker.jobs ≡ sends_on jobs.now) × (sends_on s.worker.replies ≡ sends_on replies.now)) staff.items }
     requires numbers { map (λ s. s.worker.number) staff.items ≡ range_with_len 0 (vec_len staff) }
     requires handles { 4 ≤ vec_capacity handles }
     requires none_started { handles.items ≡ [] }
+    requires ended { 5 ≤ vec_capacity ended }
+    requires none_ended { ended.items ≡ [] }
     requires job_seat { IsSeatAt (sends_on jobs.now) room.own.job_pass }
     requires reply_seat { IsSeatAt (sends_on replies.now) room.own.reply_pass }
     requires number { room.own.number ≡ vec_len staff }
     requires work { receives_on room.starter.work ≡ sends_on jobs.now }
-    requires replies { sends_on room.starter.replies ≡ sends_on replies.now }
-    requires ended { 5 ≤ vec_capacity room.ended }
+    requires ring { sends_on room.starter.replies ≡ sends_on replies.now }
     requires taken { 5 ≤ vec_capacity room.taken }
-    requires none_ended { room.ended.items ≡ [] }
     requires none_taken { room.taken.items ≡ [] }
     ensures taken { IfSome result (λ o. vec_len o.taken ≡ vec_len staff + 1) }
-    ensures served { IfSome result (λ o. o.end ≢ NoWorkers) }
+    ensures counted { IfSome result (λ o. o.taken.items ≡ map (λ js. length js) (takings_of o.passed.passes.value.items)) }
+    ensures reads { IfSome result (λ o. ∥ HasReadAll I.receives (Some parts.link_in) o.passed.input (queued_of (view o.passed.read.value).put) ∥₁) }
+    ensures writes { IfSome result (λ o. ∥ HasWrittenAll O.sends (Some parts.link_out) (vec_len staff + 1) (view o.passed.written.value) o.passed.is_broken ∥₁) }
+    ensures shared { IfSome result (λ o. IsShared (view o.passed.read.value) o.passed.passes.value.items (view o.passed.written.value)) }
 {
     let count = staff.len();
-    let writing = start_writer(rt, common, replies, writes, count + 1)?;
-    let handles = start_all(rt, common, jobs, replies, staff, handles);
-    if handles.len() != count {
-        let Room { own, .. } = room;
-        halt(rt, jobs, replies, handles, writing, own);
+    let common: Shared<H, T, I, O, S> = share(alloc, parts)?;
+    let handles = start_staff(rt, &common, jobs, replies, staff, handles);
+    let are_all = handles.len() == count;
+    let mut room = room;
+    let ended = join_all(
+        rt,
+        jobs,
+        replies,
+        handles,
+        ended,
+        &mut room.shares,
+        &mut room.first,
+    );
+    if !are_all {
         return None;
     }
-    match start_reader(rt, common, jobs, reads, count + 1) {
-        Some(reader) => {
-            let read = reader.join(rt);
-            Some(end_all(rt, common, jobs, replies, read, handles, writing, room))
-        }
-        None => {
-            let Room { own, .. } = room;
-            halt(rt, jobs, replies, handles, writing, own);
-            None
-        }
-    }
+    // All threads have ended, so it is the last.
+    let common = Arc::into_inner(common)?;
+    Some(end_all(rt, common, jobs, replies, ended, room))
 }

@@ -6,13 +6,15 @@ ghost use Rattle.crossbeam_channel.specs.Claims.{IsSeatAt};
 ghost use Rattle.crossbeam_channel.specs.Ends.{sends_on, receives_on};
 ghost use Rattle.engine_queues.specs.Gathered.{numbers_of};
 
-use crate::places::{Shared, Shares};
+use crate::places::Shared;
 use crate::working::{Staff, WorkerEnd, work_all};
 use backing::Calls;
+use engine::{LinkIn, LinkOut};
 use engine_jobs::Job;
 use engine_queues::jobs::JobSender;
 use engine_queues::letters::ReplySender;
 use engine_queues::passes::Passes;
+use engine_roles::{Shares, Sink, Source};
 use engine_workers::Reply;
 use ledger::Ledgers;
 use std::snapshot::Snapshot;
@@ -42,10 +44,13 @@ pub type Working<T, C> = PromisedHandle<WorkerEnd<T, C>, WorkerKeeps>;
 fn start_one<
     H: Threads + Wait + Send + Sync + Drop + 'static,
     T: Ledgers + Send + Sync + 'static,
+    I: LinkIn + Send + Drop + 'static,
+    O: LinkOut + Send + Drop + 'static,
     C: Calls + Send + Drop + 'static,
+    S: Source<I> + Sink<O> + Send + Sync + 'static,
 >(
     rt: &H,
-    common: &Shared<H, T>,
+    common: &Shared<H, T, I, O, S>,
     jobs: &JobSender<Job>,
     replies: &ReplySender<Reply>,
     one: Staff<T, C>,
@@ -70,10 +75,13 @@ fn start_one<
 pub fn start_all<
     H: Threads + Wait + Send + Sync + Drop + 'static,
     T: Ledgers + Send + Sync + 'static,
+    I: LinkIn + Send + Drop + 'static,
+    O: LinkOut + Send + Drop + 'static,
     C: Calls + Send + Drop + 'static,
+    S: Source<I> + Sink<O> + Send + Sync + 'static,
 >(
     rt: &H,
-    common: &Shared<H, T>,
+    common: &Shared<H, T, I, O, S>,
     jobs: &JobSender<Job>,
     replies: &ReplySender<Reply>,
     staff: Vec<Staff<T, C>>,

@@ -1,18 +1,17 @@
 //! What each thread runs, from its start to its end.
 
-ghost use Rattle.std.specs.Prelude.{◌≡◌, ◌≢◌, length, true};
-ghost use Rattle.crossbeam_channel.specs.Claims.{view, IsSeatAt};
+ghost use Rattle.std.specs.Prelude.{◌≡◌};
+ghost use Rattle.crossbeam_channel.specs.Claims.{IsSeatAt};
 ghost use Rattle.crossbeam_channel.specs.Ends.{sends_on, receives_on};
-ghost use Rattle.engine.specs.declared.ends.SessionEnd.TheVariants.{NoWorkers};
 
-use crate::places::{Kept, Shared};
+use crate::places::{Common, Shared};
+use crate::turns::{read, take_turns};
 use backing::Calls;
 use engine::{LinkIn, LinkOut, Served};
 use engine_jobs::Job;
-use engine_queues::letters::ReplyPass;
 use engine_queues::passes::Passes;
-use engine_reader::{Reader, ReaderEnd, read_all};
-use engine_workers::{Reply, Turn, Worker, Writer};
+use engine_roles::{Kept, Sink, Source};
+use engine_workers::{Reply, Worker};
 use ledger::Ledgers;
 use std::sync::Wait;
 use std::sync::atomic::Ordering;
@@ -33,9 +32,70 @@ pub struct WorkerEnd<T: Ledgers, C: Calls + Drop> {
     pub calls: C,
 }
 
-/// Takes jobs until it is told to stop.
-pub fn work_all<H: Wait + Drop, T: Ledgers, C: Calls + Drop>(
-    common: Shared<H, T>,
+/// How far a thread that finds nothing to do is from sleep.
+struct Rest {
+    number: usize,
+    /// Whether others know that it is about to sleep.
+    is_lying: bool,
+    /// How many receives had ended when it slept last.
+    seen: u64,
+}
+
+impl Rest {
+    fn new(number: usize) -> Rest {
+        Rest {
+            number,
+            is_lying: false,
+            seen: 0,
+        }
+    }
+
+    /// It found something to do.
+    fn rise<H: Drop, T: Ledgers, I: LinkIn + Drop, O: LinkOut + Drop, S: Source<I> + Sink<O>>(
+        &mut self,
+        common: &Common<H, T, I, O, S>,
+    ) {
+        if self.is_lying {
+            common.sleepers.get_up(self.number);
+            self.is_lying = false;
+        }
+    }
+
+    /// It found nothing to do: it says that it will sleep, or sleeps if it had said so. While something is received one such thread looks
+    /// again by itself, for a call of another may keep that one from the next receive.
+    fn sink<
+        H: Wait + Drop,
+        T: Ledgers,
+        I: LinkIn + Drop,
+        O: LinkOut + Drop,
+        S: Source<I> + Sink<O>,
+    >(
+        &mut self,
+        common: &Common<H, T, I, O, S>,
+    ) {
+        if !self.is_lying {
+            common.sleepers.lie_down(self.number);
+            self.is_lying = true;
+            return;
+        }
+        let receives = common.signs.receives.load(Ordering::SeqCst);
+        let is_news = receives != self.seen;
+        self.seen = receives;
+        common.sleepers.sleep(&common.rt, self.number, is_news);
+        self.is_lying = false;
+    }
+}
+
+/// Takes turns until the session is over and nothing is left to do.
+pub fn work_all<
+    H: Wait + Drop,
+    T: Ledgers,
+    I: LinkIn + Drop,
+    O: LinkOut + Drop,
+    C: Calls + Drop,
+    S: Source<I> + Sink<O>,
+>(
+    common: Shared<H, T, I, O, S>,
     staff: Staff<T, C>,
 ) -> WorkerEnd<T, C>
     ensures { (result.passes.number ≡ staff.worker.number) × IsSeatAt (receives_on staff.worker.jobs) result.passes.job_pass × IsSeatAt (sends_on staff.worker.replies) result.passes.reply_pass }
@@ -49,10 +109,17 @@ pub fn work_all<H: Wait + Drop, T: Ledgers, C: Calls + Drop>(
         calls,
         dirs: &common.dirs,
     };
+    let number = worker.number as usize;
+    let mut rest = Rest::new(number);
     for _ in common.rt.forever() {
-        match worker.turn(&common.rt, &common.hall, &mut kept.share, &mut served) {
-            Turn::Worked(_) => {}
-            Turn::Nothing => break,
+        // Before the turns: once it is over nothing more comes.
+        let is_over = common.signs.is_over();
+        if take_turns(&common, &mut worker, &mut kept, &mut served) || read(&common, number) {
+            rest.rise(&common);
+        } else if is_over {
+            break;
+        } else {
+            rest.sink(&common);
         }
     }
     let Served { calls, dirs: _ } = served;
@@ -62,84 +129,4 @@ pub fn work_all<H: Wait + Drop, T: Ledgers, C: Calls + Drop>(
         kept,
         calls,
     }
-}
-
-/// What the writer leaves.
-#[derive(Drop)]
-pub struct WriterEnd<T: Ledgers> {
-    pub pass: ReplyPass<Reply>,
-    pub is_broken: bool,
-    pub kept: Kept<T>,
-}
-
-/// Settles the answers of what is still queued as untaken.
-fn empty_all<H: Wait + Drop, T: Ledgers>(
-    common: &Shared<H, T>,
-    writer: &mut Writer,
-    kept: &mut Kept<T>,
-)
-    ensures ring { receives_on writer.new.replies ≡ receives_on writer.old.replies }
-    ensures made { (view writer.new.pass).made ≡ (view writer.old.pass).made }
-{
-    let mut dirs = &common.dirs;
-    for _ in common.rt.forever() {
-        match writer.empty(&common.rt, &common.hall, &mut kept.share, &mut dirs) {
-            Turn::Worked(_) => {}
-            Turn::Nothing => break,
-        }
-    }
-}
-
-/// Offers replies until it is told to stop. Then it settles what is left as untaken.
-pub fn write_all<H: Wait + Drop, T: Ledgers, L: LinkOut + Drop>(
-    common: Shared<H, T>,
-    writer: Writer,
-    link: L,
-    kept: Kept<T>,
-) -> WriterEnd<T>
-    ensures seat { IsSeatAt (receives_on writer.replies) result.pass }
-    ensures gets { (view result.pass).gets ≡ true }
-    ensures made { (view result.pass).made ≡ (view writer.pass).made }
-    ensures told { length (view result.pass).known ≡ 0 }
-{
-    let mut writer = writer;
-    let mut link = link;
-    let mut kept = kept;
-    let mut dirs = &common.dirs;
-    for _ in common.rt.forever() {
-        match writer.turn(
-            &common.rt,
-            &mut link,
-            &common.hall,
-            &mut kept.share,
-            &mut dirs,
-        ) {
-            Turn::Worked(_) => common.is_broken.store(writer.is_broken, Ordering::SeqCst),
-            Turn::Nothing => break,
-        }
-    }
-    empty_all(&common, &mut writer, &mut kept);
-    drop(common);
-    let is_broken = writer.is_broken;
-    WriterEnd {
-        pass: writer.into_pass(),
-        is_broken,
-        kept,
-    }
-}
-
-/// Reads until the session ends, or the writer saw the link break.
-pub fn receive_all<H: Wait + Drop, T: Ledgers, L: LinkIn + Drop>(
-    common: Shared<H, T>,
-    reader: Reader,
-    link: L,
-) -> ReaderEnd
-    ensures seat { IsSeatAt (sends_on reader.to) result.pass }
-    ensures parts { (view result.pass).parts ≡ (view reader.pass).parts }
-    ensures takes_none { length (view result.pass).taken ≡ 0 }
-    ensures served { result.end ≢ NoWorkers }
-{
-    let end = read_all(&common.rt, reader, link, &common.is_broken);
-    drop(common);
-    end
 }

@@ -1,7 +1,8 @@
-use Rattle.std.specs.Prelude.{◌≡◌, ◌+◌, ◌≤◌, true, map, vec_len, vec_capacity}
+use Rattle.std.specs.Prelude.{◌≡◌, ◌+◌, ◌≤◌, [], map, vec_len, vec_capacity}
 use Rattle.std.specs.List.{All, range_with_len}
 use Rattle.crossbeam_channel.specs.Claims.{view, IsSeatAt}
 use Rattle.crossbeam_channel.specs.Ends.{sends_on, receives_on}
+use Rattle.engine_queues.specs.Letters.{writer}
 use Rattle.engine_threads.proofs.hiring.hire_all.Given as goal
 
 abbrev pub invariant-loop-number : goal.invariant-loop-number
@@ -11,9 +12,7 @@ invariant-loop-number l = record {
   put : (view l.read).put ≡ (view l.fn.read).put;
   taken : (view l.read).taken ≡ (view l.fn.read).taken;
   written : IsSeatAt (sends_on l.replies) l.written;
-  gets : (view l.written).gets ≡ true;
-  made : (view l.written).made ≡ l.number;
-  known : (view l.written).known ≡ (view l.fn.written).known;
+  writes : view l.written ≡ writer [] l.number [];
   hired : All (λ w. (receives_on w.jobs ≡ sends_on l.jobs) × (sends_on w.replies ≡ sends_on l.replies)) l.workers.items;
   numbers : map (λ w. w.number) l.workers.items ≡ range_with_len 0 l.number;
   len : vec_len l.workers ≡ l.number;

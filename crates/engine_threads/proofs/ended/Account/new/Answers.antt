@@ -1,7 +1,6 @@
 use Rattle.std.proofs.Common.{◌≡◌, ◌-◌, ℕ, Option, ◌++◌, sym, ap, ◌∙◌, vec_len}
 use Rattle.std.specs.Prelude.{option_to_list, slice_index_or}
-use Rattle.engine_threads.specs.Ended.{of_all}
-use Rattle.engine_threads.proofs.ended.Ended.served.Goals as goal
+use Rattle.engine_threads.proofs.ended.Account.new.Goals as goal
 
 -- the last number is that of the starter
 pub invariant_of-result : goal.invariant_of-result
@@ -10,5 +9,5 @@ invariant_of-result g =
     let own = slice_index_or counts.items (vec_len counts - 1) 0 in
     let left = g.pop-own.new.self.items in
     record {
-      counted = ∣ of_all own (ap (λ (r : Option ℕ). left ++ option_to_list r) (sym (g.pop-own.ensures.value 0 g.requires.some)) ∙ (sym g.pop-own.ensures.items ∙ g.requires.counts)) ∣₁;
+      counted = ∣ record { own = own; all = ap (λ (r : Option ℕ). left ++ option_to_list r) (sym (g.pop-own.ensures.value 0 g.requires.some)) ∙ (sym g.pop-own.ensures.items ∙ g.requires.counts) } ∣₁;
     }

@@ -1,0 +1,88 @@
+//! The reader as a role.
+
+ghost use Rattle.std.specs.Prelude.{◌≡◌, ◌+◌, length, None, Some, IfSome, IfNone};
+ghost use Rattle.crossbeam_channel.specs.Claims.{view, IsSeatAt};
+ghost use Rattle.crossbeam_channel.specs.Ends.{sends_on};
+ghost use Rattle.engine.specs.declared.ends.SessionEnd.TheVariants.{LinkBroken};
+ghost use Rattle.engine_reader.specs.Shown.{queued_of, reading};
+ghost use Rattle.engine_reader.specs.Verdicts.{Reads};
+ghost use Rattle.engine_roles.specs.Reads.{beginning, end_of, HasRead, HasReadAll};
+
+use crate::origins::Source;
+use engine::{LinkIn, SessionEnd};
+use engine_reader::{Reader, ReaderEnd};
+use std::marker::PhantomData;
+use std::sync::Wait;
+
+/// A reader with its link. It has read all that it queued since it began with the link of `S`.
+#[derive(Drop)]
+pub struct ReaderRole<I: LinkIn + Drop, S: Source<I>> {
+    pub reader: Reader,
+    pub link: I,
+    /// How the session ended, once it has.
+    pub end: Option<SessionEnd>,
+    pub source: PhantomData<S>,
+    ghost ring: { S.jobs ≡ Some (sends_on reader.to) },
+    ghost parts: { (view reader.pass).parts + S.parted ≡ 8 },
+    ghost read: { ∥ HasRead I.receives S.heard_from end (reading link reader.cutter.kept reader.agreed (view reader.pass).put) ∥₁ },
+}
+
+impl<I: LinkIn + Drop, S: Source<I>> ReaderRole<I, S> {
+    /// A reader that has heard nothing.
+    pub fn new(reader: Reader, link: I) -> ReaderRole<I, S>
+        requires ring { S.jobs ≡ Some (sends_on reader.to) }
+        requires parts { (view reader.pass).parts + S.parted ≡ 8 }
+        requires from { S.heard_from ≡ Some link }
+        requires fresh { reading link reader.cutter.kept reader.agreed (view reader.pass).put ≡ beginning link }
+        ensures { (result.reader ≡ reader) × (result.link ≡ link) × (result.end ≡ None) }
+    {
+        ReaderRole {
+            reader,
+            link,
+            end: None,
+            source: PhantomData,
+        }
+    }
+
+    /// Makes one receive, and queues a job for each frame that then stands whole. Nothing is done once the session has ended.
+    pub fn turn<H: Wait>(&mut self, rt: &H)
+        ensures over { IfSome self.old.end (λ _. self.new ≡ self.old) }
+        ensures reads { IfNone self.old.end (Reads I.receives self.old.link self.old.reader.cutter.kept self.old.reader.agreed (queued_of (view self.old.reader.pass).put) self.new.end
+            self.new.link self.new.reader.cutter.kept self.new.reader.agreed (queued_of (view self.new.reader.pass).put)) }
+    {
+        if self.end.is_none() {
+            self.end = self.reader.turn(rt, &mut self.link);
+        }
+    }
+
+    /// Ends the session, since the writer saw the link break. Nothing is done once it has ended.
+    pub fn stop(&mut self)
+        ensures over { IfSome self.old.end (λ _. self.new ≡ self.old) }
+        ensures stops { IfNone self.old.end ((self.new.end ≡ Some LinkBroken) × (self.new.reader ≡ self.old.reader) × (self.new.link ≡ self.old.link)) }
+    {
+        if self.end.is_none() {
+            self.end = Some(SessionEnd::LinkBroken);
+        }
+    }
+
+    /// What it leaves. Where its session has not ended yet the link is taken for broken.
+    pub fn into_end(self) -> ReaderEnd
+        ensures seat { IfSome S.jobs (λ jobs. IsSeatAt jobs result.pass) }
+        ensures parts { (view result.pass).parts + S.parted ≡ 8 }
+        ensures takes_none { length (view result.pass).taken ≡ 0 }
+        ensures end { result.end ≡ end_of self.end }
+        ensures read { ∥ HasReadAll I.receives S.heard_from result.end (queued_of (view result.pass).put) ∥₁ }
+    {
+        let ReaderRole {
+            reader,
+            link,
+            end,
+            source: _,
+        } = self;
+        drop(link);
+        match end {
+            Some(end) => ReaderEnd::new(reader, end),
+            None => ReaderEnd::new(reader, SessionEnd::LinkBroken),
+        }
+    }
+}

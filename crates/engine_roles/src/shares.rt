@@ -1,0 +1,71 @@
+//! Shares of the table's book.
+
+ghost use Rattle.std.specs.Prelude.{◌≡◌};
+
+use ledger::{Ledgers, Share};
+
+/// A thread's share of the table's book. Where it is dropped it is left, and the book is not gathered.
+pub struct Kept<T: Ledgers> {
+    pub share: Share<T>,
+}
+
+impl<T: Ledgers> Drop for Kept<T> {
+    fn drop(self) {
+        let Kept { share } = self;
+        share.leave();
+    }
+}
+
+impl<T: Ledgers> Kept<T> {
+    fn into_share(self) -> Share<T> {
+        let Kept { share } = self;
+        share
+    }
+}
+
+/// The shares that no thread has. Where they are dropped they are left.
+pub struct Shares<T: Ledgers> {
+    shares: Vec<Share<T>>,
+}
+
+impl<T: Ledgers> Drop for Shares<T> {
+    fn drop(self) {
+        let Shares { shares } = self;
+        leave_all(shares);
+    }
+}
+
+fn leave_all<T: Ledgers>(mut shares: Vec<Share<T>>) {
+    while let Some(share) = shares.pop() {
+        share.leave();
+    }
+    shares.destroy_empty();
+}
+
+impl<T: Ledgers> Shares<T> {
+    pub fn new(shares: Vec<Share<T>>) -> Shares<T> {
+        Shares { shares }
+    }
+
+    /// One for a thread, if one is there.
+    pub fn take(&mut self) -> Option<Kept<T>> {
+        let share = self.shares.pop()?;
+        Some(Kept { share })
+    }
+
+    /// One comes back. There is room for all that were taken.
+    pub fn put(&mut self, kept: Kept<T>) {
+        let share = kept.into_share();
+        if self.shares.len() < self.shares.capacity() {
+            self.shares.push_reserved(share);
+        } else {
+            share.leave();
+        }
+    }
+
+    /// All of them.
+    pub fn into_all(self) -> Vec<Share<T>> {
+        let Shares { shares } = self;
+        shares
+    }
+}

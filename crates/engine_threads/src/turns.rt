@@ -1,0 +1,139 @@
+//! The turns that a thread looks for: replies that are ready come first, then jobs, and a receive comes last.
+
+ghost use Rattle.std.specs.Prelude.{◌≡◌};
+ghost use Rattle.crossbeam_channel.specs.Ends.{sends_on, receives_on};
+
+use crate::places::Common;
+use backing::Calls;
+use engine::{LinkIn, LinkOut, Served};
+use engine_roles::{Kept, Sink, Source};
+use engine_workers::{BATCH, Turn, Worker};
+use handles::Dirs;
+use ledger::Ledgers;
+use std::sync::Wait;
+use std::sync::atomic::Ordering;
+
+/// How many jobs a thread works on before it looks whether their replies can be offered. They go out together then.
+const JOINED: usize = 8;
+
+/// How many jobs one more thread is woken for.
+const JOBS_A_THREAD: u64 = 4;
+
+/// Offers the replies that are ready, unless another thread does. Whether it took any.
+fn offer<
+    H: Wait + Drop,
+    T: Ledgers,
+    I: LinkIn + Drop,
+    O: LinkOut + Drop,
+    S: Source<I> + Sink<O>,
+>(
+    common: &Common<H, T, I, O, S>,
+) -> bool {
+    let signs = &common.signs;
+    if !signs.is_ready.load(Ordering::SeqCst) {
+        return false;
+    }
+    let Some(mut writer) = common.writer.try_lock() else {
+        // Who has it looks again at the sign once it has let go.
+        return false;
+    };
+    // Before the look into the queue: what is put after it is told anew.
+    signs.is_ready.store(false, Ordering::SeqCst);
+    let mut dirs = &common.dirs;
+    let count = writer.turn(&common.rt, &common.hall, &mut dirs);
+    if writer.writer.is_broken {
+        signs.is_broken.store(true, Ordering::SeqCst);
+    }
+    if count == BATCH {
+        signs.tell_ready();
+    }
+    count > 0
+}
+
+/// Makes one receive, unless another thread does, and wakes others for what came. Whether it was made.
+pub fn read<
+    H: Wait + Drop,
+    T: Ledgers,
+    I: LinkIn + Drop,
+    O: LinkOut + Drop,
+    S: Source<I> + Sink<O>,
+>(
+    common: &Common<H, T, I, O, S>,
+    number: usize,
+) -> bool {
+    if common.signs.is_over() {
+        return false;
+    }
+    let Some(mut reader) = common.reader.try_lock() else {
+        return false;
+    };
+    // A receive takes as long as it takes: who is in it is not to be woken.
+    common.sleepers.get_up(number);
+    let before = reader.reader.next;
+    if common.signs.is_broken.load(Ordering::SeqCst) {
+        reader.stop();
+    } else {
+        reader.turn(&common.rt);
+    }
+    let queued = reader.reader.next.saturating_sub(before);
+    let has_ended = reader.end.is_some();
+    drop(reader);
+    tell_read(common, queued, has_ended);
+    true
+}
+
+/// Wakes those who may have something to do after a receive: all, where the session has ended; else one for every few jobs, and one at
+/// least where nobody else would look.
+fn tell_read<
+    H: Drop,
+    T: Ledgers,
+    I: LinkIn + Drop,
+    O: LinkOut + Drop,
+    S: Source<I> + Sink<O>,
+>(
+    common: &Common<H, T, I, O, S>,
+    queued: u64,
+    has_ended: bool,
+) {
+    if has_ended {
+        common.signs.tell_over();
+        common.sleepers.wake(u64::MAX);
+        return;
+    }
+    common.signs.receives.fetch_add(1, Ordering::SeqCst);
+    let count = queued / JOBS_A_THREAD;
+    if count > 0 {
+        common.sleepers.wake(count);
+    } else if queued > 0 && !common.sleepers.is_watched() {
+        common.sleepers.wake(1);
+    }
+}
+
+/// Offers what is ready, and works on the jobs that are queued, a few at most. Whether there was something to do.
+pub fn take_turns<
+    H: Wait + Drop,
+    T: Ledgers,
+    I: LinkIn + Drop,
+    O: LinkOut + Drop,
+    C: Calls + Drop,
+    S: Source<I> + Sink<O>,
+>(
+    common: &Common<H, T, I, O, S>,
+    worker: &mut Worker,
+    kept: &mut Kept<T>,
+    served: &mut Served<C, &Dirs>,
+) -> bool
+    ensures rings { (receives_on worker.new.jobs ≡ receives_on worker.old.jobs) × (sends_on worker.new.replies ≡ sends_on worker.old.replies) × (worker.new.number ≡ worker.old.number) }
+{
+    let mut is_busy = offer(common);
+    for _ in 0..JOINED {
+        match worker.turn(&common.rt, &common.hall, &mut kept.share, served) {
+            Turn::Worked(_) => {
+                common.signs.tell_ready();
+                is_busy = true;
+            }
+            Turn::Nothing => break,
+        }
+    }
+    is_busy
+}
