@@ -280,7 +280,7 @@ impl Worker {
         let Some(after) = self.count.checked_add(1) else {
             return Turn::Nothing;
         };
-        match self.jobs.recv_as::<Takes, H>(rt, &mut self.job_pass) {
+        match self.jobs.try_recv_as::<Takes, H>(rt, &mut self.job_pass) {
             Ok(Some(job)) => {
                 self.count = after;
                 Turn::Worked(self.answer(rt, hall, share, served, &job))

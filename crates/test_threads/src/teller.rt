@@ -149,10 +149,10 @@ fn last_of(bytes: &[u8]) -> u64 {
 
 /// The births, if the story asks for them, and the entries, those that came back and those that were forgotten.
 fn totals_of(ended: &Ended, story: &Story<'_>) -> (Option<u64>, Option<(u64, u64, u64)>) {
-    let Some(sums) = &ended.totals else {
+    let Some(account) = &ended.account else {
         return (None, None);
     };
-    let totals = sums.totals();
+    let totals = account.sums.totals();
     let born = match story.births {
         Some(_) => Some(totals.born),
         None => None,
@@ -168,15 +168,24 @@ fn last_heard(heard: &Heard, story: &Story<'_>) -> u64 {
     }
 }
 
+/// How many workers took jobs, and how many jobs they took in all.
+fn taken_of(ended: &Ended) -> (usize, u64) {
+    match &ended.account {
+        Some(account) => (account.taken.len(), summed(account.taken.as_slice())),
+        None => (0, 0),
+    }
+}
+
 fn came_of(ended: &Ended, heard: &Heard, story: &Story<'_>) -> Came {
     let (births, totals) = totals_of(ended, story);
+    let (workers, taken) = taken_of(ended);
     Came {
         end: ended.end,
         is_read: heard.receives > 0,
         offers: heard.offers,
         last: last_heard(heard, story),
-        workers: ended.taken.len(),
-        taken: summed(ended.taken.as_slice()),
+        workers,
+        taken,
         births,
         totals,
     }
