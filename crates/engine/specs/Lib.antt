@@ -1,3 +1,4 @@
+pub mod Batches
 pub mod Chain
 pub mod Classes
 pub mod Folders

@@ -1,6 +1,7 @@
 //! Sessions: frames are cut from what a link gives, and each is worked off with a table and a directory before the next.
 #![tactic(auto)]
 
+mod bytes;
 mod classes;
 mod concluding;
 mod ends;
@@ -16,6 +17,7 @@ mod served;
 mod serving;
 mod using;
 
+pub use bytes::Bytes;
 pub use classes::{Class, class_of};
 pub use concluding::give_up;
 pub use ends::SessionEnd;

@@ -1,8 +1,11 @@
 //! What a session reads from and writes to.
 
-ghost use Rattle.std.specs.Prelude.{◌≡◌, ℕ, List, length};
+ghost use Rattle.std.specs.Prelude.{◌≡◌, ◌≤◌, ℕ, List, [], length, map, vec_capacity};
+ghost use Rattle.engine.specs.Batches.{bytes_of, SendsEach};
 ghost use Rattle.engine.specs.Links.{counted, heard, lost, missed, Heard, IsWithin};
 ghost use Rattle.engine.specs.declared.links.Sent.{Sent};
+
+use crate::bytes::Bytes;
 
 /// What a link gave.
 #[derive(Clone, Copy, Debug, PartialEq, Eq)]
@@ -57,6 +60,22 @@ pub trait LinkOut {
     /// Offers one reply.
     fn send(&mut self, frame: &[u8]) -> Sent
         ensures { sends self.old frame.now result self.new };
+
+    /// Offers replies in order, up to the first that breaks the link, and says what became of each that was offered. It takes no memory.
+    fn send_all(&mut self, frames: &[Bytes], sent: &mut Vec<Sent>)
+        requires empty { sent.old.items ≡ [] }
+        requires room { length frames.now ≤ vec_capacity sent.old }
+        ensures sends { SendsEach sends self.old (map bytes_of frames.now) sent.new.items self.new }
+        ensures room { vec_capacity sent.new ≡ vec_capacity sent.old }
+    {
+        for frame in frames {
+            let verdict = self.send(frame.as_slice());
+            sent.push_reserved(verdict);
+            if verdict == Sent::Broken {
+                return;
+            }
+        }
+    }
 }
 
 /// A stream of bytes from a client, and the way back for replies, with one count of failures.

@@ -1,8 +1,9 @@
 //! Links over streams: sockets, pipes, and whatever else is read and written as bytes.
 #![tactic(auto)]
 
+mod joining;
 mod link;
 mod writing;
 
 pub use link::StreamLink;
-pub use writing::write_flushed;
+pub use writing::{WriteFault, write_flushed};

@@ -1,21 +1,27 @@
 //! A link over any reader and writer.
 
-ghost use Rattle.std.specs.Prelude.{◌≡◌, ◌≤◌, length, take, Ok, IfOk, OnErr, OnOk};
+ghost use Rattle.std.specs.Prelude.{◌≡◌, ◌≤◌, ◌<◌, ◌+◌, length, map, take, Ok, IfOk, OnErr, OnOk, vec_len, vec_capacity};
 ghost use Rattle.std.specs.Io.KnownBytes.{Appends, Consumes, Keeps, ReadConsumes};
+ghost use Rattle.engine.specs.Batches.{bytes_of};
 ghost use Rattle.engine.specs.Links.{counted};
+ghost use Rattle.engine_streams.specs.Joining.{SendsFirst};
 ghost use Rattle.engine_streams.specs.Streams.{unused};
 
+use crate::joining::{join, push_taken, whole_in};
 use crate::writing::write_flushed;
-use engine::{Link, LinkIn, LinkOut, Received, Sent};
+use engine::{Bytes, Link, LinkIn, LinkOut, Received, Sent};
+use std::alloc::Global;
 use std::io;
 use std::io::{ErrorKind, Read, Write};
 use std::marker::Model;
 
-/// A link that takes what its reader has, as it comes, and writes each reply whole.
+/// A link that takes what its reader has, as it comes, and writes each reply whole. Small replies that are offered together it joins.
 #[derive(Drop)]
 pub struct StreamLink<R: Read, W: Write> {
     reader: R,
     writer: W,
+    /// The replies that are joined. Between two calls it is only room.
+    joined: Vec<u8>,
     /// How many of its calls have failed.
     failures: u64,
 }
@@ -47,14 +53,43 @@ fn read_there<R: Read>(reader: &mut R, room: &mut [u8]) -> io::Result<usize>
 }
 
 impl<R: Read, W: Write> StreamLink<R, W> {
-    /// A link on which nothing has passed.
-    pub fn new(reader: R, writer: W) -> StreamLink<R, W>
+    /// A link on which nothing has passed. It takes no memory before replies are joined.
+    pub fn new(alloc: Global, reader: R, writer: W) -> StreamLink<R, W>
         ensures { result ≡ unused (R.remaining reader) (W.contents writer) }
     {
         StreamLink {
             reader,
             writer,
+            joined: Vec::new(alloc),
             failures: 0,
+        }
+    }
+
+    // Offers the first of these replies: those that can be joined, or one by itself. False says that the link broke.
+    fn send_first(&mut self, frames: &[Bytes], sent: &mut Vec<Sent>) -> bool
+        requires some { 0 < length frames.now }
+        requires room { vec_len sent.old + length frames.now ≤ vec_capacity sent.old }
+        ensures sends { SendsFirst self.old (map bytes_of frames.now) sent.old.items self.new sent.new.items result }
+        ensures room { vec_capacity sent.new ≡ vec_capacity sent.old }
+    {
+        let count = join(frames, &mut self.joined);
+        if count < 2 {
+            let verdict = self.send(frames[0].as_slice());
+            sent.push_reserved(verdict);
+            return verdict != Sent::Broken;
+        }
+        match write_flushed(&mut self.writer, &self.joined) {
+            Ok(()) => {
+                push_taken(sent, count);
+                true
+            }
+            Err(fault) => {
+                self.failures = self.failures.saturating_add(1);
+                // Where all was written and not handed on, the last is not known to be taken.
+                push_taken(sent, whole_in(&frames[..count - 1], fault.written));
+                sent.push_reserved(Sent::Broken);
+                false
+            }
         }
     }
 }
@@ -67,6 +102,7 @@ impl<R: Read + Drop, W: Write> StreamLink<R, W> {
         let StreamLink {
             reader: _,
             writer,
+            joined: _,
             failures: _,
         } = self;
         writer
@@ -114,6 +150,14 @@ impl<R: Read, W: Write> LinkOut for StreamLink<R, W> {
             Err(_) => {
                 self.failures = self.failures.saturating_add(1);
                 Sent::Broken
+            }
+        }
+    }
+
+    fn send_all(&mut self, frames: &[Bytes], sent: &mut Vec<Sent>) {
+        while sent.len() < frames.len() {
+            if !self.send_first(&frames[sent.len()..], sent) {
+                return;
             }
         }
     }

@@ -92,7 +92,7 @@ pub(crate) fn serve_opened<
     requires { folder ≡ 0 }
     ensures { IsFolderServed terms (I.remaining input) (O.contents output) result.0 (O.contents result.1) }
 {
-    let mut link = StreamLink::new(input, output);
+    let mut link = StreamLink::new(rt.alloc(), input, output);
     let end = serve_alone(rt, rt.alloc(), seeds, folder, &mut link, terms);
     (end, link.into_writer())
 }

@@ -56,8 +56,8 @@ pub(crate) fn serve_workers<H: Threads + Wait + AllocGlobal + Clone + Send + Syn
     let Ok(input) = BufReader::with_capacity(rt.alloc(), RECEIVED, heard) else {
         return Err(Unserved::Memory);
     };
-    let link_in = StreamLink::new(input, io::sink());
-    let link_out = StreamLink::new(io::empty(), stream);
+    let link_in = StreamLink::new(rt.alloc(), input, io::sink());
+    let link_out = StreamLink::new(rt.alloc(), io::empty(), stream);
     let ended = serve_threads(
         rt,
         rt.alloc(),

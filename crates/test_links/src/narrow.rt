@@ -1,0 +1,37 @@
+//! A writer that takes so many bytes, and counts its writes.
+
+use std::io;
+use std::io::{ErrorKind, Write};
+
+#[derive(Drop)]
+pub struct Narrow {
+    /// What it was given.
+    pub bytes: Vec<u8>,
+    /// How many bytes it still takes.
+    pub left: usize,
+    /// Whether it hands on what it was given.
+    pub is_flushed: bool,
+    /// How many bytes each write brought.
+    pub writes: Vec<usize>,
+}
+
+impl Write for Narrow {
+    fn write(&mut self, buf: &[u8]) -> io::Result<usize> {
+        if self.left == 0 {
+            return Err(io::Error::from(ErrorKind::BrokenPipe));
+        }
+        let count = buf.len().min(self.left);
+        self.bytes.extend_from_slice(&buf[..count])?;
+        self.writes.push(count)?;
+        self.left -= count;
+        Ok(count)
+    }
+
+    fn flush(&mut self) -> io::Result<()> {
+        if self.is_flushed {
+            Ok(())
+        } else {
+            Err(io::Error::from(ErrorKind::BrokenPipe))
+        }
+    }
+}
