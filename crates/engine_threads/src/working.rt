@@ -33,6 +33,7 @@ pub struct WorkerEnd<T: Ledgers, C: Calls + Drop> {
 }
 
 /// How far a thread that finds nothing to do is from sleep.
+#[derive(Drop)]
 struct Rest {
     number: usize,
     /// Whether others know that it is about to sleep.
