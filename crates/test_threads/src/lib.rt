@@ -4,6 +4,8 @@
 #[cfg(test)]
 mod client;
 #[cfg(test)]
+mod late;
+#[cfg(test)]
 mod overlap;
 #[cfg(test)]
 mod rows;

@@ -1,7 +1,7 @@
 //! Two workers are in calls of the directory at once.
 
 use crate::client::Fates;
-use crate::teller::{Story, check_by, holds_of};
+use crate::teller::{Comes, Story, check_by, holds_of};
 use backing::{Answer, Call, Calls, Shared};
 use engine::SessionEnd;
 use std::alloc::{AllocError, Global};
@@ -79,6 +79,7 @@ fn meeting<H: Wait + Drop>(
 const TWO: Story = Story {
     says: "two entries by two workers at once",
     workers: 2,
+    comes: Comes::Together,
     asks: &[(1, Lookup { name: "a" }), (1, Lookup { name: "a" })],
     rest: &[],
     fates: Fates::Taken,
@@ -95,6 +96,22 @@ fn two_workers_overlap(rt: HostRuntime) -> Result<(), Fail> {
     let met = Arc::new(rt.alloc(), AtomicU32::new(0))?;
     let holds = holds_of(&rt, rt.alloc(), TWO.workers)?;
     check_by(&rt, rt.alloc(), &TWO, meeting(rt.alloc(), holds, &met)?)?;
+    assert_eq!(rt; met.load(Ordering::SeqCst), 2);
+    Ok(())
+}
+
+const ONE_BY_ONE: Story = Story {
+    says: "a call that waits for a request that comes after it",
+    comes: Comes::Alone,
+    ..TWO
+};
+
+// The first entry's call waits for the call of the second, which no receive has brought yet.
+#[test]
+fn a_call_that_waits_stops_nobody(rt: HostRuntime) -> Result<(), Fail> {
+    let met = Arc::new(rt.alloc(), AtomicU32::new(0))?;
+    let holds = holds_of(&rt, rt.alloc(), ONE_BY_ONE.workers)?;
+    check_by(&rt, rt.alloc(), &ONE_BY_ONE, meeting(rt.alloc(), holds, &met)?)?;
     assert_eq!(rt; met.load(Ordering::SeqCst), 2);
     Ok(())
 }

@@ -1,7 +1,7 @@
 //! Sessions by 1, 2 and 4 workers, and by none and five.
 
 use crate::client::Fates;
-use crate::teller::{Story, check};
+use crate::teller::{Comes, Story, check};
 use engine::{Sent, SessionEnd};
 use std::test::Fail;
 use wire::Operation;
@@ -23,6 +23,7 @@ const EIGHT: &[(u64, Operation<'static>)] = &[
 const NINE: Story = Story {
     says: "nine frames by one worker",
     workers: 1,
+    comes: Comes::Together,
     asks: EIGHT,
     rest: &[],
     fates: Fates::Taken,

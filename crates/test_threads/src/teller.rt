@@ -4,10 +4,11 @@ ghost use Rattle.std.specs.Prelude.{◌≡◌};
 
 use crate::client::{Asks, Fates, Heard, Hears};
 use backing::{Calls, MemTree, Shared};
-use engine::{SessionEnd, Settings};
+use engine::{LinkOut, SessionEnd, Settings};
 use engine_threads::{Ended, serve_threads};
 use paths::{Name, Path};
 use std::alloc::{AllocError, Global};
+use std::mem;
 use std::random::RandomSource;
 use std::sync::{Arc, Mutex, Wait};
 use std::test::Fail;
@@ -15,11 +16,21 @@ use std::thread::Threads;
 use table::{Limits, Seeds};
 use wire::{Operation, Request, encode_request};
 
+/// How the frames come.
+#[derive(Clone, Copy, PartialEq, Eq)]
+pub enum Comes {
+    /// All by one receive.
+    Together,
+    /// Each by a receive of its own.
+    Alone,
+}
+
 /// A session over a tree with the file `a` of three bytes.
 #[derive(Clone, Copy)]
 pub struct Story<'a> {
     pub says: &'a str,
     pub workers: usize,
+    pub comes: Comes,
     /// What is asked of which node after INIT.
     pub asks: &'a [(u64, Operation<'a>)],
     /// Bytes that come after all frames.
@@ -79,22 +90,26 @@ fn put_request(
     Ok(())
 }
 
-/// All frames in one piece, so that one receive brings them, and these bytes after them.
+/// INIT and what is asked after it in pieces, one a receive, and these bytes after the last.
 pub fn pieces_of(
     alloc: Global,
+    comes: Comes,
     asks: &[(u64, Operation<'_>)],
     rest: &[u8],
 ) -> Result<Vec<Vec<u8>>, AllocError> {
+    let mut pieces = Vec::new(alloc);
     let mut piece = Vec::new(alloc);
     let (node, operation) = INIT;
     put_request(&mut piece, 1, node, operation)?;
     let mut unique = 1u64;
     for (node, operation) in asks {
+        if comes == Comes::Alone {
+            pieces.push(mem::replace(&mut piece, Vec::new(alloc)))?;
+        }
         unique = unique.saturating_add(1);
         put_request(&mut piece, unique, *node, *operation)?;
     }
     piece.extend_from_slice(rest)?;
-    let mut pieces = Vec::new(alloc);
     pieces.push(piece)?;
     Ok(pieces)
 }
@@ -191,16 +206,23 @@ fn came_of(ended: &Ended, heard: &Heard, story: &Story<'_>) -> Came {
     }
 }
 
-/// Serves a story by these directories, and says what came of it.
-fn tell<
-    H: Threads + Wait + RandomSource + Clone + Send + Sync + Drop + 'static,
-    C: Calls + Send + Drop + 'static,
->(rt: &H, alloc: Global, story: &Story<'_>, trees: Vec<C>) -> Result<Came, AllocError> {
+/// The client of a story.
+pub struct Client<H: Wait + Drop> {
+    pub asks: Asks<H>,
+    pub hears: Hears<H>,
+    pub heard: Arc<Mutex<Heard>>,
+}
+
+pub fn client_of<H: Wait + Clone + Drop>(
+    rt: &H,
+    alloc: Global,
+    story: &Story<'_>,
+) -> Result<Client<H>, AllocError> {
     let heard = Arc::new(alloc, Mutex::new(Heard::new(alloc)))?;
     let Ok(own) = rt.clone() else {
         return Err(AllocError);
     };
-    let pieces = pieces_of(alloc, story.asks, story.rest)?;
+    let pieces = pieces_of(alloc, story.comes, story.asks, story.rest)?;
     let asks = Asks::new(own, Arc::try_clone(&heard)?, pieces);
     let Ok(own) = rt.clone() else {
         return Err(AllocError);
@@ -211,6 +233,23 @@ fn tell<
         fates: story.fates,
         failures: 0,
     };
+    Ok(Client { asks, hears, heard })
+}
+
+/// Serves a story by these directories over these links, and says what came of it.
+fn tell<
+    H: Threads + Wait + RandomSource + Clone + Send + Sync + Drop + 'static,
+    O: LinkOut + Send + Drop + 'static,
+    C: Calls + Send + Drop + 'static,
+>(
+    rt: &H,
+    alloc: Global,
+    story: &Story<'_>,
+    asks: Asks<H>,
+    hears: O,
+    heard: &Mutex<Heard>,
+    trees: Vec<C>,
+) -> Result<Came, AllocError> {
     let Ok(seeds) = Seeds::new(rt) else {
         return Err(AllocError);
     };
@@ -243,7 +282,25 @@ pub fn check_by<
     H: Threads + Wait + RandomSource + Clone + Send + Sync + Drop + 'static,
     C: Calls + Send + Drop + 'static,
 >(rt: &H, alloc: Global, story: &Story<'_>, trees: Vec<C>) -> Result<(), Fail> {
-    let came = tell(rt, alloc, story, trees)?;
+    let Client { asks, hears, heard } = client_of(rt, alloc, story)?;
+    check_over(rt, alloc, story, asks, hears, &heard, trees)
+}
+
+/// The same over these links.
+pub fn check_over<
+    H: Threads + Wait + RandomSource + Clone + Send + Sync + Drop + 'static,
+    O: LinkOut + Send + Drop + 'static,
+    C: Calls + Send + Drop + 'static,
+>(
+    rt: &H,
+    alloc: Global,
+    story: &Story<'_>,
+    asks: Asks<H>,
+    hears: O,
+    heard: &Mutex<Heard>,
+    trees: Vec<C>,
+) -> Result<(), Fail> {
+    let came = tell(rt, alloc, story, asks, hears, heard, trees)?;
     let workers = match story.totals {
         Some(_) => story.workers,
         None => 0,

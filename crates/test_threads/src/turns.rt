@@ -5,7 +5,7 @@ ghost use Rattle.crossbeam_channel.specs.Claims.{view, IsSeatAt};
 ghost use Rattle.crossbeam_channel.specs.Ends.{sends_on};
 
 use crate::client::{Asks, Heard};
-use crate::teller::{SETTINGS, holds_of, pieces_of};
+use crate::teller::{Comes, SETTINGS, holds_of, pieces_of};
 use backing::Shared;
 use crossbeam_channel::bounded_with;
 use engine::Served;
@@ -36,7 +36,7 @@ fn asks<H: Wait + Clone + Drop>(rt: &H, alloc: Global) -> Result<Asks<H>, AllocE
     let Ok(own) = rt.clone() else {
         return Err(AllocError);
     };
-    Ok(Asks::new(own, heard, pieces_of(alloc, ONE, &[])?))
+    Ok(Asks::new(own, heard, pieces_of(alloc, Comes::Together, ONE, &[])?))
 }
 
 /// The passes of the only worker.
