@@ -50,8 +50,9 @@ impl<I: LinkIn + Drop, S: Source<I>> ReaderRole<I, S> {
         ensures reads { IfNone self.old.end (Reads I.receives self.old.link self.old.reader.cutter.kept self.old.reader.agreed (queued_of (view self.old.reader.pass).put) self.new.end
             self.new.link self.new.reader.cutter.kept self.new.reader.agreed (queued_of (view self.new.reader.pass).put)) }
     {
-        if self.end.is_none() {
-            self.end = self.reader.turn(rt, &mut self.link);
+        match self.end {
+            Some(_) => {}
+            None => self.end = self.reader.turn(rt, &mut self.link),
         }
     }
 
@@ -60,8 +61,9 @@ impl<I: LinkIn + Drop, S: Source<I>> ReaderRole<I, S> {
         ensures over { IfSome self.old.end (λ _. self.new ≡ self.old) }
         ensures stops { IfNone self.old.end ((self.new.end ≡ Some LinkBroken) × (self.new.reader ≡ self.old.reader) × (self.new.link ≡ self.old.link)) }
     {
-        if self.end.is_none() {
-            self.end = Some(SessionEnd::LinkBroken);
+        match self.end {
+            Some(_) => {}
+            None => self.end = Some(SessionEnd::LinkBroken),
         }
     }
 

@@ -1,10 +1,12 @@
 //! The writer as a role.
 
-ghost use Rattle.std.specs.Prelude.{◌≡◌, length, false, true, Some, IfSome};
+ghost use Rattle.std.specs.Prelude.{◌≡◌, ◌≤◌, length, false, true, Some, IfSome, vec_len};
 ghost use Rattle.crossbeam_channel.specs.Claims.{view, IsSeatAt};
 ghost use Rattle.crossbeam_channel.specs.Ends.{receives_on};
+ghost use Rattle.engine.specs.Folders.{ByCalls};
 ghost use Rattle.engine_queues.specs.Letters.{writer};
-ghost use Rattle.engine_roles.specs.Writes.{HasWritten, HasWrittenAll};
+ghost use Rattle.engine_workers.specs.Batches.{WritesAll};
+ghost use Rattle.engine_roles.specs.Writes.{writing, HasWritten, HasWrittenAll};
 
 use crate::origins::Sink;
 use crate::shares::Kept;
@@ -25,7 +27,7 @@ pub struct WriterRole<T: Ledgers, O: LinkOut + Drop, S: Sink<O>> {
     pub sink: PhantomData<S>,
     ghost ring: { S.replies ≡ Some (receives_on writer.replies) },
     ghost made: { (view writer.pass).made ≡ S.senders },
-    ghost wrote: { ∥ HasWritten O.sends S.sent_to S.senders (view writer.pass) link writer.is_broken ∥₁ },
+    ghost wrote: { ∥ HasWritten O.sends S.sent_to S.senders (writing (view writer.pass) link writer.is_broken) ∥₁ },
 }
 
 /// What a writer that has ended leaves.
@@ -53,9 +55,17 @@ impl<T: Ledgers, O: LinkOut + Drop, S: Sink<O>> WriterRole<T, O, S> {
         }
     }
 
-    /// Offers what is queued, up to sixteen replies, and settles each by its verdict. It waits for none.
-    pub fn turn<H: Wait, D: Folders>(&mut self, rt: &H, hall: &Hall<T>, dirs: &mut D) -> usize {
-        self.writer.turns(rt, &mut self.link, hall, &mut self.kept.share, dirs)
+    /// Takes what is queued, at most 16 replies, offers them together, and settles the answer of each by its own verdict. It waits for none, and
+    /// says how many they were.
+    pub fn turn<H: Wait, D: Folders>(&mut self, rt: &H, hall: &Hall<T>, dirs: &mut D) -> usize
+        ensures wrote { ByCalls D.keeps dirs.old dirs.new (λ folders. WritesAll O.sends (writing (view self.old.writer.pass) self.old.link self.old.writer.is_broken) self.new.writer.batch.settled.items folders
+            (writing (view self.new.writer.pass) self.new.link self.new.writer.is_broken)) }
+        ensures count { (result ≡ vec_len self.new.writer.batch.settled) × (result ≤ 16) }
+        ensures entries { self.new.kept.share.totals.entries ≡ self.old.kept.share.totals.entries }
+        ensures index { self.new.kept.share.index ≡ self.old.kept.share.index }
+    {
+        self.writer
+            .turns(rt, &mut self.link, hall, &mut self.kept.share, dirs)
     }
 
     /// What it leaves.

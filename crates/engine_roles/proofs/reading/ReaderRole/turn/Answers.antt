@@ -1,0 +1,20 @@
+use Rattle.std.proofs.Common.{◌≡◌, ◌+◌, Option, Some, None, sym, ap, ◌∙◌, subst, arith}
+use Rattle.crossbeam_channel.specs.Claims.{view}
+use Rattle.engine.specs.declared.ends.SessionEnd.{SessionEnd}
+use Rattle.engine_reader.specs.Shown.{reading}
+use Rattle.engine_roles.specs.Reads.{HasRead}
+use Rattle.engine_roles.proofs.HasRead.{has_read_on}
+use Rattle.engine_roles.proofs.reading.ReaderRole.turn.Goals as goal
+
+pub invariant_of-self : goal.invariant_of-self
+invariant_of-self g c =
+    let s = c.args.self.now in
+    let n = c.turn-self.new in
+    let now = reading s.link s.reader.cutter.kept s.reader.agreed (view s.reader.pass).put in
+    let next = reading n.link n.self.cutter.kept n.self.agreed (view n.self.pass).put in
+    record {
+      ring = s.ring ∙ ap (λ q. Some q) (sym c.turn-self.ensures.ring);
+      parts = (let a = s.parts in let b = c.turn-self.ensures.parts in omega arith);
+      read = has_read_on g.I.LinkIn.receives g.S.Source.heard_from now next c.turn-self.result
+          (subst (λ (o : Option SessionEnd). ∥ HasRead g.I.LinkIn.receives g.S.Source.heard_from o now ∥₁) c.in-None.is s.read) c.turn-self.ensures.reads;
+    }
