@@ -20,6 +20,7 @@ use engine::{LinkIn, LinkOut, SessionEnd, Settings, remove_leftovers};
 use engine_jobs::Job;
 use engine_queues::jobs::{Fair, Hand, JobPass, JobReceiver, JobSender};
 use engine_queues::letters::{InOrder, Letter, ReplyLane, ReplyPass, ReplyReceiver, ReplySender};
+use engine_queues::passes::Passes;
 use engine_reader::Reader;
 use engine_workers::{Hall, Reply, Writer};
 use handles::Dirs;
@@ -58,6 +59,56 @@ fn reads_of<I: LinkIn + Drop>(
     let jobs = jobs.try_clone().ok()?;
     let reader = Reader::new(alloc, jobs, read).ok()?;
     Some(Reads { reader, link })
+}
+
+/// What the writer's thread gets. None is want of memory, or of a share.
+fn writes_of<T: Ledgers, O: LinkOut + Drop>(
+    alloc: Global,
+    replies: ReplyReceiver<Reply>,
+    written: ReplyPass<Reply>,
+    link: O,
+    shares: &mut Shares<T>,
+) -> Option<Writes<T, O>>
+    requires seat { IsSeatAt (receives_on replies) written }
+    requires gets { (view written).gets ≡ true }
+    requires knows_none { length (view written).known ≡ 0 }
+    ensures ring { IfSome result (λ w. receives_on w.writer.replies ≡ receives_on replies) }
+    ensures pass { IfSome result (λ w. view w.writer.pass ≡ view written) }
+{
+    let writer = Writer::new(alloc, replies, written).ok()?;
+    let kept = shares.take()?;
+    Some(Writes { writer, link, kept })
+}
+
+/// The room for what the threads leave, and what the starter has. None is want of memory.
+fn room_of<T: Ledgers, C: Calls + Drop>(
+    alloc: Global,
+    settings: Settings,
+    own: Passes<Job, Reply>,
+    work: JobReceiver<Job>,
+    replies: &ReplySender<Reply>,
+    shares: Shares<T>,
+) -> Option<Room<T, C>>
+    ensures own { IfSome result (λ r. r.own ≡ own) }
+    ensures work { IfSome result (λ r. receives_on r.starter.work ≡ receives_on work) }
+    ensures ring { IfSome result (λ r. sends_on r.starter.replies ≡ sends_on replies.now) }
+    ensures ended { IfSome result (λ r. (5 ≤ vec_capacity r.ended) × (r.ended.items ≡ [])) }
+    ensures taken { IfSome result (λ r. (5 ≤ vec_capacity r.taken) × (r.taken.items ≡ [])) }
+{
+    let replies = replies.try_clone().ok()?;
+    Some(Room {
+        own,
+        starter: Starter {
+            alloc,
+            settings,
+            work,
+            replies,
+        },
+        ended: Vec::with_capacity(alloc, 5).ok()?,
+        taken: Vec::with_capacity(alloc, 5).ok()?,
+        shares,
+        first: None,
+    })
 }
 
 /// Makes the queues and all that the threads need, and runs them. None where memory or a thread was wanting.
@@ -107,24 +158,8 @@ fn serve_queued<
     let staff = staff_all(&jobs, &replies, workers, &mut shares, trees, staff)?;
     let Links { link_in, link_out } = links;
     let reads = reads_of(alloc, &jobs, read, link_in)?;
-    let writes = Writes {
-        writer: Writer::new(writes, written),
-        link: link_out,
-        kept: shares.take()?,
-    };
-    let room = Room {
-        own,
-        starter: Starter {
-            alloc,
-            settings,
-            work,
-            replies: replies.try_clone().ok()?,
-        },
-        ended: Vec::with_capacity(alloc, 5).ok()?,
-        taken: Vec::with_capacity(alloc, 5).ok()?,
-        shares,
-        first: None,
-    };
+    let writes = writes_of(alloc, writes, written, link_out, &mut shares)?;
+    let room = room_of(alloc, settings, own, work, &replies, shares)?;
     let handles = Vec::with_capacity(alloc, 4).ok()?;
     run(
         rt, common, &jobs, &replies, reads, writes, staff, handles, room,

@@ -90,7 +90,8 @@ fn empty_all<H: Wait + Drop, T: Ledgers>(
     }
 }
 
-/// Offers replies until it is told to stop. Then it settles what is left as untaken.
+/// Waits for a reply and offers it, and then those that are queued by then together, until it is told to stop. Then it settles what is left as
+/// untaken.
 pub fn write_all<H: Wait + Drop, T: Ledgers, L: LinkOut + Drop>(
     common: Shared<H, T>,
     writer: Writer,
@@ -107,15 +108,25 @@ pub fn write_all<H: Wait + Drop, T: Ledgers, L: LinkOut + Drop>(
     let mut kept = kept;
     let mut dirs = &common.dirs;
     for _ in common.rt.forever() {
-        match writer.turn(
+        let Turn::Worked(_) = writer.turn(
             &common.rt,
             &mut link,
             &common.hall,
             &mut kept.share,
             &mut dirs,
-        ) {
-            Turn::Worked(_) => common.is_broken.store(writer.is_broken, Ordering::SeqCst),
-            Turn::Nothing => break,
+        ) else {
+            break;
+        };
+        writer.turns(
+            &common.rt,
+            &mut link,
+            &common.hall,
+            &mut kept.share,
+            &mut dirs,
+        );
+        common.is_broken.store(writer.is_broken, Ordering::SeqCst);
+        if writer.is_stopped {
+            break;
         }
     }
     empty_all(&common, &mut writer, &mut kept);
