@@ -3,6 +3,7 @@ pub mod Closing
 pub mod ByClass
 pub mod Endings
 pub mod Lending
+pub mod Offering
 pub mod Runs
 pub mod Removing
 pub mod Turns

@@ -1,5 +1,5 @@
 -- Replies that are written together.
-use Rattle.std.specs.Prelude.{◌≡◌, ◌≤◌, ◌<◌, ℕ, ◌+◌, ◌-◌, Bool, true, false, List, [], ◌∷◌, ◌++◌, length, take, if◌then◌else◌, ltb}
+use Rattle.std.specs.Prelude.{◌≡◌, ◌≤◌, ◌<◌, ℕ, suc, ◌-◌, Bool, true, false, List, [], ◌∷◌, ◌++◌, length, take, if◌then◌else◌, ltb}
 use Rattle.engine.specs.Batches.{BeginsEach, SendsEach}
 use Rattle.engine.specs.declared.links.Sent.{Sent}
 use Rattle.engine_streams.specs.Streams.{Streaming, Sends}
@@ -7,7 +7,7 @@ use Rattle.engine_streams.specs.Streams.{Streaming, Sends}
 -- how many of these replies lie whole in the first so many bytes of all of them
 abbrev pub whole_in : List (List ℕ) → ℕ → ℕ
 whole_in [] written = 0
-whole_in (frame ∷ frames) written = if ltb written (length frame) then 0 else whole_in frames (written - length frame) + 1
+whole_in (frame ∷ frames) written = if ltb written (length frame) then 0 else suc (whole_in frames (written - length frame))
 
 -- The first of these replies are offered, and some are. None of them breaks the link where it stands.
 abbrev pub SendsSome : Streaming → List (List ℕ) → Streaming → List Sent → (stands : Bool) → Type 0

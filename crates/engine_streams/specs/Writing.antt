@@ -6,6 +6,7 @@ use Rattle.std.specs.Io.KnownBytes.{Appends}
 abbrev pub AppendsPart : Option (List ℕ) → Option (List ℕ) → List ℕ → Type 0
 AppendsPart old new bytes = (n : ℕ) × Appends old new (take n bytes)
 
--- the first so many
-abbrev pub AppendsFirst : ℕ → Option (List ℕ) → Option (List ℕ) → List ℕ → Type 0
-AppendsFirst n old new bytes = (n ≤ length bytes) × Appends old new (take n bytes)
+-- The first n of these bytes stand there, and nothing else.
+pub record AppendsFirst (n : ℕ) (old new : Option (List ℕ)) (bytes : List ℕ) : Type 0 where
+  pub within : n ≤ length bytes
+  pub appended : Appends old new (take n bytes)

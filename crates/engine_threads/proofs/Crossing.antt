@@ -40,7 +40,7 @@ use Rattle.engine_queues.specs.contracts.letters.InOrder as InOrder
 use Rattle.engine_queues.specs.contracts.letters.InOrderProtocolOptionLetterReplyLane.TheImpl as in_order
 use Rattle.engine_queues.specs.contracts.letters.Letter as Letter
 use Rattle.engine_queues.specs.contracts.letters.ReplyLane as ReplyLane
-use Rattle.engine_workers.proofs.slips.Bytes.TheSendSync as bytes
+use Rattle.engine.proofs.bytes.Bytes.TheSendSync as bytes
 use Rattle.engine_workers.specs.contracts.replies.Reply as Reply
 use Rattle.engine_workers.specs.contracts.working.Worker as Worker
 use Rattle.engine_workers.specs.contracts.writing.Writer as Writer

@@ -11,12 +11,13 @@ use Rattle.engine.specs.declared.served.Served.{Served}
 use Rattle.engine_queues.specs.declared.letters.Letter.{Letter}
 use Rattle.engine_workers.specs.Halls.{Fresh, GainsListed, Visited, left_in, listed, settled_in}
 use Rattle.engine_workers.specs.Rights.{IsRight}
-use Rattle.engine_workers.specs.Slips.{bytes_in, bytes_of}
+use Rattle.engine.specs.Batches.{bytes_of}
+use Rattle.engine_workers.specs.Slips.{bytes_in}
 use Rattle.engine_workers.specs.Turns.{MeetsJob, Writes, ended_as, untaken_of}
 use Rattle.engine_jobs.specs.declared.jobs.Job.{Job}
 use Rattle.engine_jobs.specs.declared.left.Left.{Left}
 use Rattle.engine_workers.specs.declared.replies.Reply.{Reply}
-use Rattle.engine_workers.specs.declared.slips.Bytes.{Bytes}
+use Rattle.engine.specs.declared.bytes.Bytes.{Bytes}
 
 abbrev bytes_or : List ℕ → Option (List ℕ) → List ℕ
 bytes_or d None = d

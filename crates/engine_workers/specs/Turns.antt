@@ -18,7 +18,7 @@ use Rattle.engine_queues.specs.declared.letters.ReplyLane.{ReplyLane}
 use Rattle.engine_queues.specs.declared.letters.Letter.{Letter}
 use Rattle.engine_workers.specs.Halls.{Fresh, GainsListed, Visited, left_in, settled_in}
 use Rattle.engine_workers.specs.Rights.{IsJobHandled, IsWritten}
-use Rattle.engine_workers.specs.Slips.{bytes_of}
+use Rattle.engine.specs.Batches.{bytes_of}
 use Rattle.engine_jobs.specs.declared.jobs.Job.{Job}
 use Rattle.engine_jobs.specs.declared.left.Left.{Left}
 use Rattle.engine_workers.specs.declared.replies.Reply.{Reply}

@@ -1,11 +1,10 @@
 //! What a worker puts into the reply queue.
 
 ghost use Rattle.std.specs.Prelude.{◌≡◌};
+ghost use Rattle.engine.specs.Batches.{bytes_of};
 ghost use Rattle.engine_workers.specs.Rights.{IsRight};
-ghost use Rattle.engine_workers.specs.Slips.{bytes_of};
 
-use crate::slips::Bytes;
-use engine::Settings;
+use engine::{Bytes, Settings};
 use engine_jobs::{Job, Left};
 use std::snapshot::Snapshot;
 

@@ -3,16 +3,9 @@
 ghost use Rattle.std.specs.Prelude.{◌≡◌, None, Some};
 ghost use Rattle.engine.specs.declared.links.Sent.TheVariants.{Taken};
 
-use engine::{Outlet, Sent};
+use engine::{Bytes, Outlet, Sent};
 use std::alloc::Global;
 use std::mem;
-
-/// The bytes of a reply. A header alone takes no memory.
-#[derive(Drop)]
-pub enum Bytes {
-    Header([u8; 16]),
-    Whole(Vec<u8>),
-}
 
 /// Room for the reply to one job.
 #[derive(Drop)]

@@ -4,21 +4,22 @@ ghost use Rattle.std.specs.Prelude.{◌≡◌, ◌+◌, [], ◌∷◌, ◌++◌,
 ghost use Rattle.crossbeam_channel.specs.Claims.{view, IsSeatAt};
 ghost use Rattle.crossbeam_channel.specs.Ends.{sends_on, receives_on};
 ghost use Rattle.table_steps.specs.Answers.{Settlement, entries_in};
+ghost use Rattle.engine.specs.Batches.{bytes_of};
 ghost use Rattle.engine.specs.Folders.{ByCalls, GivesUp};
 ghost use Rattle.engine.specs.Reference.{Turn as IsHandled};
 ghost use Rattle.engine.specs.Serving.{does};
 ghost use Rattle.engine_workers.specs.Halls.{Visited, left_in, settled_in};
 ghost use Rattle.engine_workers.specs.Rights.{IsRight};
-ghost use Rattle.engine_workers.specs.Slips.{bytes_in, bytes_of};
+ghost use Rattle.engine_workers.specs.Slips.{bytes_in};
 ghost use Rattle.engine_workers.specs.Turns.{AnswersJob, ended_as, put_in, IsReplyTo, MeetsJob, PutsReply, Worked};
 ghost use Rattle.engine_workers.specs.Visits.{visited_of};
 
 use crate::halls::Hall;
 use crate::replies::Reply;
-use crate::slips::{Bytes, Slip};
+use crate::slips::Slip;
 use crate::visits::{ComeTo, Visit};
 use backing::Calls;
-use engine::{Served, Session, Settings, give_up};
+use engine::{Bytes, Served, Session, Settings, give_up};
 use engine_jobs::{Job, Left};
 use engine_queues::jobs::{JobPass, JobReceiver, Takes};
 use engine_queues::letters::{Letter, Posts, ReplyPass, ReplySender};

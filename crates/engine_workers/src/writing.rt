@@ -1,17 +1,18 @@
-//! One reply of the writer.
+//! What the writer does with the replies in its queue, one by one or several at once.
 
-ghost use Rattle.std.specs.Prelude.{◌≡◌, [], false, length, true, Option};
+ghost use Rattle.std.specs.Prelude.{◌≡◌, ◌≤◌, [], false, length, true, IfOk, Option, vec_len};
 ghost use Rattle.crossbeam_channel.specs.Claims.{view, IsSeatAt};
 ghost use Rattle.crossbeam_channel.specs.Ends.{receives_on};
 ghost use Rattle.engine.specs.Folders.{ByCalls};
 ghost use Rattle.engine.specs.Reference.{is_broken, is_taken};
 ghost use Rattle.table_steps.specs.Answers.{Settlement};
-ghost use Rattle.engine_workers.specs.Slips.{bytes_of};
+ghost use Rattle.engine.specs.Batches.{bytes_of};
+ghost use Rattle.engine_workers.specs.Batches.{GetsAll, WritesAll};
 ghost use Rattle.engine_workers.specs.Turns.{Empties, Wrote};
 
+use crate::batches::{BATCH, Batch};
 use crate::halls::Hall;
 use crate::replies::Reply;
-use crate::slips::Bytes;
 use crate::working::{Turn, settle_left};
 use engine::{LinkOut, Sent};
 use engine_queues::letters::{Gets, Letter, ReplyPass, ReplyReceiver};
@@ -20,8 +21,6 @@ use ledger::{Ledgers, Share};
 use std::alloc::{AllocError, Global};
 use std::sync::Wait;
 
-pub const BATCH: usize = 16;
-
 /// The thread that offers replies, in the order of their queue.
 #[derive(Drop)]
 pub struct Writer {
@@ -29,55 +28,37 @@ pub struct Writer {
     pub pass: ReplyPass<Reply>,
     /// Whether the link broke: then nothing more is offered.
     pub is_broken: bool,
+    /// Whether it was told to stop by the message behind a batch.
+    pub is_stopped: bool,
+    /// What was taken from the queue together last.
+    pub batch: Batch,
     ghost seated: { IsSeatAt (receives_on replies) pass },
     ghost gets: { (view pass).gets ≡ true },
     ghost knows_none: { length (view pass).known ≡ 0 },
 }
 
-fn offer<L: LinkOut>(link: &mut L, bytes: &Bytes) -> Sent
-    ensures { L.sends link.old (bytes_of bytes.now) result link.new }
-{
-    match bytes {
-        Bytes::Header(frame) => link.send(frame),
-        Bytes::Whole(frame) => link.send(frame.as_slice()),
-    }
-}
-
 impl Writer {
-    /// A writer that has offered nothing, with the pass that gets the replies.
-    pub fn new(alloc: Global, replies: ReplyReceiver<Reply>, pass: ReplyPass<Reply>) -> Result<Writer, AllocError>
+    /// A writer that has offered nothing, with the pass that gets the replies. It takes all the memory that it will need.
+    pub fn new(
+        alloc: Global,
+        replies: ReplyReceiver<Reply>,
+        pass: ReplyPass<Reply>,
+    ) -> Result<Writer, AllocError>
         requires seat { IsSeatAt (receives_on replies) pass }
         requires gets { (view pass).gets ≡ true }
         requires knows_none { length (view pass).known ≡ 0 }
+        ensures ring { IfOk result (λ w. receives_on w.replies ≡ receives_on replies) }
+        ensures pass { IfOk result (λ w. view w.pass ≡ view pass) }
+        ensures whole { IfOk result (λ w. w.is_broken ≡ false) }
     {
-        drop(alloc);
+        let batch = Batch::new(alloc)?;
         Ok(Writer {
             replies,
             pass,
             is_broken: false,
+            is_stopped: false,
+            batch,
         })
-    }
-
-    // STUB
-    pub fn turns<H: Wait, T: Ledgers, L: LinkOut, D: Folders>(
-        &mut self,
-        rt: &H,
-        link: &mut L,
-        hall: &Hall<T>,
-        share: &mut Share<T>,
-        dirs: &mut D,
-    ) -> usize
-        ensures ring { receives_on self.new.replies ≡ receives_on self.old.replies }
-        ensures made { (view self.new.pass).made ≡ (view self.old.pass).made }
-    {
-        let mut count = 0;
-        for _ in 0..16 {
-            match self.turn(rt, link, hall, share, dirs) {
-                Turn::Worked(_) => count += 1,
-                Turn::Nothing => return count,
-            }
-        }
-        count
     }
 
     /// Its pass, once it has ended.
@@ -90,6 +71,8 @@ impl Writer {
             replies,
             pass,
             is_broken: _,
+            is_stopped: _,
+            batch: _,
         } = self;
         drop(replies);
         pass
@@ -135,7 +118,7 @@ impl Writer {
         ensures entries { share.new.totals.entries ≡ share.old.totals.entries }
         ensures index { share.new.index ≡ share.old.index }
     {
-        match self.replies.try_recv_as::<Gets, H>(rt, &mut self.pass) {
+        match self.replies.recv_as::<Gets, H>(rt, &mut self.pass) {
             Ok(Some(letter)) => {
                 let Letter { from: _, reply } = letter;
                 let Reply {
@@ -147,12 +130,61 @@ impl Writer {
                 if self.is_broken {
                     return Turn::Worked(settle_left(rt, hall, share, dirs, left, false));
                 }
-                let sent = offer(link, &bytes);
+                let sent = link.send(bytes.as_slice());
                 self.is_broken = is_broken(sent);
                 Turn::Worked(settle_left(rt, hall, share, dirs, left, is_taken(sent)))
             }
             Ok(None) | Err(_) => Turn::Nothing,
         }
+    }
+
+    /// Takes what is queued, up to the message that says to stop. It waits for nothing.
+    fn take_queued<H: Wait>(&mut self, rt: &H)
+        ensures ring { receives_on self.new.replies ≡ receives_on self.old.replies }
+        ensures made { (view self.new.pass).made ≡ (view self.old.pass).made }
+        ensures gets { GetsAll (view self.old.pass) self.new.batch.left.items self.new.batch.bytes.items (view self.new.pass) }
+        ensures few { (vec_len self.new.batch.left ≤ 16) × (vec_len self.new.batch.bytes ≤ 16) }
+        ensures broken { self.new.is_broken ≡ self.old.is_broken }
+    {
+        self.batch.clear();
+        for _ in 0..BATCH {
+            match self.replies.try_recv_as::<Gets, H>(rt, &mut self.pass) {
+                Ok(Some(letter)) => {
+                    let Letter { from: _, reply } = letter;
+                    self.batch.put(reply);
+                }
+                Ok(None) => {
+                    self.is_stopped = true;
+                    return;
+                }
+                Err(_) => return,
+            }
+        }
+    }
+
+    /// Takes what is queued, at most 16 replies, offers them together, and settles the answer of each as `turn` does. It waits for none, and says
+    /// how many they were.
+    pub fn turns<H: Wait, T: Ledgers, L: LinkOut, D: Folders>(
+        &mut self,
+        rt: &H,
+        link: &mut L,
+        hall: &Hall<T>,
+        share: &mut Share<T>,
+        dirs: &mut D,
+    ) -> usize
+        ensures ring { receives_on self.new.replies ≡ receives_on self.old.replies }
+        ensures made { (view self.new.pass).made ≡ (view self.old.pass).made }
+        ensures wrote { ByCalls D.keeps dirs.old dirs.new (λ folders. WritesAll L.sends
+            (record { lane = view self.old.pass; link = link.old; is_broken = self.old.is_broken }) self.new.batch.settled.items folders
+            (record { lane = view self.new.pass; link = link.new; is_broken = self.new.is_broken })) }
+        ensures count { (result ≡ vec_len self.new.batch.settled) × (result ≤ 16) }
+        ensures entries { share.new.totals.entries ≡ share.old.totals.entries }
+        ensures index { share.new.index ≡ share.old.index }
+    {
+        self.take_queued(rt);
+        self.is_broken = self.batch.offer(link, self.is_broken);
+        self.batch.settle(rt, hall, share, dirs);
+        self.batch.settled.len()
     }
 }
 

@@ -8,6 +8,6 @@ loop-try-preserved g c =
     let before = g.W.Write.contents c.loop-try.writer in
     let after = g.W.Write.contents c.write.new.self in
     elim c.match-write.branch [
-      | in-Ok w ↦ part_on start before after c.loop-try.done w.in-Ok.count c.match-write.done c.args.bytes.now c.loop-try.invariant w.done-is w.in-Ok.ensures.bound w.in-Ok.ensures.bytes
-      | in-Err+else-ne w ↦ part_kept start before after c.loop-try.done c.match-write.done c.args.bytes.now c.loop-try.invariant w.done-is w.in-Err.ensures.bytes
+      | in-Ok w ↦ part_on start before after c.loop-try.written w.in-Ok.count c.match-write.written c.args.bytes.now c.loop-try.invariant w.written-is w.in-Ok.ensures.bound w.in-Ok.ensures.bytes
+      | in-Err+else-ne w ↦ part_kept start before after c.loop-try.written c.match-write.written c.args.bytes.now c.loop-try.invariant w.written-is w.in-Err.ensures.bytes
     ]

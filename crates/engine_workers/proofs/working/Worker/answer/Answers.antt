@@ -6,7 +6,8 @@ use Rattle.engine.specs.Folders.{ByCalls}
 use Rattle.engine.specs.Serving.{does}
 use Rattle.engine_workers.specs.Halls.{left_in}
 use Rattle.engine_workers.specs.Rights.{IsRight}
-use Rattle.engine_workers.specs.Slips.{bytes_in, bytes_of}
+use Rattle.engine.specs.Batches.{bytes_of}
+use Rattle.engine_workers.specs.Slips.{bytes_in}
 use Rattle.engine_workers.specs.Turns.{PutsReply}
 use Rattle.engine_workers.specs.Visits.{visited_of}
 use Rattle.engine_workers.proofs.Answering.{met_on, right_of}
