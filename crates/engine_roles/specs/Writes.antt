@@ -11,9 +11,13 @@ use Rattle.engine_workers.specs.declared.replies.Reply.{Reply}
 abbrev pub writing : {L : Type 0} → ReplyLane Reply → L → (is_broken : Bool) → Writing L
 writing lane link is_broken = record { lane = lane; link = link; is_broken = is_broken }
 
--- a writer that has got nothing, of a queue with so many senders
+-- what is known of a queue with so many senders of which nothing was got
+abbrev pub none_got : (senders : ℕ) → ReplyLane Reply
+none_got senders = writer [] senders []
+
+-- a writer that has got nothing
 abbrev pub unsent : {L : Type 0} → L → (senders : ℕ) → Writing L
-unsent link senders = writing (writer [] senders []) link false
+unsent link senders = writing (none_got senders) link false
 
 -- it began with this link, and has offered what it got so far, each reply once and in order
 pub record HasWritten {L : Type 0} (sends : L → List ℕ → Sent → L → Type 0) (from : Option L) (senders : ℕ) (now : Writing L) : Type 0 where

@@ -4,9 +4,8 @@ ghost use Rattle.std.specs.Prelude.{◌≡◌, ◌≤◌, length, false, true, S
 ghost use Rattle.crossbeam_channel.specs.Claims.{view, IsSeatAt};
 ghost use Rattle.crossbeam_channel.specs.Ends.{receives_on};
 ghost use Rattle.engine.specs.Folders.{ByCalls};
-ghost use Rattle.engine_queues.specs.Letters.{writer};
 ghost use Rattle.engine_workers.specs.Batches.{WritesAll};
-ghost use Rattle.engine_roles.specs.Writes.{writing, HasWritten, HasWrittenAll};
+ghost use Rattle.engine_roles.specs.Writes.{none_got, writing, HasWritten, HasWrittenAll};
 
 use crate::origins::Sink;
 use crate::shares::Kept;
@@ -43,7 +42,7 @@ impl<T: Ledgers, O: LinkOut + Drop, S: Sink<O>> WriterRole<T, O, S> {
     pub fn new(writer: Writer, link: O, kept: Kept<T>) -> WriterRole<T, O, S>
         requires ring { S.replies ≡ Some (receives_on writer.replies) }
         requires from { S.sent_to ≡ Some link }
-        requires fresh { view writer.pass ≡ writer [] S.senders [] }
+        requires fresh { view writer.pass ≡ none_got S.senders }
         requires whole { writer.is_broken ≡ false }
         ensures { (result.writer ≡ writer) × (result.link ≡ link) }
     {

@@ -5,10 +5,9 @@ ghost use Rattle.std.specs.List.{All, range_with_len};
 ghost use Rattle.crossbeam_channel.specs.Claims.{view, IsSeatAt};
 ghost use Rattle.crossbeam_channel.specs.Ends.{sends_on, receives_on};
 ghost use Rattle.engine_queues.specs.Gathered.{numbers_of, takings_of};
-ghost use Rattle.engine_queues.specs.Letters.{writer};
 ghost use Rattle.engine_reader.specs.Shown.{queued_of, reading};
 ghost use Rattle.engine_roles.specs.Reads.{beginning, HasReadAll};
-ghost use Rattle.engine_roles.specs.Writes.{HasWrittenAll};
+ghost use Rattle.engine_roles.specs.Writes.{none_got, HasWrittenAll};
 ghost use Rattle.engine_threads.specs.Ended.{IsShared};
 
 use crate::ending::{Over, Room, end_all};
@@ -60,7 +59,7 @@ fn share<
     requires unheard { reading parts.link_in parts.reader.cutter.kept parts.reader.agreed (view parts.reader.pass).put ≡ beginning parts.link_in }
     requires replies { S.replies ≡ Some (receives_on parts.writer.replies) }
     requires to { S.sent_to ≡ Some parts.link_out }
-    requires unsent { view parts.writer.pass ≡ writer [] S.senders [] }
+    requires unsent { view parts.writer.pass ≡ none_got S.senders }
     requires whole { parts.writer.is_broken ≡ false }
 {
     let Parts {
@@ -148,7 +147,7 @@ pub fn run<
     requires parts { (view parts.reader.pass).parts + (vec_len staff + 1) ≡ 8 }
     requires unheard { reading parts.link_in parts.reader.cutter.kept parts.reader.agreed (view parts.reader.pass).put ≡ beginning parts.link_in }
     requires writes { receives_on parts.writer.replies ≡ sends_on replies.now }
-    requires unsent { view parts.writer.pass ≡ writer [] (vec_len staff + 1) [] }
+    requires unsent { view parts.writer.pass ≡ none_got (vec_len staff + 1) }
     requires whole { parts.writer.is_broken ≡ false }
     requires staff { All (λ s. (receives_on s.worker.jobs ≡ sends_on jobs.now) × (sends_on s.worker.replies ≡ sends_on replies.now)) staff.items }
     requires numbers { map (λ s. s.worker.number) staff.items ≡ range_with_len 0 (vec_len staff) }

@@ -12,8 +12,8 @@ abbrev settled_by : Turn → Option Settlement
 settled_by (Worked settled) = settled
 settled_by Nothing = None
 
-pub recv_as-requires-clause-rule : goal.recv_as-requires-clause-rule
-recv_as-requires-clause-rule g c = (takes _ _ (let e = c.args.self.now.one_part in omega arith), λ items views b at. tt)
+pub try_recv_as-requires-clause-rule : goal.try_recv_as-requires-clause-rule
+try_recv_as-requires-clause-rule g c = (takes _ _ (let e = c.args.self.now.one_part in omega arith), λ items views b at. tt)
 
 pub returns-in-Ok-Some-clause-worked : goal.returns-in-Ok-Some-clause-worked
 returns-in-Ok-Some-clause-worked g c settled e =

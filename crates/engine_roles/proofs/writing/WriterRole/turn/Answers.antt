@@ -1,0 +1,16 @@
+use Rattle.std.proofs.Common.{◌≡◌, Some, sym, ap, ◌∙◌}
+use Rattle.crossbeam_channel.specs.Claims.{view}
+use Rattle.engine_roles.specs.Writes.{writing}
+use Rattle.engine_roles.proofs.HasWritten.{has_written_on}
+use Rattle.engine_roles.proofs.writing.WriterRole.turn.Goals as goal
+
+pub invariant_of-self : goal.invariant_of-self
+invariant_of-self g c =
+    let s = c.args.self.now in
+    let n = c.turns.new in
+    let by = c.turns.ensures.wrote in
+    record {
+      ring = s.ring ∙ ap (λ q. Some q) (sym c.turns.ensures.ring);
+      made = c.turns.ensures.made ∙ s.made;
+      wrote = has_written_on g.O.LinkOut.sends g.S.Sink.sent_to g.S.Sink.senders (writing (view s.writer.pass) s.link s.writer.is_broken) (writing (view n.self.pass) n.link n.self.is_broken) n.self.batch.settled.items by.folders s.wrote by.so;
+    }
