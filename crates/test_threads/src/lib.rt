@@ -11,3 +11,5 @@ mod rows;
 mod teller;
 #[cfg(test)]
 mod turns;
+#[cfg(test)]
+mod writes;
