@@ -1,15 +1,14 @@
 -- A job that was handled, and its reply.
-use Rattle.std.proofs.Common.{◌≡◌, ℕ, Bool, false, List, [], Option, Some, None, refl, sym, ap, ◌∙◌, subst, arith}
+use Rattle.std.proofs.Common.{◌≡◌, ℕ, false, List, [], Option, Some, None, refl, sym, ap, ◌∙◌, arith}
 use Rattle.std.proofs.lemmas.Option.{none-some}
 use Rattle.ledger.specs.Shares.{Part}
 use Rattle.table_steps.specs.Answers.{Settlement}
-use Rattle.wire.specs.Written.{reply_bytes}
 use Rattle.ops.specs.declared.replies.Settings.{Settings}
 use Rattle.engine.specs.Reference.{Offer}
 use Rattle.engine.specs.Serving.{Behaviour}
 use Rattle.engine.specs.declared.served.Served.{Served}
 use Rattle.engine_queues.specs.declared.letters.Letter.{Letter}
-use Rattle.engine_workers.specs.Halls.{Fresh, GainsListed, Visited, left_in, listed, settled_in}
+use Rattle.engine_workers.specs.Halls.{Visited, left_in}
 use Rattle.engine_workers.specs.Rights.{IsRight}
 use Rattle.engine.specs.Batches.{bytes_of}
 use Rattle.engine_workers.specs.Slips.{bytes_in}

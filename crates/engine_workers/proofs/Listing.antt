@@ -1,10 +1,9 @@
 -- How many entries a step posts.
-use Rattle.std.proofs.Common.{ℕ, ◌≡◌, ◌+◌, Bool, true, false, List, [], ◌∷◌, ◌++◌, length, drop, Option, Some, None, inl, inr, ◌⊎◌, is_some, refl, sym, ap, ◌∙◌, arith}
-use Rattle.std.proofs.lemmas.List.Sums.{sum_by-append, sum_by-cons}
+use Rattle.std.proofs.Common.{ℕ, ◌≡◌, ◌+◌, Bool, true, false, List, [], ◌∷◌, drop, Option, Some, None, inl, inr, ◌⊎◌, is_some, refl, sym, ap, ◌∙◌, arith}
+use Rattle.std.proofs.lemmas.List.Sums.{sum_by-cons}
 use Rattle.std.proofs.lemmas.Bool.{cases_eq}
 use Rattle.std.proofs.lemmas.Option.{none-some}
-use Rattle.std.proofs.Math.Seq.{drop-append_seam, drop-length}
-use Rattle.std.specs.Prelude.{sum_by, count_by, cond}
+use Rattle.std.specs.Prelude.{cond}
 use Rattle.table_requests.specs.declared.data.Given.{Given}
 use Rattle.ledger.specs.declared.postings.Posting.{Posting}
 use Rattle.ledger.specs.declared.postings.Posting.TheVariants.{Back, Born, Entry, Forget}
@@ -17,8 +16,8 @@ use Rattle.tree.proofs.LookupLemmas.{cases_option}
 use Rattle.tree.specs.declared.nodes.Key.{Key}
 use Rattle.tree.specs.Places.{Lookup}
 use Rattle.table_steps.specs.Answers.{Answer, Settlement, entries_in}
-use Rattle.table_steps.specs.Entries.{Enters, TakesAllBack, TakesBack, TakesNone, untaken_of}
-use Rattle.table_steps.specs.Steps.{EntersAll, Ends, IsAnswered, Finishes, Settles, Forgets, act_of, gained}
+use Rattle.table_steps.specs.Entries.{Enters, TakesAllBack, untaken_of}
+use Rattle.table_steps.specs.Steps.{EntersAll, IsAnswered, Finishes, Settles, Forgets, act_of, gained}
 use Rattle.table_steps.specs.World.{Answered, RequestInFlight, RequestsInFlight, IsAtWork, Stage, Work, Working, World}
 use Rattle.table_steps.specs.declared.data.Outcome.{Outcome}
 

@@ -1,5 +1,5 @@
 -- Replies that a writer takes, offers and settles together: each as it does one.
-use Rattle.std.specs.Prelude.{◌≡◌, ℕ, suc, Bool, true, false, List, [], ◌∷◌, map, flat_map, get_or, Option, Some}
+use Rattle.std.specs.Prelude.{◌≡◌, ℕ, suc, ◌-◌, Bool, true, false, List, [], ◌∷◌, length, map, flat_map, get_or, Option, Some}
 use Rattle.handles.specs.Calls.{FolderCall}
 use Rattle.table_steps.specs.Answers.{Settlement}
 use Rattle.engine.specs.Batches.{SendsEach}
@@ -51,11 +51,9 @@ pub record GetsAll (lane : ReplyLane Reply) (left : List (Option Left)) (bytes :
   pub left_are : left ≡ map (λ letter. letter.reply.left) letters
   pub bytes_are : bytes ≡ map (λ letter. letter.reply.bytes) letters
 
--- what became of the last
+-- what became of the last that was offered
 abbrev pub last_of : List Sent → Sent
-last_of [] = Untaken
-last_of (sent ∷ []) = sent
-last_of (sent ∷ next ∷ sents) = last_of (next ∷ sents)
+last_of sents = get_or sents (length sents - 1) Untaken
 
 -- nothing is offered once the link broke
 abbrev pub OffersAll : {L : Type 0} → (L → List ℕ → Sent → L → Type 0) → L → List (List ℕ) → (before : Bool) → List Sent → L → (after : Bool) → Type 0

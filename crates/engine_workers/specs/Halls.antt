@@ -1,9 +1,9 @@
 -- A table behind a lock, as one worker knows it: by the answers of its own calls. Each call was a step of some lawful table.
-use Rattle.std.specs.Prelude.{ℕ, ◌≡◌, ◌+◌, Bool, true, false, Option, Some, None, if◌then◌else◌}
+use Rattle.std.specs.Prelude.{ℕ, ◌≡◌, ◌+◌, Bool, true, false, Option, Some, None}
 use Rattle.ledger.specs.Shares.{Part}
 use Rattle.table_steps.specs.Answers.{Answer, Settlement, entries_in}
 use Rattle.table.specs.Renewing.{BeginsAnew}
-use Rattle.table_steps.specs.Steps.{Finishes, Settles, Forgets}
+use Rattle.table_steps.specs.Steps.{Finishes, Forgets}
 use Rattle.table_steps.specs.World.{IsLawfulWorld, World}
 use Rattle.engine.specs.Tables.{Table}
 use Rattle.engine_jobs.specs.declared.left.Left.{Left}

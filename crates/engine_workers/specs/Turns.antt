@@ -1,5 +1,5 @@
 -- What one turn of each thread does.
-use Rattle.std.specs.Prelude.{◌≡◌, ◌⊎◌, ℕ, ◌+◌, ◌<◌, Bool, true, false, if◌then◌else◌, List, [], ◌∷◌, ◌++◌, length, map, Option, Some, None}
+use Rattle.std.specs.Prelude.{◌≡◌, ℕ, Bool, true, false, List, [], ◌∷◌, ◌++◌, Option, Some, None}
 use Rattle.handles.specs.Calls.{FolderCall}
 use Rattle.ledger.specs.Shares.{Part}
 use Rattle.table_steps.specs.Answers.{Settlement, entries_in}
@@ -17,7 +17,7 @@ use Rattle.engine_queues.specs.declared.jobs.Hand.{Hand}
 use Rattle.engine_queues.specs.declared.letters.ReplyLane.{ReplyLane}
 use Rattle.engine_queues.specs.declared.letters.Letter.{Letter}
 use Rattle.engine_workers.specs.Halls.{Fresh, GainsListed, Visited, left_in, settled_in}
-use Rattle.engine_workers.specs.Rights.{IsJobHandled, IsWritten}
+use Rattle.engine_workers.specs.Rights.{IsJobHandled}
 use Rattle.engine.specs.Batches.{bytes_of}
 use Rattle.engine_jobs.specs.declared.jobs.Job.{Job}
 use Rattle.engine_jobs.specs.declared.left.Left.{Left}

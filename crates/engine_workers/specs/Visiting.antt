@@ -1,12 +1,12 @@
 -- A table behind a lock, as a way to reach it.
-use Rattle.std.proofs.Common.{ℕ, ℤ, ◌≡◌, Bool, Option, to_z, of_z, w32, refl, sym, ap, ◌∙◌, arith, subst}
+use Rattle.std.proofs.Common.{ℕ, ℤ, ◌≡◌, Bool, Option, to_z, of_z, w32, ◌∙◌, arith}
 use Rattle.table_requests.specs.declared.data.Want.{Want}
 use Rattle.ledger.specs.Shares.{Part}
 use Rattle.table_steps.specs.Answers.{Answer, Claim}
 use Rattle.table_steps.specs.declared.data.Begin.TheVariants.{Busy, Go, Refused}
 use Rattle.table_steps.specs.declared.data.Outcome.{Outcome}
 use Rattle.engine.specs.Alone.{refused_bits}
-use Rattle.engine_workers.specs.Halls.{Visited, halls, listed, GainsListed, Somewhere}
+use Rattle.engine_workers.specs.Halls.{Visited, halls, GainsListed}
 
 pub gains_on : (old mid new : Visited) (before between after : Part) → GainsListed old before mid between → GainsListed mid between new after → GainsListed old before new after
 gains_on old mid new before between after first next = record {

@@ -129,6 +129,7 @@ impl Batch {
     )
         requires few { vec_len self.old.left ≤ 16 }
         ensures settles { ByCalls D.keeps dirs.old dirs.new (λ folders. SettlesAll self.old.left.items self.old.sent.items self.new.settled.items folders) }
+        ensures count { vec_len self.new.settled ≡ vec_len self.old.left }
         ensures entries { share.new.totals.entries ≡ share.old.totals.entries }
         ensures index { share.new.index ≡ share.old.index }
     {

@@ -13,3 +13,5 @@ mod rows;
 mod teller;
 #[cfg(test)]
 mod turns;
+#[cfg(test)]
+mod writes;

@@ -1,6 +1,6 @@
 //! Turns of a worker whose replies nobody gets any more.
 
-ghost use Rattle.std.specs.Prelude.{◌≡◌, ◌<◌, ◌+◌, true};
+ghost use Rattle.std.specs.Prelude.{◌≡◌, ◌<◌, ◌+◌, length, true};
 ghost use Rattle.crossbeam_channel.specs.Claims.{view, IsSeatAt};
 ghost use Rattle.crossbeam_channel.specs.Ends.{sends_on};
 
@@ -40,7 +40,7 @@ fn asks<H: Wait + Clone + Drop>(rt: &H, alloc: Global) -> Result<Asks<H>, AllocE
 }
 
 /// The passes of the only worker.
-fn passes_of(
+pub fn passes_of(
     jobs: &JobSender<Job>,
     replies: &ReplySender<Reply>,
     read: &mut JobPass<Job>,
@@ -51,9 +51,13 @@ fn passes_of(
     requires written { IsSeatAt (sends_on replies.now) written.old }
     requires gets { (view written.old).gets ≡ true }
     requires made { (view written.old).made ≡ 0 }
+    requires known { length (view written.old).known ≡ 0 }
     ensures read { IsSeatAt (sends_on jobs.now) read.new }
     ensures parts { (view read.new).parts + 1 ≡ (view read.old).parts }
     ensures reads { ((view read.new).put ≡ (view read.old).put) × ((view read.new).taken ≡ (view read.old).taken) }
+    ensures written { IsSeatAt (sends_on replies.now) written.new }
+    ensures gets { (view written.new).gets ≡ true }
+    ensures known { length (view written.new).known ≡ 0 }
     ensures seats { IsSeatAt (sends_on jobs.now) result.job_pass × IsSeatAt (sends_on replies.now) result.reply_pass }
 {
     let job_pass = jobs.another::<Cut>(read);

@@ -1,5 +1,4 @@
-use Rattle.std.proofs.Common.{◌≡◌, Option, sym, subst}
-use Rattle.table_steps.specs.Answers.{Settlement}
+use Rattle.std.proofs.Common.{sym, subst}
 use Rattle.ops.specs.declared.replies.Settings.{Settings}
 use Rattle.crossbeam_channel.specs.Claims.{view}
 use Rattle.engine.specs.Folders.{ByCalls}

@@ -1,11 +1,10 @@
-use Rattle.std.proofs.Common.{[], false, Option, Some, refl, sym, ap, ◌∙◌, subst}
-use Rattle.table_steps.specs.Answers.{Settlement}
+use Rattle.std.proofs.Common.{[], false, Option, refl, sym, ap, ◌∙◌, subst}
 use Rattle.engine.specs.Folders.{GivesUp}
 use Rattle.engine_queues.proofs.LetterSteps.{posts}
 use Rattle.engine_workers.specs.Halls.{left_in, settled_in}
 use Rattle.engine.specs.Batches.{bytes_of}
 use Rattle.engine_workers.specs.Slips.{bytes_in}
-use Rattle.engine_workers.specs.Turns.{ended_as, put_in, untaken_of, is_put, handed_back, none}
+use Rattle.engine_workers.specs.Turns.{ended_as, put_in, is_put, handed_back, none}
 use Rattle.engine_workers.specs.Visits.{visited_of}
 use Rattle.engine_jobs.specs.declared.left.Left.{Left}
 use Rattle.engine_workers.proofs.Answering.{left_by, untaken_none, untaken_some}

@@ -1,4 +1,4 @@
-use Rattle.std.proofs.Common.{◌≡◌, ◌<◌, Option, Some, None, refl, sym, ap, ◌∙◌, subst, arith}
+use Rattle.std.proofs.Common.{◌≡◌, Option, None, ap, ◌∙◌, subst, arith}
 use Rattle.table_steps.specs.Answers.{Settlement}
 use Rattle.crossbeam_channel.specs.Claims.{view}
 use Rattle.engine_queues.proofs.JobSteps.{takes}

@@ -1,4 +1,4 @@
-use Rattle.std.proofs.Common.{◌≡◌, false, Option, Some, None, sym, ap, ◌∙◌, subst}
+use Rattle.std.proofs.Common.{◌≡◌, false, Option, None, sym, ap, ◌∙◌, subst}
 use Rattle.table_steps.specs.Answers.{Settlement}
 use Rattle.engine_queues.proofs.LetterSteps.{gets}
 use Rattle.engine.specs.Folders.{GivesUp}

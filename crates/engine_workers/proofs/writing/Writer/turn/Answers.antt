@@ -1,4 +1,4 @@
-use Rattle.std.proofs.Common.{◌≡◌, Bool, Option, Some, None, refl, sym, ap, ◌∙◌, subst}
+use Rattle.std.proofs.Common.{◌≡◌, ℕ, List, Bool, Option, None, refl, sym, ap, ◌∙◌, subst}
 use Rattle.table_steps.specs.Answers.{Settlement}
 use Rattle.engine_queues.proofs.LetterSteps.{gets}
 use Rattle.engine.specs.Folders.{GivesUp}
@@ -39,10 +39,10 @@ returns-else-self-clause-wrote g c settled e =
       so = record {
         front = c.in-Ok-Some.letter;
         got = rw c.in-Ok-Some.field-0-is at c.in-Ok-Some.ensures.rule;
-        offers = subst (λ (b : Bool). Offers g.L.LinkOut.sends c.in-Ok-Some.letter settled up.folders c.args.link.now c.offer-sent.new.link b c.is_broken-self.result) (sym c.if-self.false)
+        offers = subst (λ (b : Bool). Offers g.L.LinkOut.sends c.in-Ok-Some.letter settled up.folders c.args.link.now c.send-sent.new.self b c.is_broken-self.result) (sym c.if-self.false)
             (record {
-              sent = c.offer-sent.result;
-              offer = c.offer-sent.ensures;
+              sent = c.send-sent.result;
+              offer = subst (λ (bytes : List ℕ). g.L.LinkOut.sends c.args.link.now bytes c.send-sent.result c.send-sent.new.self) c.as_slice.ensures c.send-sent.ensures;
               settled_is = sym same ∙ (c.settle_left-in-Ok-Some.ensures.settled ∙ ap (λ (b : Bool). ended_as c.in-Ok-Some.letter.reply.left b) c.is_taken.ensures);
               gives_up = subst (λ (b : Bool). GivesUp b (put_in c.in-Ok-Some.letter.reply.left) up.folders) c.is_taken.ensures up.so;
               broken_is = c.is_broken-self.ensures;
