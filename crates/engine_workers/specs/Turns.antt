@@ -87,13 +87,6 @@ abbrev pub ended_as : Option Left → Bool → Option Settlement
 ended_as None taken = None
 ended_as (Some left) taken = Some (record { id = left.answered.id; entries = entries_in left.answered.given; taken = taken })
 
--- the front reply was taken once the session was over: nothing is offered, its answer is settled as untaken, and a listing that was put for it is given up
-pub record Empties (lane : ReplyLane Reply) (settled : Option Settlement) (lane' : ReplyLane Reply) (folders : List FolderCall) : Type 0 where
-  pub front : Letter Reply
-  pub got : lane' ≡ letters.got_of lane (Some front)
-  pub settled_is : settled ≡ ended_as front.reply.left false
-  pub gives_up : GivesUp false (put_in front.reply.left) folders
-
 -- its bytes are offered, and once; where they are not taken, a listing that was put for it is given up
 pub record OffersBytes {L : Type 0} (sends : L → List ℕ → Sent → L → Type 0) (letter : Letter Reply) (settled : Option Settlement) (folders : List FolderCall) (link link' : L) (broken : Bool) : Type 0 where
   pub sent : Sent

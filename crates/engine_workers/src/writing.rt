@@ -1,35 +1,28 @@
-//! What the writer does with the replies in its queue, one by one or several at once.
+//! What the writer does with the replies in its queue.
 
-ghost use Rattle.std.specs.Prelude.{◌≡◌, ◌≤◌, [], false, length, true, IfOk, Option, vec_len};
+ghost use Rattle.std.specs.Prelude.{◌≡◌, ◌≤◌, false, length, true, IfOk, vec_len};
 ghost use Rattle.crossbeam_channel.specs.Claims.{view, IsSeatAt};
 ghost use Rattle.crossbeam_channel.specs.Ends.{receives_on};
 ghost use Rattle.engine.specs.Folders.{ByCalls};
-ghost use Rattle.engine.specs.Reference.{is_broken, is_taken};
-ghost use Rattle.table_steps.specs.Answers.{Settlement};
-ghost use Rattle.engine.specs.Batches.{bytes_of};
 ghost use Rattle.engine_workers.specs.Batches.{GetsAll, WritesAll};
-ghost use Rattle.engine_workers.specs.Turns.{Empties, Wrote};
 
 use crate::batches::{BATCH, Batch};
 use crate::halls::Hall;
 use crate::replies::Reply;
-use crate::working::{Turn, settle_left};
-use engine::{LinkOut, Sent};
+use engine::LinkOut;
 use engine_queues::letters::{Gets, Letter, ReplyPass, ReplyReceiver};
 use handles::Folders;
 use ledger::{Ledgers, Share};
 use std::alloc::{AllocError, Global};
 use std::sync::Wait;
 
-/// The thread that offers replies, in the order of their queue.
+/// Who offers replies, in the order of their queue.
 #[derive(Drop)]
 pub struct Writer {
     pub replies: ReplyReceiver<Reply>,
     pub pass: ReplyPass<Reply>,
     /// Whether the link broke: then nothing more is offered.
     pub is_broken: bool,
-    /// Whether it was told to stop by the message behind a batch.
-    pub is_stopped: bool,
     /// What was taken from the queue together last.
     pub batch: Batch,
     ghost seated: { IsSeatAt (receives_on replies) pass },
@@ -56,7 +49,6 @@ impl Writer {
             replies,
             pass,
             is_broken: false,
-            is_stopped: false,
             batch,
         })
     }
@@ -71,74 +63,13 @@ impl Writer {
             replies,
             pass,
             is_broken: _,
-            is_stopped: _,
             batch: _,
         } = self;
         drop(replies);
         pass
     }
 
-    /// Takes the front reply of a session that is over, and settles its answer as untaken. It waits for none.
-    pub fn empty<H: Wait, T: Ledgers, D: Folders>(
-        &mut self,
-        rt: &H,
-        hall: &Hall<T>,
-        share: &mut Share<T>,
-        dirs: &mut D,
-    ) -> Turn
-        ensures ring { receives_on self.new.replies ≡ receives_on self.old.replies }
-        ensures made { (view self.new.pass).made ≡ (view self.old.pass).made }
-        ensures empties { (settled : Option Settlement) → result ≡ Turn.Worked settled → ByCalls D.keeps dirs.old dirs.new (λ folders. Empties (view self.old.pass) settled (view self.new.pass) folders) }
-        ensures nothing { result ≡ Turn.Nothing → dirs.new ≡ dirs.old }
-        ensures entries { share.new.totals.entries ≡ share.old.totals.entries }
-        ensures index { share.new.index ≡ share.old.index }
-    {
-        match self.replies.try_recv_as::<Gets, H>(rt, &mut self.pass) {
-            Ok(Some(letter)) => {
-                let Letter { from: _, reply } = letter;
-                Turn::Worked(settle_left(rt, hall, share, dirs, reply.into_left(), false))
-            }
-            Ok(None) | Err(_) => Turn::Nothing,
-        }
-    }
-
-    /// Takes the front reply, offers it, and settles its answer: as taken only where the link took it.
-    pub fn turn<H: Wait, T: Ledgers, L: LinkOut, D: Folders>(
-        &mut self,
-        rt: &H,
-        link: &mut L,
-        hall: &Hall<T>,
-        share: &mut Share<T>,
-        dirs: &mut D,
-    ) -> Turn
-        ensures ring { receives_on self.new.replies ≡ receives_on self.old.replies }
-        ensures made { (view self.new.pass).made ≡ (view self.old.pass).made }
-        ensures wrote { (settled : Option Settlement) → result ≡ Turn.Worked settled → ByCalls D.keeps dirs.old dirs.new (λ folders. Wrote L.sends (view self.old.pass) link.old self.old.is_broken settled folders (view self.new.pass) link.new self.new.is_broken) }
-        ensures nothing { result ≡ Turn.Nothing → (view self.new.pass ≡ view self.old.pass) × (link.new ≡ link.old) × (self.new.is_broken ≡ self.old.is_broken) × (dirs.new ≡ dirs.old) }
-        ensures entries { share.new.totals.entries ≡ share.old.totals.entries }
-        ensures index { share.new.index ≡ share.old.index }
-    {
-        match self.replies.recv_as::<Gets, H>(rt, &mut self.pass) {
-            Ok(Some(letter)) => {
-                let Letter { from: _, reply } = letter;
-                let Reply {
-                    settings: _,
-                    job: _,
-                    bytes,
-                    left,
-                } = reply;
-                if self.is_broken {
-                    return Turn::Worked(settle_left(rt, hall, share, dirs, left, false));
-                }
-                let sent = link.send(bytes.as_slice());
-                self.is_broken = is_broken(sent);
-                Turn::Worked(settle_left(rt, hall, share, dirs, left, is_taken(sent)))
-            }
-            Ok(None) | Err(_) => Turn::Nothing,
-        }
-    }
-
-    /// Takes what is queued, up to the message that says to stop. It waits for nothing.
+    /// Takes what is queued, at most a batch of it. It waits for nothing.
     fn take_queued<H: Wait>(&mut self, rt: &H)
         ensures ring { receives_on self.new.replies ≡ receives_on self.old.replies }
         ensures made { (view self.new.pass).made ≡ (view self.old.pass).made }
@@ -153,17 +84,13 @@ impl Writer {
                     let Letter { from: _, reply } = letter;
                     self.batch.put(reply);
                 }
-                Ok(None) => {
-                    self.is_stopped = true;
-                    return;
-                }
-                Err(_) => return,
+                Ok(None) | Err(_) => return,
             }
         }
     }
 
-    /// Takes what is queued, at most 16 replies, offers them together, and settles the answer of each as `turn` does. It waits for none, and says
-    /// how many they were.
+    /// Takes what is queued, at most 16 replies, offers them together, and settles the answer of each: as taken only where the link took its reply.
+    /// It waits for none, and says how many they were.
     pub fn turns<H: Wait, T: Ledgers, L: LinkOut, D: Folders>(
         &mut self,
         rt: &H,
@@ -185,23 +112,5 @@ impl Writer {
         self.is_broken = self.batch.offer(link, self.is_broken);
         self.batch.settle(rt, hall, share, dirs);
         self.batch.settled.len()
-    }
-}
-
-fn is_broken(sent: Sent) -> bool
-    ensures { result ≡ is_broken sent }
-{
-    match sent {
-        Sent::Broken => true,
-        Sent::Taken | Sent::Untaken => false,
-    }
-}
-
-fn is_taken(sent: Sent) -> bool
-    ensures { result ≡ is_taken sent }
-{
-    match sent {
-        Sent::Taken => true,
-        Sent::Untaken | Sent::Broken => false,
     }
 }

@@ -3,7 +3,7 @@
 ghost use Rattle.std.specs.Prelude.{◌≡◌};
 
 use crate::client::{Asks, Fates, Heard, Hears};
-use crate::teller::{SETTINGS, holds_of, pieces_of};
+use crate::teller::{Comes, SETTINGS, holds_of, pieces_of};
 use crate::turns::passes_of;
 use backing::Shared;
 use crossbeam_channel::bounded_with;
@@ -56,7 +56,7 @@ fn both<H: Wait + Drop>(
     Ok((worker, writer))
 }
 
-/// All jobs are worked on. Then the reply to INIT is written, and after it the three others together.
+/// All jobs are worked on. Then their replies are written together.
 fn work_and_write<H: Wait + Drop, T: Ledgers>(
     rt: &H,
     hall: &Hall<T>,
@@ -69,7 +69,6 @@ fn work_and_write<H: Wait + Drop, T: Ledgers>(
     for _ in 0..4 {
         let _turn = worker.turn(rt, hall, share, served);
     }
-    let _turn = writer.turn(rt, hears, hall, share, &mut served.dirs);
     let _count = writer.turns(rt, hears, hall, share, &mut served.dirs);
 }
 
@@ -183,7 +182,7 @@ fn run<H: Wait + RandomSource + Clone + Drop>(
 #[test]
 fn each_of_a_batch_by_its_own_verdict(rt: HostRuntime) -> Result<(), Fail> {
     let heard = Arc::new(rt.alloc(), Mutex::new(Heard::new(rt.alloc())))?;
-    let pieces = pieces_of(rt.alloc(), THREE, &[])?;
+    let pieces = pieces_of(rt.alloc(), Comes::Together, THREE, &[])?;
     let asks = Asks::new(rt.clone()?, Arc::try_clone(&heard)?, pieces);
     let mut hears = Hears {
         rt: rt.clone()?,
@@ -194,7 +193,7 @@ fn each_of_a_batch_by_its_own_verdict(rt: HostRuntime) -> Result<(), Fail> {
     let (image, verdicts) = run(&rt, rt.alloc(), asks, &mut hears)?;
     assert!(rt; image.postings.as_slice() == POSTINGS);
     assert_eq!(rt; image.records.as_slice().len(), 0);
-    assert!(rt; verdicts.as_slice() == [Some(true), Some(false), Some(false)].as_slice());
+    assert!(rt; verdicts.as_slice() == [None, Some(true), Some(false), Some(false)].as_slice());
     assert_eq!(rt; heard.lock(&rt).offers, 3);
     Ok(())
 }
