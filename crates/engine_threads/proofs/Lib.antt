@@ -1,3 +1,3 @@
 pub mod Crossing
-pub mod Ends
 pub mod Lists
+pub mod Sharing

@@ -1,0 +1,23 @@
+-- What passes tell together is told of what is seen of them.
+use Rattle.std.proofs.Common.{◌≡◌, List, sym, subst}
+use Rattle.std.specs.List.{flat_map}
+use Rattle.engine_jobs.specs.declared.jobs.Job.{Job}
+use Rattle.engine_queues.specs.Gathered.{puts_of, takings_of}
+use Rattle.engine_queues.specs.Jobs.{Accounts}
+use Rattle.engine_queues.specs.Letters.{IsWhole}
+use Rattle.engine_queues.specs.declared.jobs.Hand.{Hand}
+use Rattle.engine_queues.specs.declared.letters.Letter.{Letter}
+use Rattle.engine_queues.specs.declared.letters.ReplyLane.{ReplyLane}
+use Rattle.engine_queues.specs.declared.passes.Passes.{Passes}
+use Rattle.engine_threads.specs.Ended.{IsShared}
+use Rattle.engine_workers.specs.declared.replies.Reply.{Reply}
+
+pub shared_as : (read read' : Hand Job) (passes passes' : List (Passes Job Reply)) (written written' : ReplyLane Reply) → read' ≡ read → passes' ≡ passes → written' ≡ written
+    → (left : List Job) → Accounts read.put (flat_map (λ js. js) (takings_of passes)) left
+    → (kept : List (Letter Reply)) → IsWhole (puts_of passes) written.got kept
+    → IsShared read' passes' written'
+shared_as read read' passes passes' written written' r p w left jobs kept replies =
+    subst (λ (v : Hand Job). IsShared v passes' written') (sym r)
+    (subst (λ (ps : List (Passes Job Reply)). IsShared read ps written') (sym p)
+    (subst (λ (l : ReplyLane Reply). IsShared read passes l) (sym w)
+    (record { jobs_left = left; jobs = jobs; replies_left = kept; replies = replies })))
