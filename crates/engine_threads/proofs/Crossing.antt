@@ -41,6 +41,7 @@ use Rattle.engine_queues.specs.contracts.letters.InOrderProtocolOptionLetterRepl
 use Rattle.engine_queues.specs.contracts.letters.Letter as Letter
 use Rattle.engine_queues.specs.contracts.letters.ReplyLane as ReplyLane
 use Rattle.engine.proofs.bytes.Bytes.TheSendSync as bytes
+use Rattle.engine_workers.proofs.batches.Batch.TheSendSync as batch
 use Rattle.engine_workers.specs.contracts.replies.Reply as Reply
 use Rattle.engine_workers.specs.contracts.working.Worker as Worker
 use Rattle.engine_workers.specs.contracts.writing.Writer as Writer
@@ -122,6 +123,7 @@ pub writer_send : IsSend Writer.the_row
 writer_send =
     let a = receiver_send mail (ReplyLane.the_row Reply.the_row) InOrder.the_row (in_order.ghosts Reply.the_row) mail_send in
     let b = pass_send mail (ReplyLane.the_row Reply.the_row) InOrder.the_row (in_order.ghosts Reply.the_row) in
+    let c = batch.the_field_send in
     search sendable depth 20
 
 module _ (T : RattleType) (g : Ghosts T.Denot) where
