@@ -6,4 +6,4 @@ mod link;
 mod writing;
 
 pub use link::StreamLink;
-pub use writing::{WriteFault, write_flushed};
+pub use writing::write_flushed;

@@ -8,7 +8,7 @@ ghost use Rattle.engine_streams.specs.Joining.{SendsFirst};
 ghost use Rattle.engine_streams.specs.Streams.{unused};
 
 use crate::joining::{join, push_taken, whole_in};
-use crate::writing::write_flushed;
+use crate::writing::{write_counted, write_flushed};
 use engine::{Bytes, Link, LinkIn, LinkOut, Received, Sent};
 use std::alloc::Global;
 use std::io;
@@ -78,7 +78,7 @@ impl<R: Read, W: Write> StreamLink<R, W> {
             sent.push_reserved(verdict);
             return verdict != Sent::Broken;
         }
-        match write_flushed(&mut self.writer, &self.joined) {
+        match write_counted(&mut self.writer, &self.joined) {
             Ok(()) => {
                 push_taken(sent, count);
                 true

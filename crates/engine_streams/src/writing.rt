@@ -2,7 +2,7 @@
 
 ghost use Rattle.std.specs.Prelude.{◌≡◌, ◌≤◌, length, take, IfErr, OnOk};
 ghost use Rattle.std.specs.Io.KnownBytes.{Appends, Keeps};
-ghost use Rattle.engine_streams.specs.Writing.{AppendsFirst};
+ghost use Rattle.engine_streams.specs.Writing.{AppendsFirst, AppendsPart};
 
 use std::io;
 use std::io::{ErrorKind, Write};
@@ -44,7 +44,7 @@ fn write_parts<W: Write>(writer: &mut W, bytes: &[u8]) -> Result<(), WriteFault>
 }
 
 /// Writes all of the bytes and hands them on. Where that fails, it says how many were written.
-pub fn write_flushed<W: Write>(writer: &mut W, bytes: &[u8]) -> Result<(), WriteFault>
+pub fn write_counted<W: Write>(writer: &mut W, bytes: &[u8]) -> Result<(), WriteFault>
     ensures whole { OnOk result (Appends (W.contents writer.old) (W.contents writer.new) bytes.now) }
     ensures part { IfErr result (λ fault. AppendsFirst fault.written (W.contents writer.old) (W.contents writer.new) bytes.now) }
 {
@@ -55,5 +55,16 @@ pub fn write_flushed<W: Write>(writer: &mut W, bytes: &[u8]) -> Result<(), Write
             written: bytes.len(),
             error,
         }),
+    }
+}
+
+/// Writes all of the bytes and hands them on. Where that fails, the first of them may have been written, and nothing else.
+pub fn write_flushed<W: Write>(writer: &mut W, bytes: &[u8]) -> io::Result<()>
+    ensures whole { OnOk result (Appends (W.contents writer.old) (W.contents writer.new) bytes.now) }
+    ensures part { AppendsPart (W.contents writer.old) (W.contents writer.new) bytes.now }
+{
+    match write_counted(writer, bytes) {
+        Ok(()) => Ok(()),
+        Err(fault) => Err(fault.error),
     }
 }

@@ -167,10 +167,8 @@ impl<I: BufRead, O: Write> HexLink<I, O> {
         ensures cause { IfErr result IsOfWriting }
     {
         write_digits(frame, &mut self.line)?;
-        match write_flushed(&mut self.writer, &self.line) {
-            Ok(()) => Ok(()),
-            Err(fault) => Err(Fault::from(fault.error)),
-        }
+        write_flushed(&mut self.writer, &self.line)?;
+        Ok(())
     }
 }
 

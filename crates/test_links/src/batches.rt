@@ -1,8 +1,8 @@
 //! Batches of replies, by their lengths.
 
 use crate::narrow::Narrow;
-use engine::{Bytes, LinkOut, Sent};
 use engine::Sent::{Broken, Taken};
+use engine::{Bytes, LinkOut, Sent};
 use engine_streams::StreamLink;
 use std::alloc::{AllocError, Global};
 use std::io;
@@ -40,11 +40,7 @@ fn narrow(alloc: Global, left: usize, is_flushed: bool) -> Narrow {
 }
 
 /// Offers replies of these lengths to that writer, and hands back what became of each.
-fn send(
-    alloc: Global,
-    lens: &[usize],
-    writer: Narrow,
-) -> Result<(Vec<Sent>, Narrow), AllocError> {
+fn send(alloc: Global, lens: &[usize], writer: Narrow) -> Result<(Vec<Sent>, Narrow), AllocError> {
     let frames = replies(alloc, lens)?;
     let mut sent = Vec::with_capacity(alloc, frames.len())?;
     let mut link = StreamLink::new(alloc, io::empty(), writer);

@@ -1,4 +1,4 @@
-use Rattle.std.proofs.Common.{◌≡◌, ℕ, List, ◌++◌, ◌∷◌, [], ap, subst, sym, ◌∙◌, arith}
+use Rattle.std.proofs.Common.{ℕ, List, ◌++◌, ◌∷◌, [], ap, subst, sym, ◌∙◌, arith}
 use Rattle.engine.specs.Batches.{bytes_of}
 use Rattle.engine.specs.declared.links.Sent.{Sent}
 use Rattle.engine.proofs.Offering.{all_done, broken_of, one_breaks, one_more, stands_of}

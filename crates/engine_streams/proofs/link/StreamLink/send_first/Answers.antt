@@ -27,7 +27,7 @@ push_reserved-requires-in-Err g c =
 
 pub returns-in-Ok-clause-sends : goal.returns-in-Ok-clause-sends
 returns-in-Ok-clause-sends g c =
-    let new : Streaming = record { input = g.R.Read.remaining c.self.inside.reader; output = g.W.Write.contents c.write_flushed.new.writer; failures = c.self.inside.failures } in
+    let new : Streaming = record { input = g.R.Read.remaining c.self.inside.reader; output = g.W.Write.contents c.write_counted.new.writer; failures = c.self.inside.failures } in
     let start : Streaming = record { input = g.R.Read.remaining c.self.inside.reader; output = g.W.Write.contents c.self.inside.writer; failures = c.self.inside.failures } in
     subst (λ (old : Streaming). SendsFirst old (map bytes_of c.args.frames.now) c.args.sent.now.items new c.push_taken.new.sent.items true) c.self.view_is
     (joined_taken start new c.args.frames.now c.join-count.result c.deref.result.now c.args.sent.now.items c.push_taken.new.sent.items (omega (arith, c.if-count-lt2.false)) c.join-count.ensures.within
@@ -35,7 +35,7 @@ returns-in-Ok-clause-sends g c =
 
 pub returns-in-Err-clause-sends : goal.returns-in-Err-clause-sends
 returns-in-Err-clause-sends g c =
-    let new : Streaming = record { input = g.R.Read.remaining c.self.inside.reader; output = g.W.Write.contents c.write_flushed.new.writer; failures = c.saturating_add-self-inside.result } in
+    let new : Streaming = record { input = g.R.Read.remaining c.self.inside.reader; output = g.W.Write.contents c.write_counted.new.writer; failures = c.saturating_add-self-inside.result } in
     let start : Streaming = record { input = g.R.Read.remaining c.self.inside.reader; output = g.W.Write.contents c.self.inside.writer; failures = c.self.inside.failures } in
     let e : c.saturating_add-self-inside.result ≡ counted c.self.inside.failures 1 = search rules in
     subst (λ (old : Streaming). SendsFirst old (map bytes_of c.args.frames.now) c.args.sent.now.items new c.push_reserved-in-Err.new.self.items false) c.self.view_is
