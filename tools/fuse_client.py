@@ -348,7 +348,9 @@ class Client:
             link = socket.socket(socket.AF_UNIX, socket.SOCK_STREAM)
             try:
                 link.connect(path)
-                return cls(link.recv, link.sendall, link.close)
+                client = cls(link.recv, link.sendall, link.close)
+                client.connection = link
+                return client
             except (FileNotFoundError, ConnectionRefusedError):
                 link.close()
                 if time.monotonic() > last:

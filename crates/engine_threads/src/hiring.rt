@@ -49,7 +49,7 @@ pub fn cut_passes(
 }
 
 /// A worker with these passes and ends of its own. None is want of memory.
-pub fn hire(
+fn hire(
     alloc: Global,
     settings: Settings,
     work: &JobReceiver<Job>,
@@ -65,7 +65,7 @@ pub fn hire(
 }
 
 /// So many workers, by their numbers.
-pub fn hire_all(
+fn hire_all(
     alloc: Global,
     settings: Settings,
     jobs: &JobSender<Job>,
@@ -111,7 +111,7 @@ fn staffed<T: Ledgers, C: Calls + Drop>(worker: Worker, kept: Kept<T>, calls: C)
 }
 
 /// A share and a directory for each worker. None where one is missing.
-pub fn staff_all<T: Ledgers, C: Calls + Drop>(
+fn staff_all<T: Ledgers, C: Calls + Drop>(
     jobs: &JobSender<Job>,
     replies: &ReplySender<Reply>,
     workers: Vec<Worker>,
@@ -134,4 +134,38 @@ pub fn staff_all<T: Ledgers, C: Calls + Drop>(
         staff.push_reserved(staffed(worker, kept, calls));
     }
     Some(staff)
+}
+
+/// A staff for these directories: a worker, a share and a directory each, by their numbers. None where memory or a share is missing.
+pub fn hire_staff<T: Ledgers, C: Calls + Drop>(
+    alloc: Global,
+    settings: Settings,
+    jobs: &JobSender<Job>,
+    work: &JobReceiver<Job>,
+    replies: &ReplySender<Reply>,
+    read: &mut JobPass<Job>,
+    written: &mut ReplyPass<Reply>,
+    trees: Vec<C>,
+    shares: &mut Shares<T>,
+) -> Option<Vec<Staff<T, C>>>
+    requires few { vec_len trees ≤ 4 }
+    requires ring { receives_on work.now ≡ sends_on jobs.now }
+    requires read { IsSeatAt (sends_on jobs.now) read.old }
+    requires parts { (view read.old).parts ≡ 8 }
+    requires none { length (view read.old).taken ≡ 0 }
+    requires written { IsSeatAt (sends_on replies.now) written.old }
+    requires writes { view written.old ≡ writer [] 0 [] }
+    ensures read { IsSeatAt (sends_on jobs.now) read.new }
+    ensures parts { IfSome result (λ v. (view read.new).parts + vec_len trees ≡ 8) }
+    ensures reads { ((view read.new).put ≡ (view read.old).put) × (length (view read.new).taken ≡ 0) }
+    ensures written { IsSeatAt (sends_on replies.now) written.new }
+    ensures writes { IfSome result (λ v. view written.new ≡ writer [] (vec_len trees) []) }
+    ensures hired { IfSome result (λ v. All (λ s. (receives_on s.worker.jobs ≡ sends_on jobs.now) × (sends_on s.worker.replies ≡ sends_on replies.now)) v.items) }
+    ensures numbers { IfSome result (λ v. map (λ s. s.worker.number) v.items ≡ range_with_len 0 (vec_len trees)) }
+    ensures len { IfSome result (λ v. vec_len v ≡ vec_len trees) }
+{
+    let count = trees.len() as u64;
+    let workers = hire_all(alloc, settings, jobs, work, replies, read, written, count)?;
+    let staff = Vec::with_capacity(alloc, 4).ok()?;
+    staff_all(jobs, replies, workers, shares, trees, staff)
 }

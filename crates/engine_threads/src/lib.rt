@@ -6,6 +6,7 @@ mod ending;
 mod farewell;
 mod hiring;
 mod places;
+mod queued;
 mod running;
 mod serving;
 mod starting;

@@ -105,6 +105,7 @@ fn start_staff<
     requires empty { handles.items ≡ [] }
     ensures rings { All (λ h. (sends_on h.promise.jobs.value ≡ sends_on jobs.now) × (sends_on h.promise.replies.value ≡ sends_on replies.now)) result.items }
     ensures numbers { vec_len result ≡ vec_len staff → map (λ h. h.promise.number) result.items ≡ map (λ s. s.worker.number) staff.items }
+    ensures len { vec_len result ≤ vec_len staff }
 {
     let count = staff.len();
     let unread = common.reader.try_lock();

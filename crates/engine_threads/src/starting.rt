@@ -92,6 +92,7 @@ pub fn start_all<
     requires empty { handles.items ≡ [] }
     ensures rings { All (λ h. (sends_on h.promise.jobs.value ≡ sends_on jobs.now) × (sends_on h.promise.replies.value ≡ sends_on replies.now)) result.items }
     ensures numbers { vec_len result ≡ vec_len staff → map (λ h. h.promise.number) result.items ≡ map (λ s. s.worker.number) staff.items }
+    ensures len { vec_len result ≤ vec_len staff }
 {
     let mut handles = handles;
     for one in staff {

@@ -42,9 +42,9 @@ const ROOT: &str = "The folder that is served";
 const SOCKET: &str = "Where the socket is made; nothing may stand there";
 
 const WORKERS: &str =
-    "How many threads work on requests, from 1 to 4, beside one that reads and one that writes";
+    "How many threads serve, from 1 to 4: each reads, works or writes, whatever is due";
 
-const SINGLE: &str = "One thread does all, whatever --workers says: the least time for each reply";
+const SINGLE: &str = "One thread does all, one request after another, whatever --workers says";
 
 const UID: &str = "The user that each file and folder is told to belong to";
 

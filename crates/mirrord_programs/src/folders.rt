@@ -37,7 +37,7 @@ pub fn pipe_run<
 /// How many threads serve.
 #[derive(Clone, Copy, Debug, PartialEq, Eq)]
 pub struct Serving {
-    /// How many work on requests, from 1 to 4, beside one that reads and one that writes.
+    /// How many, from 1 to 4.
     pub workers: u8,
     /// Whether one thread does all, whatever their number.
     pub single: bool,

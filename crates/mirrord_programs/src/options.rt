@@ -19,7 +19,7 @@ pub enum Options<'a> {
         root: &'a str,
         /// Where the socket is made.
         socket: &'a str,
-        /// How many threads work on requests, from 1 to 4.
+        /// How many threads serve, from 1 to 4.
         workers: u8,
         /// Whether one thread does all, whatever their number.
         single: bool,

@@ -1,6 +1,6 @@
 use Rattle.std.specs.Prelude.{◌+◌, Some, vec_len}
 use Rattle.crossbeam_channel.specs.Ends.{sends_on}
-use Rattle.engine_threads.proofs.serving.serve_queued.Given as goal
+use Rattle.engine_threads.proofs.queued.serve_staffed.Given as goal
 
 -- the session's own queues and links
 abbrev pub ghosts-run-S-Source : goal.ghosts-run-S-Source

@@ -1,0 +1,267 @@
+//! The queues of a session, and all that its threads need.
+
+ghost use Rattle.std.specs.Prelude.{◌≡◌, ◌<◌, ◌≤◌, ◌+◌, [], true, false, length, map, Some, IfSome, vec_len, vec_capacity};
+ghost use Rattle.std.specs.List.{All, range_with_len};
+ghost use Rattle.crossbeam_channel.specs.Claims.{view, IsSeatAt};
+ghost use Rattle.crossbeam_channel.specs.Ends.{sends_on, receives_on};
+ghost use Rattle.engine_queues.specs.Gathered.{takings_of};
+ghost use Rattle.engine_queues.specs.Jobs.{hand};
+ghost use Rattle.engine_reader.specs.Shown.{queued_of, reading};
+ghost use Rattle.engine_roles.specs.Reads.{beginning, HasReadAll};
+ghost use Rattle.engine_roles.specs.Writes.{none_got, HasWrittenAll};
+ghost use Rattle.engine_threads.specs.Ended.{IsShared};
+
+use crate::ending::{Over, Room};
+use crate::farewell::Starter;
+use crate::hiring::{cut_passes, hire_staff};
+use crate::running::{Parts, run};
+use crate::working::Staff;
+use backing::Calls;
+use crossbeam_channel::bounded_with;
+use engine::{LinkIn, LinkOut, Settings};
+use engine_jobs::Job;
+use engine_queues::jobs::{Fair, Hand, JobPass, JobReceiver, JobSender};
+use engine_queues::letters::{InOrder, Letter, ReplyLane, ReplyPass, ReplyReceiver, ReplySender};
+use engine_queues::passes::Passes;
+use engine_reader::Reader;
+use engine_roles::Shares;
+use engine_workers::{Hall, Reply, Writer};
+use handles::Dirs;
+use ledger::Ledgers;
+use std::alloc::Global;
+use std::marker::Brand;
+use std::sync::Wait;
+use std::thread::Threads;
+
+/// How many jobs wait at most: more than one receive brings, so that it never waits for room.
+const JOBS: usize = 4_096;
+
+/// How many replies wait at most while the client does not take them.
+const REPLIES: usize = 32;
+
+/// A reader with a sender of its own. None is want of memory.
+fn reader_of(alloc: Global, jobs: &JobSender<Job>, read: JobPass<Job>) -> Option<Reader>
+    requires seat { IsSeatAt (sends_on jobs.now) read }
+    requires parts { 0 < (view read).parts }
+    requires takes_none { length (view read).taken ≡ 0 }
+    requires puts_none { (view read).put ≡ [] }
+    ensures ring { IfSome result (λ r. sends_on r.to ≡ sends_on jobs.now) }
+    ensures pass { IfSome result (λ r. view r.pass ≡ view read) }
+    ensures unheard { IfSome result (λ r. (r.cutter.kept ≡ []) × (r.agreed ≡ false)) }
+{
+    let jobs = jobs.try_clone().ok()?;
+    Reader::new(alloc, jobs, read).ok()
+}
+
+/// What the starter has of its own. None is want of memory.
+fn room_of<T: Ledgers, C: Calls + Drop>(
+    alloc: Global,
+    settings: Settings,
+    work: JobReceiver<Job>,
+    replies: &ReplySender<Reply>,
+    own: Passes<Job, Reply>,
+    shares: Shares<T>,
+) -> Option<Room<T, C>>
+    ensures own { IfSome result (λ r. r.own ≡ own) }
+    ensures work { IfSome result (λ r. receives_on r.starter.work ≡ receives_on work) }
+    ensures ring { IfSome result (λ r. sends_on r.starter.replies ≡ sends_on replies.now) }
+    ensures taken { IfSome result (λ r. (5 ≤ vec_capacity r.taken) × (r.taken.items ≡ [])) }
+{
+    let replies = replies.try_clone().ok()?;
+    let taken = Vec::with_capacity(alloc, 5).ok()?;
+    Some(Room {
+        own,
+        starter: Starter {
+            alloc,
+            settings,
+            work,
+            replies,
+        },
+        taken,
+        shares,
+        first: None,
+    })
+}
+
+/// Runs a session by this staff. None where memory or a thread was wanting.
+fn serve_staffed<
+    H: Threads + Wait + Send + Sync + Drop + 'static,
+    T: Ledgers + Send + Sync + 'static,
+    I: LinkIn + Send + Drop + 'static,
+    O: LinkOut + Send + Drop + 'static,
+    C: Calls + Send + Drop + 'static,
+>(
+    rt: &H,
+    alloc: Global,
+    jobs: &JobSender<Job>,
+    replies: &ReplySender<Reply>,
+    parts: Parts<H, T, I, O>,
+    staff: Vec<Staff<T, C>>,
+    room: Room<T, C>,
+) -> Option<Over<T, C>>
+    requires few { vec_len staff ≤ 4 }
+    requires reads { sends_on parts.reader.to ≡ sends_on jobs.now }
+    requires parts { (view parts.reader.pass).parts + (vec_len staff + 1) ≡ 8 }
+    requires unheard { reading parts.link_in parts.reader.cutter.kept parts.reader.agreed (view parts.reader.pass).put ≡ beginning parts.link_in }
+    requires writes { receives_on parts.writer.replies ≡ sends_on replies.now }
+    requires unsent { view parts.writer.pass ≡ none_got (vec_len staff + 1) }
+    requires whole { parts.writer.is_broken ≡ false }
+    requires staff { All (λ s. (receives_on s.worker.jobs ≡ sends_on jobs.now) × (sends_on s.worker.replies ≡ sends_on replies.now)) staff.items }
+    requires numbers { map (λ s. s.worker.number) staff.items ≡ range_with_len 0 (vec_len staff) }
+    requires job_seat { IsSeatAt (sends_on jobs.now) room.own.job_pass }
+    requires reply_seat { IsSeatAt (sends_on replies.now) room.own.reply_pass }
+    requires number { room.own.number ≡ vec_len staff }
+    requires work { receives_on room.starter.work ≡ sends_on jobs.now }
+    requires ring { sends_on room.starter.replies ≡ sends_on replies.now }
+    requires taken { (5 ≤ vec_capacity room.taken) × (room.taken.items ≡ []) }
+    ensures taken { IfSome result (λ o. vec_len o.taken ≡ vec_len staff + 1) }
+    ensures counted { IfSome result (λ o. o.taken.items ≡ map (λ js. length js) (takings_of o.passed.passes.value.items)) }
+    ensures reads { IfSome result (λ o. ∥ HasReadAll I.receives (Some parts.link_in) o.passed.input (queued_of (view o.passed.read.value).put) ∥₁) }
+    ensures writes { IfSome result (λ o. ∥ HasWrittenAll O.sends (Some parts.link_out) (vec_len staff + 1) (view o.passed.written.value) o.passed.is_broken ∥₁) }
+    ensures shared { IfSome result (λ o. IsShared (view o.passed.read.value) o.passed.passes.value.items (view o.passed.written.value)) }
+{
+    let ended = Vec::with_capacity(alloc, 5).ok()?;
+    let handles = Vec::with_capacity(alloc, 4).ok()?;
+    run::<H, T, I, O, C, Brand>(
+        rt, alloc, jobs, replies, parts, staff, handles, ended, room,
+    )
+}
+
+/// What a session has before its queues.
+#[derive(Drop)]
+pub struct Ground<H: Drop, T: Ledgers, I: LinkIn + Drop, O: LinkOut + Drop> {
+    pub rt: H,
+    pub hall: Hall<T>,
+    pub dirs: Dirs,
+    pub link_in: I,
+    pub link_out: O,
+}
+
+/// What the threads will share. None is want of memory, or a share that is missing.
+fn parts_of<H: Drop, T: Ledgers, I: LinkIn + Drop, O: LinkOut + Drop>(
+    alloc: Global,
+    ground: Ground<H, T, I, O>,
+    jobs: &JobSender<Job>,
+    read: JobPass<Job>,
+    writes: ReplyReceiver<Reply>,
+    written: ReplyPass<Reply>,
+    shares: &mut Shares<T>,
+) -> Option<Parts<H, T, I, O>>
+    requires seat { IsSeatAt (sends_on jobs.now) read }
+    requires parts { 0 < (view read).parts }
+    requires takes_none { length (view read).taken ≡ 0 }
+    requires puts_none { (view read).put ≡ [] }
+    requires reply_seat { IsSeatAt (receives_on writes) written }
+    requires gets { ((view written).gets ≡ true) × (length (view written).known ≡ 0) }
+    ensures links { IfSome result (λ p. (p.link_in ≡ ground.link_in) × (p.link_out ≡ ground.link_out)) }
+    ensures reads { IfSome result (λ p. (sends_on p.reader.to ≡ sends_on jobs.now) × (view p.reader.pass ≡ view read)) }
+    ensures unheard { IfSome result (λ p. reading p.link_in p.reader.cutter.kept p.reader.agreed (view p.reader.pass).put ≡ beginning p.link_in) }
+    ensures writes { IfSome result (λ p. (receives_on p.writer.replies ≡ receives_on writes) × (view p.writer.pass ≡ view written) × (p.writer.is_broken ≡ false)) }
+{
+    let Ground {
+        rt,
+        hall,
+        dirs,
+        link_in,
+        link_out,
+    } = ground;
+    Some(Parts {
+        rt,
+        hall,
+        dirs,
+        reader: reader_of(alloc, jobs, read)?,
+        link_in,
+        writer: Writer::new(alloc, writes, written).ok()?,
+        link_out,
+        kept: shares.take()?,
+    })
+}
+
+/// Hires a staff for the queues, and runs a session by it. None where memory or a thread was wanting.
+fn serve_hired<
+    H: Threads + Wait + Send + Sync + Drop + 'static,
+    T: Ledgers + Send + Sync + 'static,
+    I: LinkIn + Send + Drop + 'static,
+    O: LinkOut + Send + Drop + 'static,
+    C: Calls + Send + Drop + 'static,
+>(
+    rt: &H,
+    alloc: Global,
+    ground: Ground<H, T, I, O>,
+    jobs: &JobSender<Job>,
+    work: JobReceiver<Job>,
+    read: JobPass<Job>,
+    replies: &ReplySender<Reply>,
+    writes: ReplyReceiver<Reply>,
+    written: ReplyPass<Reply>,
+    trees: Vec<C>,
+    shares: Shares<T>,
+    settings: Settings,
+) -> Option<Over<T, C>>
+    requires few { vec_len trees ≤ 4 }
+    requires work { receives_on work ≡ sends_on jobs.now }
+    requires read { IsSeatAt (sends_on jobs.now) read }
+    requires unread { view read ≡ hand 8 [] [] }
+    requires writes { receives_on writes ≡ sends_on replies.now }
+    requires written { IsSeatAt (sends_on replies.now) written }
+    requires unwritten { view written ≡ none_got 0 }
+    ensures taken { IfSome result (λ o. vec_len o.taken ≡ vec_len trees + 1) }
+    ensures counted { IfSome result (λ o. o.taken.items ≡ map (λ js. length js) (takings_of o.passed.passes.value.items)) }
+    ensures reads { IfSome result (λ o. ∥ HasReadAll I.receives (Some ground.link_in) o.passed.input (queued_of (view o.passed.read.value).put) ∥₁) }
+    ensures writes { IfSome result (λ o. ∥ HasWrittenAll O.sends (Some ground.link_out) (vec_len trees + 1) (view o.passed.written.value) o.passed.is_broken ∥₁) }
+    ensures shared { IfSome result (λ o. IsShared (view o.passed.read.value) o.passed.passes.value.items (view o.passed.written.value)) }
+{
+    let count = trees.len() as u64;
+    let mut read = read;
+    let mut written = written;
+    let mut shares = shares;
+    let staff = hire_staff(
+        alloc,
+        settings,
+        jobs,
+        &work,
+        replies,
+        &mut read,
+        &mut written,
+        trees,
+        &mut shares,
+    )?;
+    let own = cut_passes(jobs, replies, &mut read, &mut written, count);
+    let parts = parts_of(alloc, ground, jobs, read, writes, written, &mut shares)?;
+    let room = room_of(alloc, settings, work, replies, own, shares)?;
+    serve_staffed(rt, alloc, jobs, replies, parts, staff, room)
+}
+
+/// Makes the queues, and runs a session by them. None where memory or a thread was wanting.
+pub fn serve_queued<
+    H: Threads + Wait + Send + Sync + Drop + 'static,
+    T: Ledgers + Send + Sync + 'static,
+    I: LinkIn + Send + Drop + 'static,
+    O: LinkOut + Send + Drop + 'static,
+    C: Calls + Send + Drop + 'static,
+>(
+    rt: &H,
+    alloc: Global,
+    ground: Ground<H, T, I, O>,
+    trees: Vec<C>,
+    shares: Shares<T>,
+    settings: Settings,
+) -> Option<Over<T, C>>
+    requires few { vec_len trees ≤ 4 }
+    ensures taken { IfSome result (λ o. vec_len o.taken ≡ vec_len trees + 1) }
+    ensures counted { IfSome result (λ o. o.taken.items ≡ map (λ js. length js) (takings_of o.passed.passes.value.items)) }
+    ensures reads { IfSome result (λ o. ∥ HasReadAll I.receives (Some ground.link_in) o.passed.input (queued_of (view o.passed.read.value).put) ∥₁) }
+    ensures writes { IfSome result (λ o. ∥ HasWrittenAll O.sends (Some ground.link_out) (vec_len trees + 1) (view o.passed.written.value) o.passed.is_broken ∥₁) }
+    ensures shared { IfSome result (λ o. IsShared (view o.passed.read.value) o.passed.passes.value.items (view o.passed.written.value)) }
+{
+    let (jobs, work, read) = bounded_with::<Option<Job>, Hand<Job>, Fair, Global>(alloc, JOBS).ok()?;
+    let (replies, writes, written) = bounded_with::<
+        Option<Letter<Reply>>,
+        ReplyLane<Reply>,
+        InOrder,
+        Global,
+    >(alloc, REPLIES).ok()?;
+    serve_hired(
+        rt, alloc, ground, &jobs, work, read, &replies, writes, written, trees, shares, settings,
+    )
+}
