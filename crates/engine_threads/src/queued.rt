@@ -33,7 +33,7 @@ use std::marker::Brand;
 use std::sync::Wait;
 use std::thread::Threads;
 
-/// How many jobs wait at most: more than one receive brings, so that it never waits for room.
+/// How many jobs wait at most: more than one receive can bring.
 const JOBS: usize = 4_096;
 
 /// How many replies wait at most while the client does not take them.
