@@ -61,7 +61,7 @@ pub trait LinkOut {
     fn send(&mut self, frame: &[u8]) -> Sent
         ensures { sends self.old frame.now result self.new };
 
-    /// Offers replies in order, up to the first that breaks the link, and says what became of each that was offered. It takes no memory.
+    /// Offers replies in order, up to the first that breaks the link, and says what became of each that was offered.
     fn send_all(&mut self, frames: &[Bytes], sent: &mut Vec<Sent>)
         requires empty { sent.old.items ≡ [] }
         requires room { length frames.now ≤ vec_capacity sent.old }
