@@ -15,6 +15,7 @@ use crate::ending::{Over, Room};
 use crate::farewell::Starter;
 use crate::hiring::{cut_passes, hire_staff};
 use crate::running::{Parts, run};
+use crate::starting::Working;
 use crate::working::Staff;
 use backing::Calls;
 use crossbeam_channel::bounded_with;
@@ -38,6 +39,13 @@ const JOBS: usize = 4_096;
 
 /// How many replies wait at most while the client does not take them.
 const REPLIES: usize = 32;
+
+/// An empty vector with room for so many. None is want of memory.
+fn room_for<X: Drop>(alloc: Global, count: usize) -> Option<Vec<X>>
+    ensures { IfSome result (λ v. (count ≤ vec_capacity v) × (v.items ≡ [])) }
+{
+    Vec::with_capacity(alloc, count).ok()
+}
 
 /// A reader with a sender of its own. None is want of memory.
 fn reader_of(alloc: Global, jobs: &JobSender<Job>, read: JobPass<Job>) -> Option<Reader>
@@ -68,7 +76,7 @@ fn room_of<T: Ledgers, C: Calls + Drop>(
     ensures taken { IfSome result (λ r. (5 ≤ vec_capacity r.taken) × (r.taken.items ≡ [])) }
 {
     let replies = replies.try_clone().ok()?;
-    let taken = Vec::with_capacity(alloc, 5).ok()?;
+    let taken = room_for::<u64>(alloc, 5)?;
     Some(Room {
         own,
         starter: Starter {
@@ -120,8 +128,8 @@ fn serve_staffed<
     ensures writes { IfSome result (λ o. ∥ HasWrittenAll O.sends (Some parts.link_out) (vec_len staff + 1) (view o.passed.written.value) o.passed.is_broken ∥₁) }
     ensures shared { IfSome result (λ o. IsShared (view o.passed.read.value) o.passed.passes.value.items (view o.passed.written.value)) }
 {
-    let ended = Vec::with_capacity(alloc, 5).ok()?;
-    let handles = Vec::with_capacity(alloc, 4).ok()?;
+    let ended = room_for::<Passes<Job, Reply>>(alloc, 5)?;
+    let handles = room_for::<Working<T, C>>(alloc, 4)?;
     run::<H, T, I, O, C, Brand>(
         rt, alloc, jobs, replies, parts, staff, handles, ended, room,
     )
@@ -232,6 +240,22 @@ fn serve_hired<
     serve_staffed(rt, alloc, jobs, replies, parts, staff, room)
 }
 
+/// An empty queue of jobs: both ends, and the pass that has put and taken nothing. None is want of memory.
+fn job_queue(alloc: Global) -> Option<(JobSender<Job>, JobReceiver<Job>, JobPass<Job>)>
+    ensures { IfSome result (λ q. (receives_on q.1 ≡ sends_on q.0) × IsSeatAt (sends_on q.0) q.2 × (view q.2 ≡ hand 8 [] [])) }
+{
+    bounded_with::<Option<Job>, Hand<Job>, Fair, Global>(alloc, JOBS).ok()
+}
+
+/// An empty queue of replies: both ends, and the pass that has got nothing and that no sender's was made of. None is want of memory.
+fn reply_queue(
+    alloc: Global,
+) -> Option<(ReplySender<Reply>, ReplyReceiver<Reply>, ReplyPass<Reply>)>
+    ensures { IfSome result (λ q. (receives_on q.1 ≡ sends_on q.0) × IsSeatAt (sends_on q.0) q.2 × (view q.2 ≡ none_got 0)) }
+{
+    bounded_with::<Option<Letter<Reply>>, ReplyLane<Reply>, InOrder, Global>(alloc, REPLIES).ok()
+}
+
 /// Makes the queues, and runs a session by them. None where memory or a thread was wanting.
 pub fn serve_queued<
     H: Threads + Wait + Send + Sync + Drop + 'static,
@@ -254,13 +278,8 @@ pub fn serve_queued<
     ensures writes { IfSome result (λ o. ∥ HasWrittenAll O.sends (Some ground.link_out) (vec_len trees + 1) (view o.passed.written.value) o.passed.is_broken ∥₁) }
     ensures shared { IfSome result (λ o. IsShared (view o.passed.read.value) o.passed.passes.value.items (view o.passed.written.value)) }
 {
-    let (jobs, work, read) = bounded_with::<Option<Job>, Hand<Job>, Fair, Global>(alloc, JOBS).ok()?;
-    let (replies, writes, written) = bounded_with::<
-        Option<Letter<Reply>>,
-        ReplyLane<Reply>,
-        InOrder,
-        Global,
-    >(alloc, REPLIES).ok()?;
+    let (jobs, work, read) = job_queue(alloc)?;
+    let (replies, writes, written) = reply_queue(alloc)?;
     serve_hired(
         rt, alloc, ground, &jobs, work, read, &replies, writes, written, trees, shares, settings,
     )

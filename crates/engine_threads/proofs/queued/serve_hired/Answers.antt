@@ -1,0 +1,18 @@
+use Rattle.std.proofs.Common.{◌≡◌, ◌+◌, ℕ, Some, IfSome, subst, subst₂, vec_len}
+use Rattle.crossbeam_channel.specs.Claims.{view}
+use Rattle.engine_roles.specs.Writes.{HasWrittenAll}
+use Rattle.engine_threads.proofs.queued.serve_hired.Goals as goal
+
+pub invariant_of-parts : goal.invariant_of-parts
+invariant_of-parts g c =
+    let r = c.in_ok-parts.parts.reader in
+    record { seated = r.seated; some_part = r.some_part; takes_none = r.takes_none; counted = r.counted; numbered = r.numbered }
+
+pub returns-clause-taken : goal.returns-clause-taken
+returns-clause-taken g c =
+    subst (λ (n : ℕ). IfSome c.serve_staffed.result (λ o. vec_len o.taken ≡ n + 1)) c.in_ok-staff.ensures.len c.serve_staffed.ensures.taken
+
+pub returns-clause-writes : goal.returns-clause-writes
+returns-clause-writes g c =
+    subst₂ (λ (link : g.row.O.Denot) (n : ℕ). IfSome c.serve_staffed.result (λ o. ∥ HasWrittenAll g.O.LinkOut.sends (Some link) (n + 1) (view o.passed.written.value) o.passed.is_broken ∥₁))
+    c.in_ok-parts.ensures.links.1 c.in_ok-staff.ensures.len c.serve_staffed.ensures.writes
