@@ -129,7 +129,6 @@ module _ (T : RattleType) (g : Ghosts T.Denot) where
   pub kept_send : IsSend T → IsSync T → IsSend (Kept.the_row T g)
   kept_send s y = search (kept.the_send T g, sendable)
 
-
   module _ (O S : RattleType) (o : out.Ghosts O.Denot) (k : sink.Ghosts S.Denot O.Denot) where
     pub writer_role_send : IsSend T → IsSync T → IsSend O → IsSend S → IsSend (WriterRole.the_row T O S o k g)
     writer_role_send s y c d =

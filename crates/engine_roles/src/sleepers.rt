@@ -62,7 +62,9 @@ impl Sleepers {
             return;
         };
         if is_watch_wanted && !self.is_watched.swap(true, Ordering::SeqCst) {
-            place.parker.park_timeout(rt, Duration::from_millis(NAP_MILLIS));
+            place
+                .parker
+                .park_timeout(rt, Duration::from_millis(NAP_MILLIS));
             self.is_watched.store(false, Ordering::SeqCst);
         } else {
             place.parker.park(rt);

@@ -130,9 +130,7 @@ fn serve_staffed<
 {
     let ended = room_for::<Passes<Job, Reply>>(alloc, 5)?;
     let handles = room_for::<Working<T, C>>(alloc, 4)?;
-    run::<H, T, I, O, C, Brand>(
-        rt, alloc, jobs, replies, parts, staff, handles, ended, room,
-    )
+    run::<H, T, I, O, C, Brand>(rt, alloc, jobs, replies, parts, staff, handles, ended, room)
 }
 
 /// What a session has before its queues.

@@ -43,13 +43,7 @@ pub struct Parts<H: Drop, T: Ledgers, I: LinkIn + Drop, O: LinkOut + Drop> {
 }
 
 /// Both roles at their beginning. None is want of memory.
-fn share<
-    H: Drop,
-    T: Ledgers,
-    I: LinkIn + Drop,
-    O: LinkOut + Drop,
-    S: Source<I> + Sink<O>,
->(
+fn share<H: Drop, T: Ledgers, I: LinkIn + Drop, O: LinkOut + Drop, S: Source<I> + Sink<O>>(
     alloc: Global,
     parts: Parts<H, T, I, O>,
 ) -> Option<Shared<H, T, I, O, S>>

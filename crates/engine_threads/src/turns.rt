@@ -20,13 +20,7 @@ const JOINED: usize = 8;
 const JOBS_A_THREAD: u64 = 4;
 
 /// Offers the replies that are ready, unless another thread does. Whether it took any.
-fn offer<
-    H: Wait + Drop,
-    T: Ledgers,
-    I: LinkIn + Drop,
-    O: LinkOut + Drop,
-    S: Source<I> + Sink<O>,
->(
+fn offer<H: Wait + Drop, T: Ledgers, I: LinkIn + Drop, O: LinkOut + Drop, S: Source<I> + Sink<O>>(
     common: &Common<H, T, I, O, S>,
 ) -> bool {
     let signs = &common.signs;
@@ -57,10 +51,7 @@ pub fn read<
     I: LinkIn + Drop,
     O: LinkOut + Drop,
     S: Source<I> + Sink<O>,
->(
-    common: &Common<H, T, I, O, S>,
-    number: usize,
-) -> bool {
+>(common: &Common<H, T, I, O, S>, number: usize) -> bool {
     if common.signs.is_over() {
         return false;
     }
@@ -84,13 +75,7 @@ pub fn read<
 
 /// Wakes those who may have something to do after a receive: all, where the session has ended; else one for every few jobs, and one at
 /// least where nobody else would look.
-fn tell_read<
-    H: Drop,
-    T: Ledgers,
-    I: LinkIn + Drop,
-    O: LinkOut + Drop,
-    S: Source<I> + Sink<O>,
->(
+fn tell_read<H: Drop, T: Ledgers, I: LinkIn + Drop, O: LinkOut + Drop, S: Source<I> + Sink<O>>(
     common: &Common<H, T, I, O, S>,
     queued: u64,
     has_ended: bool,

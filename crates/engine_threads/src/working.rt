@@ -70,10 +70,7 @@ impl Rest {
         I: LinkIn + Drop,
         O: LinkOut + Drop,
         S: Source<I> + Sink<O>,
-    >(
-        &mut self,
-        common: &Common<H, T, I, O, S>,
-    ) {
+    >(&mut self, common: &Common<H, T, I, O, S>) {
         if !self.is_lying {
             common.sleepers.lie_down(self.number);
             self.is_lying = true;
@@ -95,10 +92,7 @@ pub fn work_all<
     O: LinkOut + Drop,
     C: Calls + Drop,
     S: Source<I> + Sink<O>,
->(
-    common: Shared<H, T, I, O, S>,
-    staff: Staff<T, C>,
-) -> WorkerEnd<T, C>
+>(common: Shared<H, T, I, O, S>, staff: Staff<T, C>) -> WorkerEnd<T, C>
     ensures { (result.passes.number ≡ staff.worker.number) × IsSeatAt (receives_on staff.worker.jobs) result.passes.job_pass × IsSeatAt (sends_on staff.worker.replies) result.passes.reply_pass }
 {
     let Staff {

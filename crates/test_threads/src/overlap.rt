@@ -111,7 +111,12 @@ const ONE_BY_ONE: Story = Story {
 fn a_call_that_waits_stops_nobody(rt: HostRuntime) -> Result<(), Fail> {
     let met = Arc::new(rt.alloc(), AtomicU32::new(0))?;
     let holds = holds_of(&rt, rt.alloc(), ONE_BY_ONE.workers)?;
-    check_by(&rt, rt.alloc(), &ONE_BY_ONE, meeting(rt.alloc(), holds, &met)?)?;
+    check_by(
+        &rt,
+        rt.alloc(),
+        &ONE_BY_ONE,
+        meeting(rt.alloc(), holds, &met)?,
+    )?;
     assert_eq!(rt; met.load(Ordering::SeqCst), 2);
     Ok(())
 }
