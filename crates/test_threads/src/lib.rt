@@ -10,6 +10,8 @@ mod overlap;
 #[cfg(test)]
 mod rows;
 #[cfg(test)]
+mod sleeping;
+#[cfg(test)]
 mod teller;
 #[cfg(test)]
 mod turns;

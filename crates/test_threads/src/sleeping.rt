@@ -1,0 +1,31 @@
+//! Threads that sleep while there is nothing to do.
+
+use engine_roles::Sleepers;
+use std::test::Fail;
+
+// Nobody wakes it: it would sleep for ever, if it did not look again by itself.
+#[test]
+fn a_sleeper_that_watches_looks_by_itself(rt: HostRuntime) -> Result<(), Fail> {
+    let sleepers = Sleepers::new();
+    for number in 0..4 {
+        sleepers.lie_down(number);
+        sleepers.sleep(&rt, number, true);
+        assert!(rt; !sleepers.is_watched());
+    }
+    Ok(())
+}
+
+// It is woken after it said that it will sleep, and before it does.
+#[test]
+fn no_wake_up_is_lost(rt: HostRuntime) -> Result<(), Fail> {
+    let sleepers = Sleepers::new();
+    for number in 0..4 {
+        sleepers.lie_down(number);
+    }
+    sleepers.wake(3);
+    sleepers.wake(9);
+    for number in 0..4 {
+        sleepers.sleep(&rt, number, false);
+    }
+    Ok(())
+}
