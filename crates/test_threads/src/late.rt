@@ -1,5 +1,7 @@
 //! A client that does not take its replies for a while.
 
+ghost use Rattle.std.specs.Prelude.{◌≡◌};
+
 use crate::client::{Fates, Hears};
 use crate::teller::{Client, Comes, Story, check_over, client_of, holds_of};
 use backing::{Answer, Call, Calls, Shared};
