@@ -1,4 +1,4 @@
-//! The thread that cuts frames and queues a job for each.
+//! Who cuts frames and queues a job for each.
 
 ghost use Rattle.std.specs.Prelude.{◌≡◌, ◌<◌, ◌++◌, ◌∷◌, [], false, length, map, IfOk, IsTrue, IsFalse};
 ghost use Rattle.crossbeam_channel.specs.Claims.{view, IsSeatAt};

@@ -114,7 +114,7 @@ pub(crate) fn settle_left<H: Wait, T: Ledgers, D: Folders>(
     Some(settled)
 }
 
-/// A thread that takes jobs, and puts a reply to each that gets one.
+/// Who takes jobs, and puts a reply to each that gets one.
 #[derive(Drop)]
 pub struct Worker {
     pub number: u64,
