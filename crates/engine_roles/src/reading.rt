@@ -73,6 +73,7 @@ impl<I: LinkIn + Drop, S: Source<I>> ReaderRole<I, S> {
         ensures parts { (view result.pass).parts + S.parted ≡ 8 }
         ensures takes_none { length (view result.pass).taken ≡ 0 }
         ensures end { result.end ≡ end_of self.end }
+        ensures farewell { result.farewell ≡ self.reader.farewell }
         ensures read { ∥ HasReadAll I.receives S.heard_from result.end (queued_of (view result.pass).put) ∥₁ }
     {
         let ReaderRole {

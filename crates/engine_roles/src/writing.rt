@@ -44,7 +44,7 @@ impl<T: Ledgers, O: LinkOut + Drop, S: Sink<O>> WriterRole<T, O, S> {
         requires from { S.sent_to ≡ Some link }
         requires fresh { view writer.pass ≡ none_got S.senders }
         requires whole { writer.is_broken ≡ false }
-        ensures { (result.writer ≡ writer) × (result.link ≡ link) }
+        ensures { (result.writer ≡ writer) × (result.link ≡ link) × (result.kept ≡ kept) }
     {
         WriterRole {
             writer,
@@ -74,6 +74,7 @@ impl<T: Ledgers, O: LinkOut + Drop, S: Sink<O>> WriterRole<T, O, S> {
         ensures made { (view result.pass).made ≡ S.senders }
         ensures told { length (view result.pass).known ≡ 0 }
         ensures broken { result.is_broken ≡ self.writer.is_broken }
+        ensures kept { result.kept ≡ self.kept }
         ensures wrote { ∥ HasWrittenAll O.sends S.sent_to S.senders (view result.pass) result.is_broken ∥₁ }
     {
         let WriterRole {
