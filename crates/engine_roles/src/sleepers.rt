@@ -77,6 +77,13 @@ impl Sleepers {
         self.is_watched.load(Ordering::SeqCst)
     }
 
+    /// Wakes one that sleeps, if any does and none looks again by itself.
+    pub fn call_watch(&self) {
+        if !self.is_watched() {
+            self.wake(1);
+        }
+    }
+
     /// Wakes so many of those that sleep, or all where there are fewer.
     pub fn wake(&self, count: u64) {
         let mut left = count;

@@ -19,6 +19,8 @@ pub struct Signs {
     pub is_over: AtomicBool,
     /// How many receives have ended.
     pub receives: AtomicU64,
+    /// How many jobs are queued or worked on.
+    pub unfinished: AtomicU64,
 }
 
 impl Signs {
@@ -28,6 +30,7 @@ impl Signs {
             is_broken: AtomicBool::new(false),
             is_over: AtomicBool::new(false),
             receives: AtomicU64::new(0),
+            unfinished: AtomicU64::new(0),
         }
     }
 
@@ -41,6 +44,23 @@ impl Signs {
 
     pub fn is_over(&self) -> bool {
         self.is_over.load(Ordering::SeqCst)
+    }
+
+    /// A receive has ended, which queued so many jobs.
+    pub fn tell_received(&self, queued: u64) {
+        self.unfinished.fetch_add(queued, Ordering::SeqCst);
+        self.receives.fetch_add(1, Ordering::SeqCst);
+    }
+
+    /// A job was worked on, and its reply may be there.
+    pub fn tell_worked(&self) {
+        self.unfinished.fetch_sub(1, Ordering::SeqCst);
+        self.tell_ready();
+    }
+
+    /// Whether jobs are queued or worked on.
+    pub fn is_busy(&self) -> bool {
+        self.unfinished.load(Ordering::SeqCst) != 0
     }
 }
 

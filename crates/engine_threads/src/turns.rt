@@ -16,9 +16,6 @@ use std::sync::atomic::Ordering;
 /// How many jobs a thread works on before it looks whether their replies can be offered. They go out together then.
 const JOINED: usize = 8;
 
-/// How many jobs one more thread is woken for.
-const JOBS_A_THREAD: u64 = 4;
-
 /// Offers the replies that are ready, unless another thread does. Whether it took any.
 fn offer<H: Wait + Drop, T: Ledgers, I: LinkIn + Drop, O: LinkOut + Drop, S: Source<I> + Sink<O>>(
     common: &Common<H, T, I, O, S>,
@@ -73,8 +70,9 @@ pub fn read<
     true
 }
 
-/// Wakes those who may have something to do after a receive: all, where the session has ended; else one for every few jobs, and one at
-/// least where nobody else would look.
+/// Wakes those who may have something to do after a receive: all, where the session has ended, and else one where something came and nobody
+/// would look by itself. Calls that are short are worked off by the one who read them, without a wake-up; for one that takes long, who watches
+/// comes within a millisecond.
 fn tell_read<H: Drop, T: Ledgers, I: LinkIn + Drop, O: LinkOut + Drop, S: Source<I> + Sink<O>>(
     common: &Common<H, T, I, O, S>,
     queued: u64,
@@ -85,12 +83,9 @@ fn tell_read<H: Drop, T: Ledgers, I: LinkIn + Drop, O: LinkOut + Drop, S: Source
         common.sleepers.wake(u64::MAX);
         return;
     }
-    common.signs.receives.fetch_add(1, Ordering::SeqCst);
-    let count = queued / JOBS_A_THREAD;
-    if count > 0 {
-        common.sleepers.wake(count);
-    } else if queued > 0 && !common.sleepers.is_watched() {
-        common.sleepers.wake(1);
+    common.signs.tell_received(queued);
+    if queued > 0 {
+        common.sleepers.call_watch();
     }
 }
 
@@ -114,7 +109,7 @@ pub fn take_turns<
     for _ in 0..JOINED {
         match worker.turn(&common.rt, &common.hall, &mut kept.share, served) {
             Turn::Worked(_) => {
-                common.signs.tell_ready();
+                common.signs.tell_worked();
                 is_busy = true;
             }
             Turn::Nothing => break,

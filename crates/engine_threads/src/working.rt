@@ -38,6 +38,8 @@ struct Rest {
     number: usize,
     /// Whether others know that it is about to sleep.
     is_lying: bool,
+    /// Whether it has slept and did nothing since.
+    has_slept: bool,
     /// How many receives had ended when it slept last.
     seen: u64,
 }
@@ -47,8 +49,20 @@ impl Rest {
         Rest {
             number,
             is_lying: false,
+            has_slept: false,
             seen: 0,
         }
+    }
+
+    /// It looks again. Where it comes out of its sleep and there are jobs, another is to watch before it takes one, for that may take long.
+    fn look<H: Drop, T: Ledgers, I: LinkIn + Drop, O: LinkOut + Drop, S: Source<I> + Sink<O>>(
+        &mut self,
+        common: &Common<H, T, I, O, S>,
+    ) {
+        if self.has_slept && common.signs.is_busy() {
+            common.sleepers.call_watch();
+        }
+        self.has_slept = false;
     }
 
     /// It found something to do.
@@ -81,6 +95,7 @@ impl Rest {
         self.seen = receives;
         common.sleepers.sleep(&common.rt, self.number, is_news);
         self.is_lying = false;
+        self.has_slept = true;
     }
 }
 
@@ -109,6 +124,7 @@ pub fn work_all<
     for _ in common.rt.forever() {
         // Before the turns: once it is over nothing more comes.
         let is_over = common.signs.is_over();
+        rest.look(&common);
         if take_turns(&common, &mut worker, &mut kept, &mut served) || read(&common, number) {
             rest.rise(&common);
         } else if is_over {

@@ -29,3 +29,15 @@ fn no_wake_up_is_lost(rt: HostRuntime) -> Result<(), Fail> {
     }
     Ok(())
 }
+
+// One that sleeps, where nobody looks by itself, is called to look: it would sleep for ever, if it were not.
+#[test]
+fn one_is_called_to_look(rt: HostRuntime) -> Result<(), Fail> {
+    let sleepers = Sleepers::new();
+    for number in 0..4 {
+        sleepers.lie_down(number);
+        sleepers.call_watch();
+        sleepers.sleep(&rt, number, false);
+    }
+    Ok(())
+}
