@@ -4,6 +4,8 @@ use Rattle.std.specs.Str.Parse.{IsNumeral, without_leading_plus, digits_value}
 use Rattle.clap.specs.Words.{App, Row, Rule, Text, first_of, new_app, new_rule, one_of, with_rule, with_subcommand}
 use Rattle.clap.specs.declared.builder.action.ArgAction.TheVariants.{Set, SetTrue}
 use Rattle.clap.specs.declared.builder.value_parser.ValueParser.TheVariants.{Signed}
+use Rattle.mirrord_server.specs.declared.terms.Bounds.{Bounds}
+use Rattle.mirrord_server.specs.declared.terms.Terms.{Terms}
 use Rattle.mirrord_programs.specs.declared.options.Options.{Options}
 use Rattle.mirrord_programs.specs.declared.options.Options.TheVariants.{Serve, Pipe, Hex}
 
@@ -37,7 +39,11 @@ single_rule = record (flag_rule (codes "single")) { short = Some 115 }
 
 -- told how many postings a period of the ledger may have, too
 abbrev pub bounded : App → App
-bounded app = with_rule app (number_rule (codes "postings") 1 1048576 (codes "1048576"))
+bounded app = with_rule app (number_rule (codes "postings") 1 4294967295 (codes "1048576"))
+
+-- told how many nodes, open files and requests there may be, too
+abbrev pub limited : App → App
+limited app = with_rule (with_rule (with_rule app (number_rule (codes "nodes") 2 16777216 (codes "65536"))) (number_rule (codes "files") 1 1048576 (codes "4096"))) (number_rule (codes "requests") 1 65536 (codes "64"))
 
 -- the subcommands
 abbrev pub hex_app : App
@@ -48,14 +54,14 @@ abbrev pub owned : App → App
 owned app = with_rule (with_rule app (user (codes "uid"))) (user (codes "gid"))
 
 abbrev pub pipe_app : App
-pipe_app = bounded (owned (with_rule (new_app (codes "pipe")) (text_rule (codes "root"))))
+pipe_app = bounded (limited (owned (with_rule (new_app (codes "pipe")) (text_rule (codes "root")))))
 
 -- told how many threads work on requests, too
 abbrev pub staffed : App → App
 staffed app = with_rule (with_rule app (number_rule (codes "workers") 1 4 (codes "2"))) single_rule
 
 abbrev pub serve_app : App
-serve_app = bounded (owned (staffed (with_rule (with_rule (new_app (codes "serve")) (text_rule (codes "root"))) (text_rule (codes "socket")))))
+serve_app = bounded (limited (owned (staffed (with_rule (with_rule (new_app (codes "serve")) (text_rule (codes "root"))) (text_rule (codes "socket"))))))
 
 -- the program, whose version can be asked for, without its subcommands
 abbrev pub bare_app : App
@@ -96,14 +102,25 @@ FlagReads (Some text) flag = (text ≡ codes "true" → flag ≡ true) × (text 
 abbrev pub IsFlag : Text → List Row → Bool → Type 0
 IsFlag id rows = FlagReads (one_of id rows)
 
+-- how far the table may grow
+pub record AreBounds (rows : List Row) (bounds : Bounds) : Type 0 where
+  pub nodes : IsNumber 32 (codes "nodes") rows bounds.nodes
+  pub files : IsNumber 32 (codes "files") rows bounds.files
+  pub requests : IsNumber 32 (codes "requests") rows bounds.requests
+  pub postings : IsNumber 32 (codes "postings") rows bounds.postings
+
+-- what a session is served by
+pub record AreTerms (rows : List Row) (terms : Terms) : Type 0 where
+  pub uid : IsNumber 32 (codes "uid") rows terms.settings.uid
+  pub gid : IsNumber 32 (codes "gid") rows terms.settings.gid
+  pub bounds : AreBounds rows terms.bounds
+
 -- what is asked for by the subcommand of that name, which was met with these rows
 abbrev pub IsAskedBy : Text → List Row → Options → Type 0
-IsAskedBy name rows (Serve root socket workers single uid gid postings) =
+IsAskedBy name rows (Serve root socket workers single terms) =
     (name ≡ codes "serve") × IsText (codes "root") rows root.now × IsText (codes "socket") rows socket.now
-    × IsNumber 8 (codes "workers") rows workers × IsFlag (codes "single") rows single × IsNumber 32 (codes "uid") rows uid × IsNumber 32 (codes "gid") rows gid
-    × IsNumber 32 (codes "postings") rows postings
-IsAskedBy name rows (Pipe root uid gid postings) =
-    (name ≡ codes "pipe") × IsText (codes "root") rows root.now × IsNumber 32 (codes "uid") rows uid × IsNumber 32 (codes "gid") rows gid × IsNumber 32 (codes "postings") rows postings
+    × IsNumber 8 (codes "workers") rows workers × IsFlag (codes "single") rows single × AreTerms rows terms
+IsAskedBy name rows (Pipe root terms) = (name ≡ codes "pipe") × IsText (codes "root") rows root.now × AreTerms rows terms
 IsAskedBy name rows (Hex sample postings) = (name ≢ codes "serve") × (name ≢ codes "pipe") × IsFlag (codes "sample") rows sample × IsNumber 32 (codes "postings") rows postings
 
 abbrev pub IsAsked : Option (Text × List Row) → Options → Type 0

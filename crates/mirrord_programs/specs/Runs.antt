@@ -27,7 +27,7 @@ use Rattle.mirrord_programs.specs.declared.options.Options.TheVariants.{Serve, P
 
 -- nobody owns what is mirrored
 abbrev pub unowned : (postings : ℕ) → Terms
-unowned postings = record { settings = record { uid = 0; gid = 0 }; postings = postings }
+unowned postings = record { settings = record { uid = 0; gid = 0 }; bounds = record { nodes = 65536; files = 4096; requests = 64; postings = postings } }
 
 -- how often calls of a memory tree have failed
 abbrev pub failed_in : MemTree → ℕ
@@ -107,10 +107,9 @@ pub record IsRefused (words : List Text) (kind : ErrorKind) : Type 0 where
 
 -- the program that was asked for
 abbrev pub RunsAsked : Options → (input output output' faults faults' : Option (List ℕ)) → (status : ℕ) → (told : Bool) → Type 0
-RunsAsked (Serve root socket workers single uid gid postings) input output output' faults faults' status told =
-    RunsServe root socket (record { workers = workers; single = single }) (record { settings = record { uid = uid; gid = gid }; postings = postings }) faults faults' status told × (output' ≡ output)
-RunsAsked (Pipe root uid gid postings) input output output' faults faults' status told =
-    RunsPipe root (record { settings = record { uid = uid; gid = gid }; postings = postings }) input output output' faults faults' status told
+RunsAsked (Serve root socket workers single terms) input output output' faults faults' status told =
+    RunsServe root socket (record { workers = workers; single = single }) terms faults faults' status told × (output' ≡ output)
+RunsAsked (Pipe root terms) input output output' faults faults' status told = RunsPipe root terms input output output' faults faults' status told
 RunsAsked (Hex sampled postings) input output output' faults faults' status told = RunsSeeded sampled postings input output output' faults faults' status told
 
 -- The program does what the words ask for where clap has nothing against them. Else, or where memory is refused, it ends as a

@@ -3,7 +3,7 @@
 ghost use Rattle.std.specs.Prelude.{◌≡◌, codes, false, IfOk, pos};
 ghost use Rattle.clap.specs.Words.{app_of, rule_of};
 ghost use Rattle.clap.specs.declared.builder.command.Command.TheViews.{out-Command as fields_of};
-ghost use Rattle.mirrord_programs.specs.CommandLine.{bare_app, bounded, flag_rule, hex_app, mirrord_app, owned, number_rule, pipe_app, serve_app, single_rule, staffed, text_rule, user};
+ghost use Rattle.mirrord_programs.specs.CommandLine.{bare_app, bounded, flag_rule, hex_app, limited, mirrord_app, owned, number_rule, pipe_app, serve_app, single_rule, staffed, text_rule, user};
 
 use clap::builder::ValueParser;
 use clap::{Arg, ArgAction, Command};
@@ -50,11 +50,17 @@ const UID: &str = "The user that each file and folder is told to belong to";
 
 const GID: &str = "The group that each file and folder is told to belong to";
 
+const NODES: &str = "How many files and folders the client may know at a time, the root among them";
+
+const FILES: &str = "How many files may be open at a time";
+
+const REQUESTS: &str = "How many requests may be in flight at a time";
+
 const POSTINGS: &str =
     "How many entries of the ledger a period may have; the next begins where half of them are made";
 
-/// The most that a period may have.
-pub const MOST_POSTINGS: u32 = 1_048_576;
+/// How many entries of the ledger a period may have if nothing else is said.
+pub const DEFAULT_POSTINGS: u32 = 1_048_576;
 
 const SAMPLE: &str = "Start with a file `a` holding `abc`, a folder `d` and an empty file `e`";
 
@@ -125,7 +131,18 @@ fn with_postings<'a>(alloc: Global, command: Command<'a>) -> Result<Command<'a>,
     ensures app { IfOk result (λ c. app_of c ≡ bounded (app_of command.entry)) }
     ensures local { (fields_of command.entry).has_globals ≡ false → IfOk result (λ c. (fields_of c).has_globals ≡ false) }
 {
-    command.arg(number_option(alloc, "postings", 1, MOST_POSTINGS, "1048576", POSTINGS))
+    command.arg(number_option(alloc, "postings", 1, u32::MAX, "1048576", POSTINGS))
+}
+
+/// A command that is also told how many nodes, open files and requests there may be.
+fn with_limits<'a>(alloc: Global, command: Command<'a>) -> Result<Command<'a>, AllocError>
+    ensures app { IfOk result (λ c. app_of c ≡ limited (app_of command.entry)) }
+    ensures local { (fields_of command.entry).has_globals ≡ false → IfOk result (λ c. (fields_of c).has_globals ≡ false) }
+{
+    command
+        .arg(number_option(alloc, "nodes", 2, 16_777_216, "65536", NODES))?
+        .arg(number_option(alloc, "files", 1, 1_048_576, "4096", FILES))?
+        .arg(number_option(alloc, "requests", 1, 65_536, "64", REQUESTS))
 }
 
 fn hex_command<'a>(alloc: Global) -> Result<Command<'a>, AllocError>
@@ -168,7 +185,8 @@ fn pipe_command<'a>(alloc: Global) -> Result<Command<'a>, AllocError>
         .after_help(PIPE_EXAMPLE)
         .arg(text_option(alloc, "root", "DIR", ROOT))?;
     let owned = with_owner(alloc, rooted)?;
-    with_postings(alloc, owned)
+    let limited = with_limits(alloc, owned)?;
+    with_postings(alloc, limited)
 }
 
 fn serve_command<'a>(alloc: Global) -> Result<Command<'a>, AllocError>
@@ -182,7 +200,8 @@ fn serve_command<'a>(alloc: Global) -> Result<Command<'a>, AllocError>
         .arg(text_option(alloc, "socket", "PATH", SOCKET))?;
     let staffed = with_workers(alloc, placed)?;
     let owned = with_owner(alloc, staffed)?;
-    with_postings(alloc, owned)
+    let limited = with_limits(alloc, owned)?;
+    with_postings(alloc, limited)
 }
 
 /// The program without its subcommands.

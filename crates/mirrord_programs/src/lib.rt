@@ -10,7 +10,7 @@ mod options;
 mod runs;
 mod samples;
 
-pub use command::MOST_POSTINGS;
+pub use command::DEFAULT_POSTINGS;
 pub use ended::Ended;
 pub use faults::{Failure, Fault, tell};
 pub use folders::{Serving, pipe_run, serve_run};

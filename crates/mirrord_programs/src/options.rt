@@ -3,10 +3,12 @@
 ghost use Rattle.std.specs.Prelude.{◌≡◌, codes, true, map, IfErr, IfOk};
 ghost use Rattle.clap.specs.Words.{fault_of, found_of, kind_of, rows_of, subcommand_of, subcommand_rows_of, takes, FailsBy};
 ghost use Rattle.clap.specs.declared.error.kind.ErrorKind.TheVariants.{OutOfMemory};
-ghost use Rattle.mirrord_programs.specs.CommandLine.{mirrord_app, IsAsked, IsAskedBy, IsFlag, IsNumber, IsText, NumberReads};
+ghost use Rattle.mirrord_programs.specs.CommandLine.{mirrord_app, AreBounds, AreTerms, IsAsked, IsAskedBy, IsFlag, IsNumber, IsText, NumberReads};
 
-use crate::command::{MOST_POSTINGS, command};
+use crate::command::{DEFAULT_POSTINGS, command};
 use clap::{ArgMatches, Error};
+use engine::Settings;
+use mirrord_server::{Bounds, Terms};
 use std::alloc::Global;
 use std::convert::AsStr;
 
@@ -23,21 +25,15 @@ pub enum Options<'a> {
         workers: u8,
         /// Whether one thread does all, whatever their number.
         single: bool,
-        /// Who all of it is told to belong to.
-        uid: u32,
-        gid: u32,
-        /// How many postings a period of the ledger may have.
-        postings: u32,
+        /// Whom all of it is told to belong to, and how far the table may grow.
+        terms: Terms,
     },
     /// Serve a folder over standard input and output.
     Pipe {
         /// The folder.
         root: &'a str,
-        /// Who all of it is told to belong to.
-        uid: u32,
-        gid: u32,
-        /// How many postings a period of the ledger may have.
-        postings: u32,
+        /// Whom all of it is told to belong to, and how far the table may grow.
+        terms: Terms,
     },
     /// Serve a tree in memory over hexadecimal lines.
     Hex {
@@ -96,6 +92,31 @@ fn flag_in(matches: &ArgMatches<'_>, name: &str) -> bool
     matches.get_flag(name)
 }
 
+/// How far the table may grow.
+fn bounds_in(matches: &ArgMatches<'_>) -> Bounds
+    ensures { AreBounds (rows_of (found_of matches.now)) result }
+{
+    Bounds {
+        nodes: number_in(matches, "nodes"),
+        files: number_in(matches, "files"),
+        requests: number_in(matches, "requests"),
+        postings: number_in(matches, "postings"),
+    }
+}
+
+/// What a session is served by.
+fn terms_in(matches: &ArgMatches<'_>) -> Terms
+    ensures { AreTerms (rows_of (found_of matches.now)) result }
+{
+    Terms {
+        settings: Settings {
+            uid: number_in(matches, "uid"),
+            gid: number_in(matches, "gid"),
+        },
+        bounds: bounds_in(matches),
+    }
+}
+
 /// What `serve` asks for.
 fn serve_asked<'a>(matches: &ArgMatches<'a>) -> Options<'a>
     ensures { IsAskedBy (codes "serve") (rows_of (found_of matches.now)) result }
@@ -105,9 +126,7 @@ fn serve_asked<'a>(matches: &ArgMatches<'a>) -> Options<'a>
         socket: text_in(matches, "socket"),
         workers: small_number_in(matches, "workers"),
         single: flag_in(matches, "single"),
-        uid: number_in(matches, "uid"),
-        gid: number_in(matches, "gid"),
-        postings: number_in(matches, "postings"),
+        terms: terms_in(matches),
     }
 }
 
@@ -117,9 +136,7 @@ fn pipe_asked<'a>(matches: &ArgMatches<'a>) -> Options<'a>
 {
     Options::Pipe {
         root: text_in(matches, "root"),
-        uid: number_in(matches, "uid"),
-        gid: number_in(matches, "gid"),
-        postings: number_in(matches, "postings"),
+        terms: terms_in(matches),
     }
 }
 
@@ -147,7 +164,7 @@ fn asked<'a>(matches: &ArgMatches<'a>) -> Options<'a>
         Some((name, met)) => asked_by(name, met),
         None => Options::Hex {
             sample: false,
-            postings: MOST_POSTINGS,
+            postings: DEFAULT_POSTINGS,
         },
     }
 }

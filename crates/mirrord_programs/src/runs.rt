@@ -2,7 +2,7 @@
 
 ghost use Rattle.std.specs.Prelude.{◌≡◌, map};
 ghost use Rattle.clap.specs.Words.{kind_of};
-ghost use Rattle.mirrord_programs.specs.Runs.{IsUnserved, RunsHex, RunsSeeded, RunsWords, ServesHex};
+ghost use Rattle.mirrord_programs.specs.Runs.{IsUnserved, RunsHex, RunsSeeded, RunsWords, ServesHex, unowned};
 
 use crate::ended::{Ended, failure_of, status_after, tell_any};
 use crate::faults::{Failure, Fault, tell};
@@ -12,7 +12,7 @@ use crate::options::{Options, read_options};
 use crate::samples::new_tree;
 use clap::error::ErrorKind;
 use engine::{SessionEnd, Settings};
-use mirrord_server::{Terms, serve_known};
+use mirrord_server::{Bounds, Terms, serve_known};
 use std::alloc::Global;
 use std::convert::AsStr;
 use std::fs::File;
@@ -24,13 +24,16 @@ use std::sync::Wait;
 use std::thread::Threads;
 use table::Seeds;
 
-/// What a session is served by, by the numbers of a command line.
-fn terms_of(uid: u32, gid: u32, postings: u32) -> Terms
-    ensures { result ≡ record { settings = record { uid = uid; gid = gid }; postings = postings } }
+/// What a tree in memory is served by: nobody owns what is mirrored.
+fn unowned(postings: u32) -> Terms
+    ensures { result ≡ unowned postings }
 {
     Terms {
-        settings: Settings { uid, gid },
-        postings: u64::from(postings),
+        settings: Settings { uid: 0, gid: 0 },
+        bounds: Bounds {
+            postings,
+            ..Bounds::default()
+        },
     }
 }
 
@@ -48,8 +51,7 @@ fn serve_new<H: Wait, I: BufRead + Drop, O: Write + Drop>(
     let Ok(tree) = new_tree(alloc, sample) else {
         return SessionEnd::Memory;
     };
-    // Nobody owns what is mirrored.
-    serve_known(rt, alloc, seeds, tree, link, terms_of(0, 0, postings))
+    serve_known(rt, alloc, seeds, tree, link, unowned(postings))
 }
 
 /// Serves a tree in memory over hexadecimal lines: the program `hex` but for its command line. A period of the ledger may have so many
@@ -168,30 +170,13 @@ pub fn run<
                 socket,
                 workers,
                 single,
-                uid,
-                gid,
-                postings,
+                terms,
             },
         ) => {
             let threads = Serving { workers, single };
-            let terms = terms_of(uid, gid, postings);
             serve_run(rt, host, root, socket, threads, terms, output, faults)
         }
-        Ok(
-            Options::Pipe {
-                root,
-                uid,
-                gid,
-                postings,
-            },
-        ) => pipe_run(
-            rt,
-            root,
-            terms_of(uid, gid, postings),
-            input,
-            output,
-            faults,
-        ),
+        Ok(Options::Pipe { root, terms }) => pipe_run(rt, root, terms, input, output, faults),
         Ok(Options::Hex { sample, postings }) => {
             run_hex(rt, sample, postings, input, output, faults)
         }

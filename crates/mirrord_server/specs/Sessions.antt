@@ -1,5 +1,5 @@
 -- A session with a table of its own.
-use Rattle.std.specs.Prelude.{ℕ, ◌≡◌, ◌⊎◌, List}
+use Rattle.std.specs.Prelude.{ℕ, max, ◌≡◌, ◌⊎◌, List}
 use Rattle.std.specs.Borrow.{Bor}
 use Rattle.backing.specs.Calls.{Asked}
 use Rattle.backing.specs.declared.call.Answer.{Answer}
@@ -11,13 +11,14 @@ use Rattle.engine.specs.Tables.{worlds}
 use Rattle.engine.specs.declared.ends.SessionEnd.{SessionEnd}
 use Rattle.engine.specs.declared.ends.SessionEnd.TheVariants as end
 use Rattle.engine.specs.declared.links.Sent.{Sent}
+use Rattle.mirrord_server.specs.declared.terms.Bounds.{Bounds}
 use Rattle.mirrord_server.specs.declared.terms.Terms.{Terms}
 use Rattle.table_steps.specs.World.{World, opened_world}
 use Rattle.table_steps.specs.declared.data.Limits.{Limits}
 
--- how far a table may grow, with so many postings in a period (own)
-abbrev pub limits_with : ℕ → Limits
-limits_with postings = record { nodes = 65536; postings = postings; flights = 64; files = 4096 }
+-- how far a table may grow; the root always has room
+abbrev pub limits_of : Bounds → Limits
+limits_of bounds = record { nodes = max bounds.nodes 1; postings = bounds.postings; flights = bounds.requests; files = bounds.files }
 
 -- how far the open folders may grow (own)
 abbrev pub folder_limits : FolderLimits
@@ -26,7 +27,7 @@ folder_limits = record { folders = 4096; names = 1048576 }
 -- a session over a new table, with open folders of these limits
 pub record IsServed {L C : Type 0} (terms : Terms) (receives : L → Heard → L → Type 0) (sends : L → List ℕ → Sent → L → Type 0) (gives : C → Asked → Answer → C → Type 0) (tree : C) (old : L) (over : SessionEnd) (new : L) : Type 0 where
   pub world : World
-  pub opened : world ≡ opened_world (limits_with terms.postings)
+  pub opened : world ≡ opened_world (limits_of terms.bounds)
   pub last : World
   pub dirs : Bor FolderLimits
   pub limits_are : dirs.now ≡ folder_limits

@@ -10,4 +10,4 @@ mod workers;
 pub use folder::{Served, Unserved, serve_folder};
 pub use hosting::{serve_alone, serve_known};
 pub use socket::{RECEIVED, serve_socket, serve_socket_by};
-pub use terms::Terms;
+pub use terms::{Bounds, Terms};

@@ -1,6 +1,6 @@
 //! The frames that the tests send and the replies that they wait for, in hexadecimal digits. Spaces are for reading.
 
-use mirrord_programs::{MOST_POSTINGS, hex_run, run};
+use mirrord_programs::{DEFAULT_POSTINGS, hex_run, run};
 use std::alloc::{AllocError, Global};
 use std::fs::File;
 use std::io;
@@ -111,7 +111,7 @@ pub fn run_from(
         rt,
         alloc,
         sample,
-        MOST_POSTINGS,
+        DEFAULT_POSTINGS,
         seeds,
         input,
         Vec::new(alloc),
@@ -142,7 +142,7 @@ pub fn run_into(
         rt,
         alloc,
         true,
-        MOST_POSTINGS,
+        DEFAULT_POSTINGS,
         seeds,
         input,
         room,

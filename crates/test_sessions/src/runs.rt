@@ -4,7 +4,7 @@ use crate::frames::{
     ABSENT, AGREED, ENTRY_A, ENTRY_E_REBORN, FORGET_FIVE, FORGET_THREE, FULL, INIT, LOOKUP_A,
     LOOKUP_E, lines_of, run_from, run_words,
 };
-use mirrord_programs::{MOST_POSTINGS, hex_run};
+use mirrord_programs::{DEFAULT_POSTINGS, hex_run};
 use std::io;
 use std::io::{ErrorKind, Write};
 use std::test::Fail;
@@ -132,7 +132,7 @@ fn broken_output(rt: HostRuntime) -> Result<(), Fail> {
         &rt,
         alloc,
         true,
-        MOST_POSTINGS,
+        DEFAULT_POSTINGS,
         Seeds::new(&rt)?,
         input.as_slice(),
         broken,
@@ -149,7 +149,7 @@ fn broken_output(rt: HostRuntime) -> Result<(), Fail> {
         &rt,
         alloc,
         true,
-        MOST_POSTINGS,
+        DEFAULT_POSTINGS,
         Seeds::new(&rt)?,
         input.as_slice(),
         full,
@@ -171,7 +171,7 @@ fn broken_standard_error(rt: HostRuntime) -> Result<(), Fail> {
         &rt,
         alloc,
         true,
-        MOST_POSTINGS,
+        DEFAULT_POSTINGS,
         Seeds::new(&rt)?,
         b"2".as_slice(),
         Vec::new(alloc),

@@ -1,8 +1,25 @@
 //! Command lines.
 
 use clap::error::ErrorKind;
+use engine::Settings;
 use mirrord_programs::{Options, read_options};
+use mirrord_server::{Bounds, Terms};
 use std::test::Fail;
+
+/// How far a table may grow if nothing else is said.
+const DEFAULT: Bounds = Bounds {
+    nodes: 65_536,
+    files: 4_096,
+    requests: 64,
+    postings: 1_048_576,
+};
+
+fn terms(uid: u32, gid: u32, bounds: Bounds) -> Terms {
+    Terms {
+        settings: Settings { uid, gid },
+        bounds,
+    }
+}
 
 #[test]
 fn hex_with_and_without_samples(rt: HostRuntime) -> Result<(), Fail> {
@@ -36,16 +53,24 @@ fn serve_and_pipe(rt: HostRuntime) -> Result<(), Fail> {
         "--uid",
         "4294967295",
         "--gid=7",
-        "--postings=1",
+        "--nodes=16777216",
+        "--files",
+        "1048576",
+        "--requests=65536",
+        "--postings=4294967295",
     ];
+    let most = Bounds {
+        nodes: 16_777_216,
+        files: 1_048_576,
+        requests: 65_536,
+        postings: 4_294_967_295,
+    };
     let given = Options::Serve {
         root: "/srv",
         socket: "/tmp/s",
         workers: 4,
         single: true,
-        uid: 4_294_967_295,
-        gid: 7,
-        postings: 1,
+        terms: terms(4_294_967_295, 7, most),
     };
     assert_eq!(rt; read_options(rt.alloc(), &words)?, given);
     let words = ["mirrord", "serve", "--socket=/tmp/s", "--root=/srv"];
@@ -54,17 +79,22 @@ fn serve_and_pipe(rt: HostRuntime) -> Result<(), Fail> {
         socket: "/tmp/s",
         workers: 2,
         single: false,
-        uid: 0,
-        gid: 0,
-        postings: 1_048_576,
+        terms: terms(0, 0, DEFAULT),
     };
     assert_eq!(rt; read_options(rt.alloc(), &words)?, left_out);
-    let words = ["mirrord", "pipe", "--gid", "1", "--root", "/srv"];
+    let words = [
+        "mirrord", "pipe", "--gid", "1", "--root", "/srv", "--nodes", "2", "--files=1",
+        "--requests=1", "--postings=1",
+    ];
+    let least = Bounds {
+        nodes: 2,
+        files: 1,
+        requests: 1,
+        postings: 1,
+    };
     let pipe = Options::Pipe {
         root: "/srv",
-        uid: 0,
-        gid: 1,
-        postings: 1_048_576,
+        terms: terms(0, 1, least),
     };
     assert_eq!(rt; read_options(rt.alloc(), &words)?, pipe);
     Ok(())
@@ -96,7 +126,7 @@ fn help_and_version(rt: HostRuntime) {
 // A command line that is not understood ends with status 2, on standard error.
 #[test]
 fn bad_command_lines(rt: HostRuntime) {
-    let bad: [&[&str]; 14] = [
+    let bad: [&[&str]; 18] = [
         &["mirrord"],
         &["mirrord", "mount"],
         &["mirrord", "hex", "--smaple"],
@@ -106,7 +136,11 @@ fn bad_command_lines(rt: HostRuntime) {
         &["mirrord", "pipe", "--root", "/", "--uid", "4294967296"],
         &["mirrord", "pipe", "--root", "/", "--gid", "-1"],
         &["mirrord", "hex", "--postings", "0"],
-        &["mirrord", "hex", "--postings", "1048577"],
+        &["mirrord", "hex", "--postings", "4294967296"],
+        &["mirrord", "pipe", "--root", "/", "--nodes", "1"],
+        &["mirrord", "pipe", "--root", "/", "--nodes", "16777217"],
+        &["mirrord", "pipe", "--root", "/", "--files", "0"],
+        &["mirrord", "pipe", "--root", "/", "--requests", "65537"],
         &["mirrord", "serve", "--root", "/"],
         &["mirrord", "serve", "--socket", "/s"],
         &[

@@ -10,4 +10,4 @@ use Rattle.mirrord_programs.proofs.runs.serve_new.Goals as goal
 pub returns : goal.returns
 returns g c =
     hex_served c.args.sample c.args.postings c.in-Ok.tree c.args.link.now c.serve_known.result c.serve_known.new.link c.in-Ok.ensures
-    (subst (λ (terms : Terms). ServesKnown terms Receives Sends Gives memory_tree failed_in c.in-Ok.tree c.args.link.now c.serve_known.result c.serve_known.new.link) c.terms_of.ensures c.serve_known.ensures)
+    (subst (λ (terms : Terms). ServesKnown terms Receives Sends Gives memory_tree failed_in c.in-Ok.tree c.args.link.now c.serve_known.result c.serve_known.new.link) c.unowned.ensures c.serve_known.ensures)
