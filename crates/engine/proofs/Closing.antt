@@ -18,11 +18,11 @@ use Rattle.ops.specs.declared.replies.Settings.{Settings}
 use Rattle.engine.specs.Chain.{Chain}
 use Rattle.engine.specs.Links.{Heard, Piece, Ended, Broke, Event, Happens}
 use Rattle.engine.specs.Reference.{At, Offer, Stop, AtEnd, Lost, IsTurn, frames_of, starting, Closes}
-use Rattle.engine.specs.Serving.{Behaviour, Draws, Step, Hears, Works, GoesOn, IsClientRun, Paces, bytes_of, events_of, folders_of, heard_of, made_of, sent_of, stop_in, stops_of, turns_of}
+use Rattle.engine.specs.Serving.{Behaviour, Draws, Environment, Step, Hears, Traffic, Works, GoesOn, IsClientRun, Paces, bytes_of, events_of, folders_of, heard_of, made_of, sent_of, stop_in, stops_of, turns_of, around}
 use Rattle.engine.specs.Tables.{Table}
-use Rattle.engine.specs.Walks.{Side, Stand, side, stand, standing, WorksOffFrames, IsStep, Passes, Stops, Walks}
+use Rattle.engine.specs.Walks.{Side, Stand, reaching, side, stand, WorksOffFrames, IsStep, Passes, Stops, Walks}
 use Rattle.engine.proofs.Runs.{draws_on}
-use Rattle.engine.proofs.Walking.{ended, walks_on}
+use Rattle.engine.proofs.Walking.{walks_on}
 
 -- ---- any bytes split into frames and a rest
 
@@ -103,22 +103,22 @@ goes_last (Piece bytes) = tt
 goes_last Ended = refl
 goes_last Broke = refl
 
-module _ {W L C D : Type 0} (table : Table W) (settings : Settings) (receives : L → Heard → L → Type 0) (sends : L → List ℕ → Sent → L → Type 0) (does : Behaviour C D) where
+module _ {W L C D : Type 0} (table : Table W) (settings : Settings) (over : Traffic L) (does : Behaviour C D) where
   -- what steps from a place tell of the link, the directory, the table and the bytes
-  record Tells (old : Side W L C D) (steps : List Step) (link : L) (served : Served C D) (at : At W) (kept : List ℕ) (stops : List Stop) : Type 0 where
-    pub passes : Chain (Happens receives sends) old.link (events_of steps) link
-    pub draws : Draws does old.served (made_of (turns_of steps)) (folders_of (turns_of steps)) served
-    pub run : Chain (IsTurn table settings) old.at (turns_of steps) at
+  record Tells (old : Side W L C D) (steps : List Step) (new : Environment (At W) L C D) (kept : List ℕ) (stops : List Stop) : Type 0 where
+    pub passes : Chain (Happens over.receives over.sends) old.link (events_of steps) new.link
+    pub draws : Draws does old.served (made_of (turns_of steps)) (folders_of (turns_of steps)) new.served
+    pub run : Chain (IsTurn table settings) old.at (turns_of steps) new.at
     pub bytes : old.kept ++ heard_of steps ≡ joined (frames_of (turns_of steps)) ++ kept
     pub each : AllByRecursion IsFramed (frames_of (turns_of steps))
     pub stops_are : stops_of steps ≡ stops
     pub paces : Paces old.kept steps kept
     pub goes : (old.at.end ≡ None) ⊎ (steps ≡ [])
 
-  tells_none : (s : Side W L C D) → Tells s [] s.link s.served s.at s.kept []
+  tells_none : (s : Side W L C D) → Tells s [] (around s.link s.served s.at) s.kept []
   tells_none s = record { passes = refl; draws = record { makes = refl; keeps = refl }; run = refl; bytes = append-nil s.kept; each = tt; stops_are = refl; paces = refl; goes = inr refl }
 
-  tells_heard : (s : Side W L C D) (heard : Heard) (link : L) (kept : List ℕ) → s.at.end ≡ None → IsPartial s.kept → receives s.link heard link → kept ≡ s.kept ++ bytes_of heard → Tells s (Hears heard ∷ []) link s.served s.at kept (stop_in heard ++ [])
+  tells_heard : (s : Side W L C D) (heard : Heard) (link : L) (kept : List ℕ) → s.at.end ≡ None → IsPartial s.kept → over.receives s.link heard link → kept ≡ s.kept ++ bytes_of heard → Tells s (Hears heard ∷ []) (around link s.served s.at) kept (stop_in heard ++ [])
   tells_heard s heard link kept goes partial r is = record {
     passes = (link, r, refl);
     draws = record { makes = refl; keeps = refl };
@@ -130,33 +130,33 @@ module _ {W L C D : Type 0} (table : Table W) (settings : Settings) (receives : 
     goes = inl goes;
   }
 
-  tells_on : (steps last : List Step) (old mid : Side W L C D) (link : L) (served : Served C D) (at : At W) (kept : List ℕ) (stops : List Stop) → Chain (IsStep table settings receives sends does) old steps mid → Tells mid last link served at kept stops → Tells old (steps ++ last) link served at kept stops
-  tells_on [] last old mid link served at kept stops e t = subst (λ (s : Side W L C D). Tells s last link served at kept stops) e t
-  tells_on (Hears (Piece bytes) ∷ steps) last old new link served at kept stops chain t =
+  tells_on : (steps last : List Step) (old mid : Side W L C D) (end : Environment (At W) L C D) (kept : List ℕ) (stops : List Stop) → Chain (IsStep table settings over does) old steps mid → Tells mid last end kept stops → Tells old (steps ++ last) end kept stops
+  tells_on [] last old mid end kept stops e t = subst (λ (s : Side W L C D). Tells s last end kept stops) e t
+  tells_on (Hears (Piece bytes) ∷ steps) last old new end kept stops chain t =
       let h = chain.1 in
       let mid = chain.0 in
-      let more = tells_on steps last mid new link served at kept stops chain.2 t in
+      let more = tells_on steps last mid new end kept stops chain.2 t in
       let kept_is : mid.kept ≡ old.kept ++ bytes = ap (λ (s : Side W L C D). s.kept) h.rest in
       record {
         passes = (mid.link, h.brought, more.passes);
-        draws = subst (λ (c : Served C D). Draws does c (made_of (turns_of (steps ++ last))) (folders_of (turns_of (steps ++ last))) served) (ap (λ (s : Side W L C D). s.served) h.rest) more.draws;
-        run = subst (λ (a : At W). Chain (IsTurn table settings) a (turns_of (steps ++ last)) at) (ap (λ (s : Side W L C D). s.at) h.rest) more.run;
+        draws = subst (λ (c : Served C D). Draws does c (made_of (turns_of (steps ++ last))) (folders_of (turns_of (steps ++ last))) end.served) (ap (λ (s : Side W L C D). s.served) h.rest) more.draws;
+        run = subst (λ (a : At W). Chain (IsTurn table settings) a (turns_of (steps ++ last)) end.at) (ap (λ (s : Side W L C D). s.at) h.rest) more.run;
         bytes = sym (append_assoc old.kept bytes (heard_of (steps ++ last))) ∙ ap (λ xs. xs ++ heard_of (steps ++ last)) (sym kept_is) ∙ more.bytes;
         each = more.each;
         stops_are = more.stops_are;
         paces = (h.partial, tt, subst (λ (k : List ℕ). Paces k (steps ++ last) kept) kept_is more.paces);
         goes = inl h.goes;
       }
-  tells_on (Hears Ended ∷ steps) last old new link served at kept stops chain t = absurd chain.1
-  tells_on (Hears Broke ∷ steps) last old new link served at kept stops chain t = absurd chain.1
-  tells_on (Works turn ∷ steps) last old new link served at kept stops chain t =
+  tells_on (Hears Ended ∷ steps) last old new end kept stops chain t = absurd chain.1
+  tells_on (Hears Broke ∷ steps) last old new end kept stops chain t = absurd chain.1
+  tells_on (Works turn ∷ steps) last old new end kept stops chain t =
       let w = chain.1 in
       let mid = chain.0 in
-      let more = tells_on steps last mid new link served at kept stops chain.2 t in
+      let more = tells_on steps last mid new end kept stops chain.2 t in
       let frames = frames_of (turns_of (steps ++ last)) in
       record {
-        passes = passes_on receives sends old.link mid.link link turn.offer (events_of (steps ++ last)) w.passes more.passes;
-        draws = draws_on does old.served mid.served served turn.made (made_of (turns_of (steps ++ last))) turn.folders (folders_of (turns_of (steps ++ last))) w.draws more.draws;
+        passes = passes_on over.receives over.sends old.link mid.link end.link turn.offer (events_of (steps ++ last)) w.passes more.passes;
+        draws = draws_on does old.served mid.served end.served turn.made (made_of (turns_of (steps ++ last))) turn.folders (folders_of (turns_of (steps ++ last))) w.draws more.draws;
         run = (mid.at, w.is_turn, more.run);
         bytes = ap (λ xs. xs ++ heard_of (steps ++ last)) w.front ∙ append_assoc turn.frame mid.kept (heard_of (steps ++ last)) ∙ ap (λ xs. turn.frame ++ xs) more.bytes ∙ sym (append_assoc turn.frame (joined frames) kept);
         each = (w.framed, more.each);
@@ -167,13 +167,13 @@ module _ {W L C D : Type 0} (table : Table W) (settings : Settings) (receives : 
 
   -- ---- a whole session
 
-  closing : (start s : Side W L C D) (last : List Step) (link : L) (served : Served C D) (at : At W) (kept : List ℕ) (stop : Option Stop) (dropped : List (List ℕ)) (rest : List ℕ) (end : SessionEnd) (world : W)
+  closing : (start s : Side W L C D) (last : List Step) (new : Environment (At W) L C D) (kept : List ℕ) (stop : Option Stop) (dropped : List (List ℕ)) (rest : List ℕ) (end : SessionEnd) (world : W)
       → start.at ≡ starting world → start.kept ≡ [] → table.is_idle world
-      → Walks table settings receives sends does start s → Tells s last link served at kept (option_to_list stop)
-      → Splits kept dropped rest → Closes at.end end stop dropped rest
-      → IsClientRun table settings receives sends does start.link start.served world link served at.world end
-  closing start s last link served at kept stop dropped rest end world begins empty fresh walks t splits closes =
-      let all = tells_on walks.steps last start s link served at kept (option_to_list stop) walks.chain t in
+      → Walks table settings over does start s → Tells s last new kept (option_to_list stop)
+      → Splits kept dropped rest → Closes new.at.end end stop dropped rest
+      → IsClientRun table settings over does (around start.link start.served world) (around new.link new.served new.at.world) end
+  closing start s last new kept stop dropped rest end world begins empty fresh walks t splits closes =
+      let all = tells_on walks.steps last start s new kept (option_to_list stop) walks.chain t in
       let steps = walks.steps ++ last in
       let frames = frames_of (turns_of steps) in
       let heard : heard_of steps ≡ joined frames ++ kept = ap (λ xs. xs ++ heard_of steps) (sym empty) ∙ all.bytes in
@@ -194,72 +194,78 @@ module _ {W L C D : Type 0} (table : Table W) (settings : Settings) (receives : 
             each = each_append frames dropped all.each splits.each;
             ends = splits.ends;
           };
-          reached = at;
-          run = subst (λ (a : At W). Chain (IsTurn table settings) a (turns_of steps) at) begins all.run;
+          reached = new.at;
+          run = subst (λ (a : At W). Chain (IsTurn table settings) a (turns_of steps) new.at) begins all.run;
           last_is = refl;
           closes = closes;
         };
       }
 
+  -- the table is fresh, and no version is agreed on
+  abbrev pub beginning : Environment W L C D → Side W L C D
+  beginning old = side (around old.link old.served (stand old.at false)) []
+
   -- ---- the ends of a session
 
-  module _ (link mid : L) (served served' : Served C D) (world : W) (s : Stand W) (kept : List ℕ) (fresh : table.is_idle world) (partial : IsPartial kept) (walks : Walks table settings receives sends does (side link served (stand world false) []) (side mid served' s kept)) where
+  module _ (old : Environment W L C D) (mid : Environment (Stand W) L C D) (kept : List ℕ) (fresh : table.is_idle old.at) (partial : IsPartial kept) (walks : Walks table settings over does (beginning old) (side mid kept)) where
     -- hearing ends
-    by_heard : (heard : Heard) (link' : L) (now : List ℕ) (stop : Option Stop) (dropped : List (List ℕ)) (rest : List ℕ) (end : SessionEnd) → receives mid heard link' → now ≡ kept ++ bytes_of heard → stop_in heard ++ [] ≡ option_to_list stop → Splits now dropped rest → Closes None end stop dropped rest
-        → IsClientRun table settings receives sends does link served world link' served' s.world end
-    by_heard heard link' now stop dropped rest end r is stops splits closes =
-        closing (side link served (stand world false) []) (side mid served' s kept) (Hears heard ∷ []) link' served' (standing s None) now stop dropped rest end world refl refl fresh walks
-        (subst (λ (ss : List Stop). Tells (side mid served' s kept) (Hears heard ∷ []) link' served' (standing s None) now ss) stops (tells_heard (side mid served' s kept) heard link' now refl partial r is))
+    by_heard : (heard : Heard) (link : L) (now : List ℕ) (stop : Option Stop) (dropped : List (List ℕ)) (rest : List ℕ) (end : SessionEnd) → over.receives mid.link heard link → now ≡ kept ++ bytes_of heard → stop_in heard ++ [] ≡ option_to_list stop → Splits now dropped rest → Closes None end stop dropped rest
+        → IsClientRun table settings over does old (around link mid.served mid.at.world) end
+    by_heard heard link now stop dropped rest end r is stops splits closes =
+        let new = around link mid.served (side mid kept).at in
+        closing (beginning old) (side mid kept) (Hears heard ∷ []) new now stop dropped rest end old.at refl refl fresh walks
+        (subst (λ (ss : List Stop). Tells (side mid kept) (Hears heard ∷ []) new now ss) stops (tells_heard (side mid kept) heard link now refl partial r is))
         splits closes
 
-    pub at_end : (link' : L) (rest : ℕ) → receives mid Ended link' → rest ≡ length kept → IsClientRun table settings receives sends does link served world link' served' s.world (ends.Closed rest)
-    at_end link' rest r is = by_heard Ended link' kept (Some AtEnd) [] kept (ends.Closed rest) r (sym (append-nil kept)) refl (no_frame kept (partial_ends kept partial)) (refl, refl, partial, is)
+    pub at_end : (link : L) (rest : ℕ) → over.receives mid.link Ended link → rest ≡ length kept → IsClientRun table settings over does old (around link mid.served mid.at.world) (ends.Closed rest)
+    at_end link rest r is = by_heard Ended link kept (Some AtEnd) [] kept (ends.Closed rest) r (sym (append-nil kept)) refl (no_frame kept (partial_ends kept partial)) (refl, refl, partial, is)
 
-    pub at_break : (link' : L) → receives mid Broke link' → IsClientRun table settings receives sends does link served world link' served' s.world ends.LinkBroken
-    at_break link' r = by_heard Broke link' kept (Some Lost) [] kept ends.LinkBroken r (sym (append-nil kept)) refl (no_frame kept (partial_ends kept partial)) (refl, refl, partial)
+    pub at_break : (link : L) → over.receives mid.link Broke link → IsClientRun table settings over does old (around link mid.served mid.at.world) ends.LinkBroken
+    at_break link r = by_heard Broke link kept (Some Lost) [] kept ends.LinkBroken r (sym (append-nil kept)) refl (no_frame kept (partial_ends kept partial)) (refl, refl, partial)
 
-    pub unfed : (link' : L) (piece : List ℕ) → receives mid (Piece piece) link' → IsClientRun table settings receives sends does link served world link' served' s.world ends.Memory
-    unfed link' piece r =
+    pub unfed : (link : L) (piece : List ℕ) → over.receives mid.link (Piece piece) link → IsClientRun table settings over does old (around link mid.served mid.at.world) ends.Memory
+    unfed link piece r =
         let all = splits_all (kept ++ piece) in
-        by_heard (Piece piece) link' (kept ++ piece) None all.frames all.rest ends.Memory r refl refl all.splits refl
+        by_heard (Piece piece) link (kept ++ piece) None all.frames all.rest ends.Memory r refl refl all.splits refl
 
   -- the session ended by a frame, a bad length or want of memory
-  by_stop : (link link' : L) (served served' : Served C D) (world : W) (s : Stand W) (kept : List ℕ) (reached : Option SessionEnd) (end : SessionEnd) → table.is_idle world → Walks table settings receives sends does (side link served (stand world false) []) (ended link' served' s reached kept) → Stops reached (Some end) kept
-      → IsClientRun table settings receives sends does link served world link' served' s.world end
-  by_stop link link' served served' world s kept (Some reached) end fresh walks stops =
+  by_stop : (old : Environment W L C D) (new : Environment (Stand W) L C D) (kept : List ℕ) (reached : Option SessionEnd) (end : SessionEnd) → table.is_idle old.at → Walks table settings over does (beginning old) (reaching (side new kept) reached) → Stops reached (Some end) kept
+      → IsClientRun table settings over does old (around new.link new.served new.at.world) end
+  by_stop old new kept (Some reached) end fresh walks stops =
       let all = splits_all kept in
-      closing (side link served (stand world false) []) (ended link' served' s (Some reached) kept) [] link' served' (standing s (Some reached)) kept None all.frames all.rest end world refl refl fresh walks
-      (tells_none (ended link' served' s (Some reached) kept)) all.splits (same_Some end reached stops, refl)
-  by_stop link link' served served' world s kept None (ends.Closed len) fresh walks stops = absurd stops
-  by_stop link link' served served' world s kept None ends.Destroyed fresh walks stops = absurd stops
-  by_stop link link' served served' world s kept None (ends.BadLength len) fresh walks stops =
-      closing (side link served (stand world false) []) (side link' served' s kept) [] link' served' (standing s None) kept None [] kept (ends.BadLength len) world refl refl fresh walks
-      (tells_none (side link' served' s kept)) (no_frame kept (bad_ends kept len stops)) (refl, refl, stops)
-  by_stop link link' served served' world s kept None ends.LinkBroken fresh walks stops = absurd stops
-  by_stop link link' served served' world s kept None ends.Memory fresh walks stops =
+      let last = reaching (side new kept) (Some reached) in
+      closing (beginning old) last [] (around new.link new.served last.at) kept None all.frames all.rest end old.at refl refl fresh walks
+      (tells_none last) all.splits (same_Some end reached stops, refl)
+  by_stop old new kept None (ends.Closed len) fresh walks stops = absurd stops
+  by_stop old new kept None ends.Destroyed fresh walks stops = absurd stops
+  by_stop old new kept None (ends.BadLength len) fresh walks stops =
+      closing (beginning old) (side new kept) [] (around new.link new.served (side new kept).at) kept None [] kept (ends.BadLength len) old.at refl refl fresh walks
+      (tells_none (side new kept)) (no_frame kept (bad_ends kept len stops)) (refl, refl, stops)
+  by_stop old new kept None ends.LinkBroken fresh walks stops = absurd stops
+  by_stop old new kept None ends.Memory fresh walks stops =
       let all = splits_all kept in
-      closing (side link served (stand world false) []) (side link' served' s kept) [] link' served' (standing s None) kept None all.frames all.rest ends.Memory world refl refl fresh walks
-      (tells_none (side link' served' s kept)) all.splits refl
-  by_stop link link' served served' world s kept None ends.NoWorkers fresh walks stops = absurd stops
+      closing (beginning old) (side new kept) [] (around new.link new.served (side new kept).at) kept None all.frames all.rest ends.Memory old.at refl refl fresh walks
+      (tells_none (side new kept)) all.splits refl
+  by_stop old new kept None ends.NoWorkers fresh walks stops = absurd stops
 
-  pub drained_end : (link mid link' : L) (served served' served'' : Served C D) (world : W) (s s' : Stand W) (fed kept : List ℕ) (result : Option SessionEnd) (end : SessionEnd) (now : Settings) → now ≡ settings → table.is_idle world → Walks table settings receives sends does (side link served (stand world false) []) (side mid served' s fed) → result ≡ Some end
-      → WorksOffFrames table now receives sends does (side mid served' s fed) link' served'' s' kept result
-      → IsClientRun table settings receives sends does link served world link' served'' s'.world end
-  drained_end link mid link' served served' served'' world s s' fed kept result end now set fresh walks is given =
-      let d = subst (λ (t : Settings). WorksOffFrames table t receives sends does (side mid served' s fed) link' served'' s' kept result) set given in
-      by_stop link link' served served'' world s' kept d.reached end fresh
-      (walks_on table settings receives sends does (side link served (stand world false) []) (side mid served' s fed) (ended link' served'' s' d.reached kept) walks d.walks)
+  pub drained_end : (old : Environment W L C D) (mid new : Environment (Stand W) L C D) (fed kept : List ℕ) (result : Option SessionEnd) (end : SessionEnd) (now : Settings) → now ≡ settings → table.is_idle old.at → Walks table settings over does (beginning old) (side mid fed) → result ≡ Some end
+      → WorksOffFrames table now over does (side mid fed) (side new kept) result
+      → IsClientRun table settings over does old (around new.link new.served new.at.world) end
+  drained_end old mid new fed kept result end now set fresh walks is given =
+      let d = subst (λ (t : Settings). WorksOffFrames table t over does (side mid fed) (side new kept) result) set given in
+      by_stop old new kept d.reached end fresh
+      (walks_on table settings over does (beginning old) (side mid fed) (reaching (side new kept) d.reached) walks d.walks)
       (subst (λ (e : Option SessionEnd). Stops d.reached e kept) is d.stops)
 
-  still : (old : Side W L C D) (link' : L) (served' : Served C D) (s : Stand W) (kept : List ℕ) (reached : Option SessionEnd) → Walks table settings receives sends does old (ended link' served' s reached kept) → Stops reached None kept → Walks table settings receives sends does old (side link' served' s kept) × IsPartial kept
-  still old link' served' s kept (Some reached) walks stops = absurd (none-some reached stops)
-  still old link' served' s kept None walks stops = (walks, stops)
+  still : (start : Side W L C D) (new : Environment (Stand W) L C D) (kept : List ℕ) (reached : Option SessionEnd) → Walks table settings over does start (reaching (side new kept) reached) → Stops reached None kept → Walks table settings over does start (side new kept) × IsPartial kept
+  still start new kept (Some reached) walks stops = absurd (none-some reached stops)
+  still start new kept None walks stops = (walks, stops)
 
-  pub drained_on : (old : Side W L C D) (mid link' : L) (served' served'' : Served C D) (s s' : Stand W) (fed kept : List ℕ) (result : Option SessionEnd) (now : Settings) → now ≡ settings → Walks table settings receives sends does old (side mid served' s fed) → result ≡ None
-      → WorksOffFrames table now receives sends does (side mid served' s fed) link' served'' s' kept result
-      → Walks table settings receives sends does old (side link' served'' s' kept) × IsPartial kept
-  drained_on old mid link' served' served'' s s' fed kept result now set walks is given =
-      let d = subst (λ (t : Settings). WorksOffFrames table t receives sends does (side mid served' s fed) link' served'' s' kept result) set given in
-      still old link' served'' s' kept d.reached
-      (walks_on table settings receives sends does old (side mid served' s fed) (ended link' served'' s' d.reached kept) walks d.walks)
+  pub drained_on : (start : Side W L C D) (mid new : Environment (Stand W) L C D) (fed kept : List ℕ) (result : Option SessionEnd) (now : Settings) → now ≡ settings → Walks table settings over does start (side mid fed) → result ≡ None
+      → WorksOffFrames table now over does (side mid fed) (side new kept) result
+      → Walks table settings over does start (side new kept) × IsPartial kept
+  drained_on start mid new fed kept result now set walks is given =
+      let d = subst (λ (t : Settings). WorksOffFrames table t over does (side mid fed) (side new kept) result) set given in
+      still start new kept d.reached
+      (walks_on table settings over does start (side mid fed) (reaching (side new kept) d.reached) walks d.walks)
       (subst (λ (e : Option SessionEnd). Stops d.reached e kept) is d.stops)

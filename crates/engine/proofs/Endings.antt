@@ -5,29 +5,26 @@ use Rattle.backing.specs.declared.call.Child.{Child}
 use Rattle.handles.specs.Listings.{are_lawful, IsMade, OpenFolder}
 use Rattle.handles.specs.declared.listing.ListingFault.TheVariants.{Memory}
 use Rattle.ops.specs.Ahead.{end_of, outcome_of, LooksAtEach}
-use Rattle.ops.specs.Pages.{Paged}
 use Rattle.ops.specs.Replies.{opened_reply, reply_to}
 use Rattle.ops.specs.Scripts.{listed_end, plan_of, End, Follows, Made}
 use Rattle.ops.specs.declared.findings.ScriptResult.{ScriptResult}
 use Rattle.ops.specs.declared.findings.Found.{Found}
 use Rattle.ops.specs.declared.findings.ScriptResult.TheVariants as findings
-use Rattle.ops.specs.declared.replies.Settings.{Settings}
 use Rattle.table_steps.specs.Answers.{Answer, Claim}
 use Rattle.table_steps.specs.declared.data.Outcome.{Outcome}
 use Rattle.table_steps.specs.declared.data.Outcome.TheVariants.{Done}
 use Rattle.table_steps.specs.declared.data.Outcome.TheVariants as outcomes
 use Rattle.wire.specs.Written.{reply_bytes}
+use Rattle.wire.specs.declared.reply.Reply.{Reply}
 use Rattle.wire.specs.declared.reply.ReplyBody.{ReplyBody}
 use Rattle.wire.specs.declared.reply.ReplyBody.TheVariants.{Failed}
 use Rattle.wire.specs.declared.request.Operation.{Operation}
-use Rattle.wire.specs.declared.request.Request.{Request}
 use Rattle.engine.specs.declared.links.Sent.{Sent}
 use Rattle.handles.specs.Calls.{FolderCall, Put}
 use Rattle.engine.specs.Folders.{GivesUp, PutsListing}
 use Rattle.engine.specs.Reference.{Place, AtBegin, AtScript, AtListing, AtReply, IsSaid, IsTold, Plays, Stores}
 use Rattle.engine.specs.Replies.{refusal, TakesMemory}
-use Rattle.engine.specs.Tables.{Table}
-use Rattle.engine.specs.Walks.{entries_found, listing_found, no_memory, Concludes, IsPlain, Settled}
+use Rattle.engine.specs.Walks.{Begun, LinkAndTable, Rules, entries_found, listing_found, no_memory, Concludes, IsPlain, RepliesTaken}
 
 told : (refused : Option Place) (meant said : ReplyBody) → IsSaid refused meant said → IsTold refused meant said
 told None meant said is = is
@@ -112,68 +109,62 @@ played (Some AtScript) meant said operation ticket made end is f = absurd is
 played (Some AtListing) meant said operation ticket made end is f = absurd is
 played (Some AtReply) meant said operation ticket made end is f = f
 
-module _ {W L : Type 0} (table : Table W) (settings : Settings) (sends : L → List ℕ → Sent → L → Type 0) where
-  -- a reply that found no memory
-  pub settled_starved : (unique : ℕ) (meant : ReplyBody) (answer : Answer) (put : Option ℕ) (link link' : L) (finished world' : W) (sent : Sent) → TakesMemory meant → sends link (reply_bytes (refusal unique ENOMEM)) sent link' → table.settles finished answer put false world'
-      → Settled table sends unique meant answer put link finished sent false link' world'
-  settled_starved unique meant answer put link link' finished world' sent takes s settles = record {
-    refused = Some AtReply;
-    said = Failed ENOMEM;
-    said_is = (takes, refl);
-    offer = s;
-    taken_is = refl;
-    settles = settles;
-  }
+-- a reply that found no memory
+pub starved_untaken : {L : Type 0} (sends : L → List ℕ → Sent → L → Type 0) (meant : Reply) (old new : L) (sent : Sent) → TakesMemory meant.body → sends old (reply_bytes (refusal meant.unique ENOMEM)) sent new → RepliesTaken sends meant old sent false new
+starved_untaken sends meant old new sent takes s = record { told = record { refused = Some AtReply; said = Failed ENOMEM; said_is = (takes, refl); offer = s }; taken_is = refl }
 
+module _ {W L : Type 0} (rules : Rules W L) where
   -- the script has made these calls and come to that finding
-  pub concluded : (q : Request) (page : Paged) (ticket : Claim) (made : List Made) (finding : ScriptResult) (outcome : Outcome) (put : Option ℕ) (first last : List FolderCall) (meant : ReplyBody) (answer : Answer) (link link' : L) (begun finished world' : W) (sent : Sent) (taken : Bool)
-      → Follows (plan_of q.operation ticket) made (record { outcome = outcome; findings = finding })
-      → table.finishes begun ticket.id outcome answer finished → meant ≡ reply_to settings q.node page finding put answer
-      → PutsListing q.node finding first put → GivesUp taken put last
-      → Settled table sends q.unique meant answer put link finished sent taken link' world'
-      → Concludes table settings sends q page ticket made (record { outcome = outcome; findings = finding }) (first ++ last) link begun sent link' world'
-  concluded q page ticket made finding outcome put first last meant answer link link' begun finished world' sent taken follows finishes is puts gives s = record {
-    refused = s.refused;
-    script = played s.refused meant s.said q.operation ticket made (record { outcome = outcome; findings = finding }) s.said_is follows;
-    answer = answer;
-    finished = finished;
-    finishes = finishes;
-    put = put;
-    first = first;
-    stores = stored s.refused meant s.said q.node finding first put s.said_is puts;
-    said = s.said;
-    said_is = subst (λ (b : ReplyBody). IsTold s.refused b s.said) is (told s.refused meant s.said s.said_is);
-    offer = s.offer;
-    settles = subst (λ (t : Bool). table.settles finished answer put t world') s.taken_is s.settles;
-    last = last;
-    gives_up = subst (λ (t : Bool). GivesUp t put last) s.taken_is gives;
-    folders_are = refl;
-  }
+  pub concluded : (b : Begun) (made : List Made) (finding : ScriptResult) (outcome : Outcome) (put : Option ℕ) (first last : List FolderCall) (meant : ReplyBody) (answer : Answer) (old new : LinkAndTable L W) (finished : W) (sent : Sent) (taken : Bool)
+      → Follows (plan_of b.q.operation b.ticket) made (record { outcome = outcome; findings = finding })
+      → rules.table.finishes old.world b.ticket.id outcome answer finished → meant ≡ reply_to rules.settings b.q.node b.page finding put answer
+      → PutsListing b.q.node finding first put → GivesUp taken put last
+      → RepliesTaken rules.sends (record { unique = b.q.unique; body = meant }) old.link sent taken new.link → rules.table.settles finished answer put taken new.world
+      → Concludes rules b made (record { outcome = outcome; findings = finding }) (first ++ last) old sent new
+  concluded b made finding outcome put first last meant answer old new finished sent taken follows finishes is puts gives r settles =
+      let s = r.told in
+      record {
+        refused = s.refused;
+        script = played s.refused meant s.said b.q.operation b.ticket made (record { outcome = outcome; findings = finding }) s.said_is follows;
+        answer = answer;
+        finished = finished;
+        finishes = finishes;
+        put = put;
+        first = first;
+        stores = stored s.refused meant s.said b.q.node finding first put s.said_is puts;
+        said = s.said;
+        said_is = subst (λ (body : ReplyBody). IsTold s.refused body s.said) is (told s.refused meant s.said s.said_is);
+        offer = s.offer;
+        settles = subst (λ (t : Bool). rules.table.settles finished answer put t new.world) r.taken_is settles;
+        last = last;
+        gives_up = subst (λ (t : Bool). GivesUp t put last) r.taken_is gives;
+        folders_are = refl;
+      }
 
-  pub concluded_plain : (q : Request) (page : Paged) (ticket : Claim) (made : List Made) (finding : ScriptResult) (meant : ReplyBody) (answer : Answer) (link link' : L) (begun finished world' : W) (sent : Sent) (taken : Bool) → IsPlain finding
-      → Follows (plan_of q.operation ticket) made (end_of finding)
-      → table.finishes begun ticket.id (outcome_of finding) answer finished → meant ≡ reply_to settings q.node page finding None answer
-      → Settled table sends q.unique meant answer None link finished sent taken link' world'
-      → Concludes table settings sends q page ticket made (end_of finding) [] link begun sent link' world'
-  concluded_plain q page ticket made finding meant answer link link' begun finished world' sent taken h follows finishes is s =
-      subst (λ (e : End). Concludes table settings sends q page ticket made e [] link begun sent link' world') (plain_end finding h)
-      (concluded q page ticket made finding (outcome_of finding) None [] [] meant answer link link' begun finished world' sent taken
-      (subst (λ (e : End). Follows (plan_of q.operation ticket) made e) (sym (plain_end finding h)) follows) finishes is (plain q.node finding h) (none_given_up taken) s)
+  pub concluded_plain : (b : Begun) (made : List Made) (finding : ScriptResult) (meant : ReplyBody) (answer : Answer) (old new : LinkAndTable L W) (finished : W) (sent : Sent) (taken : Bool) → IsPlain finding
+      → Follows (plan_of b.q.operation b.ticket) made (end_of finding)
+      → rules.table.finishes old.world b.ticket.id (outcome_of finding) answer finished → meant ≡ reply_to rules.settings b.q.node b.page finding None answer
+      → RepliesTaken rules.sends (record { unique = b.q.unique; body = meant }) old.link sent taken new.link → rules.table.settles finished answer None taken new.world
+      → Concludes rules b made (end_of finding) [] old sent new
+  concluded_plain b made finding meant answer old new finished sent taken h follows finishes is r settles =
+      subst (λ (e : End). Concludes rules b made e [] old sent new) (plain_end finding h)
+      (concluded b made finding (outcome_of finding) None [] [] meant answer old new finished sent taken
+      (subst (λ (e : End). Follows (plan_of b.q.operation b.ticket) made e) (sym (plain_end finding h)) follows) finishes is (plain b.q.node finding h) (none_given_up taken) r settles)
 
   -- ---- OPENDIR
 
-  pub concluded_open : (q : Request) (page : Paged) (ticket : Claim) (made : List Made) (children : List Child) (folder : OpenFolder) (put : Option ℕ) (last : List FolderCall) (meant : ReplyBody) (answer : Answer) (link link' : L) (begun finished world' : W) (sent : Sent) (taken : Bool)
-      → IsMade q.node children (Ok folder) → Follows (plan_of q.operation ticket) made (listing_found children) → table.finishes begun ticket.id Done answer finished → meant ≡ opened_reply put → GivesUp taken put last
-      → Settled table sends q.unique meant answer put link finished sent taken link' world'
-      → Concludes table settings sends q page ticket made (listing_found children) (Put folder put ∷ last) link begun sent link' world'
-  concluded_open q page ticket made children folder put last meant answer link link' begun finished world' sent taken is_made follows finishes is gives s =
-      concluded q page ticket made (findings.Listed children) Done put (Put folder put ∷ []) last meant answer link link' begun finished world' sent taken follows finishes is (folder, is_made, refl) gives s
+  pub concluded_open : (b : Begun) (made : List Made) (children : List Child) (folder : OpenFolder) (put : Option ℕ) (last : List FolderCall) (meant : ReplyBody) (answer : Answer) (old new : LinkAndTable L W) (finished : W) (sent : Sent) (taken : Bool)
+      → IsMade b.q.node children (Ok folder) → Follows (plan_of b.q.operation b.ticket) made (listing_found children) → rules.table.finishes old.world b.ticket.id Done answer finished → meant ≡ opened_reply put → GivesUp taken put last
+      → RepliesTaken rules.sends (record { unique = b.q.unique; body = meant }) old.link sent taken new.link → rules.table.settles finished answer put taken new.world
+      → Concludes rules b made (listing_found children) (Put folder put ∷ last) old sent new
+  concluded_open b made children folder put last meant answer old new finished sent taken is_made follows finishes is gives r settles =
+      concluded b made (findings.Listed children) Done put (Put folder put ∷ []) last meant answer old new finished sent taken follows finishes is (folder, is_made, refl) gives r settles
 
   -- a listing that found no memory
-  pub concluded_starved : (q : Request) (page : Paged) (ticket : Claim) (made : List Made) (children : List Child) (answer : Answer) (link link' : L) (begun finished world' : W) (sent : Sent)
-      → IsMade q.node children (Err Memory) → Follows (plan_of q.operation ticket) made (listing_found children) → table.finishes begun ticket.id Done answer finished → sends link (reply_bytes (refusal q.unique ENOMEM)) sent link' → table.settles finished answer None false world'
-      → Concludes table settings sends q page ticket made (listing_found children) [] link begun sent link' world'
-  concluded_starved q page ticket made children answer link link' begun finished world' sent lawful follows finishes s settles = record {
+  pub concluded_starved : (b : Begun) (made : List Made) (children : List Child) (answer : Answer) (old new : LinkAndTable L W) (finished : W) (sent : Sent)
+      → IsMade b.q.node children (Err Memory) → Follows (plan_of b.q.operation b.ticket) made (listing_found children) → rules.table.finishes old.world b.ticket.id Done answer finished → rules.sends old.link (reply_bytes (refusal b.q.unique ENOMEM)) sent new.link → rules.table.settles finished answer None false new.world
+      → Concludes rules b made (listing_found children) [] old sent new
+  concluded_starved b made children answer old new finished sent lawful follows finishes s settles = record {
     refused = Some AtListing;
     script = follows;
     answer = answer;
@@ -193,18 +184,18 @@ module _ {W L : Type 0} (table : Table W) (settings : Settings) (sends : L → L
 
   -- ---- READDIRPLUS
 
-  pub concluded_entries : (q : Request) (page : Paged) (ticket : Claim) (made : List Made) (founds : List (Option Found)) (meant : ReplyBody) (answer : Answer) (link link' : L) (begun finished world' : W) (sent : Sent) (taken : Bool)
-      → Follows (plan_of q.operation ticket) made (entries_found founds) → table.finishes begun ticket.id (entries_found founds).outcome answer finished → meant ≡ reply_to settings q.node page (findings.Looked founds) None answer
-      → Settled table sends q.unique meant answer None link finished sent taken link' world'
-      → Concludes table settings sends q page ticket made (entries_found founds) [] link begun sent link' world'
-  concluded_entries q page ticket made founds meant answer link link' begun finished world' sent taken follows finishes is s =
-      concluded q page ticket made (findings.Looked founds) (entries_found founds).outcome None [] [] meant answer link link' begun finished world' sent taken follows finishes is (refl, refl) (none_given_up taken) s
+  pub concluded_entries : (b : Begun) (made : List Made) (founds : List (Option Found)) (meant : ReplyBody) (answer : Answer) (old new : LinkAndTable L W) (finished : W) (sent : Sent) (taken : Bool)
+      → Follows (plan_of b.q.operation b.ticket) made (entries_found founds) → rules.table.finishes old.world b.ticket.id (entries_found founds).outcome answer finished → meant ≡ reply_to rules.settings b.q.node b.page (findings.Looked founds) None answer
+      → RepliesTaken rules.sends (record { unique = b.q.unique; body = meant }) old.link sent taken new.link → rules.table.settles finished answer None taken new.world
+      → Concludes rules b made (entries_found founds) [] old sent new
+  concluded_entries b made founds meant answer old new finished sent taken follows finishes is r settles =
+      concluded b made (findings.Looked founds) (entries_found founds).outcome None [] [] meant answer old new finished sent taken follows finishes is (refl, refl) (none_given_up taken) r settles
 
   -- a script that found no memory
-  pub concluded_short : (q : Request) (page : Paged) (ticket : Claim) (answer : Answer) (link link' : L) (begun finished world' : W) (sent : Sent)
-      → LooksAtEach q.operation → table.finishes begun ticket.id no_memory.outcome answer finished → sends link (reply_bytes (refusal q.unique ENOMEM)) sent link' → table.settles finished answer None false world'
-      → Concludes table settings sends q page ticket [] no_memory [] link begun sent link' world'
-  concluded_short q page ticket answer link link' begun finished world' sent looks finishes s settles = record {
+  pub concluded_short : (b : Begun) (answer : Answer) (old new : LinkAndTable L W) (finished : W) (sent : Sent)
+      → LooksAtEach b.q.operation → rules.table.finishes old.world b.ticket.id no_memory.outcome answer finished → rules.sends old.link (reply_bytes (refusal b.q.unique ENOMEM)) sent new.link → rules.table.settles finished answer None false new.world
+      → Concludes rules b [] no_memory [] old sent new
+  concluded_short b answer old new finished sent looks finishes s settles = record {
     refused = Some AtScript;
     script = (looks, refl, refl);
     answer = answer;

@@ -1,5 +1,4 @@
 -- One request alone in a table.
-use Rattle.std.proofs.lemmas.Option.{none-some}
 use Rattle.std.proofs.lemmas.Bool.{cases_eq, eq-eqb}
 use Rattle.tree.proofs.LookupLemmas.{cases_option}
 use Rattle.std.proofs.Common.{◌≡◌, ◌==◌, ℕ, Bool, true, false, Option, Some, None, length, if◌then◌else◌, refl, sym, ap, ◌∙◌, inl, inr, ℤ, to_z, of_z, w32, arith}
@@ -10,7 +9,7 @@ use Rattle.table_steps.specs.World.{Answered, RequestInFlight, RequestsInFlight,
 use Rattle.table_steps.specs.declared.data.Limits.{Limits}
 use Rattle.table_steps.specs.Steps.{Begins, Finishes, Forgets, Settles, answered}
 use Rattle.table_steps.specs.declared.data.Outcome.{Outcome}
-use Rattle.table_steps.specs.declared.data.Begin.TheVariants.{Busy, Go, Refused}
+use Rattle.table_steps.specs.declared.data.Begin.TheVariants.{Go, Refused}
 use Rattle.table.specs.Renewing.{BeginsAnew}
 use Rattle.engine.specs.Tables.{IsIdle}
 

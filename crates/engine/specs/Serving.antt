@@ -113,19 +113,38 @@ pub record Draws {C D : Type 0} (does : Behaviour C D) (old : Served C D) (made 
   pub makes : Makes does.gives old.calls made new.calls
   pub keeps : Chain does.keeps old.dirs folders new.dirs
 
+-- ---- what is around a session
+
+-- what a link may bring, and what may become of bytes that are sent over it
+pub record Traffic (L : Type 0) : Type 1 where
+  pub receives : L → Heard → L → Type 0
+  pub sends : L → List ℕ → Sent → L → Type 0
+
+abbrev pub traffic : {L : Type 0} → (L → Heard → L → Type 0) → (L → List ℕ → Sent → L → Type 0) → Traffic L
+traffic receives sends = record { receives = receives; sends = sends }
+
+-- the link, what is served on, and where the table stands
+pub record Environment (W L C D : Type 0) : Type 0 where
+  pub link : L
+  pub served : Served C D
+  pub at : W
+
+abbrev pub around : {W L C D : Type 0} → L → Served C D → W → Environment W L C D
+around link served at = record { link = link; served = served; at = at }
+
 -- ---- what serving promises
 
 -- The client was served as it ought to be: the bytes are those that the link gave; its replies were offered, and the calls made, each once
 -- and in order.
-pub record IsClientRun {W L C D : Type 0} (table : Table W) (settings : Settings) (receives : L → Heard → L → Type 0) (sends : L → List ℕ → Sent → L → Type 0) (does : Behaviour C D) (link : L) (served : Served C D) (world : W) (link' : L) (served' : Served C D) (world' : W) (end : SessionEnd) : Type 0 where
+pub record IsClientRun {W L C D : Type 0} (table : Table W) (settings : Settings) (over : Traffic L) (does : Behaviour C D) (old new : Environment W L C D) (end : SessionEnd) : Type 0 where
   pub steps : List Step
-  pub passes : Chain (Happens receives sends) link (events_of steps) link'
-  pub draws : Draws does served (made_of (turns_of steps)) (folders_of (turns_of steps)) served'
+  pub passes : Chain (Happens over.receives over.sends) old.link (events_of steps) new.link
+  pub draws : Draws does old.served (made_of (turns_of steps)) (folders_of (turns_of steps)) new.served
   pub kept : List ℕ
   pub paces : Paces [] steps kept
   pub stop : Option Stop
   pub stopped : stops_of steps ≡ option_to_list stop
-  pub session : IsSession table settings world (heard_of steps) stop (turns_of steps) world' end
+  pub session : IsSession table settings old.at (heard_of steps) stop (turns_of steps) new.at end
 
 -- At the end of a session each file that is still hidden is removed by one call, whatever its answer. That there was no memory for the
 -- list of them is an input: then nothing is removed.
@@ -147,8 +166,8 @@ pub record RemovesLeft {W C : Type 0} (table : Table W) (gives : C → Asked →
   pub makes : Makes gives calls removals calls'
 
 -- a client was served, and then what it left hidden was removed
-pub record IsSessionRun {W L C D : Type 0} (table : Table W) (settings : Settings) (receives : L → Heard → L → Type 0) (sends : L → List ℕ → Sent → L → Type 0) (does : Behaviour C D) (link : L) (served : Served C D) (world : W) (link' : L) (served' : Served C D) (world' : W) (end : SessionEnd) : Type 0 where
+pub record IsSessionRun {W L C D : Type 0} (table : Table W) (settings : Settings) (over : Traffic L) (does : Behaviour C D) (old new : Environment W L C D) (end : SessionEnd) : Type 0 where
   pub left : Served C D
-  pub client : IsClientRun table settings receives sends does link served world link' left world' end
-  pub removal : RemovesLeft table does.gives left.calls world' served'.calls
-  pub dirs_are : served'.dirs ≡ left.dirs
+  pub client : IsClientRun table settings over does old (around new.link left new.at) end
+  pub removal : RemovesLeft table does.gives left.calls new.at new.served.calls
+  pub dirs_are : new.served.dirs ≡ left.dirs

@@ -1,7 +1,5 @@
 -- Where the code of a session stands, and what it has done.
 use Rattle.std.specs.Prelude.{ℕ, ◌≡◌, ◌⊎◌, Bool, true, false, is_some, map, List, ◌++◌, Option, Some, None}
-use Rattle.backing.specs.Calls.{Asked}
-use Rattle.backing.specs.declared.call.Answer.{Answer}
 use Rattle.backing.specs.declared.call.Child.{Child}
 use Rattle.errno.specs.declared.TheConstants.{ENOMEM}
 use Rattle.table_steps.specs.declared.data.Outcome.TheVariants.{Done}
@@ -31,13 +29,15 @@ use Rattle.engine.specs.Folders.{ByCalls, GivesUp, IsUsed, LendsPage}
 use Rattle.ops.specs.declared.intents.FolderUse.{FolderUse}
 use Rattle.ops.specs.declared.intents.FolderUse.TheVariants.{ReadEntries}
 use Rattle.ops.specs.Pages.{Paged, page_want}
-use Rattle.engine.specs.Links.{Heard, Piece, Ended, Broke}
+use Rattle.engine.specs.Links.{Piece, Ended, Broke}
 use Rattle.engine.specs.Reference.{At, Place, Turn, Offer, IsSaid, IsTold, IsTurn, Asks, HandlesFrame, Plays, Stores, WorksOff, agrees, ending, init_reply_of, negotiated_by, sent_in, taken_of}
 use Rattle.engine.specs.Replies.{done_reply, refusal}
 use Rattle.ops.specs.Replies.{reply_to}
 use Rattle.ops.specs.Scripts.{End, Made}
-use Rattle.engine.specs.Serving.{Behaviour, Draws, Step, Hears, Works, Makes}
+use Rattle.engine.specs.Serving.{Behaviour, Draws, Environment, Step, Hears, Works, Makes, Traffic, around}
 use Rattle.engine.specs.declared.served.Served.{Served}
+use Rattle.engine.specs.declared.using.HandleUse.{HandleUse}
+use Rattle.engine.specs.declared.entries.PageAsk.{PageAsk}
 use Rattle.engine.specs.Tables.{Table}
 
 -- the link, what is served on, the table and the bytes kept
@@ -58,20 +58,24 @@ stand world agreed = record { world = world; agreed = agreed }
 abbrev pub standing : {W : Type 0} → Stand W → Option SessionEnd → At W
 standing s end = record { world = s.world; agreed = s.agreed; end = end }
 
-abbrev pub side : {W L C D : Type 0} → L → Served C D → Stand W → List ℕ → Side W L C D
-side link served s kept = record { link = link; served = served; at = standing s None; kept = kept }
+abbrev pub side : {W L C D : Type 0} → Environment (Stand W) L C D → List ℕ → Side W L C D
+side e kept = record { link = e.link; served = e.served; at = standing e.at None; kept = kept }
+
+-- the same, and how the session has ended
+abbrev pub reaching : {W L C D : Type 0} → Side W L C D → Option SessionEnd → Side W L C D
+reaching s end = record s { at = record (s.at) { end = end } }
 
 -- what is offered, if anything
 abbrev pub Passes : {L : Type 0} → (L → List ℕ → Sent → L → Type 0) → L → Option Offer → L → Type 0
 Passes sends old None new = new ≡ old
 Passes sends old (Some offer) new = sends old (reply_bytes offer.reply) offer.sent new
 
-module _ {W L C D : Type 0} (table : Table W) (settings : Settings) (receives : L → Heard → L → Type 0) (sends : L → List ℕ → Sent → L → Type 0) (does : Behaviour C D) where
+module _ {W L C D : Type 0} (table : Table W) (settings : Settings) (over : Traffic L) (does : Behaviour C D) where
   -- a piece is heard
   pub record HearsPiece (old : Side W L C D) (bytes : List ℕ) (new : Side W L C D) : Type 0 where
     pub goes : old.at.end ≡ None
     pub partial : IsPartial old.kept
-    pub brought : receives old.link (Piece bytes) new.link
+    pub brought : over.receives old.link (Piece bytes) new.link
     pub rest : new ≡ record old { link = new.link; kept = old.kept ++ bytes }
 
   -- a frame is worked off
@@ -80,7 +84,7 @@ module _ {W L C D : Type 0} (table : Table W) (settings : Settings) (receives : 
     pub front : old.kept ≡ turn.frame ++ new.kept
     pub framed : IsFramed turn.frame
     pub draws : Draws does old.served turn.made turn.folders new.served
-    pub passes : Passes sends old.link turn.offer new.link
+    pub passes : Passes over.sends old.link turn.offer new.link
 
   abbrev pub IsStep : Side W L C D → Step → Side W L C D → Type 0
   IsStep old (Hears (Piece bytes)) new = HearsPiece old bytes new
@@ -104,10 +108,10 @@ Stops None (Some ends.Memory) kept = Unit {0}
 Stops None (Some ends.NoWorkers) kept = ⊥
 
 -- the frames that stand whole are worked off
-pub record WorksOffFrames {W L C D : Type 0} (table : Table W) (settings : Settings) (receives : L → Heard → L → Type 0) (sends : L → List ℕ → Sent → L → Type 0) (does : Behaviour C D) (old : Side W L C D) (link : L) (served : Served C D) (s : Stand W) (kept : List ℕ) (end : Option SessionEnd) : Type 0 where
+pub record WorksOffFrames {W L C D : Type 0} (table : Table W) (settings : Settings) (over : Traffic L) (does : Behaviour C D) (old new : Side W L C D) (end : Option SessionEnd) : Type 0 where
   pub reached : Option SessionEnd
-  pub walks : Walks table settings receives sends does old (record { link = link; served = served; at = standing s reached; kept = kept })
-  pub stops : Stops reached end kept
+  pub walks : Walks table settings over does old (reaching new reached)
+  pub stops : Stops reached end new.kept
 
 -- an OPENDIR that found these names
 abbrev pub listing_found : List Child → End
@@ -133,12 +137,6 @@ pub record IsAnswered {L : Type 0} (sends : L → List ℕ → Sent → L → Ty
   pub said : ReplyBody
   pub said_is : IsSaid refused meant.body said
   pub offer : sends old (reply_bytes (record { unique = meant.unique; body = said })) sent new
-
--- a request that uses an open folder
-pub record IsUsedBy {L D : Type 0} (sends : L → List ℕ → Sent → L → Type 0) (keeps : D → FolderCall → D → Type 0) (q : Request) (fh : ℕ) (usage : FolderUse) (old : L) (dirs : D) (sent : Sent) (new : L) (dirs' : D) : Type 0 where
-  pub meant : ReplyBody
-  pub uses : ByCalls keeps dirs dirs' (λ folders. IsUsed q.node fh usage folders meant)
-  pub told : IsAnswered sends (record { unique = q.unique; body = meant }) old sent new
 
 -- an INIT that is answered, and whether a version is agreed on then
 pub record RepliesInit {L : Type 0} (sends : L → List ℕ → Sent → L → Type 0) (unique : ℕ) (answer : Negotiated) (before : Bool) (old : L) (sent : Sent) (new : L) (now : Bool) : Type 0 where
@@ -167,89 +165,130 @@ HandlesDestroy sends frame old sent destroyed new =
     ((q : Request) × IsRequest frame q × sends old (reply_bytes (done_reply q.unique)) sent new × (destroyed ≡ true))
     ⊎ (IsFaulty sends frame old sent new × (destroyed ≡ false))
 
--- a request that was finished is answered and settled
-pub record Settled {W L : Type 0} (table : Table W) (sends : L → List ℕ → Sent → L → Type 0) (unique : ℕ) (meant : ReplyBody) (answer : Given) (put : Option ℕ) (link : L) (finished : W) (sent : Sent) (taken : Bool) (link' : L) (world' : W) : Type 0 where
-  pub refused : Option Place
-  pub said : ReplyBody
-  pub said_is : IsSaid refused meant said
-  pub offer : sends link (reply_bytes (record { unique = unique; body = said })) sent link'
-  pub taken_is : taken ≡ taken_of refused (Some (record { reply = record { unique = unique; body = said }; sent = sent }))
-  pub settles : table.settles finished answer put taken world'
+-- a reply that is given, and whether its request is to be settled as taken
+pub record RepliesTaken {L : Type 0} (sends : L → List ℕ → Sent → L → Type 0) (meant : Reply) (old : L) (sent : Sent) (taken : Bool) (new : L) : Type 0 where
+  pub told : IsAnswered sends meant old sent new
+  pub taken_is : taken ≡ taken_of told.refused (Some (record { reply = record { unique = meant.unique; body = told.said }; sent = sent }))
+
+-- ---- requests
+
+-- what a request is answered by: the table, who owns what is mirrored, and what may become of a reply
+pub record Rules (W L : Type 0) : Type 1 where
+  pub table : Table W
+  pub settings : Settings
+  pub sends : L → List ℕ → Sent → L → Type 0
+
+abbrev pub by_rules : {W L : Type 0} → Table W → Settings → (L → List ℕ → Sent → L → Type 0) → Rules W L
+by_rules table settings sends = record { table = table; settings = settings; sends = sends }
+
+-- a request that has begun, with the page that it tells and its ticket
+pub record Begun : Type 0 where
+  pub q : Request
+  pub page : Paged
+  pub ticket : Claim
+
+abbrev pub begun : Request → Paged → Claim → Begun
+begun q page ticket = record { q = q; page = page; ticket = ticket }
+
+-- a request that is to begin with a want, after these calls of the open folders, and is to tell this page
+pub record Attempt : Type 0 where
+  pub q : Request
+  pub want : Want
+  pub lends : List FolderCall
+  pub page : Paged
+
+abbrev pub attempt : Request → Want → List FolderCall → Paged → Attempt
+attempt q want lends page = record { q = q; want = want; lends = lends; page = page }
+
+-- where a reply goes, and where the table stands
+pub record LinkAndTable (L W : Type 0) : Type 0 where
+  pub link : L
+  pub world : W
+
+abbrev pub with_table : {L W : Type 0} → L → W → LinkAndTable L W
+with_table link world = record { link = link; world = world }
 
 -- a request whose script has made these calls and come to an end is finished, answered and settled, with these calls of the open folders
-pub record Concludes {W L : Type 0} (table : Table W) (settings : Settings) (sends : L → List ℕ → Sent → L → Type 0) (q : Request) (page : Paged) (ticket : Claim) (made : List Made) (end : End) (folders : List FolderCall) (link : L) (begun : W) (sent : Sent) (link' : L) (world' : W) : Type 0 where
+pub record Concludes {W L : Type 0} (rules : Rules W L) (b : Begun) (made : List Made) (end : End) (folders : List FolderCall) (old : LinkAndTable L W) (sent : Sent) (new : LinkAndTable L W) : Type 0 where
   pub refused : Option Place
-  pub script : Plays refused q.operation ticket made end
+  pub script : Plays refused b.q.operation b.ticket made end
   pub answer : Given
   pub finished : W
-  pub finishes : table.finishes begun ticket.id end.outcome answer finished
+  pub finishes : rules.table.finishes old.world b.ticket.id end.outcome answer finished
   pub put : Option ℕ
   pub first : List FolderCall
-  pub stores : Stores refused q.node end.findings first put
+  pub stores : Stores refused b.q.node end.findings first put
   pub said : ReplyBody
-  pub said_is : IsTold refused (reply_to settings q.node page end.findings put answer) said
-  pub offer : sends link (reply_bytes (record { unique = q.unique; body = said })) sent link'
-  pub settles : table.settles finished answer put (taken_of refused (Some (record { reply = record { unique = q.unique; body = said }; sent = sent }))) world'
+  pub said_is : IsTold refused (reply_to rules.settings b.q.node b.page end.findings put answer) said
+  pub offer : rules.sends old.link (reply_bytes (record { unique = b.q.unique; body = said })) sent new.link
+  pub settles : rules.table.settles finished answer put (taken_of refused (Some (record { reply = record { unique = b.q.unique; body = said }; sent = sent }))) new.world
   pub last : List FolderCall
-  pub gives_up : GivesUp (taken_of refused (Some (record { reply = record { unique = q.unique; body = said }; sent = sent }))) put last
+  pub gives_up : GivesUp (taken_of refused (Some (record { reply = record { unique = b.q.unique; body = said }; sent = sent }))) put last
   pub folders_are : folders ≡ first ++ last
 
-module _ {W L C D : Type 0} (table : Table W) (settings : Settings) (sends : L → List ℕ → Sent → L → Type 0) (does : Behaviour C D) where
-  -- what came of one frame
-  pub record IsHandled (frame : List ℕ) (link : L) (served : Served C D) (old : Stand W) (end : Option SessionEnd) (link' : L) (served' : Served C D) (new : Stand W) : Type 0 where
+module _ {W L C D : Type 0} (rules : Rules W L) (does : Behaviour C D) where
+  -- what came of one frame, and whether a version is agreed on before it and then
+  pub record IsHandled (frame : List ℕ) (old : Environment (Stand W) L C D) (end : Option SessionEnd) (new : Environment (Stand W) L C D) : Type 0 where
     pub turn : Turn
     pub frame_is : turn.frame ≡ frame
     pub end_is : end ≡ ending (sent_in turn.offer) turn.destroyed
-    pub meets : HandlesFrame table settings old.agreed (class old.agreed (opcode_in turn.frame)) old.world turn new.world new.agreed
-    pub draws : Draws does served turn.made turn.folders served'
-    pub passes : Passes sends link turn.offer link'
+    pub meets : HandlesFrame rules.table rules.settings old.at.agreed (class old.at.agreed (opcode_in turn.frame)) old.at.world turn new.at.world new.at.agreed
+    pub draws : Draws does old.served turn.made turn.folders new.served
+    pub passes : Passes rules.sends old.link turn.offer new.link
 
   -- what came of a request of a session that has agreed on a version
-  pub record WorkedOff (frame : List ℕ) (link : L) (served : Served C D) (world : W) (sent : Option Sent) (link' : L) (served' : Served C D) (world' : W) : Type 0 where
+  pub record WorkedOff (frame : List ℕ) (old : Environment W L C D) (sent : Option Sent) (new : Environment W L C D) : Type 0 where
     pub turn : Turn
     pub frame_is : turn.frame ≡ frame
     pub sent_is : sent_in turn.offer ≡ sent
     pub lives : turn.destroyed ≡ false
-    pub asks : Asks table settings world turn world'
-    pub draws : Draws does served turn.made turn.folders served'
-    pub passes : Passes sends link turn.offer link'
+    pub asks : Asks rules.table rules.settings old.at turn new.at
+    pub draws : Draws does old.served turn.made turn.folders new.served
+    pub passes : Passes rules.sends old.link turn.offer new.link
 
   -- a request that has begun is played, and concluded
-  pub record RunsScript (q : Request) (page : Paged) (ticket : Claim) (link : L) (served : Served C D) (begun : W) (sent : Sent) (link' : L) (served' : Served C D) (world' : W) : Type 0 where
+  pub record RunsScript (b : Begun) (old : Environment W L C D) (sent : Sent) (new : Environment W L C D) : Type 0 where
     pub made : List Made
     pub end : End
-    pub makes : Makes does.gives served.calls made served'.calls
-    pub concludes : ByCalls does.keeps served.dirs served'.dirs (λ folders. Concludes table settings sends q page ticket made end folders link begun sent link' world')
+    pub makes : Makes does.gives old.served.calls made new.served.calls
+    pub concludes : ByCalls does.keeps old.served.dirs new.served.dirs (λ folders. Concludes rules b made end folders (with_table old.link old.at) sent (with_table new.link new.at))
 
-  -- a request that is begun, whatever frame it stands in, after these calls of the open folders
-  pub record RunsOut (q : Request) (want : Want) (lends : List FolderCall) (page : Paged) (link : L) (served : Served C D) (world : W) (sent : Sent) (link' : L) (served' : Served C D) (world' : W) : Type 0 where
+  -- a request that is begun, whatever frame it stands in
+  pub record RunsOut (a : Attempt) (old : Environment W L C D) (sent : Sent) (new : Environment W L C D) : Type 0 where
     pub refused : Option Place
     pub kept : Bool
     pub made : List Made
     pub more : List FolderCall
     pub said : ReplyBody
-    pub draws : Draws does served made more served'
-    pub offer : sends link (reply_bytes (record { unique = q.unique; body = said })) sent link'
-    pub works : (frame : List ℕ) → WorksOff table settings refused q want lends page world (record { frame = frame; refused = refused; kept = kept; made = made; folders = lends ++ more; offer = Some (record { reply = record { unique = q.unique; body = said }; sent = sent }); destroyed = false }) world'
+    pub draws : Draws does old.served made more new.served
+    pub offer : rules.sends old.link (reply_bytes (record { unique = a.q.unique; body = said })) sent new.link
+    pub works : (frame : List ℕ) → WorksOff rules.table rules.settings refused a.q a.want a.lends a.page old.at (record { frame = frame; refused = refused; kept = kept; made = made; folders = a.lends ++ more; offer = Some (record { reply = record { unique = a.q.unique; body = said }; sent = sent }); destroyed = false }) new.at
+
+  -- a request that uses an open folder and is answered at once
+  pub record IsUsedBy (q : Request) (used : HandleUse) (old : Environment W L C D) (sent : Sent) (new : Environment W L C D) : Type 0 where
+    pub meant : ReplyBody
+    pub uses : ByCalls does.keeps old.served.dirs new.served.dirs (λ folders. IsUsed q.node used.fh used.usage folders meant)
+    pub told : IsAnswered rules.sends (record { unique = q.unique; body = meant }) old.link sent new.link
+    pub calls_are : new.served.calls ≡ old.served.calls
+    pub world_is : new.at ≡ old.at
 
   -- entries of an open folder are told by a request that begins
-  pub record TellsPage (q : Request) (fh offset size : ℕ) (link : L) (served : Served C D) (world : W) (sent : Sent) (link' : L) (served' : Served C D) (world' : W) : Type 0 where
+  pub record TellsPage (q : Request) (ask : PageAsk) (old : Environment W L C D) (sent : Sent) (new : Environment W L C D) : Type 0 where
     pub page : Paged
     pub lent : D
-    pub lends : ByCalls does.keeps served.dirs lent (λ folders. LendsPage q.node fh offset size folders page)
-    pub runs : RunsOut q (page_want q.node page.entries) lends.folders page link (record { calls = served.calls; dirs = lent }) world sent link' served' world'
+    pub lends : ByCalls does.keeps old.served.dirs lent (λ folders. LendsPage q.node ask.fh ask.offset ask.size folders page)
+    pub runs : RunsOut (attempt q (page_want q.node page.entries) lends.folders page) (around old.link (record { calls = old.served.calls; dirs = lent }) old.at) sent new
 
-  abbrev pub TellsOut : Request → (fh : ℕ) → FolderUse → L → Served C D → W → Sent → L → Served C D → W → Type 0
-  TellsOut q fh (ReadEntries offset size) link served world sent link' served' world' = TellsPage q fh offset size link served world sent link' served' world'
-  TellsOut q fh usage link served world sent link' served' world' = ⊥
+  abbrev pub TellsOut : Request → (fh : ℕ) → FolderUse → Environment W L C D → Sent → Environment W L C D → Type 0
+  TellsOut q fh (ReadEntries offset size) old sent new = TellsPage q (record { fh = fh; offset = offset; size = size }) old sent new
+  TellsOut q fh usage old sent new = ⊥
 
   -- an open folder is used, whatever frame the request stands in
-  abbrev pub UsesOut : Request → (fh : ℕ) → FolderUse → L → Served C D → W → Sent → L → Served C D → W → Type 0
-  UsesOut q fh usage link served world sent link' served' world' =
-      (IsUsedBy sends does.keeps q fh usage link served.dirs sent link' served'.dirs × (served'.calls ≡ served.calls) × (world' ≡ world)) ⊎ TellsOut q fh usage link served world sent link' served' world'
+  abbrev pub UsesOut : Request → HandleUse → Environment W L C D → Sent → Environment W L C D → Type 0
+  UsesOut q used old sent new = IsUsedBy q used old sent new ⊎ TellsOut q used.fh used.usage old sent new
 
 -- another request was in the way: nothing was done
-pub record IsUntouched {W L S : Type 0} (link : L) (served : S) (world : W) (link' : L) (served' : S) (world' : W) : Type 0 where
-  pub link_is : link' ≡ link
-  pub served_is : served' ≡ served
-  pub world_is : world' ≡ world
+pub record IsUntouched {W L C D : Type 0} (old new : Environment W L C D) : Type 0 where
+  pub link_is : new.link ≡ old.link
+  pub served_is : new.served ≡ old.served
+  pub world_is : new.at ≡ old.at

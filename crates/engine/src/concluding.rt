@@ -8,7 +8,7 @@ ghost use Rattle.ops.specs.Ahead.{end_of};
 ghost use Rattle.ops.specs.Pages.{Paged};
 ghost use Rattle.ops.specs.Scripts.{listed_end, plan_of, Follows, Made};
 ghost use Rattle.engine.specs.Folders.{ByCalls, GivesUp};
-ghost use Rattle.engine.specs.Walks.{listing_found, Concludes, IsPlain, Settled};
+ghost use Rattle.engine.specs.Walks.{begun, by_rules, listing_found, with_table, Concludes, IsPlain, RepliesTaken};
 
 use crate::links::Sent;
 use crate::outlet::Outlet;
@@ -49,7 +49,8 @@ impl Session {
         reply: Reply,
     ) -> (Sent, bool)
         requires holds { R.steps.holds (R.world table.old) answered }
-        ensures settled { Settled R.steps L.sends reply.unique reply.body answered put link.old (R.world table.old) result.0 result.1 link.new (R.world table.new) }
+        ensures replies { RepliesTaken L.sends reply link.old result.0 result.1 link.new }
+        ensures settles { R.steps.settles (R.world table.old) answered put result.1 (R.world table.new) }
         ensures gains { R.steps.gains (R.world table.old) share.old (R.world table.new) share.new }
         ensures settings { self.new.settings ≡ self.old.settings }
         ensures agreed { self.new.agreed ≡ self.old.agreed }
@@ -80,8 +81,8 @@ impl Session {
     ) -> Sent
         requires free { R.steps.is_free (R.world table.old) }
         requires plain { IsPlain found }
-        ensures concludes { (page : Paged) (made : List Made) → Follows (plan_of request.entry.operation ticket) made (end_of found) → Concludes R.steps self.old.settings L.sends request.entry page ticket made (end_of found) []
-            link.old (R.world table.old) result link.new (R.world table.new) }
+        ensures concludes { (page : Paged) (made : List Made) → Follows (plan_of request.entry.operation ticket) made (end_of found) → Concludes (by_rules R.steps self.old.settings L.sends) (begun request.entry page ticket) made (end_of found) []
+            (with_table link.old (R.world table.old)) result (with_table link.new (R.world table.new)) }
         ensures gains { R.steps.gains (R.world table.old) share.old (R.world table.new) share.new }
         ensures settings { self.new.settings ≡ self.old.settings }
         ensures agreed { self.new.agreed ≡ self.old.agreed }
@@ -106,8 +107,8 @@ impl Session {
     ) -> Sent
         requires free { R.steps.is_free (R.world table.old) }
         ensures concludes { ByCalls D.keeps dirs.old dirs.new (λ folders. (page : Paged) (made : List Made) (children : List Child) → IsMade request.entry.node children (Ok listing)
-            → Follows (plan_of request.entry.operation ticket) made (listing_found children) → Concludes R.steps self.old.settings L.sends request.entry page ticket made (listing_found children) folders
-            link.old (R.world table.old) result link.new (R.world table.new)) }
+            → Follows (plan_of request.entry.operation ticket) made (listing_found children) → Concludes (by_rules R.steps self.old.settings L.sends) (begun request.entry page ticket) made (listing_found children) folders
+            (with_table link.old (R.world table.old)) result (with_table link.new (R.world table.new))) }
         ensures gains { R.steps.gains (R.world table.old) share.old (R.world table.new) share.new }
         ensures settings { self.new.settings ≡ self.old.settings }
         ensures agreed { self.new.agreed ≡ self.old.agreed }
@@ -134,8 +135,8 @@ impl Session {
     ) -> Sent
         requires free { R.steps.is_free (R.world table.old) }
         ensures concludes { (page : Paged) (made : List Made) (children : List Child) → IsMade request.entry.node children (Err Memory) → Follows (plan_of request.entry.operation ticket) made (listing_found children)
-            → Concludes R.steps self.old.settings L.sends request.entry page ticket made (listing_found children) []
-            link.old (R.world table.old) result link.new (R.world table.new) }
+            → Concludes (by_rules R.steps self.old.settings L.sends) (begun request.entry page ticket) made (listing_found children) []
+            (with_table link.old (R.world table.old)) result (with_table link.new (R.world table.new)) }
         ensures gains { R.steps.gains (R.world table.old) share.old (R.world table.new) share.new }
         ensures settings { self.new.settings ≡ self.old.settings }
         ensures agreed { self.new.agreed ≡ self.old.agreed }
@@ -158,8 +159,8 @@ impl Session {
     ) -> Sent
         requires free { R.steps.is_free (R.world table.old) }
         ensures concludes { ByCalls D.keeps dirs.old dirs.new (λ folders. (page : Paged) (made : List Made) → Follows (plan_of request.entry.operation ticket) made (listed_end children)
-            → Concludes R.steps self.old.settings L.sends request.entry page ticket made (listed_end children) folders
-            link.old (R.world table.old) result link.new (R.world table.new)) }
+            → Concludes (by_rules R.steps self.old.settings L.sends) (begun request.entry page ticket) made (listed_end children) folders
+            (with_table link.old (R.world table.old)) result (with_table link.new (R.world table.new))) }
         ensures gains { R.steps.gains (R.world table.old) share.old (R.world table.new) share.new }
         ensures settings { self.new.settings ≡ self.old.settings }
         ensures agreed { self.new.agreed ≡ self.old.agreed }

@@ -6,7 +6,7 @@ ghost use Rattle.ops.specs.Folders.{IsPaged};
 ghost use Rattle.ops.specs.Pages.{Paged as Told};
 ghost use Rattle.ops.specs.Scripts.{plan_of, Follows, Made};
 ghost use Rattle.engine.specs.Folders.{ByCalls, IsLentPage, LendsPage, PagesOf};
-ghost use Rattle.engine.specs.Walks.{entries_found, no_memory, Concludes};
+ghost use Rattle.engine.specs.Walks.{begun, by_rules, entries_found, no_memory, with_table, Concludes};
 
 use crate::links::Sent;
 use crate::outlet::Outlet;
@@ -19,6 +19,14 @@ use ops::{Looked, Paged, entries_reply};
 use std::alloc::{AllocError, Global};
 use table::{Outcome, Ticket};
 use wire::{Reply, ReplyBody, Request};
+
+/// Which page of an open folder is asked for: in at most `size` bytes, from the entry at `offset` (an index) on.
+#[derive(Clone, Copy)]
+pub(crate) struct PageAsk {
+    pub fh: u64,
+    pub offset: u64,
+    pub size: u32,
+}
 
 /// What comes of lending a folder for a page.
 #[derive(Drop)]
@@ -46,20 +54,18 @@ pub(crate) fn lend_page<D: Folders>(
     alloc: Global,
     dirs: &mut D,
     node: u64,
-    fh: u64,
-    offset: u64,
-    size: u32,
+    ask: PageAsk,
 ) -> Result<Lends, AllocError>
-    ensures ok { IfOk result (λ what. ByCalls D.keeps dirs.old dirs.new (λ folders. IsLentPage node fh offset size folders what)) }
-    ensures err { OnErr result (ByCalls D.keeps dirs.old dirs.new (λ folders. (page : Told) × LendsPage node fh offset size folders page)) }
+    ensures ok { IfOk result (λ what. ByCalls D.keeps dirs.old dirs.new (λ folders. IsLentPage node ask.fh ask.offset ask.size folders what)) }
+    ensures err { OnErr result (ByCalls D.keeps dirs.old dirs.new (λ folders. (page : Told) × LendsPage node ask.fh ask.offset ask.size folders page)) }
 {
-    let Some(lent) = dirs.lend(fh) else {
+    let Some(lent) = dirs.lend(ask.fh) else {
         return Ok(Lends::Nothing(ReplyBody::Failed { errno: EBADF }));
     };
     if lent.listing().number() != node {
         return Ok(Lends::Nothing(ReplyBody::Failed { errno: EBADF }));
     }
-    take_page(alloc, lent.listing(), offset, size)
+    take_page(alloc, lent.listing(), ask.offset, ask.size)
 }
 
 impl Session {
@@ -75,8 +81,8 @@ impl Session {
         looked: Looked,
     ) -> Sent
         requires free { R.steps.is_free (R.world table.old) }
-        ensures concludes { (made : List Made) → Follows (plan_of request.entry.operation ticket) made (entries_found looked) → Concludes R.steps self.old.settings L.sends request.entry page.now ticket made (entries_found looked) []
-            link.old (R.world table.old) result link.new (R.world table.new) }
+        ensures concludes { (made : List Made) → Follows (plan_of request.entry.operation ticket) made (entries_found looked) → Concludes (by_rules R.steps self.old.settings L.sends) (begun request.entry page.now ticket) made (entries_found looked) []
+            (with_table link.old (R.world table.old)) result (with_table link.new (R.world table.new)) }
         ensures gains { R.steps.gains (R.world table.old) share.old (R.world table.new) share.new }
         ensures settings { self.new.settings ≡ self.old.settings }
         ensures agreed { self.new.agreed ≡ self.old.agreed }
@@ -113,8 +119,8 @@ impl Session {
         ticket: Ticket,
     ) -> Sent
         requires free { R.steps.is_free (R.world table.old) }
-        ensures concludes { (page : Told) → LooksAtEach request.entry.operation → Concludes R.steps self.old.settings L.sends request.entry page ticket [] no_memory []
-            link.old (R.world table.old) result link.new (R.world table.new) }
+        ensures concludes { (page : Told) → LooksAtEach request.entry.operation → Concludes (by_rules R.steps self.old.settings L.sends) (begun request.entry page ticket) [] no_memory []
+            (with_table link.old (R.world table.old)) result (with_table link.new (R.world table.new)) }
         ensures gains { R.steps.gains (R.world table.old) share.old (R.world table.new) share.new }
         ensures settings { self.new.settings ≡ self.old.settings }
         ensures agreed { self.new.agreed ≡ self.old.agreed }

@@ -4,8 +4,8 @@ ghost use Rattle.std.specs.Prelude.{◌≡◌, None, Some};
 ghost use Rattle.wire.specs.Requests.{opcode_in, unique_in, IsFramed};
 ghost use Rattle.wire.specs.declared.opcode.TheConstants.{INIT};
 ghost use Rattle.engine.specs.Reference.{agrees, ending, init_reply_of, negotiated_by};
-ghost use Rattle.engine.specs.Serving.{does};
-ghost use Rattle.engine.specs.Walks.{stand, HandlesInitFrame, IsHandled, HandlesDestroy, RepliesInit};
+ghost use Rattle.engine.specs.Serving.{around, does};
+ghost use Rattle.engine.specs.Walks.{by_rules, stand, HandlesInitFrame, IsHandled, HandlesDestroy, RepliesInit};
 
 use crate::classes::{Class, class_of};
 use crate::ends::SessionEnd;
@@ -126,8 +126,8 @@ impl Session {
         requires free { R.steps.is_free (R.world table.old) }
         requires framed { IsFramed frame.now }
         requires idle { R.steps.is_idle (R.world table.old) }
-        ensures handled { IsHandled R.steps self.old.settings L.sends (does C.gives D.keeps) frame.now
-            link.old served.old (stand (R.world table.old) self.old.agreed) result link.new served.new (stand (R.world table.new) self.new.agreed) }
+        ensures handled { IsHandled (by_rules R.steps self.old.settings L.sends) (does C.gives D.keeps) frame.now
+            (around link.old served.old (stand (R.world table.old) self.old.agreed)) result (around link.new served.new (stand (R.world table.new) self.new.agreed)) }
         ensures gains { R.steps.gains (R.world table.old) share.old (R.world table.new) share.new }
         ensures idle { R.steps.is_idle (R.world table.new) }
         ensures settings { self.new.settings ≡ self.old.settings }

@@ -9,8 +9,8 @@ ghost use Rattle.handles.specs.Calls.{FolderCall};
 ghost use Rattle.engine.specs.Reference.{is_taken, ForgetsAll};
 ghost use Rattle.wire.specs.Pairs.{pairs_in};
 ghost use Rattle.engine.specs.Replies.{done_reply, refusal, TakesMemory};
-ghost use Rattle.engine.specs.Serving.{does};
-ghost use Rattle.engine.specs.Walks.{RunsOut, IsAnswered, IsUntouched, RunsScript, WorkedOff};
+ghost use Rattle.engine.specs.Serving.{around, does};
+ghost use Rattle.engine.specs.Walks.{attempt, begun, by_rules, RunsOut, IsAnswered, IsUntouched, RunsScript, WorkedOff};
 ghost use Rattle.ops.specs.Intents.{want_of};
 ghost use Rattle.ops.specs.Pages.{no_page};
 
@@ -19,6 +19,7 @@ use crate::outlet::Outlet;
 use crate::playing::play;
 use crate::reach::Reach;
 use crate::served::Served;
+use crate::using::HandleUse;
 use backing::Calls;
 use errno::ENOMEM;
 use handles::Folders;
@@ -143,8 +144,8 @@ impl Session {
         page: &Paged,
     ) -> Sent
         requires free { R.steps.is_free (R.world table.old) }
-        ensures runs { RunsScript R.steps self.old.settings L.sends (does C.gives D.keeps) request.entry page.now ticket
-            link.old served.old (R.world table.old) result link.new served.new (R.world table.new) }
+        ensures runs { RunsScript (by_rules R.steps self.old.settings L.sends) (does C.gives D.keeps) (begun request.entry page.now ticket)
+            (around link.old served.old (R.world table.old)) result (around link.new served.new (R.world table.new)) }
         ensures gains { R.steps.gains (R.world table.old) share.old (R.world table.new) share.new }
         ensures settings { self.new.settings ≡ self.old.settings }
         ensures agreed { self.new.agreed ≡ self.old.agreed }
@@ -186,9 +187,9 @@ impl Session {
     ) -> Option<Sent>
         requires free { R.steps.is_free (R.world table.old) }
         requires idle { R.steps.is_idle (R.world table.old) }
-        ensures some { IfSome result (λ sent. (lends : List FolderCall) → RunsOut R.steps self.old.settings L.sends (does C.gives D.keeps) request.entry want lends page.now
-            link.old served.old (R.world table.old) sent link.new served.new (R.world table.new)) }
-        ensures none { IfNone result (IsUntouched link.old served.old (R.world table.old) link.new served.new (R.world table.new)) }
+        ensures some { IfSome result (λ sent. (lends : List FolderCall) → RunsOut (by_rules R.steps self.old.settings L.sends) (does C.gives D.keeps) (attempt request.entry want lends page.now)
+            (around link.old served.old (R.world table.old)) sent (around link.new served.new (R.world table.new))) }
+        ensures none { IfNone result (IsUntouched (around link.old served.old (R.world table.old)) (around link.new served.new (R.world table.new))) }
         ensures gains { R.steps.gains (R.world table.old) share.old (R.world table.new) share.new }
         ensures idle { R.steps.is_idle (R.world table.new) }
         ensures settings { self.new.settings ≡ self.old.settings }
@@ -220,8 +221,8 @@ impl Session {
     ) -> Sent
         requires free { R.steps.is_free (R.world table.old) }
         requires idle { R.steps.is_idle (R.world table.old) }
-        ensures runs_out { RunsOut R.steps self.old.settings L.sends (does C.gives D.keeps) request.entry (want_of wanted.entry) [] no_page
-            link.old served.old (R.world table.old) result link.new served.new (R.world table.new) }
+        ensures runs_out { RunsOut (by_rules R.steps self.old.settings L.sends) (does C.gives D.keeps) (attempt request.entry (want_of wanted.entry) [] no_page)
+            (around link.old served.old (R.world table.old)) result (around link.new served.new (R.world table.new)) }
         ensures gains { R.steps.gains (R.world table.old) share.old (R.world table.new) share.new }
         ensures idle { R.steps.is_idle (R.world table.new) }
         ensures settings { self.new.settings ≡ self.old.settings }
@@ -255,8 +256,8 @@ impl Session {
         requires free { R.steps.is_free (R.world table.old) }
         requires framed { IsFramed frame.now }
         requires idle { R.steps.is_idle (R.world table.old) }
-        ensures worked { WorkedOff R.steps self.old.settings L.sends (does C.gives D.keeps) frame.now
-            link.old served.old (R.world table.old) result link.new served.new (R.world table.new) }
+        ensures worked { WorkedOff (by_rules R.steps self.old.settings L.sends) (does C.gives D.keeps) frame.now
+            (around link.old served.old (R.world table.old)) result (around link.new served.new (R.world table.new)) }
         ensures gains { R.steps.gains (R.world table.old) share.old (R.world table.new) share.new }
         ensures idle { R.steps.is_idle (R.world table.new) }
         ensures settings { self.new.settings ≡ self.old.settings }
@@ -281,7 +282,8 @@ impl Session {
                 Some(self.answer(link, Reply { unique, body }))
             }
             Intent::Folder { fh, usage } => {
-                Some(self.use_folder(rt, link, served, table, share, request, fh, usage))
+                let used = HandleUse { fh, usage };
+                Some(self.use_folder(rt, link, served, table, share, request, used))
             }
             Intent::Forget(lookups) => {
                 table.forget(share, lookups.node, lookups.nlookup);

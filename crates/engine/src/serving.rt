@@ -3,7 +3,7 @@
 ghost use Rattle.std.specs.Prelude.{◌≡◌, None, IfNone};
 ghost use Rattle.table_steps.specs.Kept.{world_of};
 ghost use Rattle.table.specs.Gains.{GainsInAll};
-ghost use Rattle.engine.specs.Serving.{does, IsClientRun, IsSessionRun, RemovesAll, RemovesLeft};
+ghost use Rattle.engine.specs.Serving.{around, does, traffic, IsClientRun, IsSessionRun, RemovesAll, RemovesLeft};
 ghost use Rattle.engine.specs.Tables.{worlds, IsIdle};
 ghost use Rattle.engine.specs.Walks.{side, stand, WorksOffFrames};
 
@@ -35,9 +35,9 @@ fn work_off_frames<H: Wait, T: Ledgers, L: Link, C: Calls, D: Folders>(
     cutter: &mut Cutter,
 ) -> Option<SessionEnd>
     requires idle { IsIdle (world_of table.old) }
-    ensures drains { WorksOffFrames worlds session.old.settings L.receives L.sends (does C.gives D.keeps)
-        (side link.old served.old (stand (world_of table.old) session.old.agreed) cutter.old.kept)
-        link.new served.new (stand (world_of table.new) session.new.agreed) cutter.new.kept result }
+    ensures drains { WorksOffFrames worlds session.old.settings (traffic L.receives L.sends) (does C.gives D.keeps)
+        (side (around link.old served.old (stand (world_of table.old) session.old.agreed)) cutter.old.kept)
+        (side (around link.new served.new (stand (world_of table.new) session.new.agreed)) cutter.new.kept) result }
     ensures gains { GainsInAll (world_of table.old) share.old (world_of table.new) share.new }
     ensures on { IfNone result (cutter.new.stopped ≡ cutter.old.stopped) }
     ensures idle { IsIdle (world_of table.new) }
@@ -70,8 +70,8 @@ fn serve_client<H: Wait, T: Ledgers, L: Link, C: Calls, D: Folders>(
     settings: Settings,
 ) -> SessionEnd
     requires fresh { IsIdle (world_of table.old) }
-    ensures serves { IsClientRun worlds settings L.receives L.sends (does C.gives D.keeps)
-        link.old served.old (world_of table.old) link.new served.new (world_of table.new) result }
+    ensures serves { IsClientRun worlds settings (traffic L.receives L.sends) (does C.gives D.keeps)
+        (around link.old served.old (world_of table.old)) (around link.new served.new (world_of table.new)) result }
     ensures gains { GainsInAll (world_of table.old) share.old (world_of table.new) share.new }
 {
     table.attest(); // proof: its law
@@ -137,8 +137,8 @@ pub fn serve<H: Wait, T: Ledgers, L: Link, C: Calls, D: Folders>(
     settings: Settings,
 ) -> SessionEnd
     requires fresh { IsIdle (world_of table.old) }
-    ensures serves { IsSessionRun worlds settings L.receives L.sends (does C.gives D.keeps)
-        link.old served.old (world_of table.old) link.new served.new (world_of table.new) result }
+    ensures serves { IsSessionRun worlds settings (traffic L.receives L.sends) (does C.gives D.keeps)
+        (around link.old served.old (world_of table.old)) (around link.new served.new (world_of table.new)) result }
     ensures gains { GainsInAll (world_of table.old) share.old (world_of table.new) share.new }
 {
     let end = serve_client(rt, alloc, link, served, table, share, settings);

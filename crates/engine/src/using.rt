@@ -4,11 +4,10 @@ ghost use Rattle.std.specs.Prelude.{◌≡◌, List};
 ghost use Rattle.ops.specs.Pages.{page_want};
 ghost use Rattle.handles.specs.Calls.{FolderCall};
 ghost use Rattle.ops.specs.declared.intents.FolderUse.TheVariants.{ReadEntries};
-ghost use Rattle.engine.specs.Folders.{IsAtOnce};
-ghost use Rattle.engine.specs.Serving.{does};
-ghost use Rattle.engine.specs.Walks.{RunsOut, IsUsedBy, UsesOut};
+ghost use Rattle.engine.specs.Serving.{around, does};
+ghost use Rattle.engine.specs.Walks.{attempt, by_rules, RunsOut, UsesOut};
 
-use crate::entries::{Lends, lend_page};
+use crate::entries::{Lends, PageAsk, lend_page};
 use crate::folders::use_folder;
 use crate::links::Sent;
 use crate::outlet::Outlet;
@@ -23,28 +22,14 @@ use ops::{FolderUse, Paged};
 use std::sync::Wait;
 use wire::{Reply, Request};
 
-impl Session {
-    /// Answers at once a request that uses an open folder.
-    fn tell_use<L: Outlet, D: Folders>(
-        &mut self,
-        dirs: &mut D,
-        link: &mut L,
-        request: Request<'_>,
-        fh: u64,
-        usage: FolderUse,
-    ) -> Sent
-        requires { IsAtOnce usage }
-        ensures used { IsUsedBy L.sends D.keeps request.entry fh usage link.old dirs.old result link.new dirs.new }
-        ensures settings { self.new.settings ≡ self.old.settings }
-        ensures agreed { self.new.agreed ≡ self.old.agreed }
-    {
-        let unique = request.unique;
-        match use_folder(self.alloc, dirs, request.node, fh, usage) {
-            Ok(body) => self.answer(link, Reply { unique, body }),
-            Err(_) => refuse(link, unique, ENOMEM),
-        }
-    }
+/// What a request makes of an open folder: its handle, and the use.
+#[derive(Clone, Copy)]
+pub(crate) struct HandleUse {
+    pub fh: u64,
+    pub usage: FolderUse,
+}
 
+impl Session {
     /// Runs a READDIRPLUS, and begins it again for as long as another request is in its way.
     fn run_page<H: Wait, T: Ledgers, R: Reach<T>, L: Outlet, C: Calls, D: Folders>(
         &mut self,
@@ -58,8 +43,8 @@ impl Session {
     ) -> Sent
         requires free { R.steps.is_free (R.world table.old) }
         requires idle { R.steps.is_idle (R.world table.old) }
-        ensures runs_out { (lends : List FolderCall) → RunsOut R.steps self.old.settings L.sends (does C.gives D.keeps) request.entry (page_want request.entry.node page.now.entries) lends page.now
-            link.old served.old (R.world table.old) result link.new served.new (R.world table.new) }
+        ensures runs_out { (lends : List FolderCall) → RunsOut (by_rules R.steps self.old.settings L.sends) (does C.gives D.keeps) (attempt request.entry (page_want request.entry.node page.now.entries) lends page.now)
+            (around link.old served.old (R.world table.old)) result (around link.new served.new (R.world table.new)) }
         ensures gains { R.steps.gains (R.world table.old) share.old (R.world table.new) share.new }
         ensures idle { R.steps.is_idle (R.world table.new) }
         ensures settings { self.new.settings ≡ self.old.settings }
@@ -88,14 +73,12 @@ impl Session {
         table: &mut R,
         share: &mut Share<T>,
         request: Request<'_>,
-        fh: u64,
-        offset: u64,
-        size: u32,
+        ask: PageAsk,
     ) -> Sent
         requires free { R.steps.is_free (R.world table.old) }
         requires idle { R.steps.is_idle (R.world table.old) }
-        ensures used { UsesOut R.steps self.old.settings L.sends (does C.gives D.keeps) request.entry fh (ReadEntries offset size)
-            link.old served.old (R.world table.old) result link.new served.new (R.world table.new) }
+        ensures used { UsesOut (by_rules R.steps self.old.settings L.sends) (does C.gives D.keeps) request.entry (record { fh = ask.fh; usage = ReadEntries ask.offset ask.size })
+            (around link.old served.old (R.world table.old)) result (around link.new served.new (R.world table.new)) }
         ensures gains { R.steps.gains (R.world table.old) share.old (R.world table.new) share.new }
         ensures idle { R.steps.is_idle (R.world table.new) }
         ensures settings { self.new.settings ≡ self.old.settings }
@@ -103,7 +86,7 @@ impl Session {
     {
         table.attest(); // proof: its law
         let (unique, node) = (request.unique, request.node);
-        let page = match lend_page(self.alloc, &mut served.dirs, node, fh, offset, size) {
+        let page = match lend_page(self.alloc, &mut served.dirs, node, ask) {
             Ok(Lends::Page(page)) => page,
             Ok(Lends::Nothing(body)) => return self.answer(link, Reply { unique, body }),
             Err(_) => return refuse(link, unique, ENOMEM),
@@ -112,7 +95,7 @@ impl Session {
     }
 
     /// Works off a request that uses an open folder.
-    pub fn use_folder<H: Wait, T: Ledgers, R: Reach<T>, L: Outlet, C: Calls, D: Folders>(
+    pub(crate) fn use_folder<H: Wait, T: Ledgers, R: Reach<T>, L: Outlet, C: Calls, D: Folders>(
         &mut self,
         rt: &H,
         link: &mut L,
@@ -120,24 +103,29 @@ impl Session {
         table: &mut R,
         share: &mut Share<T>,
         request: Request<'_>,
-        fh: u64,
-        usage: FolderUse,
+        used: HandleUse,
     ) -> Sent
         requires free { R.steps.is_free (R.world table.old) }
         requires idle { R.steps.is_idle (R.world table.old) }
-        ensures used { UsesOut R.steps self.old.settings L.sends (does C.gives D.keeps) request.entry fh usage
-            link.old served.old (R.world table.old) result link.new served.new (R.world table.new) }
+        ensures used { UsesOut (by_rules R.steps self.old.settings L.sends) (does C.gives D.keeps) request.entry used
+            (around link.old served.old (R.world table.old)) result (around link.new served.new (R.world table.new)) }
         ensures gains { R.steps.gains (R.world table.old) share.old (R.world table.new) share.new }
         ensures idle { R.steps.is_idle (R.world table.new) }
         ensures settings { self.new.settings ≡ self.old.settings }
         ensures agreed { self.new.agreed ≡ self.old.agreed }
     {
         table.attest(); // proof: its law
+        let HandleUse { fh, usage } = used;
+        let (unique, node) = (request.unique, request.node);
         match usage {
-            FolderUse::ReadEntries { offset, size } => self.read_entries(
-                rt, link, served, table, share, request, fh, offset, size,
-            ),
-            _ => self.tell_use(&mut served.dirs, link, request, fh, usage),
+            FolderUse::ReadEntries { offset, size } => {
+                let ask = PageAsk { fh, offset, size };
+                self.read_entries(rt, link, served, table, share, request, ask)
+            }
+            _ => match use_folder(self.alloc, &mut served.dirs, node, fh, usage) {
+                Ok(body) => self.answer(link, Reply { unique, body }),
+                Err(_) => refuse(link, unique, ENOMEM),
+            },
         }
     }
 }

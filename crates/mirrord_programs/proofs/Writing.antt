@@ -5,12 +5,12 @@ use Rattle.std.specs.Io.KnownBytes.{Appends}
 use Rattle.backing.specs.Memory.{Memory as MemTree, Gives, memory_tree}
 use Rattle.engine.specs.Chain.{Chain}
 use Rattle.engine.specs.Links.{Event, Happens, Heard, In, Out, Piece, Ended, Broke}
-use Rattle.engine.specs.Serving.{events_of}
+use Rattle.engine.specs.Serving.{events_of, traffic}
 use Rattle.engine.specs.declared.ends.SessionEnd.{SessionEnd}
 use Rattle.engine.specs.declared.links.Sent.TheVariants as sent
 use Rattle.mirrord_programs.specs.Lines.{Hexing, HasPiece, Receives, Sends, broken_line, line, lines_in}
 use Rattle.engine_streams.proofs.Passed.{BreaksLast, breaks_last}
-use Rattle.mirrord_server.specs.Known.{ServesKnown}
+use Rattle.mirrord_server.specs.Known.{known_calls, ServesKnown}
 use Rattle.mirrord_programs.specs.Runs.{ServesHex, failed_in, unowned}
 use Rattle.mirrord_programs.specs.Samples.{IsStart}
 
@@ -48,7 +48,7 @@ written old new (Out frame sent.Broken ∷ events) chain last =
     (n, subst (λ (l : Hexing). Appends old.output l.output (lines_in events ++ take n (line frame))) (sym over) (subst (λ (xs : List ℕ). Appends old.output chain.0.output (xs ++ take n (line frame))) (sym none) chain.1.0.1))
 
 -- a link that was served from a new tree
-pub hex_served : (sampled : Bool) (postings : ℕ) (tree : MemTree) (old : Hexing) (over : SessionEnd) (new : Hexing) → IsStart sampled tree → ServesKnown (unowned postings) Receives Sends Gives memory_tree failed_in tree old over new → ServesHex sampled postings old over new
+pub hex_served : (sampled : Bool) (postings : ℕ) (tree : MemTree) (old : Hexing) (over : SessionEnd) (new : Hexing) → IsStart sampled tree → ServesKnown (unowned postings) (traffic Receives Sends) (known_calls Gives memory_tree failed_in) tree old over new → ServesHex sampled postings old over new
 hex_served sampled postings tree old over new start (inl known) =
     let client = known.served.run.client in
     let wrote = written old new (events_of client.steps) client.passes (breaks_last [] client.steps client.kept client.paces) in

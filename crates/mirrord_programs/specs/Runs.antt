@@ -6,11 +6,11 @@ use Rattle.backing.specs.Memory.{Memory as MemTree, Gives, memory_tree}
 use Rattle.clap.specs.Words.{IsAmong, Text, fault_of as refusals_of, subcommand_of, takes}
 use Rattle.clap.specs.declared.error.kind.ErrorKind.{ErrorKind}
 use Rattle.clap.specs.declared.error.kind.ErrorKind.TheVariants.{OutOfMemory, DisplayHelp, DisplayVersion}
-use Rattle.engine.specs.Serving.{events_of}
+use Rattle.engine.specs.Serving.{events_of, traffic}
 use Rattle.engine.specs.declared.ends.SessionEnd.{SessionEnd}
 use Rattle.engine.specs.declared.ends.SessionEnd.TheVariants as end
 use Rattle.mirrord_server.specs.Folders.{ServesFolder, ServesSocket, ServesWorkers}
-use Rattle.mirrord_server.specs.Known.{IsKnownServed}
+use Rattle.mirrord_server.specs.Known.{known_calls, IsKnownServed}
 use Rattle.mirrord_server.specs.declared.folder.Unserved.{Unserved}
 use Rattle.mirrord_server.specs.declared.terms.Terms.{Terms}
 use Rattle.mirrord_programs.specs.CommandLine.{mirrord_app, IsAsked}
@@ -38,7 +38,7 @@ failed_in m = m.failed
 pub record IsHexServed (sampled : Bool) (postings : ℕ) (old : Hexing) (over : SessionEnd) (new : Hexing) : Type 0 where
   pub tree : MemTree
   pub start : IsStart sampled tree
-  pub known : IsKnownServed (unowned postings) Receives Sends Gives memory_tree failed_in tree old over new
+  pub known : IsKnownServed (unowned postings) (traffic Receives Sends) (known_calls Gives memory_tree failed_in) tree old over new
   pub part : ℕ
   pub written : Appends old.output new.output (lines_in (events_of known.served.run.client.steps) ++ take part (broken_line (events_of known.served.run.client.steps)))
 

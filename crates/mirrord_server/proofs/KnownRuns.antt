@@ -5,14 +5,12 @@ use Rattle.backing.specs.Device.{Device, Counted, counted, faulty}
 use Rattle.backing.specs.Known.{counted_none, counted_on}
 use Rattle.backing.specs.Tree.{Tree}
 use Rattle.backing.specs.declared.call.Answer.{Answer}
-use Rattle.engine.specs.Links.{Heard}
-use Rattle.engine.specs.Serving.{Gives, Makes, made_of, turns_of}
+use Rattle.engine.specs.Serving.{Gives, Makes, Traffic, made_of, turns_of}
 use Rattle.engine.proofs.Runs.{chain_append}
 use Rattle.engine.specs.declared.ends.SessionEnd.{SessionEnd}
-use Rattle.engine.specs.declared.links.Sent.{Sent}
 use Rattle.ops.specs.Scripts.{Made}
 use Rattle.mirrord_server.specs.declared.terms.Terms.{Terms}
-use Rattle.mirrord_server.specs.Known.{OnTree, ServesKnown, faults_in}
+use Rattle.mirrord_server.specs.Known.{KnownCalls, OnTree, ServesKnown, faults_in}
 use Rattle.mirrord_server.specs.Sessions.{ServesLink}
 
 record KnownRun {C : Type 0} (tree_of : C → Tree) (faults : C → ℕ) (old : C) (made : List Made) (new : C) : Type 0 where
@@ -37,10 +35,10 @@ known_run gives tree_of faults knows old new (made ∷ more) makes =
       counts = rest.counts ∙ (ap (λ (n : ℕ). counted n (faults_in rest.devices)) first.2 ∙ counted_on (faults old) (faulty first.0) (faults_in rest.devices));
     }
 
-pub known_served : {L C : Type 0} (terms : Terms) (receives : L → Heard → L → Type 0) (sends : L → List ℕ → Sent → L → Type 0) (gives : C → Asked → Answer → C → Type 0) (tree_of : C → Tree) (faults : C → ℕ)
-    → ((old new : C) (call : Asked) (answer : Answer) → gives old call answer new → Counted (tree_of old) (faults old) call answer (tree_of new) (faults new))
-    → (tree : C) (old : L) (over : SessionEnd) (new : L) → ServesLink terms receives sends gives tree old over new → ServesKnown terms receives sends gives tree_of faults tree old over new
-known_served terms receives sends gives tree_of faults knows tree old over new (inl served) =
-    let run = known_run gives tree_of faults knows tree served.left (made_of (turns_of served.run.client.steps) ++ served.run.removal.removals) (chain_append (Gives gives) tree served.run.left.calls served.left (made_of (turns_of served.run.client.steps)) served.run.removal.removals served.run.client.draws.makes served.run.removal.makes) in
+pub known_served : {L C : Type 0} (terms : Terms) (link : Traffic L) (calls : KnownCalls C)
+    → ((old new : C) (call : Asked) (answer : Answer) → calls.gives old call answer new → Counted (calls.tree old) (calls.faults old) call answer (calls.tree new) (calls.faults new))
+    → (first : C) (old : L) (over : SessionEnd) (new : L) → ServesLink terms link calls.gives first old over new → ServesKnown terms link calls first old over new
+known_served terms link calls knows first old over new (inl served) =
+    let run = known_run calls.gives calls.tree calls.faults knows first served.left (made_of (turns_of served.run.client.steps) ++ served.run.removal.removals) (chain_append (Gives calls.gives) first served.run.left.calls served.left (made_of (turns_of served.run.client.steps)) served.run.removal.removals served.run.client.draws.makes served.run.removal.makes) in
     inl (record { served = served; devices = run.devices; on_tree = run.on_tree; counts = run.counts })
-known_served terms receives sends gives tree_of faults knows tree old over new (inr none) = inr none
+known_served terms link calls knows first old over new (inr none) = inr none

@@ -1,7 +1,7 @@
 -- Sessions from a folder of the system.
 use Rattle.std.specs.Prelude.{ℕ, ◌<◌, ◌≡◌, ◌≢◌, ◌⊎◌, ◌++◌, List, take, Option, Result, Ok, Err}
 use Rattle.std.specs.Io.KnownBytes.{Appends, Consumes}
-use Rattle.engine.specs.Serving.{events_of, heard_of}
+use Rattle.engine.specs.Serving.{events_of, heard_of, traffic}
 use Rattle.engine.specs.declared.ends.SessionEnd.{SessionEnd}
 use Rattle.engine.specs.declared.ends.SessionEnd.TheVariants as end
 use Rattle.mirrord_server.specs.declared.terms.Terms.{Terms}
@@ -15,7 +15,7 @@ use Rattle.mirrord_server.specs.declared.folder.Unserved.TheVariants.{NoSocket}
 -- A folder that no call was made of is served over a stream. What is heard are the first bytes of its reader. Its writer is given the
 -- replies that were taken, one after another, then the first bytes of one that broke the link, if one did, and nothing else.
 pub record IsStreamServed (terms : Terms) (old : Streaming) (over : SessionEnd) (new : Streaming) : Type 0 where
-  pub served : IsServed terms Receives Sends Tells 0 old over new
+  pub served : IsServed terms (traffic Receives Sends) Tells 0 old over new
   pub heard : Consumes old.input new.input (heard_of served.run.client.steps)
   pub part : ℕ
   pub written : Appends old.output new.output (taken_in (events_of served.run.client.steps) ++ take part (broken_in (events_of served.run.client.steps)))

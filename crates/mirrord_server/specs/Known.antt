@@ -4,11 +4,9 @@ use Rattle.backing.specs.Calls.{Asked}
 use Rattle.backing.specs.Device.{Device, Performs, counted, faulty}
 use Rattle.backing.specs.Tree.{Tree}
 use Rattle.backing.specs.declared.call.Answer.{Answer}
-use Rattle.engine.specs.Links.{Heard}
-use Rattle.engine.specs.Serving.{made_of, turns_of}
+use Rattle.engine.specs.Serving.{made_of, turns_of, Traffic}
 use Rattle.engine.specs.declared.ends.SessionEnd.{SessionEnd}
 use Rattle.engine.specs.declared.ends.SessionEnd.TheVariants as end
-use Rattle.engine.specs.declared.links.Sent.{Sent}
 use Rattle.ops.specs.Scripts.{Made}
 use Rattle.mirrord_server.specs.declared.terms.Terms.{Terms}
 use Rattle.mirrord_server.specs.Sessions.{IsServed}
@@ -25,14 +23,22 @@ OnTree old [] (made ∷ more) new = ⊥
 OnTree old (device ∷ devices) [] new = ⊥
 OnTree old (device ∷ devices) (made ∷ more) new = (mid : Tree) × Performs old device made.call made.answer mid × OnTree mid devices more new
 
+-- what calls of a directory may answer that tells the tree in it and its count of failures
+pub record KnownCalls (C : Type 0) : Type 1 where
+  pub gives : C → Asked → Answer → C → Type 0
+  pub tree : C → Tree
+  pub faults : C → ℕ
+
+abbrev pub known_calls : {C : Type 0} → (C → Asked → Answer → C → Type 0) → (C → Tree) → (C → ℕ) → KnownCalls C
+known_calls gives tree faults = record { gives = gives; tree = tree; faults = faults }
+
 -- All calls of a session are those of the tree from first to last, with the faults of its device as inputs; each is counted, and nothing else is.
-pub record IsKnownServed {L C : Type 0} (terms : Terms) (receives : L → Heard → L → Type 0) (sends : L → List ℕ → Sent → L → Type 0) (gives : C → Asked → Answer → C → Type 0) (tree_of : C → Tree) (faults : C → ℕ) (tree : C) (old : L) (over : SessionEnd) (new : L) : Type 0 where
-  pub served : IsServed terms receives sends gives tree old over new
+pub record IsKnownServed {L C : Type 0} (terms : Terms) (link : Traffic L) (calls : KnownCalls C) (first : C) (old : L) (over : SessionEnd) (new : L) : Type 0 where
+  pub served : IsServed terms link calls.gives first old over new
   pub devices : List Device
-  pub on_tree : OnTree (tree_of tree) devices (made_of (turns_of served.run.client.steps) ++ served.run.removal.removals) (tree_of served.left)
-  pub counts : faults served.left ≡ counted (faults tree) (faults_in devices)
+  pub on_tree : OnTree (calls.tree first) devices (made_of (turns_of served.run.client.steps) ++ served.run.removal.removals) (calls.tree served.left)
+  pub counts : calls.faults served.left ≡ counted (calls.faults first) (faults_in devices)
 
 -- the same, unless there is no memory for a table
-abbrev pub ServesKnown : {L C : Type 0} → Terms → (L → Heard → L → Type 0) → (L → List ℕ → Sent → L → Type 0) → (C → Asked → Answer → C → Type 0) → (C → Tree) → (C → ℕ) → C → L → SessionEnd → L → Type 0
-ServesKnown terms receives sends gives tree_of faults tree old over new =
-    IsKnownServed terms receives sends gives tree_of faults tree old over new ⊎ ((over ≡ end.Memory) × (new ≡ old))
+abbrev pub ServesKnown : {L C : Type 0} → Terms → Traffic L → KnownCalls C → C → L → SessionEnd → L → Type 0
+ServesKnown terms link calls first old over new = IsKnownServed terms link calls first old over new ⊎ ((over ≡ end.Memory) × (new ≡ old))

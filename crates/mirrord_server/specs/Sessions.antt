@@ -1,16 +1,14 @@
 -- A session with a table of its own.
-use Rattle.std.specs.Prelude.{ℕ, max, ◌≡◌, ◌⊎◌, List}
+use Rattle.std.specs.Prelude.{max, ◌≡◌, ◌⊎◌, List}
 use Rattle.std.specs.Borrow.{Bor}
 use Rattle.backing.specs.Calls.{Asked}
 use Rattle.backing.specs.declared.call.Answer.{Answer}
 use Rattle.handles.specs.Calls.{Shares}
 use Rattle.handles.specs.declared.limits.FolderLimits.{FolderLimits}
-use Rattle.engine.specs.Links.{Heard}
-use Rattle.engine.specs.Serving.{does, IsSessionRun}
+use Rattle.engine.specs.Serving.{around, does, IsSessionRun, Traffic}
 use Rattle.engine.specs.Tables.{worlds}
 use Rattle.engine.specs.declared.ends.SessionEnd.{SessionEnd}
 use Rattle.engine.specs.declared.ends.SessionEnd.TheVariants as end
-use Rattle.engine.specs.declared.links.Sent.{Sent}
 use Rattle.mirrord_server.specs.declared.terms.Bounds.{Bounds}
 use Rattle.mirrord_server.specs.declared.terms.Terms.{Terms}
 use Rattle.table_steps.specs.World.{World, opened_world}
@@ -25,7 +23,7 @@ abbrev pub folder_limits : FolderLimits
 folder_limits = record { folders = 4096; names = 1048576 }
 
 -- a session over a new table, with open folders of these limits
-pub record IsServed {L C : Type 0} (terms : Terms) (receives : L → Heard → L → Type 0) (sends : L → List ℕ → Sent → L → Type 0) (gives : C → Asked → Answer → C → Type 0) (tree : C) (old : L) (over : SessionEnd) (new : L) : Type 0 where
+pub record IsServed {L C : Type 0} (terms : Terms) (link : Traffic L) (gives : C → Asked → Answer → C → Type 0) (tree : C) (old : L) (over : SessionEnd) (new : L) : Type 0 where
   pub world : World
   pub opened : world ≡ opened_world (limits_of terms.bounds)
   pub last : World
@@ -33,8 +31,8 @@ pub record IsServed {L C : Type 0} (terms : Terms) (receives : L → Heard → L
   pub limits_are : dirs.now ≡ folder_limits
   pub left : C
   pub dirs_left : Bor FolderLimits
-  pub run : IsSessionRun worlds terms.settings receives sends (does gives Shares) old (record { calls = tree; dirs = dirs }) world new (record { calls = left; dirs = dirs_left }) last over
+  pub run : IsSessionRun worlds terms.settings link (does gives Shares) (around old (record { calls = tree; dirs = dirs }) world) (around new (record { calls = left; dirs = dirs_left }) last) over
 
 -- the same, unless there is no memory for a table
-abbrev pub ServesLink : {L C : Type 0} → Terms → (L → Heard → L → Type 0) → (L → List ℕ → Sent → L → Type 0) → (C → Asked → Answer → C → Type 0) → C → L → SessionEnd → L → Type 0
-ServesLink terms receives sends gives tree old over new = IsServed terms receives sends gives tree old over new ⊎ ((over ≡ end.Memory) × (new ≡ old))
+abbrev pub ServesLink : {L C : Type 0} → Terms → Traffic L → (C → Asked → Answer → C → Type 0) → C → L → SessionEnd → L → Type 0
+ServesLink terms link gives tree old over new = IsServed terms link gives tree old over new ⊎ ((over ≡ end.Memory) × (new ≡ old))

@@ -1,7 +1,8 @@
 //! A session with a table of its own.
 
 ghost use Rattle.std.specs.Prelude.{◌≡◌};
-ghost use Rattle.mirrord_server.specs.Known.{ServesKnown};
+ghost use Rattle.engine.specs.Serving.{traffic};
+ghost use Rattle.mirrord_server.specs.Known.{known_calls, ServesKnown};
 ghost use Rattle.mirrord_server.specs.Sessions.{ServesLink};
 
 use crate::terms::Terms;
@@ -26,7 +27,7 @@ fn serve_link<H: Wait, T: Ledgers, L: Link, C: Calls + Drop>(
 ) -> SessionEnd
     requires names { blanks ≡ T.names }
     requires shares { T.names.parts ≡ 1 }
-    ensures { ServesLink terms L.receives L.sends C.gives tree link.old result link.new }
+    ensures { ServesLink terms (traffic L.receives L.sends) C.gives tree link.old result link.new }
 {
     let Ok(dirs) = Dirs::new(alloc) else {
         return SessionEnd::Memory;
@@ -63,7 +64,7 @@ pub fn serve_alone<H: Wait, L: Link, C: Calls + Drop>(
     link: &mut L,
     terms: Terms,
 ) -> SessionEnd
-    ensures { ServesLink terms L.receives L.sends C.gives tree link.old result link.new }
+    ensures { ServesLink terms (traffic L.receives L.sends) C.gives tree link.old result link.new }
 {
     serve_link::<H, Brand, L, C>(rt, alloc, Blanks::new(1), seeds, tree, link, terms)
 }
@@ -77,7 +78,7 @@ pub fn serve_known<H: Wait, L: Link, C: KnownTree + Drop>(
     link: &mut L,
     terms: Terms,
 ) -> SessionEnd
-    ensures { ServesKnown terms L.receives L.sends C.gives C.tree C.faults tree link.old result link.new }
+    ensures { ServesKnown terms (traffic L.receives L.sends) (known_calls C.gives C.tree C.faults) tree link.old result link.new }
 {
     serve_alone(rt, alloc, seeds, tree, link, terms)
 }

@@ -6,7 +6,7 @@ use Rattle.ops.specs.declared.script.LastCall.{LastCall}
 use Rattle.ops.specs.declared.script.LastCall.TheVariants as endings
 use Rattle.backing.specs.Calls.{asked}
 use Rattle.engine.specs.Playing.{Playing}
-use Rattle.ops.specs.Ahead.{after_hide, calls_after, calls_ending, calls_from, calls_hiding, calls_in, end_of, plan_ahead, plan_ending, plan_from}
+use Rattle.ops.specs.Ahead.{after_hide, calls_after, calls_ending, calls_from, calls_hiding, end_of, plan_ahead, plan_ending, plan_from}
 use Rattle.ops.specs.Looking.{plan_looking}
 use Rattle.ops.specs.Scripts.{Plan, hide, next_of}
 use Rattle.ops.specs.declared.findings.Found.{Found}

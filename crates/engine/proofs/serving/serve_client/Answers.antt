@@ -2,7 +2,7 @@ use Rattle.std.proofs.Common.{[], false, take, ap, inl, refl, subst, sym, ◌∙
 use Rattle.table_steps.specs.Kept.{world_of}
 use Rattle.wire.specs.Stream.{Cutting, IsPartial}
 use Rattle.table.proofs.Gaining.{gains_totals, in_all_on}
-use Rattle.engine.specs.Serving.{does}
+use Rattle.engine.specs.Serving.{around, does, traffic}
 use Rattle.engine.specs.Tables.{worlds}
 use Rattle.engine.specs.Walks.{side, stand}
 use Rattle.engine.proofs.Closing.{at_break, at_end, drained_end, drained_on, unfed}
@@ -18,13 +18,13 @@ loop-init g c =
       settings = refl;
       idle = c.requires.fresh;
       gains = gains_totals (world_of c.args.table.now) (world_of c.args.table.now) c.args.share.now c.attest.ensures refl;
-      walks = walks_from worlds c.args.settings g.L.LinkIn.receives g.L.LinkOut.sends (does g.C.Calls.gives g.D.Folders.keeps) c.args.link.now c.args.served.now (stand (world_of c.args.table.now) false) c.new-cutter.result.kept empty;
+      walks = walks_from worlds c.args.settings (traffic g.L.LinkIn.receives g.L.LinkOut.sends) (does g.C.Calls.gives g.D.Folders.keeps) (around c.args.link.now c.args.served.now (stand (world_of c.args.table.now) false)) c.new-cutter.result.kept empty;
     }
 
 pub returns-in-End : goal.returns-in-End
 returns-in-End g c =
     record {
-      serves = at_end worlds c.args.settings g.L.LinkIn.receives g.L.LinkOut.sends (does g.C.Calls.gives g.D.Folders.keeps) c.args.link.now c.loop.link c.args.served.now c.loop.served (world_of c.args.table.now) (stand (world_of c.loop.table) c.loop.session.agreed) c.loop.cutter.kept
+      serves = at_end worlds c.args.settings (traffic g.L.LinkIn.receives g.L.LinkOut.sends) (does g.C.Calls.gives g.D.Folders.keeps) (around c.args.link.now c.args.served.now (world_of c.args.table.now)) (around c.loop.link c.loop.served (stand (world_of c.loop.table) c.loop.session.agreed)) c.loop.cutter.kept
           c.requires.fresh c.loop.invariant.partial c.loop.invariant.walks c.receive.new.self c.rest.result c.in-End.ensures.brought c.rest.ensures;
       gains = c.loop.invariant.gains;
     }
@@ -32,7 +32,7 @@ returns-in-End g c =
 pub returns-in-Broken : goal.returns-in-Broken
 returns-in-Broken g c =
     record {
-      serves = at_break worlds c.args.settings g.L.LinkIn.receives g.L.LinkOut.sends (does g.C.Calls.gives g.D.Folders.keeps) c.args.link.now c.loop.link c.args.served.now c.loop.served (world_of c.args.table.now) (stand (world_of c.loop.table) c.loop.session.agreed) c.loop.cutter.kept
+      serves = at_break worlds c.args.settings (traffic g.L.LinkIn.receives g.L.LinkOut.sends) (does g.C.Calls.gives g.D.Folders.keeps) (around c.args.link.now c.args.served.now (world_of c.args.table.now)) (around c.loop.link c.loop.served (stand (world_of c.loop.table) c.loop.session.agreed)) c.loop.cutter.kept
           c.requires.fresh c.loop.invariant.partial c.loop.invariant.walks c.receive.new.self c.in-Broken.ensures.brought;
       gains = c.loop.invariant.gains;
     }
@@ -40,7 +40,7 @@ returns-in-Broken g c =
 pub returns-in-Err : goal.returns-in-Err
 returns-in-Err g c =
     record {
-      serves = unfed worlds c.args.settings g.L.LinkIn.receives g.L.LinkOut.sends (does g.C.Calls.gives g.D.Folders.keeps) c.args.link.now c.loop.link c.args.served.now c.loop.served (world_of c.args.table.now) (stand (world_of c.loop.table) c.loop.session.agreed) c.loop.cutter.kept
+      serves = unfed worlds c.args.settings (traffic g.L.LinkIn.receives g.L.LinkOut.sends) (does g.C.Calls.gives g.D.Folders.keeps) (around c.args.link.now c.args.served.now (world_of c.args.table.now)) (around c.loop.link c.loop.served (stand (world_of c.loop.table) c.loop.session.agreed)) c.loop.cutter.kept
           c.requires.fresh c.loop.invariant.partial c.loop.invariant.walks c.receive.new.self (take c.in-Bytes.count c.receive.new.room) c.in-Bytes.ensures.brought;
       gains = c.loop.invariant.gains;
     }
@@ -50,9 +50,9 @@ returns-in-Some-work_off_frames g c =
     let inv = c.loop.invariant in
     let gains = in_all_on (world_of c.args.table.now) (world_of c.loop.table) (world_of c.work_off_frames.new.table) c.args.share.now c.loop.share c.work_off_frames.new.share inv.gains c.work_off_frames.ensures.gains in
     let fed = ap (λ (k : Cutting). k.kept) c.in-Ok.ensures.ok in
-    let walks = piece_on worlds c.args.settings g.L.LinkIn.receives g.L.LinkOut.sends (does g.C.Calls.gives g.D.Folders.keeps) (side c.args.link.now c.args.served.now (stand (world_of c.args.table.now) false) []) c.loop.link c.receive.new.self c.loop.served (stand (world_of c.loop.table) c.loop.session.agreed) c.loop.cutter.kept (take c.in-Bytes.count c.receive.new.room) c.feed.new.self.kept inv.walks inv.partial c.in-Bytes.ensures.brought fed in
+    let walks = piece_on worlds c.args.settings (traffic g.L.LinkIn.receives g.L.LinkOut.sends) (does g.C.Calls.gives g.D.Folders.keeps) (side (around c.args.link.now c.args.served.now (stand (world_of c.args.table.now) false)) []) (around c.loop.link c.loop.served (stand (world_of c.loop.table) c.loop.session.agreed)) c.receive.new.self c.loop.cutter.kept (take c.in-Bytes.count c.receive.new.room) c.feed.new.self.kept inv.walks inv.partial c.in-Bytes.ensures.brought fed in
     record {
-      serves = drained_end worlds c.args.settings g.L.LinkIn.receives g.L.LinkOut.sends (does g.C.Calls.gives g.D.Folders.keeps) c.args.link.now c.receive.new.self c.work_off_frames.new.link c.args.served.now c.loop.served c.work_off_frames.new.served (world_of c.args.table.now) (stand (world_of c.loop.table) c.loop.session.agreed) (stand (world_of c.work_off_frames.new.table) c.work_off_frames.new.session.agreed)
+      serves = drained_end worlds c.args.settings (traffic g.L.LinkIn.receives g.L.LinkOut.sends) (does g.C.Calls.gives g.D.Folders.keeps) (around c.args.link.now c.args.served.now (world_of c.args.table.now)) (around c.receive.new.self c.loop.served (stand (world_of c.loop.table) c.loop.session.agreed)) (around c.work_off_frames.new.link c.work_off_frames.new.served (stand (world_of c.work_off_frames.new.table) c.work_off_frames.new.session.agreed))
           c.feed.new.self.kept c.work_off_frames.new.cutter.kept c.work_off_frames.result c.in-Some-work_off_frames.end c.loop.session.settings inv.settings c.requires.fresh walks c.in-Some-work_off_frames.is c.work_off_frames.ensures.drains;
       gains = gains;
     }
@@ -61,8 +61,8 @@ pub loop-preserved : goal.loop-preserved
 loop-preserved g c =
     let inv = c.loop.invariant in
     let fed = ap (λ (k : Cutting). k.kept) c.in-Ok.ensures.ok in
-    let walks = piece_on worlds c.args.settings g.L.LinkIn.receives g.L.LinkOut.sends (does g.C.Calls.gives g.D.Folders.keeps) (side c.args.link.now c.args.served.now (stand (world_of c.args.table.now) false) []) c.loop.link c.receive.new.self c.loop.served (stand (world_of c.loop.table) c.loop.session.agreed) c.loop.cutter.kept (take c.in-Bytes.count c.receive.new.room) c.feed.new.self.kept inv.walks inv.partial c.in-Bytes.ensures.brought fed in
-    let on = drained_on worlds c.args.settings g.L.LinkIn.receives g.L.LinkOut.sends (does g.C.Calls.gives g.D.Folders.keeps) (side c.args.link.now c.args.served.now (stand (world_of c.args.table.now) false) []) c.receive.new.self c.work_off_frames.new.link c.loop.served c.work_off_frames.new.served (stand (world_of c.loop.table) c.loop.session.agreed) (stand (world_of c.work_off_frames.new.table) c.work_off_frames.new.session.agreed)
+    let walks = piece_on worlds c.args.settings (traffic g.L.LinkIn.receives g.L.LinkOut.sends) (does g.C.Calls.gives g.D.Folders.keeps) (side (around c.args.link.now c.args.served.now (stand (world_of c.args.table.now) false)) []) (around c.loop.link c.loop.served (stand (world_of c.loop.table) c.loop.session.agreed)) c.receive.new.self c.loop.cutter.kept (take c.in-Bytes.count c.receive.new.room) c.feed.new.self.kept inv.walks inv.partial c.in-Bytes.ensures.brought fed in
+    let on = drained_on worlds c.args.settings (traffic g.L.LinkIn.receives g.L.LinkOut.sends) (does g.C.Calls.gives g.D.Folders.keeps) (side (around c.args.link.now c.args.served.now (stand (world_of c.args.table.now) false)) []) (around c.receive.new.self c.loop.served (stand (world_of c.loop.table) c.loop.session.agreed)) (around c.work_off_frames.new.link c.work_off_frames.new.served (stand (world_of c.work_off_frames.new.table) c.work_off_frames.new.session.agreed))
     c.feed.new.self.kept c.work_off_frames.new.cutter.kept c.work_off_frames.result c.loop.session.settings inv.settings walks c.in-None-work_off_frames.is c.work_off_frames.ensures.drains in
     record {
       partial = on.1;

@@ -2,7 +2,7 @@ use Rattle.std.proofs.Common.{Some, None, Err, refl, sym, ap, ◌∙◌}
 use Rattle.table_steps.specs.Kept.{world_of}
 use Rattle.wire.specs.Stream.{Cutting}
 use Rattle.table.proofs.Gaining.{gains_totals, in_all_on}
-use Rattle.engine.specs.Serving.{does}
+use Rattle.engine.specs.Serving.{around, does, traffic}
 use Rattle.engine.specs.Tables.{worlds}
 use Rattle.engine.specs.Walks.{side, stand}
 use Rattle.engine.proofs.Walking.{bad_stop, frame_on, walks_none}
@@ -14,7 +14,7 @@ loop-frame-init g c = record {
   settings = refl;
   idle = c.requires.idle;
   gains = gains_totals (world_of c.args.table.now) (world_of c.args.table.now) c.args.share.now c.attest.ensures refl;
-  walks = walks_none worlds c.args.session.now.settings g.L.LinkIn.receives g.L.LinkOut.sends (does g.C.Calls.gives g.D.Folders.keeps) (side c.args.link.now c.args.served.now (stand (world_of c.args.table.now) c.args.session.now.agreed) c.args.cutter.now.kept);
+  walks = walks_none worlds c.args.session.now.settings (traffic g.L.LinkIn.receives g.L.LinkOut.sends) (does g.C.Calls.gives g.D.Folders.keeps) (side (around c.args.link.now c.args.served.now (stand (world_of c.args.table.now) c.args.session.now.agreed)) c.args.cutter.now.kept);
 }
 
 pub returns-in-Some-clause-drains : goal.returns-in-Some-clause-drains
@@ -23,9 +23,9 @@ returns-in-Some-clause-drains g c =
     let frame = rw c.in-Ok-Some.field-0-is at c.in-Ok-Some.ensures.frame in
     record {
       reached = Some c.in-Some.end;
-      walks = frame_on worlds c.args.session.now.settings g.L.LinkIn.receives g.L.LinkOut.sends (does g.C.Calls.gives g.D.Folders.keeps)
-          (side c.args.link.now c.args.served.now (stand (world_of c.args.table.now) c.args.session.now.agreed) c.args.cutter.now.kept)
-          c.loop-frame.link c.handle_frame.new.link c.loop-frame.served c.handle_frame.new.served (stand (world_of c.loop-frame.table) c.loop-frame.session.agreed) (stand (world_of c.handle_frame.new.table) c.handle_frame.new.self.agreed)
+      walks = frame_on worlds c.args.session.now.settings (traffic g.L.LinkIn.receives g.L.LinkOut.sends) (does g.C.Calls.gives g.D.Folders.keeps)
+          (side (around c.args.link.now c.args.served.now (stand (world_of c.args.table.now) c.args.session.now.agreed)) c.args.cutter.now.kept)
+          (around c.loop-frame.link c.loop-frame.served (stand (world_of c.loop-frame.table) c.loop-frame.session.agreed)) (around c.handle_frame.new.link c.handle_frame.new.served (stand (world_of c.handle_frame.new.table) c.handle_frame.new.self.agreed))
           c.loop-frame.cutter.kept c.in-Ok-Some.frame.items c.deref.result.now c.next.new.self.kept c.handle_frame.result (Some c.in-Some.end)
           c.loop-frame.session.settings inv.settings inv.walks frame.front frame.framed (sym c.deref.ensures.value) c.handle_frame.ensures.idle c.handle_frame.ensures.handled c.in-Some.is;
       stops = refl;
@@ -43,9 +43,9 @@ loop-frame-preserved g c =
       settings = c.handle_frame.ensures.settings ∙ inv.settings;
       idle = c.handle_frame.ensures.idle;
       gains = in_all_on (world_of c.args.table.now) (world_of c.loop-frame.table) (world_of c.handle_frame.new.table) c.args.share.now c.loop-frame.share c.handle_frame.new.share inv.gains c.handle_frame.ensures.gains;
-      walks = frame_on worlds c.args.session.now.settings g.L.LinkIn.receives g.L.LinkOut.sends (does g.C.Calls.gives g.D.Folders.keeps)
-          (side c.args.link.now c.args.served.now (stand (world_of c.args.table.now) c.args.session.now.agreed) c.args.cutter.now.kept)
-          c.loop-frame.link c.handle_frame.new.link c.loop-frame.served c.handle_frame.new.served (stand (world_of c.loop-frame.table) c.loop-frame.session.agreed) (stand (world_of c.handle_frame.new.table) c.handle_frame.new.self.agreed)
+      walks = frame_on worlds c.args.session.now.settings (traffic g.L.LinkIn.receives g.L.LinkOut.sends) (does g.C.Calls.gives g.D.Folders.keeps)
+          (side (around c.args.link.now c.args.served.now (stand (world_of c.args.table.now) c.args.session.now.agreed)) c.args.cutter.now.kept)
+          (around c.loop-frame.link c.loop-frame.served (stand (world_of c.loop-frame.table) c.loop-frame.session.agreed)) (around c.handle_frame.new.link c.handle_frame.new.served (stand (world_of c.handle_frame.new.table) c.handle_frame.new.self.agreed))
           c.loop-frame.cutter.kept c.in-Ok-Some.frame.items c.deref.result.now c.next.new.self.kept c.handle_frame.result None
           c.loop-frame.session.settings inv.settings inv.walks frame.front frame.framed (sym c.deref.ensures.value) c.handle_frame.ensures.idle c.handle_frame.ensures.handled c.in-None.is;
     }
@@ -54,7 +54,7 @@ pub returns-in-Err-BadLength-clause-drains : goal.returns-in-Err-BadLength-claus
 returns-in-Err-BadLength-clause-drains g c =
     let arm = c.in-Err-BadLength in
     let stopped = arm.ensures.for_good arm.len (ap Err arm.field-0-is) in
-    bad_stop worlds c.args.session.now.settings g.L.LinkIn.receives g.L.LinkOut.sends (does g.C.Calls.gives g.D.Folders.keeps)
-    (side c.args.link.now c.args.served.now (stand (world_of c.args.table.now) c.args.session.now.agreed) c.args.cutter.now.kept)
-    c.loop-frame.link c.loop-frame.served (stand (world_of c.loop-frame.table) c.loop-frame.session.agreed) c.loop-frame.cutter.kept c.next.new.self.kept arm.len
+    bad_stop worlds c.args.session.now.settings (traffic g.L.LinkIn.receives g.L.LinkOut.sends) (does g.C.Calls.gives g.D.Folders.keeps)
+    (side (around c.args.link.now c.args.served.now (stand (world_of c.args.table.now) c.args.session.now.agreed)) c.args.cutter.now.kept)
+    (around c.loop-frame.link c.loop-frame.served (stand (world_of c.loop-frame.table) c.loop-frame.session.agreed)) c.loop-frame.cutter.kept c.next.new.self.kept arm.len
     c.loop-frame.invariant.walks (sym (ap (λ (k : Cutting). k.kept) stopped)) ((arm.ensures.bad arm.len).0 (ap Err arm.field-0-is))

@@ -1,7 +1,7 @@
 use Rattle.std.proofs.Common.{◌≡◌, length}
 use Rattle.table_steps.specs.Kept.{world_of}
 use Rattle.table.specs.Gains.{GainsInAll}
-use Rattle.engine.specs.Serving.{does}
+use Rattle.engine.specs.Serving.{around, does, traffic}
 use Rattle.engine.specs.Tables.{worlds, IsIdle}
 use Rattle.engine.specs.Walks.{side, stand, Walks}
 use Rattle.engine.proofs.serving.work_off_frames.Given as goal
@@ -13,9 +13,9 @@ invariant-loop-frame g l = record {
   settings : l.session.settings ≡ l.initial.session.settings;
   idle : IsIdle (world_of l.table);
   gains : GainsInAll (world_of l.initial.table) l.initial.share (world_of l.table) l.share;
-  walks : Walks worlds l.initial.session.settings g.L.LinkIn.receives g.L.LinkOut.sends (does g.C.Calls.gives g.D.Folders.keeps)
-      (side l.initial.link l.initial.served (stand (world_of l.initial.table) l.initial.session.agreed) l.initial.cutter.kept)
-      (side l.link l.served (stand (world_of l.table) l.session.agreed) l.cutter.kept);
+  walks : Walks worlds l.initial.session.settings (traffic g.L.LinkIn.receives g.L.LinkOut.sends) (does g.C.Calls.gives g.D.Folders.keeps)
+      (side (around l.initial.link l.initial.served (stand (world_of l.initial.table) l.initial.session.agreed)) l.initial.cutter.kept)
+      (side (around l.link l.served (stand (world_of l.table) l.session.agreed)) l.cutter.kept);
 }
 
 -- each frame takes its bytes with it

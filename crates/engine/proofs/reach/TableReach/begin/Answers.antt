@@ -1,4 +1,4 @@
-use Rattle.std.proofs.Common.{ap, refl, ◌∙◌}
+use Rattle.std.proofs.Common.{ap, ◌∙◌}
 use Rattle.ledger.specs.Sums.{totals_over}
 use Rattle.table_steps.specs.Kept.{world_of}
 use Rattle.table.proofs.Closing.{totals_renewed}

@@ -1,9 +1,8 @@
 use Rattle.std.proofs.Common.{[], Err, refl, subst, sym}
-use Rattle.errno.specs.declared.TheConstants.{EIO}
 use Rattle.handles.specs.Listings.{IsMade}
 use Rattle.handles.specs.declared.listing.ListingFault.{ListingFault}
 use Rattle.ops.specs.Scripts.{plan_of, End, Follows}
-use Rattle.engine.specs.Walks.{Concludes}
+use Rattle.engine.specs.Walks.{begun, by_rules, with_table, Concludes}
 use Rattle.engine.proofs.Endings.{lawful_end, lawless_end}
 use Rattle.engine.proofs.requests.Session.list.Goals as goal
 
@@ -15,7 +14,7 @@ returns-in-Err-Lawless-clause-concludes g c =
       folders = [];
       chain = refl;
       so = λ page made follows.
-          subst (λ (e : End). Concludes g.R.Reach.steps c.args.self.now.settings g.L.Outlet.sends c.args.request page c.args.ticket made e [] c.args.link.now (g.R.Reach.world c.args.table.now) c.tell.result c.tell.new.link (g.R.Reach.world c.tell.new.table)) end
+          subst (λ (e : End). Concludes (by_rules g.R.Reach.steps c.args.self.now.settings g.L.Outlet.sends) (begun c.args.request page c.args.ticket) made e [] (with_table c.args.link.now (g.R.Reach.world c.args.table.now)) c.tell.result (with_table c.tell.new.link (g.R.Reach.world c.tell.new.table))) end
           (c.tell.ensures.concludes page made (subst (λ (e : End). Follows (plan_of c.args.request.operation c.args.ticket) made e) (sym end) follows));
     }
 
@@ -28,6 +27,6 @@ returns-in-Err-Memory-clause-concludes g c =
       folders = [];
       chain = refl;
       so = λ page made follows.
-          subst (λ (e : End). Concludes g.R.Reach.steps c.args.self.now.settings g.L.Outlet.sends c.args.request page c.args.ticket made e [] c.args.link.now (g.R.Reach.world c.args.table.now) c.end_without_memory.result c.end_without_memory.new.link (g.R.Reach.world c.end_without_memory.new.table)) end
+          subst (λ (e : End). Concludes (by_rules g.R.Reach.steps c.args.self.now.settings g.L.Outlet.sends) (begun c.args.request page c.args.ticket) made e [] (with_table c.args.link.now (g.R.Reach.world c.args.table.now)) c.end_without_memory.result (with_table c.end_without_memory.new.link (g.R.Reach.world c.end_without_memory.new.table))) end
           (c.end_without_memory.ensures.concludes page made c.args.children made_is (subst (λ (e : End). Follows (plan_of c.args.request.operation c.args.ticket) made e) (sym end) follows));
     }

@@ -1,11 +1,12 @@
 use Rattle.std.proofs.Common.{◌≡◌}
+use Rattle.engine.specs.Serving.{around}
 use Rattle.engine.specs.Walks.{IsUntouched}
 use Rattle.engine.proofs.requests.Session.run_page.Given as goal
 
 abbrev pub invariant-loop : goal.invariant-loop
 invariant-loop g l = record {
   free : g.R.Reach.steps.is_free (g.R.Reach.world l.table);
-  untouched : IsUntouched l.fn.link l.fn.served (g.R.Reach.world l.fn.table) l.link l.served (g.R.Reach.world l.table);
+  untouched : IsUntouched (around l.fn.link l.fn.served (g.R.Reach.world l.fn.table)) (around l.link l.served (g.R.Reach.world l.table));
   gains : g.R.Reach.steps.gains (g.R.Reach.world l.fn.table) l.fn.share (g.R.Reach.world l.table) l.share;
   idle : g.R.Reach.steps.is_idle (g.R.Reach.world l.table);
   settings : l.self.settings ≡ l.fn.self.settings;

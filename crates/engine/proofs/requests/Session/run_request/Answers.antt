@@ -1,5 +1,6 @@
-use Rattle.std.proofs.Common.{ap, refl, subst, ◌∙◌, sym, to_z, of_z, w32}
-use Rattle.engine.specs.Serving.{does}
+use Rattle.std.proofs.Common.{refl, subst, sym, to_z, of_z, w32}
+use Rattle.engine.specs.Serving.{around, does}
+use Rattle.engine.specs.Walks.{attempt, by_rules}
 use Rattle.engine.proofs.Turns.{goes_on, table_refused}
 use Rattle.engine.proofs.requests.Session.run_request.Goals as goal
 
@@ -9,8 +10,8 @@ returns-in-Go-clause-some g c lends =
     let w = g.R.Reach.world c.args.table.now in
     let begun = g.R.Reach.world c.begin.new.self in
     let kept = g.met.R.Reach.completes w begun p.concludes.so.finished (g.R.Reach.world c.run_script.new.table) c.in-Go.ensures.begins.0 c.args.request.unique c.args.want c.in-Go.ticket p.end.outcome p.concludes.so.answer p.concludes.so.put _ c.requires.idle c.in-Go.ensures.begins.1 p.concludes.so.finishes p.concludes.so.settles in
-    goes_on g.R.Reach.steps c.args.self.now.settings g.L.Outlet.sends (does g.C.Calls.gives g.D.Folders.keeps) c.args.request c.args.want lends c.args.page.now c.in-Go.ticket c.args.link.now c.run_script.new.link c.args.served.now c.run_script.new.served
-    w begun (g.R.Reach.world c.run_script.new.table) c.run_script.result c.in-Go.ensures.begins.0 c.in-Go.ensures.begins.1 p kept.0
+    goes_on (by_rules g.R.Reach.steps c.args.self.now.settings g.L.Outlet.sends) (does g.C.Calls.gives g.D.Folders.keeps) (attempt c.args.request c.args.want lends c.args.page.now) c.in-Go.ticket (around c.args.link.now c.args.served.now w) (around c.run_script.new.link c.run_script.new.served (g.R.Reach.world c.run_script.new.table))
+    begun c.run_script.result c.in-Go.ensures.begins.0 c.in-Go.ensures.begins.1 p kept.0
 
 pub returns-in-Go-clause-idle : goal.returns-in-Go-clause-idle
 returns-in-Go-clause-idle g c =
@@ -24,8 +25,8 @@ pub returns-in-Refused-clause-some : goal.returns-in-Refused-clause-some
 returns-in-Refused-clause-some g c lends =
     let w = g.R.Reach.world c.args.table.now in
     let refused = g.met.R.Reach.refuses w (g.R.Reach.world c.begin.new.self) c.in-Refused.ensures.begins.0 c.args.request.unique c.args.want c.in-Refused.errno c.requires.idle c.in-Refused.ensures.begins.1 in
-    table_refused g.R.Reach.steps c.args.self.now.settings g.L.Outlet.sends (does g.C.Calls.gives g.D.Folders.keeps) c.args.request c.args.want lends c.args.page.now (to_z w32 (of_z w32 c.in-Refused.errno)) c.args.link.now c.answer.new.link c.args.served.now
-    w (g.R.Reach.world c.begin.new.self) c.answer.result c.in-Refused.ensures.begins.0 refused.0 c.answer.ensures.said
+    table_refused (by_rules g.R.Reach.steps c.args.self.now.settings g.L.Outlet.sends) (does g.C.Calls.gives g.D.Folders.keeps) (attempt c.args.request c.args.want lends c.args.page.now) (to_z w32 (of_z w32 c.in-Refused.errno)) (around c.args.link.now c.args.served.now w) c.answer.new.link
+    (g.R.Reach.world c.begin.new.self) c.answer.result c.in-Refused.ensures.begins.0 refused.0 c.answer.ensures.said
 
 pub returns-in-Refused-clause-idle : goal.returns-in-Refused-clause-idle
 returns-in-Refused-clause-idle g c =

@@ -1,14 +1,19 @@
+use Rattle.std.proofs.Common.{None, refl}
 use Rattle.errno.specs.declared.TheConstants.{ENOMEM}
 use Rattle.wire.specs.Written.{reply_bytes}
 use Rattle.engine.specs.Replies.{refusal}
-use Rattle.engine.proofs.Endings.{settled_starved}
+use Rattle.engine.proofs.Endings.{starved_untaken}
 use Rattle.engine.proofs.Turns.{sent_from}
 use Rattle.engine.proofs.requests.Session.settle.Goals as goal
 
-pub returns-in-None-clause-settled : goal.returns-in-None-clause-settled
-returns-in-None-clause-settled g c =
+pub returns-in-None-clause-replies : goal.returns-in-None-clause-replies
+returns-in-None-clause-replies g c =
     let none = c.in-None.ensures.none in
-    settled_starved g.R.Reach.steps c.args.self.now.settings g.L.Outlet.sends c.args.reply.unique c.args.reply.body c.args.answered c.args.put c.args.link.now c.refuse.new.link (g.R.Reach.world c.args.table.now) (g.R.Reach.world c.settle-in-None.new.self) c.refuse.result
-    none.0
+    starved_untaken g.L.Outlet.sends c.args.reply c.args.link.now c.refuse.new.link c.refuse.result none.0
     (sent_from g.L.Outlet.sends c.args.link.now c.offer.new.link c.refuse.new.link (reply_bytes (refusal c.args.reply.unique ENOMEM)) c.refuse.result none.1 c.refuse.ensures)
-    c.settle-in-None.ensures.settles
+
+pub returns-in-Some-clause-replies : goal.returns-in-Some-clause-replies
+returns-in-Some-clause-replies g c = record {
+  told = record { refused = None; said = c.args.reply.body; said_is = refl; offer = c.in-Some.ensures.some };
+  taken_is = c.is_taken-taken.ensures;
+}

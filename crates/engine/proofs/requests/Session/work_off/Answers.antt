@@ -1,42 +1,39 @@
-use Rattle.std.proofs.Common.{[], ◌∷◌, Option, refl, ap, subst, ◌∙◌}
-use Rattle.table_files.specs.declared.data.OpenFile.{OpenFile}
-use Rattle.ops.specs.Replies.{file_reply}
+use Rattle.std.proofs.Common.{[], ◌∷◌, refl}
 use Rattle.wire.specs.Pairs.{pairs_in}
-use Rattle.ops.specs.Intents.{Begin, want_of}
-use Rattle.ops.specs.Pages.{Paged}
-use Rattle.engine.specs.Serving.{does}
-use Rattle.engine.specs.Walks.{RunsOut}
-use Rattle.engine.proofs.Turns.{asked_of_file, carried, fault_answered, forgot, passed_over, said_at_once, unbegun, used}
+use Rattle.ops.specs.Intents.{want_of}
+use Rattle.engine.specs.Serving.{around, does}
+use Rattle.engine.specs.Walks.{by_rules}
+use Rattle.engine.proofs.Turns.{asked_of_file, carried, fault_answered, forgot, passed_over, said_at_once, used}
 use Rattle.engine.proofs.requests.Session.work_off.Goals as goal
 
 pub returns-in-Err-clause-worked : goal.returns-in-Err-clause-worked
 returns-in-Err-clause-worked g c =
-    fault_answered g.R.Reach.steps c.args.self.now.settings g.L.Outlet.sends (does g.C.Calls.gives g.D.Folders.keeps) c.args.frame.now c.in-Err.fault c.args.link.now c.refuse_frame.new.link c.args.served.now (g.R.Reach.world c.args.table.now) c.refuse_frame.result
+    fault_answered (by_rules g.R.Reach.steps c.args.self.now.settings g.L.Outlet.sends) (does g.C.Calls.gives g.D.Folders.keeps) c.args.frame.now c.in-Err.fault (around c.args.link.now c.args.served.now (g.R.Reach.world c.args.table.now)) c.refuse_frame.new.link c.refuse_frame.result
     c.in-Err.ensures.fault c.refuse_frame.ensures.some c.refuse_frame.ensures.none
 
 pub returns-in-Reply-clause-worked : goal.returns-in-Reply-clause-worked
 returns-in-Reply-clause-worked g c =
-    said_at_once g.R.Reach.steps c.args.self.now.settings g.L.Outlet.sends (does g.C.Calls.gives g.D.Folders.keeps) c.args.frame.now c.in-Ok.request c.in-Reply.body c.args.link.now c.answer.new.link c.args.served.now (g.R.Reach.world c.args.table.now) c.answer.result
+    said_at_once (by_rules g.R.Reach.steps c.args.self.now.settings g.L.Outlet.sends) (does g.C.Calls.gives g.D.Folders.keeps) c.args.frame.now c.in-Ok.request c.in-Reply.body (around c.args.link.now c.args.served.now (g.R.Reach.world c.args.table.now)) c.answer.new.link c.answer.result
     c.in-Ok.ensures.found c.in-Reply.ensures c.answer.ensures.said
 
 pub returns-in-Folder-clause-worked : goal.returns-in-Folder-clause-worked
 returns-in-Folder-clause-worked g c =
-    used g.R.Reach.steps c.args.self.now.settings g.L.Outlet.sends (does g.C.Calls.gives g.D.Folders.keeps) c.args.frame.now c.in-Ok.request c.in-Folder.fh c.in-Folder.usage c.args.link.now c.use_folder.new.link c.args.served.now c.use_folder.new.served (g.R.Reach.world c.args.table.now) (g.R.Reach.world c.use_folder.new.table) c.use_folder.result
+    used (by_rules g.R.Reach.steps c.args.self.now.settings g.L.Outlet.sends) (does g.C.Calls.gives g.D.Folders.keeps) c.args.frame.now c.in-Ok.request (record { fh = c.in-Folder.fh; usage = c.in-Folder.usage }) (around c.args.link.now c.args.served.now (g.R.Reach.world c.args.table.now)) (around c.use_folder.new.link c.use_folder.new.served (g.R.Reach.world c.use_folder.new.table)) c.use_folder.result
     c.in-Ok.ensures.found c.in-Folder.ensures c.use_folder.ensures.used
 
 pub returns-in-Forget-clause-worked : goal.returns-in-Forget-clause-worked
 returns-in-Forget-clause-worked g c =
-    forgot g.R.Reach.steps c.args.self.now.settings g.L.Outlet.sends (does g.C.Calls.gives g.D.Folders.keeps) c.args.frame.now c.in-Ok.request (c.in-Forget.lookups ∷ []) c.args.link.now c.args.served.now (g.R.Reach.world c.args.table.now) (g.R.Reach.world c.forget.new.self)
+    forgot (by_rules g.R.Reach.steps c.args.self.now.settings g.L.Outlet.sends) (does g.C.Calls.gives g.D.Folders.keeps) c.args.frame.now c.in-Ok.request (c.in-Forget.lookups ∷ []) (around c.args.link.now c.args.served.now (g.R.Reach.world c.args.table.now)) (g.R.Reach.world c.forget.new.self)
     c.in-Ok.ensures.found c.in-Forget.ensures (g.R.Reach.world c.forget.new.self, c.forget.ensures.forgets, refl)
 
 pub returns-in-ForgetAll-clause-worked : goal.returns-in-ForgetAll-clause-worked
 returns-in-ForgetAll-clause-worked g c =
-    forgot g.R.Reach.steps c.args.self.now.settings g.L.Outlet.sends (does g.C.Calls.gives g.D.Folders.keeps) c.args.frame.now c.in-Ok.request (pairs_in c.in-ForgetAll.pairs.now) c.args.link.now c.args.served.now (g.R.Reach.world c.args.table.now) (g.R.Reach.world c.forget_all.new.table)
+    forgot (by_rules g.R.Reach.steps c.args.self.now.settings g.L.Outlet.sends) (does g.C.Calls.gives g.D.Folders.keeps) c.args.frame.now c.in-Ok.request (pairs_in c.in-ForgetAll.pairs.now) (around c.args.link.now c.args.served.now (g.R.Reach.world c.args.table.now)) (g.R.Reach.world c.forget_all.new.table)
     c.in-Ok.ensures.found c.in-ForgetAll.ensures c.forget_all.ensures.forgets
 
 pub returns-in-Nothing-clause-worked : goal.returns-in-Nothing-clause-worked
 returns-in-Nothing-clause-worked g c =
-    passed_over g.R.Reach.steps c.args.self.now.settings g.L.Outlet.sends (does g.C.Calls.gives g.D.Folders.keeps) c.args.frame.now c.in-Ok.request c.args.link.now c.args.served.now (g.R.Reach.world c.args.table.now) c.in-Ok.ensures.found c.in-Nothing.ensures
+    passed_over (by_rules g.R.Reach.steps c.args.self.now.settings g.L.Outlet.sends) (does g.C.Calls.gives g.D.Folders.keeps) c.args.frame.now c.in-Ok.request (around c.args.link.now c.args.served.now (g.R.Reach.world c.args.table.now)) c.in-Ok.ensures.found c.in-Nothing.ensures
 
 pub returns-in-Nothing-clause-gains : goal.returns-in-Nothing-clause-gains
 returns-in-Nothing-clause-gains g c = c.attest.ensures c.args.share.now
@@ -57,7 +54,7 @@ returns-in-Forget-clause-gains g c = c.forget.ensures.gains
 pub returns-in-File-clause-worked : goal.returns-in-File-clause-worked
 returns-in-File-clause-worked g c =
     rw c.find.ensures.world (
-    asked_of_file g.R.Reach.steps c.args.self.now.settings g.L.Outlet.sends (does g.C.Calls.gives g.D.Folders.keeps) c.args.frame.now c.in-Ok.request c.in-File.fh c.find.result c.file_reply-body.result c.args.link.now c.answer-in-File.new.link c.args.served.now (g.R.Reach.world c.args.table.now) c.answer-in-File.result
+    asked_of_file (by_rules g.R.Reach.steps c.args.self.now.settings g.L.Outlet.sends) (does g.C.Calls.gives g.D.Folders.keeps) c.args.frame.now c.in-Ok.request c.in-File.fh c.find.result c.file_reply-body.result (around c.args.link.now c.args.served.now (g.R.Reach.world c.args.table.now)) c.answer-in-File.new.link c.answer-in-File.result
     c.in-Ok.ensures.found c.in-File.ensures c.find.ensures.finds c.file_reply-body.ensures c.answer-in-File.ensures.said
     )
 
@@ -66,5 +63,5 @@ returns-in-File-clause-gains g c = rw c.find.ensures.world (c.attest.ensures c.a
 
 pub returns-in-Want-clause-worked : goal.returns-in-Want-clause-worked
 returns-in-Want-clause-worked g c =
-    carried g.R.Reach.steps c.args.self.now.settings g.L.Outlet.sends (does g.C.Calls.gives g.D.Folders.keeps) c.args.frame.now c.in-Ok.request (want_of c.in-Want.wanted) c.args.link.now c.run_wanted.new.link c.args.served.now c.run_wanted.new.served (g.R.Reach.world c.args.table.now) (g.R.Reach.world c.run_wanted.new.table) c.run_wanted.result
+    carried (by_rules g.R.Reach.steps c.args.self.now.settings g.L.Outlet.sends) (does g.C.Calls.gives g.D.Folders.keeps) c.args.frame.now c.in-Ok.request (want_of c.in-Want.wanted) (around c.args.link.now c.args.served.now (g.R.Reach.world c.args.table.now)) (around c.run_wanted.new.link c.run_wanted.new.served (g.R.Reach.world c.run_wanted.new.table)) c.run_wanted.result
     c.in-Ok.ensures.found c.in-Want.ensures c.run_wanted.ensures.runs_out
