@@ -1,6 +1,6 @@
+pub mod Chains
 pub mod Crossing
 pub mod Ends
-pub mod Leaving
 pub mod Lists
+pub mod Parting
 pub mod Sharing
-pub mod Working

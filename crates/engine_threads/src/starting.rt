@@ -34,7 +34,7 @@ pub struct WorkerKeeps<C> {
 impl<T: Ledgers, C: Calls + Drop> Promise<WorkerEnd<T, C>> for WorkerKeeps<C> {
     ghost use Rattle.std.specs.Prelude.{◌≡◌};
     ghost use Rattle.crossbeam_channel.specs.Ends.{sends_on};
-        ghost use Rattle.engine_threads.specs.Worked.{does_shared, IsOver};
+    ghost use Rattle.engine_threads.specs.Worked.{does_shared, IsOver};
 
     ghost kept_by = { λ p r. (r.passes.number ≡ p.number) × (r.given.value ≡ p.calls.value) × IsOver (sends_on p.jobs.value) (sends_on p.replies.value) (does_shared C.gives) p.settings p.calls.value r.passes r.calls r.kept.share };
 }

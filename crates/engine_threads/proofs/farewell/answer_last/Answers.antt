@@ -1,7 +1,7 @@
 use Rattle.std.proofs.Common.{◌∙◌, sym}
 use Rattle.crossbeam_channel.specs.Claims.{view}
 use Rattle.engine.specs.Serving.{does}
-use Rattle.engine_threads.proofs.Working.{answers_as}
+use Rattle.engine_threads.proofs.Chains.{answers_as}
 use Rattle.engine_threads.proofs.farewell.answer_last.Goals as goal
 
 pub returns-clause-answered : goal.returns-clause-answered

@@ -10,7 +10,7 @@ use Rattle.engine_roles.specs.Queues.{JobQueue, ReplyQueue}
 use Rattle.engine_workers.specs.declared.replies.Reply.{Reply}
 use Rattle.engine_threads.specs.Worked.{BidsFarewell, WorkedEach, does_shared}
 use Rattle.engine_threads.specs.declared.working.WorkerEnd.{WorkerEnd}
-use Rattle.engine_threads.proofs.Leaving.{all_numbered, all_seated, bids_farewell, each_worked, given_of, passes_in}
+use Rattle.engine_threads.proofs.Parting.{all_numbered, all_seated, bids_farewell, each_worked, given_of, passes_in}
 use Rattle.engine_threads.proofs.leaving.take_leave.Goals as goal
 
 pub returns : goal.returns
@@ -28,8 +28,8 @@ returns g c =
     let said = c.bid_farewell-own.ensures in
     let parted : ends ≡ rest ++ last ∷ [] = c.pop.ensures.items ∙ ap (λ (o : Option End). rest ++ option_to_list o) c.in-Some.is in
     let items = c.push_reserved-2.ensures.items
-        ∙ ap (λ (ps : List Pass). ps ++ own ∷ []) (c.push_reserved.ensures.items
-        ∙ (ap (λ (ps : List Pass). ps ++ last.passes ∷ []) c.part_all-passes.ensures.passes ∙ sym (passes_in jobs replies does settings ends rest last parted))) in
+    ∙ ap (λ (ps : List Pass). ps ++ own ∷ []) (c.push_reserved.ensures.items
+    ∙ (ap (λ (ps : List Pass). ps ++ last.passes ∷ []) c.part_all-passes.ensures.passes ∙ sym (passes_in jobs replies does settings ends rest last parted))) in
     let whole = sym items in
     record {
       len = (let a = c.push_reserved-2.ensures.len in let b = c.push_reserved.ensures.len in let d = c.part_all-passes.ensures.len in let e = c.pop.ensures.len in omega arith);

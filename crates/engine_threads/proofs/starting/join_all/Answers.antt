@@ -6,7 +6,7 @@ use Rattle.engine_threads.specs.Worked.{does_shared, IsOver}
 use Rattle.engine_threads.specs.declared.starting.WorkerKeeps.{WorkerKeeps}
 use Rattle.engine_threads.specs.declared.working.WorkerEnd.{WorkerEnd}
 use Rattle.engine_threads.proofs.Lists.{all_made, first_of, one_more, others_of}
-use Rattle.engine_threads.proofs.Working.{over_at}
+use Rattle.engine_threads.proofs.Chains.{over_at}
 use Rattle.engine_threads.proofs.starting.join_all.Goals as goal
 
 pub push_reserved-requires : goal.push_reserved-requires
@@ -32,7 +32,7 @@ loop-handle-preserved g c =
       given = all_made (λ (w : End). w.given.value) (λ (k : Handle). k.promise.calls.value) c.loop-handle.ended.items c.push_reserved.new.self.items e h from rest _ c.push_reserved.ensures.items s.0 j.1 i.given;
       over = one_more P c.loop-handle.ended.items c.push_reserved.new.self.items e c.push_reserved.ensures.items i.over
           (over_at (does_shared g.C.Calls.gives) (sends_on h.promise.jobs.value) (sends_on c.args.jobs.now) (sends_on h.promise.replies.value) (sends_on c.args.replies.now) h.promise.settings c.args.settings h.promise.calls.value e.given.value e.passes e.calls e.kept.share
-              ring.0 ring.1 ring.2 (sym j.1) j.2);
+          ring.0 ring.1 ring.2 (sym j.1) j.2);
       len = (let a = c.push_reserved.ensures.len in let b = s.1 in let d = i.len in omega arith);
       lens = (let n : length from ≡ suc (length rest) = ap length s.0 in let l = s.1 in let d = i.lens in omega arith);
       room = (let a = c.push_reserved.ensures.capacity in let b = i.room in omega arith);

@@ -3,7 +3,7 @@ use Rattle.crossbeam_channel.specs.Claims.{view}
 use Rattle.crossbeam_channel.specs.Ends.{sends_on, receives_on}
 use Rattle.engine_workers.specs.Turns.{standing}
 use Rattle.engine_threads.specs.Worked.{does_shared}
-use Rattle.engine_threads.proofs.Working.{Works}
+use Rattle.engine_threads.proofs.Chains.{Works}
 use Rattle.engine_threads.proofs.turns.take_turns.Given as goal
 
 abbrev pub invariant-loop : goal.invariant-loop

@@ -2,7 +2,7 @@ use Rattle.std.proofs.Common.{◌∙◌, refl, subst}
 use Rattle.crossbeam_channel.specs.Claims.{view, IsSeatAt}
 use Rattle.engine_workers.specs.Turns.{standing}
 use Rattle.engine_threads.specs.Worked.{does_shared}
-use Rattle.engine_threads.proofs.Working.{has_begun, has_worked_on, worked_as}
+use Rattle.engine_threads.proofs.Chains.{has_begun, has_worked_on, worked_as}
 use Rattle.engine_threads.proofs.working.work_all.Goals as goal
 
 pub loop-init : goal.loop-init
