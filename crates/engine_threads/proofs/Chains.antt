@@ -1,6 +1,7 @@
 -- What a worker has done goes on by what it does next.
-use Rattle.std.proofs.Common.{◌≡◌, ℕ, List, [], ◌∷◌, ◌++◌, Option, sym, ap₂, subst, subst₂}
-use Rattle.crossbeam_channel.specs.Claims.{IsSeatAt}
+use Rattle.std.proofs.Common.{◌≡◌, ◌∙◌, ℕ, List, [], ◌∷◌, ◌++◌, Option, sym, ap₂, subst, subst₂}
+use Rattle.crossbeam_channel.specs.Claims.{view, IsSeatAt}
+use Rattle.crossbeam_channel.specs.Ends.{sends_on, receives_on}
 use Rattle.ledger.specs.Shares.{Part, nothing}
 use Rattle.table_steps.specs.Answers.{Settlement}
 use Rattle.ops.specs.declared.replies.Settings.{Settings}
@@ -17,6 +18,7 @@ use Rattle.engine_roles.specs.Queues.{JobQueue, ReplyQueue}
 use Rattle.engine_workers.specs.Turns.{AnswersJob, Means, Standing, Worked, standing}
 use Rattle.engine_workers.specs.Works.{HasWorked, WorkedAll, newcomer}
 use Rattle.engine_workers.specs.declared.replies.Reply.{Reply}
+use Rattle.engine_workers.specs.declared.working.Worker.{Worker}
 use Rattle.engine_threads.specs.Worked.{HasWorkedFrom, IsOver}
 
 module _ {C D : Type 0} (does : Behaviour C D) (settings : Settings) (number : ℕ) where
@@ -66,6 +68,47 @@ module _ {C D : Type 0} (does : Behaviour C D) (settings : Settings) (number : �
   worked_as number' given taken taken' put put' means n t p h =
       subst (λ (k : ℕ). HasWorked does settings k given (record { hand = taken'; lane = put'; means = means })) (sym n)
       (subst₂ (λ (v : Hand Job) (l : ReplyLane Reply). HasWorked does settings number given (record { hand = v; lane = l; means = means })) (sym t) (sym p) h)
+
+-- a worker at these queues that began so
+pub record Stands {C D : Type 0} (does : Behaviour C D) (jobs : JobQueue) (replies : ReplyQueue) (settings : Settings) (number : ℕ) (given : C) (worker : Worker) (served : Served C D) (share : Part) : Type 0 where
+  pub takes_from : receives_on worker.jobs ≡ jobs
+  pub puts_into : sends_on worker.replies ≡ replies
+  pub number_is : worker.number ≡ number
+  pub settings_are : worker.session.settings ≡ settings
+  pub worked : HasWorked does settings number given (standing (view worker.job_pass) (view worker.reply_pass) served share)
+
+module _ {C D : Type 0} (does : Behaviour C D) (jobs : JobQueue) (replies : ReplyQueue) (settings : Settings) (number : ℕ) (given : C) where
+  abbrev At : Worker → Served C D → Part → Type 0
+  At worker served share = Stands does jobs replies settings number given worker served share
+
+  -- some jobs more
+  pub stands_on : (worker next : Worker) (served served' : Served C D) (share share' : Part) → At worker served share
+      → receives_on next.jobs ≡ receives_on worker.jobs → sends_on next.replies ≡ sends_on worker.replies → next.number ≡ worker.number → next.session.settings ≡ worker.session.settings
+      → Works does worker.session.settings worker.number (standing (view worker.job_pass) (view worker.reply_pass) served share) (standing (view next.job_pass) (view next.reply_pass) served' share') → At next served' share'
+  stands_on worker next served served' share share' at j r n s more = record {
+    takes_from = j ∙ at.takes_from;
+    puts_into = r ∙ at.puts_into;
+    number_is = n ∙ at.number_is;
+    settings_are = s ∙ at.settings_are;
+    worked = has_worked_on does settings number worker.session.settings worker.number given (standing (view worker.job_pass) (view worker.reply_pass) served share) (standing (view next.job_pass) (view next.reply_pass) served' share')
+        at.settings_are at.number_is at.worked more;
+  }
+
+  pub stands_as : (worker worker' : Worker) (served served' : Served C D) (share share' : Part) → worker' ≡ worker → served' ≡ served → share' ≡ share → At worker served share → At worker' served' share'
+  stands_as worker worker' served served' share share' w s p at =
+      subst (λ (v : Worker). At v served' share') (sym w) (subst₂ (λ (d : Served C D) (x : Part). At worker d x) (sym s) (sym p) at)
+
+  -- once it has ended
+  pub is_over : (worker : Worker) (served : Served C D) (share : Part) (passes : Passes Job Reply) → At worker served share → passes.number ≡ worker.number → IsSeatAt (receives_on worker.jobs) passes.job_pass → IsSeatAt (sends_on worker.replies) passes.reply_pass
+      → view passes.job_pass ≡ view worker.job_pass → view passes.reply_pass ≡ view worker.reply_pass → IsOver jobs replies does settings given passes served.calls share
+  is_over worker served share passes at n j r t p = record {
+    job_seat = subst (λ (q : JobQueue). IsSeatAt q passes.job_pass) at.takes_from j;
+    reply_seat = subst (λ (q : ReplyQueue). IsSeatAt q passes.reply_pass) at.puts_into r;
+    worked = record {
+      dirs = served.dirs;
+      worked = worked_as does settings number passes.number given (view worker.job_pass) (view passes.job_pass) (view worker.reply_pass) (view passes.reply_pass) (record { served = served; share = share }) (n ∙ at.number_is) t p at.worked;
+    };
+  }
 
 -- the same by the names that others have for the queues, the settings and the directory
 pub over_at : {C D : Type 0} (does : Behaviour C D) (jobs jobs' : JobQueue) (replies replies' : ReplyQueue) (settings settings' : Settings) (given given' : C) (passes : Passes Job Reply) (left : C) (share : Part)

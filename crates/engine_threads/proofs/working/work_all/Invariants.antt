@@ -1,18 +1,9 @@
-use Rattle.std.specs.Prelude.{◌≡◌}
-use Rattle.crossbeam_channel.specs.Claims.{view}
 use Rattle.crossbeam_channel.specs.Ends.{sends_on, receives_on}
-use Rattle.engine_workers.specs.Turns.{standing}
-use Rattle.engine_workers.specs.Works.{HasWorked}
 use Rattle.engine_threads.specs.Worked.{does_shared}
+use Rattle.engine_threads.proofs.Chains.{Stands}
 use Rattle.engine_threads.proofs.working.work_all.Given as goal
 
 abbrev pub invariant-loop : goal.invariant-loop
 invariant-loop g l =
     let w = l.fn.staff.worker in
-    record {
-      jobs : receives_on l.worker.jobs ≡ receives_on w.jobs;
-      replies : sends_on l.worker.replies ≡ sends_on w.replies;
-      number : l.worker.number ≡ w.number;
-      settings : l.worker.session.settings ≡ w.session.settings;
-      worked : HasWorked (does_shared g.C.Calls.gives) w.session.settings w.number l.fn.staff.calls (standing (view l.worker.job_pass) (view l.worker.reply_pass) l.served l.kept.share);
-    }
+    Stands (does_shared g.C.Calls.gives) (receives_on w.jobs) (sends_on w.replies) w.session.settings w.number l.fn.staff.calls l.worker l.served l.kept.share
