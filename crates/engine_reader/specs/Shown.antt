@@ -1,7 +1,10 @@
--- Jobs as their frames and verdicts.
-use Rattle.std.specs.Prelude.{ℕ, Bool, List, map}
-use Rattle.engine_reader.specs.Verdicts.{Queued, Reading}
+-- Jobs as their frames and verdicts, and how far a reader has got, in its code.
+use Rattle.std.specs.Prelude.{List, map}
+use Rattle.std.specs.Option.{option_map}
+use Rattle.crossbeam_channel.specs.Claims.{view}
 use Rattle.engine_jobs.specs.declared.jobs.Job.{Job}
+use Rattle.engine_reader.specs.Verdicts.{Progress, Queued, Reading}
+use Rattle.engine_reader.specs.declared.reader.Reader.{Reader}
 
 abbrev pub shown : Job → Queued
 shown job = record { agreed = job.agreed; frame = job.frame.items }
@@ -9,5 +12,8 @@ shown job = record { agreed = job.agreed; frame = job.frame.items }
 abbrev pub queued_of : List Job → List Queued
 queued_of jobs = map shown jobs
 
-abbrev pub reading : {L : Type 0} → L → (kept : List ℕ) → (agreed : Bool) → List Job → Reading L
-reading link kept agreed jobs = record { link = link; kept = kept; agreed = agreed; put = queued_of jobs }
+abbrev pub progress : Reader → Progress
+progress reader = record { kept = reader.cutter.kept; agreed = reader.agreed; put = queued_of (view reader.pass).put; farewell = option_map shown reader.farewell }
+
+abbrev pub reading : {L : Type 0} → L → Reader → Reading L
+reading link reader = record { link = link; so_far = progress reader }

@@ -1,5 +1,5 @@
 -- What the reader queues: the frames that it hears, each with the verdict of whether a version was agreed on before it.
-use Rattle.std.specs.Prelude.{ℕ, ◌≡◌, ◌⊎◌, Bool, List, [], ◌∷◌, ◌++◌, length, map, Option, Some, None}
+use Rattle.std.specs.Prelude.{ℕ, ◌≡◌, ◌⊎◌, Bool, List, [], ◌∷◌, ◌++◌, length, Option, Some, None}
 use Rattle.wire.specs.Faults.{IsFirstFault}
 use Rattle.wire.specs.Requests.{IsFramed, IsRequest, opcode_in}
 use Rattle.wire.specs.Stream.{BeginsBadly, IsPartial}
@@ -50,61 +50,72 @@ Queues kept agreed (job ∷ jobs) rest now =
     (job.agreed ≡ agreed) × IsFramed job.frame × (IsFarewell agreed job.frame → ⊥)
     × ((mid : List ℕ) × (next : Bool) × (kept ≡ job.frame ++ mid) × IsVerdict agreed job.frame next × Queues mid next jobs rest now)
 
--- why no more is queued, where these bytes come next and these are kept
-abbrev pub Stops : (rest kept : List ℕ) (agreed : Bool) → Option SessionEnd → Type 0
-Stops rest kept agreed None = (kept ≡ rest) × IsPartial rest
-Stops rest kept agreed (Some (ends.Closed len)) = ⊥
--- a farewell comes next
-Stops rest kept agreed (Some ends.Destroyed) = (frame : List ℕ) × (rest ≡ frame ++ kept) × IsFarewell agreed frame
-Stops rest kept agreed (Some (ends.BadLength len)) = BeginsBadly rest len
--- the queue handed a job back
-Stops rest kept agreed (Some ends.LinkBroken) = Unit {0}
-Stops rest kept agreed (Some ends.Memory) = Unit {0}
-Stops rest kept agreed (Some ends.NoWorkers) = ⊥
-
--- these bytes are worked through: which jobs join the queue
-pub record QueuesAll (kept : List ℕ) (agreed : Bool) (put : List Queued) (end : Option SessionEnd) (kept' : List ℕ) (now : Bool) (put' : List Queued) : Type 0 where
-  pub jobs : List Queued
-  pub rest : List ℕ
-  pub queued : put' ≡ put ++ jobs
-  pub queues : Queues kept agreed jobs rest now
-  pub stops : Stops rest kept' now end
-
--- so far
-pub record Queueing (kept : List ℕ) (agreed : Bool) (put : List Queued) (kept' : List ℕ) (now : Bool) (put' : List Queued) : Type 0 where
-  pub done : List Queued
-  pub queued : put' ≡ put ++ done
-  pub onwards : (jobs : List Queued) (rest : List ℕ) (then' : Bool) → Queues kept' now jobs rest then' → Queues kept agreed (done ++ jobs) rest then'
-
--- one receive, and what was queued after it
-abbrev pub ReadsAs : Heard → (kept : List ℕ) (agreed : Bool) (put : List Queued) → Option SessionEnd → (kept' : List ℕ) (now : Bool) (put' : List Queued) → Type 0
-ReadsAs (Piece bytes) kept agreed put end kept' now put' = QueuesAll (kept ++ bytes) agreed put end kept' now put'
-ReadsAs Ended kept agreed put end kept' now put' = (end ≡ Some (ends.Closed (length kept))) × (put' ≡ put)
-ReadsAs Broke kept agreed put end kept' now put' = (end ≡ Some ends.LinkBroken) × (put' ≡ put)
-
-pub record Reads {L : Type 0} (receives : L → Heard → L → Type 0) (link : L) (kept : List ℕ) (agreed : Bool) (put : List Queued) (end : Option SessionEnd) (link' : L) (kept' : List ℕ) (now : Bool) (put' : List Queued) : Type 0 where
-  pub heard : Heard
-  pub brought : receives link heard link'
-  pub reads : ReadsAs heard kept agreed put end kept' now put'
-
--- ---- one receive after another
-
--- where a reader stands: its link, the bytes that are no whole frame yet, the verdict so far, and what it has queued
-pub record Reading (L : Type 0) : Type 0 where
-  pub link : L
+-- how far a reader has got with what it heard: the bytes that are no whole frame yet, the verdict so far, what it has queued, and the frame that
+-- ended the session, if one did
+pub record Progress : Type 0 where
   pub kept : List ℕ
   pub agreed : Bool
   pub put : List Queued
+  pub farewell : Option Queued
 
-abbrev pub ReadsFrom : {L : Type 0} → (L → Heard → L → Type 0) → Reading L → Option SessionEnd → Reading L → Type 0
-ReadsFrom receives old end new = Reads receives old.link old.kept old.agreed old.put end new.link new.kept new.agreed new.put
+-- why no more is queued, where these bytes come next; before them this frame had ended the session
+abbrev pub Stops : (rest : List ℕ) → (before : Option Queued) → Option SessionEnd → Progress → Type 0
+Stops rest before None new = (new.kept ≡ rest) × IsPartial rest × (new.farewell ≡ before)
+Stops rest before (Some (ends.Closed len)) new = ⊥
+-- a farewell comes next
+Stops rest before (Some ends.Destroyed) new =
+    (frame : List ℕ) × (rest ≡ frame ++ new.kept) × IsFarewell new.agreed frame × (new.farewell ≡ Some (record { agreed = new.agreed; frame = frame }))
+Stops rest before (Some (ends.BadLength len)) new = BeginsBadly rest len × (new.farewell ≡ before)
+-- a link breaks where it is heard, and nowhere else
+Stops rest before (Some ends.LinkBroken) new = ⊥
+-- memory was refused, or the queue handed a job back
+Stops rest before (Some ends.Memory) new = new.farewell ≡ before
+Stops rest before (Some ends.NoWorkers) new = ⊥
+
+-- these bytes are worked through: which jobs join the queue
+pub record QueuesAll (old : Progress) (end : Option SessionEnd) (new : Progress) : Type 0 where
+  pub jobs : List Queued
+  pub rest : List ℕ
+  pub queued : new.put ≡ old.put ++ jobs
+  pub queues : Queues old.kept old.agreed jobs rest new.agreed
+  pub stops : Stops rest old.farewell end new
+
+-- so far
+pub record Queueing (old new : Progress) : Type 0 where
+  pub done : List Queued
+  pub queued : new.put ≡ old.put ++ done
+  pub onwards : (jobs : List Queued) (rest : List ℕ) (then' : Bool) → Queues new.kept new.agreed jobs rest then' → Queues old.kept old.agreed (done ++ jobs) rest then'
+  pub farewell_is : new.farewell ≡ old.farewell
+
+-- these bytes come after those that are kept
+abbrev pub and_then : Progress → List ℕ → Progress
+and_then old bytes = record { kept = old.kept ++ bytes; agreed = old.agreed; put = old.put; farewell = old.farewell }
+
+-- one receive, and what was queued after it
+abbrev pub ReadsAs : Heard → Progress → Option SessionEnd → Progress → Type 0
+ReadsAs (Piece bytes) old end new = QueuesAll (and_then old bytes) end new
+ReadsAs Ended old end new = (end ≡ Some (ends.Closed (length old.kept))) × (new ≡ old)
+ReadsAs Broke old end new = (end ≡ Some ends.LinkBroken) × (new ≡ old)
+
+-- where a reader stands: its link, and how far it has got
+pub record Reading (L : Type 0) : Type 0 where
+  pub link : L
+  pub so_far : Progress
+
+pub record Reads {L : Type 0} (receives : L → Heard → L → Type 0) (old : Reading L) (end : Option SessionEnd) (new : Reading L) : Type 0 where
+  pub heard : Heard
+  pub brought : receives old.link heard new.link
+  pub reads : ReadsAs heard old.so_far end new.so_far
+
+-- ---- one receive after another
 
 -- any number of receives, none of which ended the session
 pub data ReadsOn {L : Type 0} (receives : L → Heard → L → Type 0) (old : Reading L) : Reading L → Type 0 where
   stays : (new : Reading L) → new ≡ old → ReadsOn receives old new
-  goes : (mid new : Reading L) → ReadsOn receives old mid → ReadsFrom receives mid None new → ReadsOn receives old new
+  goes : (mid new : Reading L) → ReadsOn receives old mid → Reads receives mid None new → ReadsOn receives old new
 
--- until one ended it so, or the writer had seen the link break before the next
-pub data ReadsAll {L : Type 0} (receives : L → Heard → L → Type 0) (old : Reading L) (end : SessionEnd) (put : List Queued) : Type 0 where
-  by_receive : (now last : Reading L) → ReadsOn receives old now → ReadsFrom receives now (Some end) last → put ≡ last.put → ReadsAll receives old end put
-  by_writer : (now : Reading L) → ReadsOn receives old now → end ≡ ends.LinkBroken → put ≡ now.put → ReadsAll receives old end put
+-- until one ended it so
+pub record ReadsAll {L : Type 0} (receives : L → Heard → L → Type 0) (old : Reading L) (end : SessionEnd) (new : Reading L) : Type 0 where
+  pub last : Reading L
+  pub on : ReadsOn receives old last
+  pub ends : Reads receives last (Some end) new

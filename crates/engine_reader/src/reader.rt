@@ -1,6 +1,6 @@
 //! Who cuts frames and queues a job for each.
 
-ghost use Rattle.std.specs.Prelude.{◌≡◌, ◌<◌, ◌++◌, ◌∷◌, [], false, length, map, IfOk, IsTrue, IsFalse};
+ghost use Rattle.std.specs.Prelude.{◌≡◌, ◌<◌, ◌++◌, ◌∷◌, [], false, length, map, IfOk, IsTrue, IsFalse, None};
 ghost use Rattle.crossbeam_channel.specs.Claims.{view, IsSeatAt};
 ghost use Rattle.crossbeam_channel.specs.Ends.{sends_on};
 ghost use Rattle.engine_queues.specs.Jobs.{numbers};
@@ -47,7 +47,7 @@ fn job_of(ordinal: u64, agreed: bool, frame: Vec<u8>) -> Job
 }
 
 impl Reader {
-    ghost use Rattle.engine_reader.specs.Shown.{queued_of};
+    ghost use Rattle.engine_reader.specs.Shown.{progress, queued_of, reading};
     ghost use Rattle.engine_reader.specs.Verdicts.{IsVerdict, QueuesAll, Reads};
 
     /// A reader that has heard nothing, with the pass of one that has put nothing.
@@ -58,7 +58,7 @@ impl Reader {
         requires puts_none { (view pass).put ≡ [] }
         ensures ring { IfOk result (λ r. sends_on r.to ≡ sends_on to) }
         ensures pass { IfOk result (λ r. view r.pass ≡ view pass) }
-        ensures empty { IfOk result (λ r. (r.cutter.kept ≡ []) × (r.agreed ≡ false) × (queued_of (view r.pass).put ≡ [])) }
+        ensures empty { IfOk result (λ r. (r.cutter.kept ≡ []) × (r.agreed ≡ false) × (queued_of (view r.pass).put ≡ []) × (r.farewell ≡ None)) }
     {
         let mut room = Vec::new(alloc);
         room.resize(ROOM, 0)?;
@@ -81,6 +81,7 @@ impl Reader {
         ensures ring { sends_on self.new.to ≡ sends_on self.old.to }
         ensures parts { (view self.new.pass).parts ≡ (view self.old.pass).parts }
         ensures cutter { self.new.cutter ≡ self.old.cutter }
+        ensures farewell { self.new.farewell ≡ self.old.farewell }
     {
         let Some(after) = self.next.checked_add(1) else {
             return false;
@@ -101,9 +102,9 @@ impl Reader {
         }
     }
 
-    /// Queues a job for each frame that stands whole, before the one that ends the session.
+    /// Queues a job for each frame that stands whole, before the one that ends the session. Where the queue hands one back the session cannot go on.
     fn queue_all<H: Wait>(&mut self, rt: &H) -> Option<SessionEnd>
-        ensures all { QueuesAll self.old.cutter.kept self.old.agreed (queued_of (view self.old.pass).put) result self.new.cutter.kept self.new.agreed (queued_of (view self.new.pass).put) }
+        ensures all { QueuesAll (progress self.old) result (progress self.new) }
         ensures ring { sends_on self.new.to ≡ sends_on self.old.to }
         ensures parts { (view self.new.pass).parts ≡ (view self.old.pass).parts }
     {
@@ -116,7 +117,7 @@ impl Reader {
                         return Some(SessionEnd::Destroyed);
                     }
                     if !self.queue(rt, frame) {
-                        return Some(SessionEnd::LinkBroken);
+                        return Some(SessionEnd::Memory);
                     }
                 }
                 Err(CutFault::BadLength { len }) => return Some(SessionEnd::BadLength { len }),
@@ -127,7 +128,7 @@ impl Reader {
 
     /// Makes one receive, and queues a job for each frame that then stands whole.
     pub fn turn<H: Wait, L: LinkIn>(&mut self, rt: &H, link: &mut L) -> Option<SessionEnd>
-        ensures reads { Reads L.receives link.old self.old.cutter.kept self.old.agreed (queued_of (view self.old.pass).put) result link.new self.new.cutter.kept self.new.agreed (queued_of (view self.new.pass).put) }
+        ensures reads { Reads L.receives (reading link.old self.old) result (reading link.new self.new) }
         ensures ring { sends_on self.new.to ≡ sends_on self.old.to }
         ensures parts { (view self.new.pass).parts ≡ (view self.old.pass).parts }
     {

@@ -13,14 +13,15 @@ use engine_queues::jobs::JobPass;
 #[derive(Drop)]
 pub struct ReaderEnd {
     pub pass: JobPass<Job>,
-    pub end: SessionEnd,
+    /// How a receive ended the session. None where reading was stopped before.
+    pub end: Option<SessionEnd>,
     /// The job of the frame that ended the session, if one did.
     pub farewell: Option<Job>,
 }
 
 impl ReaderEnd {
     /// What a reader leaves that has ended so.
-    pub fn new(reader: Reader, end: SessionEnd) -> ReaderEnd
+    pub fn new(reader: Reader, end: Option<SessionEnd>) -> ReaderEnd
         ensures seat { IsSeatAt (sends_on reader.to) result.pass }
         ensures same { (view result.pass ≡ view reader.pass) × (result.end ≡ end) × (result.farewell ≡ reader.farewell) }
         ensures takes_none { length (view result.pass).taken ≡ 0 }

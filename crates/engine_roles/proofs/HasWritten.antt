@@ -8,7 +8,8 @@ use Rattle.table_steps.specs.Answers.{Settlement}
 use Rattle.engine.proofs.Runs.{chain_append}
 use Rattle.engine.specs.declared.links.Sent.{Sent}
 use Rattle.engine_queues.specs.declared.letters.ReplyLane.{ReplyLane}
-use Rattle.engine_workers.specs.Batches.{Ending, Writing, WritesAll, WritesOne}
+use Rattle.engine_workers.specs.Batches.{Writing, WritesAll, WritesOne}
+use Rattle.engine_workers.specs.Turns.{Ending}
 use Rattle.engine_workers.specs.declared.replies.Reply.{Reply}
 use Rattle.engine_roles.specs.Writes.{unsent, writing, HasWritten, HasWrittenAll}
 

@@ -1,12 +1,12 @@
 //! The reader as a role.
 
-ghost use Rattle.std.specs.Prelude.{◌≡◌, ◌+◌, length, None, Some, IfSome, IfNone};
+ghost use Rattle.std.specs.Prelude.{◌≡◌, ◌+◌, length, Some, IfSome, IfNone};
+ghost use Rattle.std.specs.Option.{option_map};
 ghost use Rattle.crossbeam_channel.specs.Claims.{view, IsSeatAt};
 ghost use Rattle.crossbeam_channel.specs.Ends.{sends_on};
-ghost use Rattle.engine.specs.declared.ends.SessionEnd.TheVariants.{LinkBroken};
-ghost use Rattle.engine_reader.specs.Shown.{queued_of, reading};
+ghost use Rattle.engine_reader.specs.Shown.{queued_of, reading, shown};
 ghost use Rattle.engine_reader.specs.Verdicts.{Reads};
-ghost use Rattle.engine_roles.specs.Reads.{beginning, end_of, HasRead, HasReadAll};
+ghost use Rattle.engine_roles.specs.Reads.{beginning, HasRead, HasReadAll};
 
 use crate::origins::Source;
 use engine::{LinkIn, SessionEnd};
@@ -19,12 +19,12 @@ use std::sync::Wait;
 pub struct ReaderRole<I: LinkIn + Drop, S: Source<I>> {
     pub reader: Reader,
     pub link: I,
-    /// How the session ended, once it has.
+    /// How a receive ended the session, once one has.
     pub end: Option<SessionEnd>,
     pub source: PhantomData<S>,
     ghost ring: { S.jobs ≡ Some (sends_on reader.to) },
     ghost parts: { (view reader.pass).parts + S.parted ≡ 8 },
-    ghost read: { ∥ HasRead I.receives S.heard_from end (reading link reader.cutter.kept reader.agreed (view reader.pass).put) ∥₁ },
+    ghost read: { ∥ HasRead I.receives S.heard_from end (reading link reader) ∥₁ },
 }
 
 impl<I: LinkIn + Drop, S: Source<I>> ReaderRole<I, S> {
@@ -33,7 +33,7 @@ impl<I: LinkIn + Drop, S: Source<I>> ReaderRole<I, S> {
         requires ring { S.jobs ≡ Some (sends_on reader.to) }
         requires parts { (view reader.pass).parts + S.parted ≡ 8 }
         requires from { S.heard_from ≡ Some link }
-        requires fresh { reading link reader.cutter.kept reader.agreed (view reader.pass).put ≡ beginning link }
+        requires fresh { reading link reader ≡ beginning link }
         ensures { (result.reader ≡ reader) × (result.link ≡ link) × (result.end ≡ None) }
     {
         ReaderRole {
@@ -47,8 +47,7 @@ impl<I: LinkIn + Drop, S: Source<I>> ReaderRole<I, S> {
     /// Makes one receive, and queues a job for each frame that then stands whole. Nothing is done once the session has ended.
     pub fn turn<H: Wait>(&mut self, rt: &H)
         ensures over { IfSome self.old.end (λ _. self.new ≡ self.old) }
-        ensures reads { IfNone self.old.end (Reads I.receives self.old.link self.old.reader.cutter.kept self.old.reader.agreed (queued_of (view self.old.reader.pass).put) self.new.end
-            self.new.link self.new.reader.cutter.kept self.new.reader.agreed (queued_of (view self.new.reader.pass).put)) }
+        ensures reads { IfNone self.old.end (Reads I.receives (reading self.old.link self.old.reader) self.new.end (reading self.new.link self.new.reader)) }
     {
         match self.end {
             Some(_) => {}
@@ -56,25 +55,13 @@ impl<I: LinkIn + Drop, S: Source<I>> ReaderRole<I, S> {
         }
     }
 
-    /// Ends the session, since the writer saw the link break. Nothing is done once it has ended.
-    pub fn stop(&mut self)
-        ensures over { IfSome self.old.end (λ _. self.new ≡ self.old) }
-        ensures stops { IfNone self.old.end ((self.new.end ≡ Some LinkBroken) × (self.new.reader ≡ self.old.reader) × (self.new.link ≡ self.old.link)) }
-    {
-        match self.end {
-            Some(_) => {}
-            None => self.end = Some(SessionEnd::LinkBroken),
-        }
-    }
-
-    /// What it leaves. Where its session has not ended yet the link is taken for broken.
+    /// What it leaves.
     pub fn into_end(self) -> ReaderEnd
         ensures seat { IfSome S.jobs (λ jobs. IsSeatAt jobs result.pass) }
         ensures parts { (view result.pass).parts + S.parted ≡ 8 }
         ensures takes_none { length (view result.pass).taken ≡ 0 }
-        ensures end { result.end ≡ end_of self.end }
-        ensures farewell { result.farewell ≡ self.reader.farewell }
-        ensures read { ∥ HasReadAll I.receives S.heard_from result.end (queued_of (view result.pass).put) ∥₁ }
+        ensures same { (result.end ≡ self.end) × (result.farewell ≡ self.reader.farewell) }
+        ensures read { ∥ HasReadAll I.receives S.heard_from result.end (queued_of (view result.pass).put) (option_map shown result.farewell) ∥₁ }
     {
         let ReaderRole {
             reader,
@@ -83,9 +70,6 @@ impl<I: LinkIn + Drop, S: Source<I>> ReaderRole<I, S> {
             source: _,
         } = self;
         drop(link);
-        match end {
-            Some(end) => ReaderEnd::new(reader, end),
-            None => ReaderEnd::new(reader, SessionEnd::LinkBroken),
-        }
+        ReaderEnd::new(reader, end)
     }
 }

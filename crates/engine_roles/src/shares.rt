@@ -1,6 +1,6 @@
 //! Shares of the table's book.
 
-ghost use Rattle.std.specs.Prelude.{◌≡◌};
+ghost use Rattle.std.specs.Prelude.{◌≡◌, ◌++◌, ◌∷◌, [], IfSome};
 
 use ledger::{Ledgers, Share};
 
@@ -17,7 +17,9 @@ impl<T: Ledgers> Drop for Kept<T> {
 }
 
 impl<T: Ledgers> Kept<T> {
-    fn into_share(self) -> Share<T> {
+    fn into_share(self) -> Share<T>
+        ensures { result ≡ self.share }
+    {
         let Kept { share } = self;
         share
     }
@@ -25,7 +27,7 @@ impl<T: Ledgers> Kept<T> {
 
 /// The shares that no thread has. Where they are dropped they are left.
 pub struct Shares<T: Ledgers> {
-    shares: Vec<Share<T>>,
+    pub shares: Vec<Share<T>>,
 }
 
 impl<T: Ledgers> Drop for Shares<T> {
@@ -43,12 +45,16 @@ fn leave_all<T: Ledgers>(mut shares: Vec<Share<T>>) {
 }
 
 impl<T: Ledgers> Shares<T> {
-    pub fn new(shares: Vec<Share<T>>) -> Shares<T> {
+    pub fn new(shares: Vec<Share<T>>) -> Shares<T>
+        ensures { result.shares ≡ shares }
+    {
         Shares { shares }
     }
 
-    /// One for a thread, if one is there.
-    pub fn take(&mut self) -> Option<Kept<T>> {
+    /// The last of them for a thread, if one is there.
+    pub fn take(&mut self) -> Option<Kept<T>>
+        ensures { IfSome result (λ kept. self.old.shares.items ≡ self.new.shares.items ++ kept.share ∷ []) }
+    {
         let share = self.shares.pop()?;
         Some(Kept { share })
     }

@@ -1,4 +1,6 @@
+pub mod Chains
 pub mod Crossing
 pub mod Ends
 pub mod Lists
+pub mod Parting
 pub mod Sharing

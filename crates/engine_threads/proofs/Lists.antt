@@ -1,19 +1,35 @@
 -- Lists that are taken apart in step.
 use Rattle.std.proofs.Common.{◌≡◌, ℕ, zero, suc, ◌+◌, List, [], ◌∷◌, ◌++◌, length, map, refl, sym, ap, ◌∙◌, subst, append_assoc, append-nil, arith}
 use Rattle.std.specs.List.{All, range_with_len}
+use Rattle.std.proofs.lemmas.List.{map-append}
 use Rattle.std.proofs.lemmas.List.Elements.{All-head, All-push, All-rest, All-same}
-use Rattle.engine_queues.proofs.Numbers.{map_snoc}
 
-module _ {X Y : Type 0} (f : X → ℕ) (h : Y → ℕ) where
+-- the last of a list that each element is made of
+pub map_last : {X V : Type 0} (f : X → V) (xs : List X) (x : X) → map f (xs ++ x ∷ []) ≡ map f xs ++ f x ∷ []
+map_last f xs x = map-append f xs (x ∷ [])
+
+module _ {X Y V : Type 0} (f : X → V) (h : Y → V) where
   -- one more was made of the next
-  pub more_made : (made : List X) (x : X) (y : Y) (rest : List Y) (whole : List ℕ) → f x ≡ h y → map f made ++ map h (y ∷ rest) ≡ whole → map f (made ++ x ∷ []) ++ map h rest ≡ whole
-  more_made made x y rest whole same e = ap (λ (l : List ℕ). l ++ map h rest) (map_snoc f made x) ∙ (append_assoc (map f made) (f x ∷ []) (map h rest) ∙ (ap (λ (n : ℕ). map f made ++ n ∷ map h rest) same ∙ e))
+  pub more_made : (made : List X) (x : X) (y : Y) (rest : List Y) (whole : List V) → f x ≡ h y → map f made ++ map h (y ∷ rest) ≡ whole → map f (made ++ x ∷ []) ++ map h rest ≡ whole
+  more_made made x y rest whole same e = ap (λ (l : List V). l ++ map h rest) (map_last f made x) ∙ (append_assoc (map f made) (f x ∷ []) (map h rest) ∙ (ap (λ (n : V). map f made ++ n ∷ map h rest) same ∙ e))
 
   -- the same, where the lists are known by equations
-  pub numbers_made : (made new : List X) (x : X) (y : Y) (from rest : List Y) (whole : List ℕ) → new ≡ made ++ x ∷ [] → from ≡ y ∷ rest → f x ≡ h y → map f made ++ map h from ≡ whole → map f new ++ map h rest ≡ whole
-  numbers_made made new x y from rest whole n s same e =
+  pub all_made : (made new : List X) (x : X) (y : Y) (from rest : List Y) (whole : List V) → new ≡ made ++ x ∷ [] → from ≡ y ∷ rest → f x ≡ h y → map f made ++ map h from ≡ whole → map f new ++ map h rest ≡ whole
+  all_made made new x y from rest whole n s same e =
       ap (λ (l : List X). map f l ++ map h rest) n
       ∙ more_made made x y rest whole same (ap (λ (l : List Y). map f made ++ map h l) (sym s) ∙ e)
+
+-- one more was made with the next
+pub next_given : {X V : Type 0} (f : X → V) (made new : List X) (x : X) (v : V) (from rest whole : List V) → new ≡ made ++ x ∷ [] → from ≡ v ∷ rest → f x ≡ v → map f made ++ from ≡ whole → map f new ++ rest ≡ whole
+next_given {X} {V} f made new x v from rest whole n s same e =
+    ap (λ (l : List X). map f l ++ rest) n
+    ∙ (ap (λ (l : List V). l ++ rest) (map_last f made x)
+    ∙ (append_assoc (map f made) (f x ∷ []) rest ∙ (ap (λ (k : V). map f made ++ k ∷ rest) same ∙ (ap (λ (l : List V). map f made ++ l) (sym s) ∙ e))))
+
+-- nothing is left
+pub none_left : {V : Type 0} (made rest whole : List V) → length rest ≡ 0 → made ++ rest ≡ whole → made ≡ whole
+none_left made [] whole none e = sym (append-nil made) ∙ e
+none_left made (v ∷ rest) whole none e = absurd (omega (arith, none))
 
 module _ {X : Type 0} (P : X → Type 0) where
   -- the first of what is left

@@ -1,5 +1,5 @@
 -- What a session on threads leaves.
-use Rattle.std.specs.Prelude.{◌≡◌, ℕ, Bool, true, false, List, [], ◌∷◌, ◌++◌, length, map}
+use Rattle.std.specs.Prelude.{◌≡◌, ℕ, Bool, true, false, List, [], ◌∷◌, ◌++◌, length, map, Option, Some, None}
 use Rattle.std.specs.List.{flat_map}
 use Rattle.ledger.specs.Shares.{Part, sum_of}
 use Rattle.ledger.specs.Sums.{totals_over}
@@ -30,10 +30,12 @@ pub record AreCounts {J : Type 0} (taken : List ℕ) (takings : List (List J)) :
   pub own : ℕ
   pub all : taken ++ own ∷ [] ≡ map (λ js. length js) takings
 
--- how a session ended: a link that broke ends it, whatever else did
-abbrev pub ends_as : (input : SessionEnd) → (is_broken : Bool) → SessionEnd
-ends_as input true = LinkBroken
-ends_as input false = input
+-- How a session ended: a link that broke as a reply was offered ends it, whatever else did; else a receive ended it so. Reading is stopped
+-- only for such a break, so one of both is there.
+abbrev pub EndsAs : (input : Option SessionEnd) → (is_broken : Bool) → SessionEnd → Type 0
+EndsAs input true end = end ≡ LinkBroken
+EndsAs (Some over) false end = end ≡ over
+EndsAs None false end = ⊥
 
 -- Of the jobs that were read each was taken by one of these or is left, as often as it was read; and of the replies of each of these the
 -- writer got the first ones, in their order, and the others are left.

@@ -42,12 +42,14 @@ impl Sums {
 /// What passed through the queues and the link of a session. It takes no memory: what its parts show stands in proofs alone.
 #[derive(Drop)]
 pub struct Passed {
-    /// How the input ended.
-    pub input: SessionEnd,
+    /// How a receive ended the input. None where the link broke as a reply was offered, and no receive was made after that.
+    pub input: Option<SessionEnd>,
     /// Whether the link broke as a reply was offered.
     pub is_broken: bool,
     /// The jobs that the reader put.
     pub read: Snapshot<JobPass<Job>>,
+    /// The job of the frame that ended the session, if one did. It was not put.
+    pub farewell: Snapshot<Option<Job>>,
     /// The replies that the writer got.
     pub written: Snapshot<ReplyPass<Reply>>,
     /// Which jobs each worker took and which replies it put. The starter, who answers the last frame and takes no job, comes last.

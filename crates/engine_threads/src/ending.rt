@@ -1,21 +1,24 @@
 //! What is left to do once all threads have ended, in its order.
 
-ghost use Rattle.std.specs.Prelude.{◌≡◌, ◌≢◌, ◌<◌, ◌≤◌, ◌+◌, [], length, map, false, Some, vec_len, vec_capacity};
-ghost use Rattle.std.specs.List.{All, flat_map, range_with_len};
+ghost use Rattle.std.specs.Prelude.{◌≡◌, ◌<◌, ◌≤◌, ◌+◌, [], length, map, Some, vec_len, vec_capacity};
+ghost use Rattle.std.specs.List.{All, range_with_len};
+ghost use Rattle.std.specs.Option.{option_map};
 ghost use Rattle.crossbeam_channel.specs.Claims.{view, IsSeatAt};
 ghost use Rattle.crossbeam_channel.specs.Ends.{sends_on, receives_on};
-ghost use Rattle.engine_jobs.specs.declared.jobs.Job.{Job as Queued};
 ghost use Rattle.engine_queues.specs.Gathered.{numbers_of, takings_of};
-ghost use Rattle.engine_reader.specs.Shown.{queued_of};
+ghost use Rattle.engine_reader.specs.Shown.{queued_of, shown};
 ghost use Rattle.engine_roles.specs.Reads.{HasReadAll};
 ghost use Rattle.engine_roles.specs.Writes.{HasWrittenAll};
-ghost use Rattle.engine_threads.specs.Ended.{ends_as, IsShared};
+ghost use Rattle.engine_threads.specs.Ended.{IsShared};
+ghost use Rattle.engine_threads.specs.Worked.{does_shared, AreUnused, BidsFarewell, IsOver, WorkedEach};
 
 use crate::ended::Passed;
-use crate::farewell::{Starter, bid_farewell};
+use crate::farewell::Starter;
+use crate::leaving::{Left, take_leave};
 use crate::places::Common;
+use crate::working::WorkerEnd;
 use backing::Calls;
-use engine::{LinkIn, LinkOut, SessionEnd};
+use engine::{LinkIn, LinkOut};
 use engine_jobs::Job;
 use engine_queues::gathering::gather;
 use engine_queues::jobs::JobSender;
@@ -37,17 +40,17 @@ pub struct Over<T: Ledgers, C: Calls + Drop> {
     pub taken: Vec<u64>,
     pub table: Table<T>,
     pub shares: Shares<T>,
-    pub first: Option<C>,
+    pub calls: C,
 }
 
-/// What the starter has of its own: passes, and what it answers the last frame with.
+/// What the starter has of its own: passes, what it answers the last frame with, and room for what all leave.
 #[derive(Drop)]
-pub struct Room<T: Ledgers, C: Calls + Drop> {
+pub struct Room<T: Ledgers> {
     pub own: Passes<Job, Reply>,
     pub starter: Starter,
+    pub passes: Vec<Passes<Job, Reply>>,
     pub taken: Vec<u64>,
     pub shares: Shares<T>,
-    pub first: Option<C>,
 }
 
 /// Offers all that is still queued.
@@ -65,8 +68,8 @@ fn offer_all<H: Wait, T: Ledgers, O: LinkOut + Drop, S: Sink<O>>(
     }
 }
 
-/// Answers the frame that ended the session, offers what is still queued, and gathers what all passes tell. The last of these that have
-/// ended is the starter, who takes no job.
+/// Answers the frame that ended the session, offers what is still queued, and gathers what all passes tell. The last of these is the
+/// starter's, who takes no job.
 pub fn end_all<
     H: Wait + Drop,
     T: Ledgers,
@@ -79,36 +82,42 @@ pub fn end_all<
     common: Common<H, T, I, O, S>,
     jobs: &JobSender<Job>,
     replies: &ReplySender<Reply>,
-    ended: Vec<Passes<Job, Reply>>,
-    room: Room<T, C>,
+    ends: Vec<WorkerEnd<T, C>>,
+    room: Room<T>,
 ) -> Over<T, C>
     requires jobs { S.jobs ≡ Some (sends_on jobs.now) }
     requires replies { S.replies ≡ Some (sends_on replies.now) }
-    requires parted { S.parted ≡ vec_len ended + 1 }
-    requires senders { S.senders ≡ vec_len ended + 1 }
-    requires seats { All (λ p. IsSeatAt (sends_on jobs.now) p.job_pass × IsSeatAt (sends_on replies.now) p.reply_pass) ended.items }
-    requires numbers { numbers_of ended.items ≡ range_with_len 0 (vec_len ended) }
-    requires few { vec_len ended ≤ 4 }
-    requires space { vec_len ended < vec_capacity ended }
+    requires parted { S.parted ≡ vec_len ends + 1 }
+    requires senders { S.senders ≡ vec_len ends + 1 }
+    requires some { 0 < vec_len ends }
+    requires few { vec_len ends ≤ 4 }
+    requires over { All (λ e. IsOver (sends_on jobs.now) (sends_on replies.now) (does_shared C.gives) room.starter.settings e.given.value e.passes e.calls e.kept.share) ends.items }
+    requires numbers { map (λ e. e.passes.number) ends.items ≡ range_with_len 0 (vec_len ends) }
     requires job_seat { IsSeatAt (sends_on jobs.now) room.own.job_pass }
     requires reply_seat { IsSeatAt (sends_on replies.now) room.own.reply_pass }
-    requires number { room.own.number ≡ vec_len ended }
+    requires unused { AreUnused room.own }
+    requires number { room.own.number ≡ vec_len ends }
     requires work { receives_on room.starter.work ≡ sends_on jobs.now }
     requires ring { sends_on room.starter.replies ≡ sends_on replies.now }
-    requires taken { vec_len ended + 1 ≤ vec_capacity room.taken }
+    requires passes { 5 ≤ vec_capacity room.passes }
+    requires no_passes { room.passes.items ≡ [] }
+    requires taken { 5 ≤ vec_capacity room.taken }
     requires none_taken { room.taken.items ≡ [] }
-    ensures taken { vec_len result.taken ≡ vec_len ended + 1 }
+    ensures taken { vec_len result.taken ≡ vec_len ends + 1 }
     ensures counted { result.taken.items ≡ map (λ js. length js) (takings_of result.passed.passes.value.items) }
-    ensures reads { ∥ HasReadAll I.receives S.heard_from result.passed.input (queued_of (view result.passed.read.value).put) ∥₁ }
+    ensures numbers { numbers_of result.passed.passes.value.items ≡ range_with_len 0 (vec_len ends + 1) }
+    ensures reads { ∥ HasReadAll I.receives S.heard_from result.passed.input (queued_of (view result.passed.read.value).put) (option_map shown result.passed.farewell.value) ∥₁ }
     ensures writes { ∥ HasWrittenAll O.sends S.sent_to S.senders (view result.passed.written.value) result.passed.is_broken ∥₁ }
     ensures shared { IsShared (view result.passed.read.value) result.passed.passes.value.items (view result.passed.written.value) }
+    ensures worked { WorkedEach (does_shared C.gives) room.starter.settings (map (λ e. e.given.value) ends.items) result.passed.passes.value.items }
+    ensures farewell { BidsFarewell (does_shared C.gives) room.starter.settings (map (λ e. e.given.value) ends.items) result.passed.farewell.value result.passed.passes.value.items }
 {
     let Room {
         own,
         starter,
+        passes,
         taken,
         mut shares,
-        mut first,
     } = room;
     let Common {
         rt: _,
@@ -125,16 +134,18 @@ pub fn end_all<
         farewell,
     } = reader.into_inner().into_end();
     let mut writer = writer.into_inner();
-    let own = bid_farewell(
+    let last = Snapshot::of(&farewell);
+    let Left { passes, calls } = take_leave(
         rt,
         &hall,
         &dirs,
         jobs,
         replies,
+        ends,
         starter,
         own,
+        passes,
         &mut shares,
-        &mut first,
         farewell,
     );
     offer_all(rt, &hall, &dirs, &mut writer);
@@ -144,21 +155,20 @@ pub fn end_all<
         kept,
     } = writer.into_end();
     shares.put(kept);
-    let mut ended = ended;
-    ended.push_reserved(own);
     let passed = Passed {
         input: end,
         is_broken,
         read: Snapshot::of(&pass),
+        farewell: last,
         written: Snapshot::of(&written),
-        passes: Snapshot::of(&ended),
+        passes: Snapshot::of(&passes),
     };
-    let taken = gather(jobs, replies, pass, ended, written, taken);
+    let taken = gather(jobs, replies, pass, passes, written, taken);
     Over {
         passed,
         taken,
         table: hall.into_table(),
         shares,
-        first,
+        calls,
     }
 }

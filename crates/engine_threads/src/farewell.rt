@@ -3,16 +3,18 @@
 ghost use Rattle.std.specs.Prelude.{◌≡◌};
 ghost use Rattle.crossbeam_channel.specs.Claims.{IsSeatAt};
 ghost use Rattle.crossbeam_channel.specs.Ends.{sends_on, receives_on};
+ghost use Rattle.engine.specs.Serving.{does};
+ghost use Rattle.engine_threads.specs.Worked.{AreUnused, AnswersFarewell, AnswersLast};
 
 use backing::Calls;
 use engine::{Served, Settings};
 use engine_jobs::Job;
-use engine_queues::jobs::{JobReceiver, JobSender};
+use engine_queues::jobs::JobReceiver;
 use engine_queues::letters::ReplySender;
 use engine_queues::passes::Passes;
-use engine_roles::{Kept, Shares};
+use engine_roles::Kept;
 use engine_workers::{Hall, Reply, Worker};
-use handles::{Dirs, Folders};
+use handles::Folders;
 use ledger::Ledgers;
 use std::alloc::Global;
 use std::sync::Wait;
@@ -38,8 +40,10 @@ fn answer_last<H: Wait + Drop, T: Ledgers, C: Calls + Drop, D: Folders>(
 ) -> Passes<Job, Reply>
     requires jobs { IsSeatAt (receives_on starter.work) own.job_pass }
     requires replies { IsSeatAt (sends_on starter.replies) own.reply_pass }
+    requires unused { AreUnused own }
     ensures seats { IsSeatAt (receives_on starter.work) result.job_pass × IsSeatAt (sends_on starter.replies) result.reply_pass }
     ensures number { result.number ≡ own.number }
+    ensures answered { AnswersLast (does C.gives D.keeps) starter.settings job.now served.old.calls kept.old.share result }
 {
     let Starter {
         alloc,
@@ -48,44 +52,29 @@ fn answer_last<H: Wait + Drop, T: Ledgers, C: Calls + Drop, D: Folders>(
         replies,
     } = starter;
     let mut worker = Worker::new(alloc, settings, work, replies, own);
-    let _ = worker.answer(rt, hall, &mut kept.share, served, job);
+    let _settled = worker.answer(rt, hall, &mut kept.share, served, job);
     worker.into_passes()
 }
 
-/// Answers the frame that ended the session, if one did, with the share and the directory of a worker that has ended.
-pub fn bid_farewell<H: Wait + Drop, T: Ledgers, C: Calls + Drop>(
+/// Answers the frame that ended the session, if one did.
+pub fn bid_farewell<H: Wait + Drop, T: Ledgers, C: Calls + Drop, D: Folders>(
     rt: &H,
     hall: &Hall<T>,
-    dirs: &Dirs,
-    jobs: &JobSender<Job>,
-    replies: &ReplySender<Reply>,
     starter: Starter,
     own: Passes<Job, Reply>,
-    shares: &mut Shares<T>,
-    first: &mut Option<C>,
+    kept: &mut Kept<T>,
+    served: &mut Served<C, D>,
     farewell: Option<Job>,
 ) -> Passes<Job, Reply>
-    requires work { receives_on starter.work ≡ sends_on jobs.now }
-    requires ring { sends_on starter.replies ≡ sends_on replies.now }
-    requires jobs { IsSeatAt (sends_on jobs.now) own.job_pass }
-    requires replies { IsSeatAt (sends_on replies.now) own.reply_pass }
-    ensures jobs { IsSeatAt (sends_on jobs.now) result.job_pass }
-    ensures replies { IsSeatAt (sends_on replies.now) result.reply_pass }
+    requires jobs { IsSeatAt (receives_on starter.work) own.job_pass }
+    requires replies { IsSeatAt (sends_on starter.replies) own.reply_pass }
+    requires unused { AreUnused own }
+    ensures seats { IsSeatAt (receives_on starter.work) result.job_pass × IsSeatAt (sends_on starter.replies) result.reply_pass }
     ensures number { result.number ≡ own.number }
+    ensures ends { AnswersFarewell (does C.gives D.keeps) starter.settings farewell served.old.calls kept.old.share result }
 {
-    let Some(job) = farewell else {
-        return own;
-    };
-    let Some(mut kept) = shares.take() else {
-        return own;
-    };
-    let Some(calls) = first.take() else {
-        return own;
-    };
-    let mut served = Served { calls, dirs };
-    let own = answer_last(rt, hall, starter, own, &mut kept, &mut served, &job);
-    let Served { calls, dirs: _ } = served;
-    shares.put(kept);
-    *first = Some(calls);
-    own
+    match farewell {
+        Some(job) => answer_last(rt, hall, starter, own, kept, served, &job),
+        None => own,
+    }
 }

@@ -4,7 +4,9 @@ ghost use Rattle.std.specs.Prelude.{◌≡◌, ◌<◌, ◌≤◌, ◌+◌, [], 
 ghost use Rattle.std.specs.List.{All, range_with_len};
 ghost use Rattle.crossbeam_channel.specs.Claims.{view, IsSeatAt};
 ghost use Rattle.crossbeam_channel.specs.Ends.{sends_on, receives_on};
+ghost use Rattle.ledger.specs.Shares.{nothing};
 ghost use Rattle.engine_queues.specs.Letters.{writer};
+ghost use Rattle.engine_threads.specs.Worked.{AreUnused, IsHired, IsStaffed};
 
 use crate::working::Staff;
 use backing::Calls;
@@ -36,6 +38,7 @@ pub fn cut_passes(
     ensures written { IsSeatAt (sends_on replies.now) written.new }
     ensures writes { view written.new ≡ writer [] (number + 1) [] }
     ensures seats { IsSeatAt (sends_on jobs.now) result.job_pass × IsSeatAt (sends_on replies.now) result.reply_pass }
+    ensures unused { AreUnused result }
     ensures number { result.number ≡ number }
 {
     let job_pass = jobs.another::<Cut>(read);
@@ -57,7 +60,9 @@ fn hire(
     passes: Passes<Job, Reply>,
 ) -> Option<Worker>
     requires seats { IsSeatAt (receives_on work.now) passes.job_pass × IsSeatAt (sends_on replies.now) passes.reply_pass }
-    ensures { IfSome result (λ w. (receives_on w.jobs ≡ receives_on work.now) × (sends_on w.replies ≡ sends_on replies.now) × (w.number ≡ passes.number)) }
+    requires unused { AreUnused passes }
+    ensures hired { IfSome result (λ w. IsHired (receives_on work.now) (sends_on replies.now) settings w) }
+    ensures number { IfSome result (λ w. w.number ≡ passes.number) }
 {
     let jobs = work.try_clone().ok()?;
     let replies = replies.try_clone().ok()?;
@@ -88,7 +93,7 @@ fn hire_all(
     ensures none { length (view read.new).taken ≡ 0 }
     ensures written { IsSeatAt (sends_on replies.now) written.new }
     ensures writes { IfSome result (λ v. view written.new ≡ writer [] count []) }
-    ensures hired { IfSome result (λ v. All (λ w. (receives_on w.jobs ≡ sends_on jobs.now) × (sends_on w.replies ≡ sends_on replies.now)) v.items) }
+    ensures hired { IfSome result (λ v. All (IsHired (sends_on jobs.now) (sends_on replies.now) settings) v.items) }
     ensures numbers { IfSome result (λ v. map (λ w. w.number) v.items ≡ range_with_len 0 count) }
     ensures len { IfSome result (λ v. vec_len v ≡ count) }
 {
@@ -101,7 +106,7 @@ fn hire_all(
 }
 
 fn staffed<T: Ledgers, C: Calls + Drop>(worker: Worker, kept: Kept<T>, calls: C) -> Staff<T, C>
-    ensures { result.worker ≡ worker }
+    ensures { (result.worker ≡ worker) × (result.kept ≡ kept) × (result.calls ≡ calls) }
 {
     Staff {
         worker,
@@ -114,23 +119,27 @@ fn staffed<T: Ledgers, C: Calls + Drop>(worker: Worker, kept: Kept<T>, calls: C)
 fn staff_all<T: Ledgers, C: Calls + Drop>(
     jobs: &JobSender<Job>,
     replies: &ReplySender<Reply>,
+    settings: Settings,
     workers: Vec<Worker>,
     shares: &mut Shares<T>,
     trees: Vec<C>,
     staff: Vec<Staff<T, C>>,
 ) -> Option<Vec<Staff<T, C>>>
-    requires hired { All (λ w. (receives_on w.jobs ≡ sends_on jobs.now) × (sends_on w.replies ≡ sends_on replies.now)) workers.items }
+    requires hired { All (IsHired (sends_on jobs.now) (sends_on replies.now) settings) workers.items }
+    requires shares { All (λ p. p.totals ≡ nothing) shares.old.shares.items }
+    requires each { vec_len workers ≡ vec_len trees }
     requires room { vec_len workers ≤ vec_capacity staff }
     requires empty { staff.items ≡ [] }
-    ensures hired { IfSome result (λ v. All (λ s. (receives_on s.worker.jobs ≡ sends_on jobs.now) × (sends_on s.worker.replies ≡ sends_on replies.now)) v.items) }
+    ensures staffed { IfSome result (λ v. All (λ s. IsStaffed (sends_on jobs.now) (sends_on replies.now) settings s.worker s.kept.share) v.items) }
     ensures numbers { IfSome result (λ v. map (λ s. s.worker.number) v.items ≡ map (λ w. w.number) workers.items) }
+    ensures given { IfSome result (λ v. map (λ s. s.calls) v.items ≡ trees.items) }
     ensures len { IfSome result (λ v. vec_len v ≡ vec_len workers) }
 {
     let mut staff = staff;
-    let mut trees = trees.into_iter();
+    let mut left = trees.into_iter();
     for worker in workers {
         let kept = shares.take()?;
-        let calls = trees.next()?;
+        let calls = left.next()?;
         staff.push_reserved(staffed(worker, kept, calls));
     }
     Some(staff)
@@ -155,17 +164,19 @@ pub fn hire_staff<T: Ledgers, C: Calls + Drop>(
     requires none { length (view read.old).taken ≡ 0 }
     requires written { IsSeatAt (sends_on replies.now) written.old }
     requires writes { view written.old ≡ writer [] 0 [] }
+    requires shares { All (λ p. p.totals ≡ nothing) shares.old.shares.items }
     ensures read { IsSeatAt (sends_on jobs.now) read.new }
     ensures parts { IfSome result (λ v. (view read.new).parts + vec_len trees ≡ 8) }
     ensures reads { ((view read.new).put ≡ (view read.old).put) × (length (view read.new).taken ≡ 0) }
     ensures written { IsSeatAt (sends_on replies.now) written.new }
     ensures writes { IfSome result (λ v. view written.new ≡ writer [] (vec_len trees) []) }
-    ensures hired { IfSome result (λ v. All (λ s. (receives_on s.worker.jobs ≡ sends_on jobs.now) × (sends_on s.worker.replies ≡ sends_on replies.now)) v.items) }
+    ensures staffed { IfSome result (λ v. All (λ s. IsStaffed (sends_on jobs.now) (sends_on replies.now) settings s.worker s.kept.share) v.items) }
     ensures numbers { IfSome result (λ v. map (λ s. s.worker.number) v.items ≡ range_with_len 0 (vec_len trees)) }
+    ensures given { IfSome result (λ v. map (λ s. s.calls) v.items ≡ trees.items) }
     ensures len { IfSome result (λ v. vec_len v ≡ vec_len trees) }
 {
     let count = trees.len() as u64;
     let workers = hire_all(alloc, settings, jobs, work, replies, read, written, count)?;
     let staff = Vec::with_capacity(alloc, 4).ok()?;
-    staff_all(jobs, replies, workers, shares, trees, staff)
+    staff_all(jobs, replies, settings, workers, shares, trees, staff)
 }

@@ -5,6 +5,7 @@ mod ended;
 mod ending;
 mod farewell;
 mod hiring;
+mod leaving;
 mod places;
 mod queued;
 mod running;

@@ -1,22 +1,25 @@
 //! The queues of a session, and all that its threads need.
 
-ghost use Rattle.std.specs.Prelude.{◌≡◌, ◌<◌, ◌≤◌, ◌+◌, [], true, false, length, map, Some, IfSome, vec_len, vec_capacity};
+ghost use Rattle.std.specs.Prelude.{◌≡◌, ◌<◌, ◌≤◌, ◌+◌, [], true, false, length, map, None, Some, IfSome, vec_len, vec_capacity};
 ghost use Rattle.std.specs.List.{All, range_with_len};
 ghost use Rattle.crossbeam_channel.specs.Claims.{view, IsSeatAt};
 ghost use Rattle.crossbeam_channel.specs.Ends.{sends_on, receives_on};
-ghost use Rattle.engine_queues.specs.Gathered.{takings_of};
+ghost use Rattle.std.specs.Option.{option_map};
+ghost use Rattle.ledger.specs.Shares.{nothing};
+ghost use Rattle.engine_queues.specs.Gathered.{numbers_of, takings_of};
 ghost use Rattle.engine_queues.specs.Jobs.{hand};
-ghost use Rattle.engine_reader.specs.Shown.{queued_of, reading};
+ghost use Rattle.engine_reader.specs.Shown.{queued_of, reading, shown};
 ghost use Rattle.engine_roles.specs.Reads.{beginning, HasReadAll};
 ghost use Rattle.engine_roles.specs.Writes.{none_got, HasWrittenAll};
 ghost use Rattle.engine_threads.specs.Ended.{IsShared};
+ghost use Rattle.engine_threads.specs.Worked.{does_shared, AreUnused, BidsFarewell, IsStaffed, WorkedEach};
 
 use crate::ending::{Over, Room};
 use crate::farewell::Starter;
 use crate::hiring::{cut_passes, hire_staff};
 use crate::running::{Parts, run};
 use crate::starting::Working;
-use crate::working::Staff;
+use crate::working::{Staff, WorkerEnd};
 use backing::Calls;
 use crossbeam_channel::bounded_with;
 use engine::{LinkIn, LinkOut, Settings};
@@ -55,27 +58,30 @@ fn reader_of(alloc: Global, jobs: &JobSender<Job>, read: JobPass<Job>) -> Option
     requires puts_none { (view read).put ≡ [] }
     ensures ring { IfSome result (λ r. sends_on r.to ≡ sends_on jobs.now) }
     ensures pass { IfSome result (λ r. view r.pass ≡ view read) }
-    ensures unheard { IfSome result (λ r. (r.cutter.kept ≡ []) × (r.agreed ≡ false)) }
+    ensures unheard { IfSome result (λ r. (r.cutter.kept ≡ []) × (r.agreed ≡ false) × (r.farewell ≡ None)) }
 {
     let jobs = jobs.try_clone().ok()?;
     Reader::new(alloc, jobs, read).ok()
 }
 
 /// What the starter has of its own. None is want of memory.
-fn room_of<T: Ledgers, C: Calls + Drop>(
+fn room_of<T: Ledgers>(
     alloc: Global,
     settings: Settings,
     work: JobReceiver<Job>,
     replies: &ReplySender<Reply>,
     own: Passes<Job, Reply>,
     shares: Shares<T>,
-) -> Option<Room<T, C>>
+) -> Option<Room<T>>
     ensures own { IfSome result (λ r. r.own ≡ own) }
+    ensures settings { IfSome result (λ r. r.starter.settings ≡ settings) }
     ensures work { IfSome result (λ r. receives_on r.starter.work ≡ receives_on work) }
     ensures ring { IfSome result (λ r. sends_on r.starter.replies ≡ sends_on replies.now) }
+    ensures passes { IfSome result (λ r. (5 ≤ vec_capacity r.passes) × (r.passes.items ≡ [])) }
     ensures taken { IfSome result (λ r. (5 ≤ vec_capacity r.taken) × (r.taken.items ≡ [])) }
 {
     let replies = replies.try_clone().ok()?;
+    let passes = room_for::<Passes<Job, Reply>>(alloc, 5)?;
     let taken = room_for::<u64>(alloc, 5)?;
     Some(Room {
         own,
@@ -85,9 +91,9 @@ fn room_of<T: Ledgers, C: Calls + Drop>(
             work,
             replies,
         },
+        passes,
         taken,
         shares,
-        first: None,
     })
 }
 
@@ -105,30 +111,36 @@ fn serve_staffed<
     replies: &ReplySender<Reply>,
     parts: Parts<H, T, I, O>,
     staff: Vec<Staff<T, C>>,
-    room: Room<T, C>,
+    room: Room<T>,
 ) -> Option<Over<T, C>>
+    requires some { 0 < vec_len staff }
     requires few { vec_len staff ≤ 4 }
     requires reads { sends_on parts.reader.to ≡ sends_on jobs.now }
     requires parts { (view parts.reader.pass).parts + (vec_len staff + 1) ≡ 8 }
-    requires unheard { reading parts.link_in parts.reader.cutter.kept parts.reader.agreed (view parts.reader.pass).put ≡ beginning parts.link_in }
+    requires unheard { reading parts.link_in parts.reader ≡ beginning parts.link_in }
     requires writes { receives_on parts.writer.replies ≡ sends_on replies.now }
     requires unsent { view parts.writer.pass ≡ none_got (vec_len staff + 1) }
     requires whole { parts.writer.is_broken ≡ false }
-    requires staff { All (λ s. (receives_on s.worker.jobs ≡ sends_on jobs.now) × (sends_on s.worker.replies ≡ sends_on replies.now)) staff.items }
+    requires staff { All (λ s. IsStaffed (sends_on jobs.now) (sends_on replies.now) room.starter.settings s.worker s.kept.share) staff.items }
     requires numbers { map (λ s. s.worker.number) staff.items ≡ range_with_len 0 (vec_len staff) }
     requires job_seat { IsSeatAt (sends_on jobs.now) room.own.job_pass }
     requires reply_seat { IsSeatAt (sends_on replies.now) room.own.reply_pass }
+    requires unused { AreUnused room.own }
     requires number { room.own.number ≡ vec_len staff }
     requires work { receives_on room.starter.work ≡ sends_on jobs.now }
     requires ring { sends_on room.starter.replies ≡ sends_on replies.now }
+    requires passes { (5 ≤ vec_capacity room.passes) × (room.passes.items ≡ []) }
     requires taken { (5 ≤ vec_capacity room.taken) × (room.taken.items ≡ []) }
     ensures taken { IfSome result (λ o. vec_len o.taken ≡ vec_len staff + 1) }
     ensures counted { IfSome result (λ o. o.taken.items ≡ map (λ js. length js) (takings_of o.passed.passes.value.items)) }
-    ensures reads { IfSome result (λ o. ∥ HasReadAll I.receives (Some parts.link_in) o.passed.input (queued_of (view o.passed.read.value).put) ∥₁) }
+    ensures numbers { IfSome result (λ o. numbers_of o.passed.passes.value.items ≡ range_with_len 0 (vec_len staff + 1)) }
+    ensures reads { IfSome result (λ o. ∥ HasReadAll I.receives (Some parts.link_in) o.passed.input (queued_of (view o.passed.read.value).put) (option_map shown o.passed.farewell.value) ∥₁) }
     ensures writes { IfSome result (λ o. ∥ HasWrittenAll O.sends (Some parts.link_out) (vec_len staff + 1) (view o.passed.written.value) o.passed.is_broken ∥₁) }
     ensures shared { IfSome result (λ o. IsShared (view o.passed.read.value) o.passed.passes.value.items (view o.passed.written.value)) }
+    ensures worked { IfSome result (λ o. WorkedEach (does_shared C.gives) room.starter.settings (map (λ s. s.calls) staff.items) o.passed.passes.value.items) }
+    ensures farewell { IfSome result (λ o. BidsFarewell (does_shared C.gives) room.starter.settings (map (λ s. s.calls) staff.items) o.passed.farewell.value o.passed.passes.value.items) }
 {
-    let ended = room_for::<Passes<Job, Reply>>(alloc, 5)?;
+    let ended = room_for::<WorkerEnd<T, C>>(alloc, 4)?;
     let handles = room_for::<Working<T, C>>(alloc, 4)?;
     run::<H, T, I, O, C, Brand>(rt, alloc, jobs, replies, parts, staff, handles, ended, room)
 }
@@ -161,7 +173,7 @@ fn parts_of<H: Drop, T: Ledgers, I: LinkIn + Drop, O: LinkOut + Drop>(
     requires gets { ((view written).gets ≡ true) × (length (view written).known ≡ 0) }
     ensures links { IfSome result (λ p. (p.link_in ≡ ground.link_in) × (p.link_out ≡ ground.link_out)) }
     ensures reads { IfSome result (λ p. (sends_on p.reader.to ≡ sends_on jobs.now) × (view p.reader.pass ≡ view read)) }
-    ensures unheard { IfSome result (λ p. reading p.link_in p.reader.cutter.kept p.reader.agreed (view p.reader.pass).put ≡ beginning p.link_in) }
+    ensures unheard { IfSome result (λ p. reading p.link_in p.reader ≡ beginning p.link_in) }
     ensures writes { IfSome result (λ p. (receives_on p.writer.replies ≡ receives_on writes) × (view p.writer.pass ≡ view written) × (p.writer.is_broken ≡ false)) }
 {
     let Ground {
@@ -204,7 +216,9 @@ fn serve_hired<
     shares: Shares<T>,
     settings: Settings,
 ) -> Option<Over<T, C>>
+    requires some { 0 < vec_len trees }
     requires few { vec_len trees ≤ 4 }
+    requires shares { All (λ p. p.totals ≡ nothing) shares.shares.items }
     requires work { receives_on work ≡ sends_on jobs.now }
     requires read { IsSeatAt (sends_on jobs.now) read }
     requires unread { view read ≡ hand 8 [] [] }
@@ -213,9 +227,12 @@ fn serve_hired<
     requires unwritten { view written ≡ none_got 0 }
     ensures taken { IfSome result (λ o. vec_len o.taken ≡ vec_len trees + 1) }
     ensures counted { IfSome result (λ o. o.taken.items ≡ map (λ js. length js) (takings_of o.passed.passes.value.items)) }
-    ensures reads { IfSome result (λ o. ∥ HasReadAll I.receives (Some ground.link_in) o.passed.input (queued_of (view o.passed.read.value).put) ∥₁) }
+    ensures numbers { IfSome result (λ o. numbers_of o.passed.passes.value.items ≡ range_with_len 0 (vec_len trees + 1)) }
+    ensures reads { IfSome result (λ o. ∥ HasReadAll I.receives (Some ground.link_in) o.passed.input (queued_of (view o.passed.read.value).put) (option_map shown o.passed.farewell.value) ∥₁) }
     ensures writes { IfSome result (λ o. ∥ HasWrittenAll O.sends (Some ground.link_out) (vec_len trees + 1) (view o.passed.written.value) o.passed.is_broken ∥₁) }
     ensures shared { IfSome result (λ o. IsShared (view o.passed.read.value) o.passed.passes.value.items (view o.passed.written.value)) }
+    ensures worked { IfSome result (λ o. WorkedEach (does_shared C.gives) settings trees.items o.passed.passes.value.items) }
+    ensures farewell { IfSome result (λ o. BidsFarewell (does_shared C.gives) settings trees.items o.passed.farewell.value o.passed.passes.value.items) }
 {
     let count = trees.len() as u64;
     let mut read = read;
@@ -269,12 +286,17 @@ pub fn serve_queued<
     shares: Shares<T>,
     settings: Settings,
 ) -> Option<Over<T, C>>
+    requires some { 0 < vec_len trees }
     requires few { vec_len trees ≤ 4 }
+    requires shares { All (λ p. p.totals ≡ nothing) shares.shares.items }
     ensures taken { IfSome result (λ o. vec_len o.taken ≡ vec_len trees + 1) }
     ensures counted { IfSome result (λ o. o.taken.items ≡ map (λ js. length js) (takings_of o.passed.passes.value.items)) }
-    ensures reads { IfSome result (λ o. ∥ HasReadAll I.receives (Some ground.link_in) o.passed.input (queued_of (view o.passed.read.value).put) ∥₁) }
+    ensures numbers { IfSome result (λ o. numbers_of o.passed.passes.value.items ≡ range_with_len 0 (vec_len trees + 1)) }
+    ensures reads { IfSome result (λ o. ∥ HasReadAll I.receives (Some ground.link_in) o.passed.input (queued_of (view o.passed.read.value).put) (option_map shown o.passed.farewell.value) ∥₁) }
     ensures writes { IfSome result (λ o. ∥ HasWrittenAll O.sends (Some ground.link_out) (vec_len trees + 1) (view o.passed.written.value) o.passed.is_broken ∥₁) }
     ensures shared { IfSome result (λ o. IsShared (view o.passed.read.value) o.passed.passes.value.items (view o.passed.written.value)) }
+    ensures worked { IfSome result (λ o. WorkedEach (does_shared C.gives) settings trees.items o.passed.passes.value.items) }
+    ensures farewell { IfSome result (λ o. BidsFarewell (does_shared C.gives) settings trees.items o.passed.farewell.value o.passed.passes.value.items) }
 {
     let (jobs, work, read) = job_queue(alloc)?;
     let (replies, writes, written) = reply_queue(alloc)?;

@@ -4,22 +4,23 @@ ghost use Rattle.std.specs.Prelude.{◌≡◌, ◌<◌, ◌≤◌, ◌+◌, [], 
 ghost use Rattle.std.specs.List.{All, range_with_len};
 ghost use Rattle.crossbeam_channel.specs.Claims.{view, IsSeatAt};
 ghost use Rattle.crossbeam_channel.specs.Ends.{sends_on, receives_on};
+ghost use Rattle.std.specs.Option.{option_map};
 ghost use Rattle.engine_queues.specs.Gathered.{numbers_of, takings_of};
-ghost use Rattle.engine_reader.specs.Shown.{queued_of, reading};
+ghost use Rattle.engine_reader.specs.Shown.{queued_of, reading, shown};
 ghost use Rattle.engine_roles.specs.Reads.{beginning, HasReadAll};
 ghost use Rattle.engine_roles.specs.Writes.{none_got, HasWrittenAll};
 ghost use Rattle.engine_threads.specs.Ended.{IsShared};
+ghost use Rattle.engine_threads.specs.Worked.{does_shared, AreUnused, BidsFarewell, IsStaffed, WorkedEach};
 
 use crate::ending::{Over, Room, end_all};
 use crate::places::{Common, Shared, Signs};
 use crate::starting::{Working, join_all, start_all};
-use crate::working::Staff;
+use crate::working::{Staff, WorkerEnd};
 use backing::Calls;
-use engine::{LinkIn, LinkOut};
+use engine::{LinkIn, LinkOut, Settings};
 use engine_jobs::Job;
 use engine_queues::jobs::JobSender;
 use engine_queues::letters::ReplySender;
-use engine_queues::passes::Passes;
 use engine_reader::Reader;
 use engine_roles::{Kept, ReaderRole, Sink, Sleepers, Source, WriterRole};
 use engine_workers::{Hall, Reply, Writer};
@@ -50,7 +51,7 @@ fn share<H: Drop, T: Ledgers, I: LinkIn + Drop, O: LinkOut + Drop, S: Source<I> 
     requires jobs { S.jobs ≡ Some (sends_on parts.reader.to) }
     requires parts { (view parts.reader.pass).parts + S.parted ≡ 8 }
     requires from { S.heard_from ≡ Some parts.link_in }
-    requires unheard { reading parts.link_in parts.reader.cutter.kept parts.reader.agreed (view parts.reader.pass).put ≡ beginning parts.link_in }
+    requires unheard { reading parts.link_in parts.reader ≡ beginning parts.link_in }
     requires replies { S.replies ≡ Some (receives_on parts.writer.replies) }
     requires to { S.sent_to ≡ Some parts.link_out }
     requires unsent { view parts.writer.pass ≡ none_got S.senders }
@@ -91,19 +92,21 @@ fn start_staff<
     common: &Shared<H, T, I, O, S>,
     jobs: &JobSender<Job>,
     replies: &ReplySender<Reply>,
+    settings: Settings,
     staff: Vec<Staff<T, C>>,
     handles: Vec<Working<T, C>>,
 ) -> Vec<Working<T, C>>
-    requires rings { All (λ s. (receives_on s.worker.jobs ≡ sends_on jobs.now) × (sends_on s.worker.replies ≡ sends_on replies.now)) staff.items }
+    requires staffed { All (λ s. IsStaffed (sends_on jobs.now) (sends_on replies.now) settings s.worker s.kept.share) staff.items }
     requires room { vec_len staff ≤ vec_capacity handles }
     requires empty { handles.items ≡ [] }
-    ensures rings { All (λ h. (sends_on h.promise.jobs.value ≡ sends_on jobs.now) × (sends_on h.promise.replies.value ≡ sends_on replies.now)) result.items }
+    ensures rings { All (λ h. (sends_on h.promise.jobs.value ≡ sends_on jobs.now) × (sends_on h.promise.replies.value ≡ sends_on replies.now) × (h.promise.settings ≡ settings)) result.items }
     ensures numbers { vec_len result ≡ vec_len staff → map (λ h. h.promise.number) result.items ≡ map (λ s. s.worker.number) staff.items }
+    ensures given { vec_len result ≡ vec_len staff → map (λ h. h.promise.calls.value) result.items ≡ map (λ s. s.calls) staff.items }
     ensures len { vec_len result ≤ vec_len staff }
 {
     let count = staff.len();
     let unread = common.reader.try_lock();
-    let handles = start_all(rt, common, jobs, replies, staff, handles);
+    let handles = start_all(rt, common, jobs, replies, settings, staff, handles);
     if handles.len() != count {
         common.signs.tell_over();
     }
@@ -128,9 +131,10 @@ pub fn run<
     parts: Parts<H, T, I, O>,
     staff: Vec<Staff<T, C>>,
     handles: Vec<Working<T, C>>,
-    ended: Vec<Passes<Job, Reply>>,
-    room: Room<T, C>,
+    ended: Vec<WorkerEnd<T, C>>,
+    room: Room<T>,
 ) -> Option<Over<T, C>>
+    requires some { 0 < vec_len staff }
     requires few { vec_len staff ≤ 4 }
     requires jobs { S.jobs ≡ Some (sends_on jobs.now) }
     requires replies { S.replies ≡ Some (sends_on replies.now) }
@@ -140,43 +144,41 @@ pub fn run<
     requires to { S.sent_to ≡ Some parts.link_out }
     requires reads { sends_on parts.reader.to ≡ sends_on jobs.now }
     requires parts { (view parts.reader.pass).parts + (vec_len staff + 1) ≡ 8 }
-    requires unheard { reading parts.link_in parts.reader.cutter.kept parts.reader.agreed (view parts.reader.pass).put ≡ beginning parts.link_in }
+    requires unheard { reading parts.link_in parts.reader ≡ beginning parts.link_in }
     requires writes { receives_on parts.writer.replies ≡ sends_on replies.now }
     requires unsent { view parts.writer.pass ≡ none_got (vec_len staff + 1) }
     requires whole { parts.writer.is_broken ≡ false }
-    requires staff { All (λ s. (receives_on s.worker.jobs ≡ sends_on jobs.now) × (sends_on s.worker.replies ≡ sends_on replies.now)) staff.items }
+    requires staff { All (λ s. IsStaffed (sends_on jobs.now) (sends_on replies.now) room.starter.settings s.worker s.kept.share) staff.items }
     requires numbers { map (λ s. s.worker.number) staff.items ≡ range_with_len 0 (vec_len staff) }
     requires handles { 4 ≤ vec_capacity handles }
     requires none_started { handles.items ≡ [] }
-    requires ended { 5 ≤ vec_capacity ended }
+    requires ended { 4 ≤ vec_capacity ended }
     requires none_ended { ended.items ≡ [] }
     requires job_seat { IsSeatAt (sends_on jobs.now) room.own.job_pass }
     requires reply_seat { IsSeatAt (sends_on replies.now) room.own.reply_pass }
+    requires unused { AreUnused room.own }
     requires number { room.own.number ≡ vec_len staff }
     requires work { receives_on room.starter.work ≡ sends_on jobs.now }
     requires ring { sends_on room.starter.replies ≡ sends_on replies.now }
+    requires passes { 5 ≤ vec_capacity room.passes }
+    requires no_passes { room.passes.items ≡ [] }
     requires taken { 5 ≤ vec_capacity room.taken }
     requires none_taken { room.taken.items ≡ [] }
     ensures taken { IfSome result (λ o. vec_len o.taken ≡ vec_len staff + 1) }
     ensures counted { IfSome result (λ o. o.taken.items ≡ map (λ js. length js) (takings_of o.passed.passes.value.items)) }
-    ensures reads { IfSome result (λ o. ∥ HasReadAll I.receives (Some parts.link_in) o.passed.input (queued_of (view o.passed.read.value).put) ∥₁) }
+    ensures numbers { IfSome result (λ o. numbers_of o.passed.passes.value.items ≡ range_with_len 0 (vec_len staff + 1)) }
+    ensures reads { IfSome result (λ o. ∥ HasReadAll I.receives (Some parts.link_in) o.passed.input (queued_of (view o.passed.read.value).put) (option_map shown o.passed.farewell.value) ∥₁) }
     ensures writes { IfSome result (λ o. ∥ HasWrittenAll O.sends (Some parts.link_out) (vec_len staff + 1) (view o.passed.written.value) o.passed.is_broken ∥₁) }
     ensures shared { IfSome result (λ o. IsShared (view o.passed.read.value) o.passed.passes.value.items (view o.passed.written.value)) }
+    ensures worked { IfSome result (λ o. WorkedEach (does_shared C.gives) room.starter.settings (map (λ s. s.calls) staff.items) o.passed.passes.value.items) }
+    ensures farewell { IfSome result (λ o. BidsFarewell (does_shared C.gives) room.starter.settings (map (λ s. s.calls) staff.items) o.passed.farewell.value o.passed.passes.value.items) }
 {
     let count = staff.len();
     let common: Shared<H, T, I, O, S> = share(alloc, parts)?;
-    let handles = start_staff(rt, &common, jobs, replies, staff, handles);
+    let settings = room.starter.settings;
+    let handles = start_staff(rt, &common, jobs, replies, settings, staff, handles);
     let are_all = handles.len() == count;
-    let mut room = room;
-    let ended = join_all(
-        rt,
-        jobs,
-        replies,
-        handles,
-        ended,
-        &mut room.shares,
-        &mut room.first,
-    );
+    let ended = join_all(rt, jobs, replies, settings, handles, ended);
     if !are_all {
         return None;
     }

@@ -3,11 +3,14 @@
 ghost use Rattle.std.specs.Prelude.{◌≡◌, ◌<◌, ◌≤◌, ◌+◌, ◌⊎◌, length, map, None, Some, IfNone, IfSome, vec_len};
 ghost use Rattle.crossbeam_channel.specs.Claims.{view};
 ghost use Rattle.engine.specs.declared.ends.SessionEnd.TheVariants as end;
-ghost use Rattle.engine_queues.specs.Gathered.{takings_of};
-ghost use Rattle.engine_reader.specs.Shown.{queued_of};
+ghost use Rattle.std.specs.List.{range_with_len};
+ghost use Rattle.std.specs.Option.{option_map};
+ghost use Rattle.engine_queues.specs.Gathered.{numbers_of, takings_of};
+ghost use Rattle.engine_reader.specs.Shown.{queued_of, shown};
 ghost use Rattle.engine_roles.specs.Reads.{HasReadAll};
 ghost use Rattle.engine_roles.specs.Writes.{HasWrittenAll};
-ghost use Rattle.engine_threads.specs.Ended.{ends_as, IsShared};
+ghost use Rattle.engine_threads.specs.Ended.{EndsAs, IsShared};
+ghost use Rattle.engine_threads.specs.Worked.{does_shared, BidsFarewell, WorkedEach};
 
 use crate::ended::{Account, Ended, Sums};
 use crate::ending::Over;
@@ -31,7 +34,7 @@ struct Links<I: LinkIn + Drop, O: LinkOut + Drop> {
     link_out: O,
 }
 
-/// Removes the files that are still hidden by the first directory, and adds up the shares.
+/// Removes the files that are still hidden by the directory that is left, and adds up the shares.
 fn conclude<T: Ledgers, C: Calls + Drop>(over: Over<T, C>) -> Option<Account>
     requires taken { 0 < vec_len over.taken }
     requires counted { over.taken.items ≡ map (λ js. length js) (takings_of over.passed.passes.value.items) }
@@ -43,24 +46,36 @@ fn conclude<T: Ledgers, C: Calls + Drop>(over: Over<T, C>) -> Option<Account>
         taken,
         table,
         shares,
-        mut first,
+        mut calls,
     } = over;
-    match &mut first {
-        Some(calls) => remove_leftovers(calls, &table),
-        None => {}
-    }
+    remove_leftovers(&mut calls, &table);
     let sums = Sums::gather(table, shares.into_all())?;
     Some(Account::new(sums, taken, passed))
 }
 
-/// How a session ended: a link that broke ends it, whatever else did.
-fn end_of(input: SessionEnd, is_broken: bool) -> SessionEnd
-    ensures { result ≡ ends_as input is_broken }
+/// How a session ended: a link that broke ends it, whatever else did. None where nothing did.
+fn end_of(input: Option<SessionEnd>, is_broken: bool) -> Option<SessionEnd>
+    ensures { IfSome result (EndsAs input is_broken) }
 {
     if is_broken {
-        SessionEnd::LinkBroken
+        Some(SessionEnd::LinkBroken)
     } else {
         input
+    }
+}
+
+/// What was served, with how the session ended. One that nothing ended was not served.
+fn ended_by(account: Account) -> Ended
+    ensures end { IfSome result.account (λ a. (a ≡ account) × EndsAs a.passed.input a.passed.is_broken result.end) }
+    ensures lost { IfNone result.account (result.end ≡ end.Memory) }
+    ensures only { result.end ≡ end.NoWorkers → account.passed.input ≡ Some end.NoWorkers }
+{
+    match end_of(account.passed.input, account.passed.is_broken) {
+        Some(end) => Ended {
+            end,
+            account: Some(account),
+        },
+        None => Ended::unserved(SessionEnd::Memory),
     }
 }
 
@@ -87,9 +102,12 @@ fn serve_table<
     requires some { 0 < vec_len trees }
     requires few { vec_len trees ≤ 4 }
     ensures taken { IfSome result (λ a. vec_len a.taken ≡ vec_len trees) }
-    ensures reads { IfSome result (λ a. ∥ HasReadAll I.receives (Some links.link_in) a.passed.input (queued_of (view a.passed.read.value).put) ∥₁) }
+    ensures numbers { IfSome result (λ a. numbers_of a.passed.passes.value.items ≡ range_with_len 0 (vec_len trees + 1)) }
+    ensures reads { IfSome result (λ a. ∥ HasReadAll I.receives (Some links.link_in) a.passed.input (queued_of (view a.passed.read.value).put) (option_map shown a.passed.farewell.value) ∥₁) }
     ensures writes { IfSome result (λ a. ∥ HasWrittenAll O.sends (Some links.link_out) (vec_len trees + 1) (view a.passed.written.value) a.passed.is_broken ∥₁) }
     ensures shared { IfSome result (λ a. IsShared (view a.passed.read.value) a.passed.passes.value.items (view a.passed.written.value)) }
+    ensures worked { IfSome result (λ a. WorkedEach (does_shared C.gives) settings trees.items a.passed.passes.value.items) }
+    ensures farewell { IfSome result (λ a. BidsFarewell (does_shared C.gives) settings trees.items a.passed.farewell.value a.passed.passes.value.items) }
 {
     let dirs = Dirs::new(alloc).ok()?;
     let threads = trees.len() + 1;
@@ -130,10 +148,13 @@ pub fn serve_threads<
     ensures only { result.end ≡ end.NoWorkers → (vec_len calls ≡ 0) ⊎ (4 < vec_len calls) }
     ensures lost { IfNone result.account ((result.end ≡ end.Memory) ⊎ (result.end ≡ end.NoWorkers)) }
     ensures taken { IfSome result.account (λ a. vec_len a.taken ≡ vec_len calls) }
-    ensures end { IfSome result.account (λ a. result.end ≡ ends_as a.passed.input a.passed.is_broken) }
-    ensures reads { IfSome result.account (λ a. ∥ HasReadAll I.receives (Some link_in) a.passed.input (queued_of (view a.passed.read.value).put) ∥₁) }
+    ensures end { IfSome result.account (λ a. EndsAs a.passed.input a.passed.is_broken result.end) }
+    ensures numbers { IfSome result.account (λ a. numbers_of a.passed.passes.value.items ≡ range_with_len 0 (vec_len calls + 1)) }
+    ensures reads { IfSome result.account (λ a. ∥ HasReadAll I.receives (Some link_in) a.passed.input (queued_of (view a.passed.read.value).put) (option_map shown a.passed.farewell.value) ∥₁) }
     ensures writes { IfSome result.account (λ a. ∥ HasWrittenAll O.sends (Some link_out) (vec_len calls + 1) (view a.passed.written.value) a.passed.is_broken ∥₁) }
     ensures shared { IfSome result.account (λ a. IsShared (view a.passed.read.value) a.passed.passes.value.items (view a.passed.written.value)) }
+    ensures worked { IfSome result.account (λ a. WorkedEach (does_shared C.gives) settings calls.items a.passed.passes.value.items) }
+    ensures farewell { IfSome result.account (λ a. BidsFarewell (does_shared C.gives) settings calls.items a.passed.farewell.value a.passed.passes.value.items) }
 {
     let count = calls.len();
     if count == 0 || count > 4 {
@@ -144,10 +165,7 @@ pub fn serve_threads<
     match serve_table::<H, Brand, I, O, C>(
         rt, alloc, blanks, links, calls, limits, seeds, settings,
     ) {
-        Some(account) => Ended {
-            end: end_of(account.passed.input, account.passed.is_broken),
-            account: Some(account),
-        },
+        Some(account) => ended_by(account),
         None => Ended::unserved(SessionEnd::Memory),
     }
 }

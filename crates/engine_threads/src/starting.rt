@@ -2,19 +2,17 @@
 
 ghost use Rattle.std.specs.Prelude.{◌≡◌, ◌<◌, ◌≤◌, [], map, IfSome, vec_len, vec_capacity};
 ghost use Rattle.std.specs.List.{All};
-ghost use Rattle.crossbeam_channel.specs.Claims.{IsSeatAt};
 ghost use Rattle.crossbeam_channel.specs.Ends.{sends_on, receives_on};
-ghost use Rattle.engine_queues.specs.Gathered.{numbers_of};
+ghost use Rattle.engine_threads.specs.Worked.{does_shared, IsOver, IsStaffed};
 
 use crate::places::Shared;
 use crate::working::{Staff, WorkerEnd, work_all};
 use backing::Calls;
-use engine::{LinkIn, LinkOut};
+use engine::{LinkIn, LinkOut, Settings};
 use engine_jobs::Job;
 use engine_queues::jobs::JobSender;
 use engine_queues::letters::ReplySender;
-use engine_queues::passes::Passes;
-use engine_roles::{Shares, Sink, Source};
+use engine_roles::{Sink, Source};
 use engine_workers::Reply;
 use ledger::Ledgers;
 use std::snapshot::Snapshot;
@@ -24,21 +22,24 @@ use std::thread::{Promise, PromisedHandle, Threads};
 
 /// What a worker's thread keeps.
 #[derive(Drop)]
-pub struct WorkerKeeps {
+pub struct WorkerKeeps<C> {
     pub number: u64,
+    pub settings: Settings,
     pub jobs: Snapshot<JobSender<Job>>,
     pub replies: Snapshot<ReplySender<Reply>>,
+    /// The directory that it is given.
+    pub calls: Snapshot<C>,
 }
 
-impl<T: Ledgers, C: Calls + Drop> Promise<WorkerEnd<T, C>> for WorkerKeeps {
+impl<T: Ledgers, C: Calls + Drop> Promise<WorkerEnd<T, C>> for WorkerKeeps<C> {
     ghost use Rattle.std.specs.Prelude.{◌≡◌};
-    ghost use Rattle.crossbeam_channel.specs.Claims.{IsSeatAt};
     ghost use Rattle.crossbeam_channel.specs.Ends.{sends_on};
+    ghost use Rattle.engine_threads.specs.Worked.{does_shared, IsOver};
 
-    ghost kept_by = { λ p r. (r.passes.number ≡ p.number) × IsSeatAt (sends_on p.jobs.value) r.passes.job_pass × IsSeatAt (sends_on p.replies.value) r.passes.reply_pass };
+    ghost kept_by = { λ p r. (r.passes.number ≡ p.number) × (r.given.value ≡ p.calls.value) × IsOver (sends_on p.jobs.value) (sends_on p.replies.value) (does_shared C.gives) p.settings p.calls.value r.passes r.calls r.kept.share };
 }
 
-pub type Working<T, C> = PromisedHandle<WorkerEnd<T, C>, WorkerKeeps>;
+pub type Working<T, C> = PromisedHandle<WorkerEnd<T, C>, WorkerKeeps<C>>;
 
 /// Starts a worker. None where no thread can be made.
 fn start_one<
@@ -53,17 +54,20 @@ fn start_one<
     common: &Shared<H, T, I, O, S>,
     jobs: &JobSender<Job>,
     replies: &ReplySender<Reply>,
+    settings: Settings,
     one: Staff<T, C>,
 ) -> Option<Working<T, C>>
-    requires jobs { receives_on one.worker.jobs ≡ sends_on jobs.now }
-    requires replies { sends_on one.worker.replies ≡ sends_on replies.now }
-    ensures { IfSome result (λ h. (sends_on h.promise.jobs.value ≡ sends_on jobs.now) × (sends_on h.promise.replies.value ≡ sends_on replies.now) × (h.promise.number ≡ one.worker.number)) }
+    requires { IsStaffed (sends_on jobs.now) (sends_on replies.now) settings one.worker one.kept.share }
+    ensures rings { IfSome result (λ h. (sends_on h.promise.jobs.value ≡ sends_on jobs.now) × (sends_on h.promise.replies.value ≡ sends_on replies.now) × (h.promise.settings ≡ settings)) }
+    ensures same { IfSome result (λ h. (h.promise.number ≡ one.worker.number) × (h.promise.calls.value ≡ one.calls)) }
 {
     let common = Arc::try_clone(common).ok()?;
     let keeps = WorkerKeeps {
         number: one.worker.number,
+        settings,
         jobs: Snapshot::of(jobs),
         replies: Snapshot::of(replies),
+        calls: Snapshot::of(&one.calls),
     };
     match thread::spawn_with(rt, keeps, move || work_all(common, one)) {
         Ok(handle) => Some(handle),
@@ -84,19 +88,21 @@ pub fn start_all<
     common: &Shared<H, T, I, O, S>,
     jobs: &JobSender<Job>,
     replies: &ReplySender<Reply>,
+    settings: Settings,
     staff: Vec<Staff<T, C>>,
     handles: Vec<Working<T, C>>,
 ) -> Vec<Working<T, C>>
-    requires rings { All (λ s. (receives_on s.worker.jobs ≡ sends_on jobs.now) × (sends_on s.worker.replies ≡ sends_on replies.now)) staff.items }
+    requires staffed { All (λ s. IsStaffed (sends_on jobs.now) (sends_on replies.now) settings s.worker s.kept.share) staff.items }
     requires room { vec_len staff ≤ vec_capacity handles }
     requires empty { handles.items ≡ [] }
-    ensures rings { All (λ h. (sends_on h.promise.jobs.value ≡ sends_on jobs.now) × (sends_on h.promise.replies.value ≡ sends_on replies.now)) result.items }
+    ensures rings { All (λ h. (sends_on h.promise.jobs.value ≡ sends_on jobs.now) × (sends_on h.promise.replies.value ≡ sends_on replies.now) × (h.promise.settings ≡ settings)) result.items }
     ensures numbers { vec_len result ≡ vec_len staff → map (λ h. h.promise.number) result.items ≡ map (λ s. s.worker.number) staff.items }
+    ensures given { vec_len result ≡ vec_len staff → map (λ h. h.promise.calls.value) result.items ≡ map (λ s. s.calls) staff.items }
     ensures len { vec_len result ≤ vec_len staff }
 {
     let mut handles = handles;
     for one in staff {
-        match start_one(rt, common, jobs, replies, one) {
+        match start_one(rt, common, jobs, replies, settings, one) {
             Some(handle) => handles.push_reserved(handle),
             None => break,
         }
@@ -104,47 +110,26 @@ pub fn start_all<
     handles
 }
 
-/// What a worker leaves is taken apart: its share goes back, and the first directory is kept.
-fn part<T: Ledgers, C: Calls + Drop>(
-    end: WorkerEnd<T, C>,
-    shares: &mut Shares<T>,
-    first: &mut Option<C>,
-) -> Passes<Job, Reply>
-    ensures { result ≡ end.passes }
-{
-    let WorkerEnd {
-        passes,
-        kept,
-        calls,
-    } = end;
-    shares.put(kept);
-    if first.is_none() {
-        *first = Some(calls);
-    }
-    passes
-}
-
 /// Waits for the workers to end.
 pub fn join_all<H: Threads, T: Ledgers, C: Calls + Drop>(
     rt: &H,
     jobs: &JobSender<Job>,
     replies: &ReplySender<Reply>,
+    settings: Settings,
     handles: Vec<Working<T, C>>,
-    ended: Vec<Passes<Job, Reply>>,
-    shares: &mut Shares<T>,
-    first: &mut Option<C>,
-) -> Vec<Passes<Job, Reply>>
-    requires rings { All (λ h. (sends_on h.promise.jobs.value ≡ sends_on jobs.now) × (sends_on h.promise.replies.value ≡ sends_on replies.now)) handles.items }
-    requires room { vec_len handles < vec_capacity ended }
+    ended: Vec<WorkerEnd<T, C>>,
+) -> Vec<WorkerEnd<T, C>>
+    requires rings { All (λ h. (sends_on h.promise.jobs.value ≡ sends_on jobs.now) × (sends_on h.promise.replies.value ≡ sends_on replies.now) × (h.promise.settings ≡ settings)) handles.items }
+    requires room { vec_len handles ≤ vec_capacity ended }
     requires empty { ended.items ≡ [] }
-    ensures seats { All (λ p. IsSeatAt (sends_on jobs.now) p.job_pass × IsSeatAt (sends_on replies.now) p.reply_pass) result.items }
-    ensures numbers { numbers_of result.items ≡ map (λ h. h.promise.number) handles.items }
+    ensures over { All (λ e. IsOver (sends_on jobs.now) (sends_on replies.now) (does_shared C.gives) settings e.given.value e.passes e.calls e.kept.share) result.items }
+    ensures numbers { map (λ e. e.passes.number) result.items ≡ map (λ h. h.promise.number) handles.items }
+    ensures given { map (λ e. e.given.value) result.items ≡ map (λ h. h.promise.calls.value) handles.items }
     ensures len { vec_len result ≡ vec_len handles }
-    ensures room { vec_len result < vec_capacity result }
 {
     let mut ended = ended;
     for handle in handles {
-        ended.push_reserved(part(handle.join(rt), shares, first));
+        ended.push_reserved(handle.join(rt));
     }
     ended
 }

@@ -1,7 +1,12 @@
 //! The turns that a thread looks for: replies that are ready come first, then jobs, and a receive comes last.
 
-ghost use Rattle.std.specs.Prelude.{◌≡◌};
+ghost use Rattle.std.specs.Prelude.{◌≡◌, List, Option};
+ghost use Rattle.crossbeam_channel.specs.Claims.{view};
 ghost use Rattle.crossbeam_channel.specs.Ends.{sends_on, receives_on};
+ghost use Rattle.table_steps.specs.Answers.{Settlement};
+ghost use Rattle.engine_workers.specs.Turns.{standing};
+ghost use Rattle.engine_workers.specs.Works.{WorkedAll};
+ghost use Rattle.engine_threads.specs.Worked.{does_shared};
 
 use crate::places::Common;
 use backing::Calls;
@@ -58,13 +63,13 @@ pub fn read<
     // A receive takes as long as it takes: who is in it is not to be woken.
     common.sleepers.get_up(number);
     let before = reader.reader.next;
-    if common.signs.is_broken.load(Ordering::SeqCst) {
-        reader.stop();
-    } else {
+    // Nothing is read once the writer saw the link break.
+    let is_broken = common.signs.is_broken.load(Ordering::SeqCst);
+    if !is_broken {
         reader.turn(&common.rt);
     }
     let queued = reader.reader.next.saturating_sub(before);
-    let has_ended = reader.end.is_some();
+    let has_ended = is_broken || reader.end.is_some();
     drop(reader);
     tell_read(common, queued, has_ended);
     true
@@ -104,11 +109,14 @@ pub fn take_turns<
     served: &mut Served<C, &Dirs>,
 ) -> bool
     ensures rings { (receives_on worker.new.jobs ≡ receives_on worker.old.jobs) × (sends_on worker.new.replies ≡ sends_on worker.old.replies) × (worker.new.number ≡ worker.old.number) }
+    ensures settings { worker.new.session.settings ≡ worker.old.session.settings }
+    ensures worked { (settled : List (Option Settlement)) × WorkedAll (does_shared C.gives) worker.old.session.settings worker.old.number (standing (view worker.old.job_pass) (view worker.old.reply_pass) served.old kept.old.share) settled
+        (standing (view worker.new.job_pass) (view worker.new.reply_pass) served.new kept.new.share) }
 {
     let mut is_busy = offer(common);
     for _ in 0..JOINED {
         match worker.turn(&common.rt, &common.hall, &mut kept.share, served) {
-            Turn::Worked(_) => {
+            Turn::Worked(_settled) => {
                 common.signs.tell_worked();
                 is_busy = true;
             }

@@ -1,8 +1,8 @@
 //! What each thread runs, from its start to its end.
 
 ghost use Rattle.std.specs.Prelude.{◌≡◌};
-ghost use Rattle.crossbeam_channel.specs.Claims.{IsSeatAt};
 ghost use Rattle.crossbeam_channel.specs.Ends.{sends_on, receives_on};
+ghost use Rattle.engine_threads.specs.Worked.{does_shared, IsOver, IsStaffed};
 
 use crate::places::{Common, Shared};
 use crate::turns::{read, take_turns};
@@ -13,6 +13,7 @@ use engine_queues::passes::Passes;
 use engine_roles::{Kept, Sink, Source};
 use engine_workers::{Reply, Worker};
 use ledger::Ledgers;
+use std::snapshot::Snapshot;
 use std::sync::Wait;
 use std::sync::atomic::Ordering;
 
@@ -27,6 +28,8 @@ pub struct Staff<T: Ledgers, C: Calls + Drop> {
 /// What a worker leaves.
 #[derive(Drop)]
 pub struct WorkerEnd<T: Ledgers, C: Calls + Drop> {
+    /// The directory that it was given.
+    pub given: Snapshot<C>,
     pub passes: Passes<Job, Reply>,
     pub kept: Kept<T>,
     pub calls: C,
@@ -108,13 +111,17 @@ pub fn work_all<
     C: Calls + Drop,
     S: Source<I> + Sink<O>,
 >(common: Shared<H, T, I, O, S>, staff: Staff<T, C>) -> WorkerEnd<T, C>
-    ensures { (result.passes.number ≡ staff.worker.number) × IsSeatAt (receives_on staff.worker.jobs) result.passes.job_pass × IsSeatAt (sends_on staff.worker.replies) result.passes.reply_pass }
+    requires { IsStaffed (receives_on staff.worker.jobs) (sends_on staff.worker.replies) staff.worker.session.settings staff.worker staff.kept.share }
+    ensures number { result.passes.number ≡ staff.worker.number }
+    ensures given { result.given.value ≡ staff.calls }
+    ensures over { IsOver (receives_on staff.worker.jobs) (sends_on staff.worker.replies) (does_shared C.gives) staff.worker.session.settings staff.calls result.passes result.calls result.kept.share }
 {
     let Staff {
         mut worker,
         mut kept,
         calls,
     } = staff;
+    let given = Snapshot::of(&calls);
     let mut served = Served {
         calls,
         dirs: &common.dirs,
@@ -136,6 +143,7 @@ pub fn work_all<
     let Served { calls, dirs: _ } = served;
     drop(common);
     WorkerEnd {
+        given,
         passes: worker.into_passes(),
         kept,
         calls,

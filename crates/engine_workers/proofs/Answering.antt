@@ -12,7 +12,7 @@ use Rattle.engine_workers.specs.Halls.{Visited, left_in}
 use Rattle.engine_workers.specs.Rights.{IsRight}
 use Rattle.engine.specs.Batches.{bytes_of}
 use Rattle.engine_workers.specs.Slips.{bytes_in}
-use Rattle.engine_workers.specs.Turns.{MeetsJob, Writes, ended_as, untaken_of}
+use Rattle.engine_workers.specs.Turns.{Means, MeetsJob, Met, Writes, ended_as, untaken_of}
 use Rattle.engine_jobs.specs.declared.jobs.Job.{Job}
 use Rattle.engine_jobs.specs.declared.left.Left.{Left}
 use Rattle.engine_workers.specs.declared.replies.Reply.{Reply}
@@ -23,9 +23,9 @@ bytes_or d None = d
 bytes_or d (Some bytes) = bytes
 
 -- what is written is right
-pub right_of : {C D : Type 0} (does : Behaviour C D) (settings : Settings) (job : Job) (served served' : Served C D) (before after : Part) (said : Option Bytes) (visited : Visited) (bytes : Bytes)
-    → MeetsJob does settings job served before (bytes_in said) visited served' after → said ≡ Some bytes → IsRight settings job (bytes_of bytes) (left_in visited)
-right_of does settings job served served' before after said visited bytes m is = by_offer m.turn.offer refl m.writes where
+pub right_of : {C D : Type 0} (does : Behaviour C D) (settings : Settings) (job : Job) (old new : Means C D) (said : Option Bytes) (visited : Visited) (bytes : Bytes)
+    → MeetsJob does settings job old (record { said = bytes_in said; visited = visited }) new → said ≡ Some bytes → IsRight settings job (bytes_of bytes) (left_in visited)
+right_of does settings job old new said visited bytes m is = by_offer m.turn.offer refl m.writes where
   by_offer : (o : Option Offer) → m.turn.offer ≡ o → Writes o (bytes_in said) → IsRight settings job (bytes_of bytes) (left_in visited)
   by_offer None e w = absurd (none-some (bytes_of bytes) (sym w ∙ ap bytes_in is))
   by_offer (Some offer) e w = record {
@@ -39,9 +39,9 @@ right_of does settings job served served' before after said visited bytes m is =
   }
 
 -- the share stays where the reply is put
-pub met_on : {C D : Type 0} (does : Behaviour C D) (settings : Settings) (job : Job) (served served' : Served C D) (before mid after : Part) (said : Option (List ℕ)) (visited : Visited)
-    → MeetsJob does settings job served before said visited served' mid → after.totals.entries ≡ mid.totals.entries → after.index ≡ mid.index → MeetsJob does settings job served before said visited served' after
-met_on does settings job served served' before mid after said visited m e i = record {
+pub met_on : {C D : Type 0} (does : Behaviour C D) (settings : Settings) (job : Job) (old : Means C D) (served : Served C D) (mid after : Part) (met : Met)
+    → MeetsJob does settings job old met (record { served = served; share = mid }) → after.totals.entries ≡ mid.totals.entries → after.index ≡ mid.index → MeetsJob does settings job old met (record { served = served; share = after })
+met_on does settings job old served mid after met m e i = record {
   turn = m.turn;
   handled = m.handled;
   draws = m.draws;

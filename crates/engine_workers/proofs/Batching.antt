@@ -17,8 +17,8 @@ use Rattle.engine_jobs.specs.declared.left.Left.{Left}
 use Rattle.engine_queues.specs.Letters.{got_of}
 use Rattle.engine_queues.specs.declared.letters.Letter.{Letter}
 use Rattle.engine_queues.specs.declared.letters.ReplyLane.{ReplyLane}
-use Rattle.engine_workers.specs.Batches.{Ending, WritesOne, WritesAll, GetsOne, GetsAll, last_of, OffersAll, taken_at, IsEnded, SettlesEach, SettlesAll}
-use Rattle.engine_workers.specs.Turns.{ended_as, put_in}
+use Rattle.engine_workers.specs.Batches.{WritesOne, WritesAll, GetsOne, GetsAll, last_of, OffersAll, taken_at, IsEnded, SettlesEach, SettlesAll}
+use Rattle.engine_workers.specs.Turns.{Ending, ended_as, put_in}
 use Rattle.engine_workers.specs.declared.replies.Reply.{Reply}
 
 -- ---- one more

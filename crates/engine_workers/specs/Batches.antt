@@ -13,15 +13,10 @@ use Rattle.engine_jobs.specs.declared.left.Left.{Left}
 use Rattle.engine_queues.specs.Letters.{got_of}
 use Rattle.engine_queues.specs.declared.letters.Letter.{Letter}
 use Rattle.engine_queues.specs.declared.letters.ReplyLane.{ReplyLane}
-use Rattle.engine_workers.specs.Turns.{Wrote, ended_as, put_in}
+use Rattle.engine_workers.specs.Turns.{Ending, Wrote, ended_as, put_in}
 use Rattle.engine_workers.specs.declared.replies.Reply.{Reply}
 
 -- ---- the turns
-
--- what a turn comes to: the settle of an answer, and the calls of the open folders
-pub record Ending : Type 0 where
-  pub settled : Option Settlement
-  pub folders : List FolderCall
 
 -- a writer between two turns: what it knows of the queue, its link, and whether that is broken
 pub record Writing (L : Type 0) : Type 0 where

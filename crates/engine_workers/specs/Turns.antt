@@ -11,7 +11,7 @@ use Rattle.engine.specs.Serving.{Behaviour, Draws}
 use Rattle.engine.specs.declared.served.Served.{Served}
 use Rattle.engine.specs.declared.links.Sent.{Sent}
 use Rattle.engine.specs.declared.links.Sent.TheVariants.{Taken}
-use Rattle.engine_queues.specs.Jobs.{hand}
+use Rattle.engine_queues.specs.Jobs.{taken_of}
 use Rattle.engine_queues.specs.Letters as letters
 use Rattle.engine_queues.specs.declared.jobs.Hand.{Hand}
 use Rattle.engine_queues.specs.declared.letters.ReplyLane.{ReplyLane}
@@ -30,14 +30,24 @@ abbrev pub Writes : Option Offer → Option (List ℕ) → Type 0
 Writes None bytes = bytes ≡ None
 Writes (Some offer) bytes = (bytes ≡ Some (reply_bytes offer.reply)) × (offer.sent ≡ Taken)
 
+-- what a worker meets a job with: a directory and open folders, and its share of the table's book
+pub record Means (C D : Type 0) : Type 0 where
+  pub served : Served C D
+  pub share : Part
+
+-- what has come of a job: the reply that is written, if one is, and what the calls on the table came to
+pub record Met : Type 0 where
+  pub said : Option (List ℕ)
+  pub visited : Visited
+
 -- A job is handled by the rules of a session: by these calls of the directory and of the open folders, of each in order and each once. The
 -- share gains the entries of the answer that is left or settled.
-pub record MeetsJob {C D : Type 0} (does : Behaviour C D) (settings : Settings) (job : Job) (served : Served C D) (before : Part) (bytes : Option (List ℕ)) (visited : Visited) (served' : Served C D) (after : Part) : Type 0 where
+pub record MeetsJob {C D : Type 0} (does : Behaviour C D) (settings : Settings) (job : Job) (old : Means C D) (met : Met) (new : Means C D) : Type 0 where
   pub turn : Turn
-  pub handled : IsJobHandled settings job turn visited
-  pub draws : Draws does served turn.made turn.folders served'
-  pub writes : Writes turn.offer bytes
-  pub gains : GainsListed Fresh before visited after
+  pub handled : IsJobHandled settings job turn met.visited
+  pub draws : Draws does old.served turn.made turn.folders new.served
+  pub writes : Writes turn.offer met.said
+  pub gains : GainsListed Fresh old.share met.visited new.share
 
 -- the handle of the listing that was put for an answer
 abbrev pub put_in : Option Left → Option ℕ
@@ -60,25 +70,46 @@ pub record IsReplyTo (settings : Settings) (from : ℕ) (job : Job) (bytes : Lis
   pub bytes_are : bytes_of letter.reply.bytes ≡ bytes
   pub left_is : letter.reply.left ≡ left_in visited
 
--- Exactly one reply is put, unless the queue hands it back; then a listing that was put for it is given up. None is put where nothing is written.
-pub data PutsReply (settings : Settings) (from : ℕ) (job : Job) (visited : Visited) (old : ReplyLane Reply) (said : Option (List ℕ)) (new : ReplyLane Reply) (settled : Option Settlement) (folders : List FolderCall) : Type 0 where
-  is_put : (bytes : List ℕ) (letter : Letter Reply) → said ≡ Some bytes → IsReplyTo settings from job bytes visited letter → new ≡ letters.put_of old (Some letter) → settled ≡ settled_in visited → folders ≡ [] → PutsReply settings from job visited old said new settled folders
-  handed_back : (bytes : List ℕ) → said ≡ Some bytes → new ≡ old → settled ≡ untaken_in visited → GivesUp false (put_in (left_in visited)) folders → PutsReply settings from job visited old said new settled folders
-  none : said ≡ None → new ≡ old → settled ≡ settled_in visited → folders ≡ [] → PutsReply settings from job visited old said new settled folders
+-- what a turn comes to: the settle of an answer, and the calls of the open folders
+pub record Ending : Type 0 where
+  pub settled : Option Settlement
+  pub folders : List FolderCall
 
--- a job was handled, and then answered
-pub record AnswersJob {C D : Type 0} (does : Behaviour C D) (settings : Settings) (from : ℕ) (job : Job) (lane : ReplyLane Reply) (served : Served C D) (before : Part) (settled : Option Settlement) (lane' : ReplyLane Reply) (served' : Served C D) (after : Part) : Type 0 where
-  pub bytes : Option (List ℕ)
-  pub visited : Visited
+abbrev pub ending : Option Settlement → List FolderCall → Ending
+ending settled folders = record { settled = settled; folders = folders }
+
+-- Exactly one reply is put, unless the queue hands it back; then a listing that was put for it is given up. None is put where nothing is written.
+pub data PutsReply (settings : Settings) (from : ℕ) (job : Job) (met : Met) (old : ReplyLane Reply) (did : Ending) (new : ReplyLane Reply) : Type 0 where
+  is_put : (bytes : List ℕ) (letter : Letter Reply) → met.said ≡ Some bytes → IsReplyTo settings from job bytes met.visited letter → new ≡ letters.put_of old (Some letter) → did.settled ≡ settled_in met.visited → did.folders ≡ []
+      → PutsReply settings from job met old did new
+  handed_back : (bytes : List ℕ) → met.said ≡ Some bytes → new ≡ old → did.settled ≡ untaken_in met.visited → GivesUp false (put_in (left_in met.visited)) did.folders → PutsReply settings from job met old did new
+  none : met.said ≡ None → new ≡ old → did.settled ≡ settled_in met.visited → did.folders ≡ [] → PutsReply settings from job met old did new
+
+-- where a worker stands: what it has taken from the queue of jobs, what it has put into that of replies, and what it meets jobs with
+pub record Standing (C D : Type 0) : Type 0 where
+  pub hand : Hand Job
+  pub lane : ReplyLane Reply
+  pub means : Means C D
+
+abbrev pub standing : {C D : Type 0} → Hand Job → ReplyLane Reply → Served C D → Part → Standing C D
+standing taken put served share = record { hand = taken; lane = put; means = record { served = served; share = share } }
+
+-- it has taken this job too
+abbrev pub takes : {C D : Type 0} → Standing C D → Job → Standing C D
+takes old job = record { hand = taken_of old.hand (Some job); lane = old.lane; means = old.means }
+
+-- a job was handled, and then answered; none was taken
+pub record AnswersJob {C D : Type 0} (does : Behaviour C D) (settings : Settings) (from : ℕ) (job : Job) (old : Standing C D) (settled : Option Settlement) (new : Standing C D) : Type 0 where
+  pub met : Met
   pub between : D
-  pub meets : MeetsJob does settings job served before bytes visited (record { calls = served'.calls; dirs = between }) after
-  pub puts : ByCalls does.keeps between served'.dirs (λ folders. PutsReply settings from job visited lane bytes lane' settled folders)
+  pub meets : MeetsJob does settings job old.means met (record { served = record { calls = new.means.served.calls; dirs = between }; share = new.means.share })
+  pub puts : ByCalls does.keeps between new.means.served.dirs (λ folders. PutsReply settings from job met old.lane (ending settled folders) new.lane)
+  pub hand_is : new.hand ≡ old.hand
 
 -- one job was taken, handled and answered
-pub record Worked {C D : Type 0} (does : Behaviour C D) (settings : Settings) (from : ℕ) (hand' : Hand Job) (lane : ReplyLane Reply) (served : Served C D) (before : Part) (settled : Option Settlement) (hand'' : Hand Job) (lane' : ReplyLane Reply) (served' : Served C D) (after : Part) : Type 0 where
+pub record Worked {C D : Type 0} (does : Behaviour C D) (settings : Settings) (from : ℕ) (old : Standing C D) (settled : Option Settlement) (new : Standing C D) : Type 0 where
   pub job : Job
-  pub taken : hand'' ≡ hand hand'.parts hand'.put (hand'.taken ++ job ∷ [])
-  pub answers : AnswersJob does settings from job lane served before settled lane' served' after
+  pub answers : AnswersJob does settings from job (takes old job) settled new
 
 -- ---- the writer
 

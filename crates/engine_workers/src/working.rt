@@ -11,7 +11,7 @@ ghost use Rattle.engine.specs.Serving.{does};
 ghost use Rattle.engine_workers.specs.Halls.{Visited, left_in, settled_in};
 ghost use Rattle.engine_workers.specs.Rights.{IsRight};
 ghost use Rattle.engine_workers.specs.Slips.{bytes_in};
-ghost use Rattle.engine_workers.specs.Turns.{AnswersJob, ended_as, put_in, IsReplyTo, MeetsJob, PutsReply, Worked};
+ghost use Rattle.engine_workers.specs.Turns.{AnswersJob, ended_as, ending, put_in, standing, IsReplyTo, MeetsJob, PutsReply, Worked};
 ghost use Rattle.engine_workers.specs.Visits.{visited_of};
 
 use crate::halls::Hall;
@@ -49,7 +49,7 @@ fn meet_job<H: Wait, T: Ledgers, C: Calls, D: Folders>(
     served: &mut Served<C, D>,
     job: &Job,
 ) -> (Option<Bytes>, ComeTo)
-    ensures meets { MeetsJob (does C.gives D.keeps) session.old.settings job.now served.old share.old (bytes_in result.0) (visited_of result.1) served.new share.new }
+    ensures meets { MeetsJob (does C.gives D.keeps) session.old.settings job.now (record { served = served.old; share = share.old }) (record { said = bytes_in result.0; visited = visited_of result.1 }) (record { served = served.new; share = share.new }) }
     ensures settings { session.new.settings ≡ session.old.settings }
 {
     session.agreed = job.agreed;
@@ -208,7 +208,7 @@ impl Worker {
         come_to: ComeTo,
     ) -> Option<Settled>
         requires right { (bytes : Bytes) → said ≡ Some bytes → IsRight self.old.session.settings job.now (bytes_of bytes) (left_in (visited_of come_to)) }
-        ensures puts { ByCalls D.keeps dirs.old dirs.new (λ folders. PutsReply self.old.session.settings self.old.number job.now (visited_of come_to) (view self.old.reply_pass) (bytes_in said) (view self.new.reply_pass) result folders) }
+        ensures puts { ByCalls D.keeps dirs.old dirs.new (λ folders. PutsReply self.old.session.settings self.old.number job.now (record { said = bytes_in said; visited = visited_of come_to }) (view self.old.reply_pass) (ending result folders) (view self.new.reply_pass)) }
         ensures entries { share.new.totals.entries ≡ share.old.totals.entries }
         ensures index { share.new.index ≡ share.old.index }
         ensures jobs { (self.new.jobs ≡ self.old.jobs) × (view self.new.job_pass ≡ view self.old.job_pass) }
@@ -256,8 +256,8 @@ impl Worker {
         job: &Job,
     ) -> Option<Settled>
         ensures rings { (receives_on self.new.jobs ≡ receives_on self.old.jobs) × (sends_on self.new.replies ≡ sends_on self.old.replies) × (self.new.number ≡ self.old.number) }
-        ensures answers { AnswersJob (does C.gives D.keeps) self.old.session.settings self.old.number job.now (view self.old.reply_pass) served.old share.old result (view self.new.reply_pass) served.new share.new }
-        ensures jobs { view self.new.job_pass ≡ view self.old.job_pass }
+        ensures answers { AnswersJob (does C.gives D.keeps) self.old.session.settings self.old.number job.now (standing (view self.old.job_pass) (view self.old.reply_pass) served.old share.old) result
+            (standing (view self.new.job_pass) (view self.new.reply_pass) served.new share.new) }
         ensures settings { self.new.session.settings ≡ self.old.session.settings }
     {
         let (said, come_to) = meet_job(&mut self.session, rt, hall, share, served, job);
@@ -273,8 +273,8 @@ impl Worker {
         served: &mut Served<C, D>,
     ) -> Turn
         ensures rings { (receives_on self.new.jobs ≡ receives_on self.old.jobs) × (sends_on self.new.replies ≡ sends_on self.old.replies) × (self.new.number ≡ self.old.number) }
-        ensures worked { (settled : Option Settlement) → result ≡ Turn.Worked settled → Worked (does C.gives D.keeps) self.old.session.settings self.old.number (view self.old.job_pass) (view self.old.reply_pass) served.old share.old settled
-            (view self.new.job_pass) (view self.new.reply_pass) served.new share.new }
+        ensures worked { (settled : Option Settlement) → result ≡ Turn.Worked settled → Worked (does C.gives D.keeps) self.old.session.settings self.old.number (standing (view self.old.job_pass) (view self.old.reply_pass) served.old share.old) settled
+            (standing (view self.new.job_pass) (view self.new.reply_pass) served.new share.new) }
         ensures nothing { result ≡ Turn.Nothing → (view self.new.job_pass ≡ view self.old.job_pass) × (view self.new.reply_pass ≡ view self.old.reply_pass) × (share.new ≡ share.old) × (served.new ≡ served.old) }
         ensures settings { self.new.session.settings ≡ self.old.session.settings }
     {

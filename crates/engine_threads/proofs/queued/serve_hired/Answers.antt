@@ -1,6 +1,10 @@
-use Rattle.std.proofs.Common.{◌≡◌, ◌+◌, ℕ, Some, IfSome, subst, subst₂, vec_len}
+use Rattle.std.proofs.Common.{◌≡◌, ◌+◌, ℕ, List, Some, IfSome, subst, subst₂, vec_len}
+use Rattle.std.specs.List.{range_with_len}
 use Rattle.crossbeam_channel.specs.Claims.{view}
+use Rattle.ops.specs.declared.replies.Settings.{Settings}
+use Rattle.engine_queues.specs.Gathered.{numbers_of}
 use Rattle.engine_roles.specs.Writes.{HasWrittenAll}
+use Rattle.engine_threads.specs.Worked.{BidsFarewell, WorkedEach, does_shared}
 use Rattle.engine_threads.proofs.queued.serve_hired.Goals as goal
 
 pub invariant_of-parts : goal.invariant_of-parts
@@ -16,3 +20,17 @@ pub returns-clause-writes : goal.returns-clause-writes
 returns-clause-writes g c =
     subst₂ (λ (link : g.row.O.Denot) (n : ℕ). IfSome c.serve_staffed.result (λ o. ∥ HasWrittenAll g.O.LinkOut.sends (Some link) (n + 1) (view o.passed.written.value) o.passed.is_broken ∥₁))
     c.in_ok-parts.ensures.links.1 c.in_ok-staff.ensures.len c.serve_staffed.ensures.writes
+
+pub returns-clause-numbers : goal.returns-clause-numbers
+returns-clause-numbers g c =
+    subst (λ (n : ℕ). IfSome c.serve_staffed.result (λ o. numbers_of o.passed.passes.value.items ≡ range_with_len 0 (n + 1))) c.in_ok-staff.ensures.len c.serve_staffed.ensures.numbers
+
+pub returns-clause-worked : goal.returns-clause-worked
+returns-clause-worked g c =
+    subst₂ (λ (s : Settings) (calls : List g.row.C.Denot). IfSome c.serve_staffed.result (λ o. WorkedEach (does_shared g.C.Calls.gives) s calls o.passed.passes.value.items))
+    c.in_ok-room.ensures.settings c.in_ok-staff.ensures.given c.serve_staffed.ensures.worked
+
+pub returns-clause-farewell : goal.returns-clause-farewell
+returns-clause-farewell g c =
+    subst₂ (λ (s : Settings) (calls : List g.row.C.Denot). IfSome c.serve_staffed.result (λ o. BidsFarewell (does_shared g.C.Calls.gives) s calls o.passed.farewell.value o.passed.passes.value.items))
+    c.in_ok-room.ensures.settings c.in_ok-staff.ensures.given c.serve_staffed.ensures.farewell

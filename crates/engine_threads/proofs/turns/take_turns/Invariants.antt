@@ -1,10 +1,18 @@
-use Rattle.std.specs.Prelude.{◌≡◌}
+use Rattle.std.specs.Prelude.{◌≡◌, List, Option}
+use Rattle.crossbeam_channel.specs.Claims.{view}
 use Rattle.crossbeam_channel.specs.Ends.{sends_on, receives_on}
+use Rattle.engine_workers.specs.Turns.{standing}
+use Rattle.engine_threads.specs.Worked.{does_shared}
+use Rattle.engine_threads.proofs.Chains.{Works}
 use Rattle.engine_threads.proofs.turns.take_turns.Given as goal
 
 abbrev pub invariant-loop : goal.invariant-loop
-invariant-loop g l = record {
-  jobs : receives_on l.worker.jobs ≡ receives_on l.fn.worker.jobs;
-  replies : sends_on l.worker.replies ≡ sends_on l.fn.worker.replies;
-  number : l.worker.number ≡ l.fn.worker.number;
-}
+invariant-loop g l =
+    let w = l.fn.worker in
+    record {
+      jobs : receives_on l.worker.jobs ≡ receives_on w.jobs;
+      replies : sends_on l.worker.replies ≡ sends_on w.replies;
+      number : l.worker.number ≡ w.number;
+      settings : l.worker.session.settings ≡ w.session.settings;
+      worked : Works (does_shared g.C.Calls.gives) w.session.settings w.number (standing (view w.job_pass) (view w.reply_pass) l.fn.served l.fn.kept.share) (standing (view l.worker.job_pass) (view l.worker.reply_pass) l.served l.kept.share);
+    }

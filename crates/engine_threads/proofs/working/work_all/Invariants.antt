@@ -1,10 +1,9 @@
-use Rattle.std.specs.Prelude.{◌≡◌}
 use Rattle.crossbeam_channel.specs.Ends.{sends_on, receives_on}
+use Rattle.engine_threads.specs.Worked.{does_shared}
+use Rattle.engine_threads.proofs.Chains.{Stands}
 use Rattle.engine_threads.proofs.working.work_all.Given as goal
 
 abbrev pub invariant-loop : goal.invariant-loop
-invariant-loop g l = record {
-  jobs : receives_on l.worker.jobs ≡ receives_on l.fn.staff.worker.jobs;
-  replies : sends_on l.worker.replies ≡ sends_on l.fn.staff.worker.replies;
-  number : l.worker.number ≡ l.fn.staff.worker.number;
-}
+invariant-loop g l =
+    let w = l.fn.staff.worker in
+    Stands (does_shared g.C.Calls.gives) (receives_on w.jobs) (sends_on w.replies) w.session.settings w.number l.fn.staff.calls l.worker l.served l.kept.share

@@ -1,5 +1,5 @@
 use Rattle.engine_reader.specs.Verdicts.{IsVerdict}
-use Rattle.std.proofs.Common.{◌≡◌, ℕ, List, length, map, sym, ap, ◌∙◌, subst, arith}
+use Rattle.std.proofs.Common.{◌≡◌, ℕ, List, length, map, sym, ap, ◌∙◌, subst}
 use Rattle.crossbeam_channel.specs.Claims.{view}
 use Rattle.engine_queues.specs.Jobs.{numbers}
 use Rattle.engine_queues.specs.declared.jobs.Hand.{Hand}

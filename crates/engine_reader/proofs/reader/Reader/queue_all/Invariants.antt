@@ -1,13 +1,13 @@
 use Rattle.std.proofs.Common.{◌≡◌, length}
 use Rattle.crossbeam_channel.specs.Claims.{view}
 use Rattle.crossbeam_channel.specs.Ends.{sends_on}
-use Rattle.engine_reader.specs.Shown.{queued_of}
+use Rattle.engine_reader.specs.Shown.{progress}
 use Rattle.engine_reader.specs.Verdicts.{Queueing}
 use Rattle.engine_reader.proofs.reader.Reader.queue_all.Given as goal
 
 abbrev pub invariant-loop-frame : goal.invariant-loop-frame
 invariant-loop-frame g l = record {
-  so_far : Queueing l.initial.self.cutter.kept l.initial.self.agreed (queued_of (view l.initial.self.pass).put) l.self.cutter.kept l.self.agreed (queued_of (view l.self.pass).put);
+  so_far : Queueing (progress l.initial.self) (progress l.self);
   ring : sends_on l.self.to ≡ sends_on l.initial.self.to;
   parts : (view l.self.pass).parts ≡ (view l.initial.self.pass).parts;
 }

@@ -1,13 +1,10 @@
-use Rattle.crossbeam_channel.specs.Claims.{view}
 use Rattle.engine_reader.specs.Shown.{reading}
 use Rattle.engine_roles.proofs.HasRead.{has_begun}
 use Rattle.engine_roles.proofs.reading.ReaderRole.new.Goals as goal
 
 pub invariant_of-result : goal.invariant_of-result
-invariant_of-result g c =
-    let r = c.args.reader in
-    record {
-      ring = c.requires.ring;
-      parts = c.requires.parts;
-      read = has_begun g.I.LinkIn.receives g.S.Source.heard_from c.args.link (reading c.args.link r.cutter.kept r.agreed (view r.pass).put) c.requires.from c.requires.fresh;
-    }
+invariant_of-result g c = record {
+  ring = c.requires.ring;
+  parts = c.requires.parts;
+  read = has_begun g.I.LinkIn.receives g.S.Source.heard_from c.args.link (reading c.args.link c.args.reader) c.requires.from c.requires.fresh;
+}

@@ -1,5 +1,4 @@
-use Rattle.std.proofs.Common.{◌≡◌, ◌+◌, Option, Some, None, sym, ap, ◌∙◌, subst, arith}
-use Rattle.crossbeam_channel.specs.Claims.{view}
+use Rattle.std.proofs.Common.{◌≡◌, ◌+◌, Option, Some, sym, ap, ◌∙◌, subst, arith}
 use Rattle.engine.specs.declared.ends.SessionEnd.{SessionEnd}
 use Rattle.engine_reader.specs.Shown.{reading}
 use Rattle.engine_roles.specs.Reads.{HasRead}
@@ -10,11 +9,10 @@ pub invariant_of-self : goal.invariant_of-self
 invariant_of-self g c =
     let s = c.args.self.now in
     let n = c.turn-self.new in
-    let now = reading s.link s.reader.cutter.kept s.reader.agreed (view s.reader.pass).put in
-    let next = reading n.link n.self.cutter.kept n.self.agreed (view n.self.pass).put in
+    let now = reading s.link s.reader in
     record {
       ring = s.ring ∙ ap (λ q. Some q) (sym c.turn-self.ensures.ring);
       parts = (let a = s.parts in let b = c.turn-self.ensures.parts in omega arith);
-      read = has_read_on g.I.LinkIn.receives g.S.Source.heard_from now next c.turn-self.result
+      read = has_read_on g.I.LinkIn.receives g.S.Source.heard_from now (reading n.link n.self) c.turn-self.result
           (subst (λ (o : Option SessionEnd). ∥ HasRead g.I.LinkIn.receives g.S.Source.heard_from o now ∥₁) c.in-None.is s.read) c.turn-self.ensures.reads;
     }

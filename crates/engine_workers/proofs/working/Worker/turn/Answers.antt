@@ -1,9 +1,11 @@
-use Rattle.std.proofs.Common.{◌≡◌, Option, None, ap, ◌∙◌, subst, arith}
+use Rattle.std.proofs.Common.{◌≡◌, Option, None, ap, subst₂, arith}
 use Rattle.table_steps.specs.Answers.{Settlement}
 use Rattle.crossbeam_channel.specs.Claims.{view}
-use Rattle.engine_queues.proofs.JobSteps.{takes}
 use Rattle.engine.specs.Serving.{does}
-use Rattle.engine_workers.specs.Turns.{AnswersJob}
+use Rattle.engine_jobs.specs.declared.jobs.Job.{Job}
+use Rattle.engine_queues.proofs.JobSteps.{takes as takes_one}
+use Rattle.engine_queues.specs.declared.jobs.Hand.{Hand}
+use Rattle.engine_workers.specs.Turns.{AnswersJob, standing}
 use Rattle.engine_workers.specs.declared.working.Turn.{Turn}
 use Rattle.engine_workers.specs.declared.working.Turn.TheVariants.{Worked, Nothing}
 use Rattle.engine_workers.proofs.working.Worker.turn.Goals as goal
@@ -13,13 +15,16 @@ settled_by (Worked settled) = settled
 settled_by Nothing = None
 
 pub try_recv_as-requires-clause-rule : goal.try_recv_as-requires-clause-rule
-try_recv_as-requires-clause-rule g c = (takes _ _ (let e = c.args.self.now.one_part in omega arith), λ items views b at. tt)
+try_recv_as-requires-clause-rule g c = (takes_one _ _ (let e = c.args.self.now.one_part in omega arith), λ items views b at. tt)
 
 pub returns-in-Ok-Some-clause-worked : goal.returns-in-Ok-Some-clause-worked
 returns-in-Ok-Some-clause-worked g c settled e =
+    let s = c.args.self.now in
+    let a = c.answer.new in
+    let taken = rw c.in-Ok-Some.field-0-is at c.in-Ok-Some.ensures.rule in
     let same : c.answer.result ≡ settled = ap settled_by e in
     record {
       job = c.in-Ok-Some.job;
-      taken = c.answer.ensures.jobs ∙ (rw c.in-Ok-Some.field-0-is at c.in-Ok-Some.ensures.rule);
-      answers = subst (λ (s : Option Settlement). AnswersJob (does g.C.Calls.gives g.D.Folders.keeps) c.args.self.now.session.settings c.args.self.now.number c.in-Ok-Some.job (view c.args.self.now.reply_pass) c.args.served.now c.args.share.now s (view c.answer.new.self.reply_pass) c.answer.new.served c.answer.new.share) same c.answer.ensures.answers;
+      answers = subst₂ (λ (h : Hand Job) (o : Option Settlement). AnswersJob (does g.C.Calls.gives g.D.Folders.keeps) s.session.settings s.number c.in-Ok-Some.job (standing h (view s.reply_pass) c.args.served.now c.args.share.now) o
+          (standing (view a.self.job_pass) (view a.self.reply_pass) a.served a.share)) taken same c.answer.ensures.answers;
     }

@@ -1,0 +1,14 @@
+use Rattle.std.specs.Prelude.{◌≡◌, ◌+◌, ◌++◌, ◌≤◌, length, map, vec_len, vec_capacity}
+use Rattle.std.specs.Vec.Iter.{into_iter_items, into_iter_len}
+use Rattle.engine_threads.proofs.leaving.part_all.Given as goal
+
+abbrev pub invariant-loop-end : goal.invariant-loop-end
+invariant-loop-end g l =
+    let rest = into_iter_items l.end-iterator in
+    record {
+      passes : l.passes.items ++ map (λ e. e.passes) rest ≡ map (λ e. e.passes) l.fn.ends.items;
+      len : vec_len l.passes + into_iter_len l.end-iterator ≡ vec_len l.fn.ends;
+      lens : into_iter_len l.end-iterator ≡ length rest;
+      capacity : vec_capacity l.passes ≡ vec_capacity l.fn.passes;
+      room : vec_len l.fn.ends ≤ vec_capacity l.passes;
+    }

@@ -1,0 +1,25 @@
+use Rattle.std.proofs.Common.{[], ◌∙◌, refl}
+use Rattle.crossbeam_channel.specs.Claims.{view}
+use Rattle.engine_workers.specs.Turns.{standing}
+use Rattle.engine_threads.specs.Worked.{does_shared}
+use Rattle.engine_threads.proofs.Chains.{works_on}
+use Rattle.engine_threads.proofs.turns.take_turns.Goals as goal
+
+pub loop-init : goal.loop-init
+loop-init g c = record { jobs = refl; replies = refl; number = refl; settings = refl; worked = ([], refl) }
+
+pub loop-preserved : goal.loop-preserved
+loop-preserved g c =
+    let w = c.args.worker.now in
+    let l = c.loop in
+    let i = l.invariant in
+    let t = c.turn in
+    let one = c.in-Worked._settled in
+    record {
+      jobs = t.ensures.rings.0 ∙ i.jobs;
+      replies = t.ensures.rings.1 ∙ i.replies;
+      number = t.ensures.rings.2 ∙ i.number;
+      settings = t.ensures.settings ∙ i.settings;
+      worked = works_on (does_shared g.C.Calls.gives) w.session.settings w.number l.worker.session.settings l.worker.number (standing (view w.job_pass) (view w.reply_pass) c.args.served.now c.args.kept.now.share)
+          (standing (view l.worker.job_pass) (view l.worker.reply_pass) l.served l.kept.share) (standing (view t.new.self.job_pass) (view t.new.self.reply_pass) t.new.served t.new.share) one i.settings i.number i.worked (t.ensures.worked one c.in-Worked.is);
+    }

@@ -1,0 +1,53 @@
+use Rattle.std.proofs.Common.{refl, ap}
+use Rattle.crossbeam_channel.specs.Claims.{view}
+use Rattle.crossbeam_channel.specs.Ends.{sends_on, receives_on}
+use Rattle.engine_threads.specs.Worked.{does_shared}
+use Rattle.engine_threads.proofs.Chains.{Stands, has_begun, is_over, stands_as, stands_on}
+use Rattle.engine_threads.proofs.working.work_all.Goals as goal
+use Rattle.engine_threads.proofs.working.work_all.Goals.{in-None, in-Some+else-read+then-is_over}
+
+pub loop-init : goal.loop-init
+loop-init g c =
+    let r = c.requires in
+    let s = c.args.staff in
+    let w = s.worker in
+    record {
+      takes_from = refl;
+      puts_into = refl;
+      number_is = refl;
+      settings_are = refl;
+      worked = has_begun (does_shared g.C.Calls.gives) w.session.settings w.number s.calls _ (view w.job_pass) (view w.reply_pass) s.kept.share r.hired.takes_none r.hired.puts_none r.share_is;
+    }
+
+pub loop-preserved-then-read : goal.loop-preserved-then-read
+loop-preserved-then-read g c =
+    let w = c.args.staff.worker in
+    let l = c.loop in
+    let t = c.take_turns in
+    let r = t.ensures.rings in
+    stands_on (does_shared g.C.Calls.gives) (receives_on w.jobs) (sends_on w.replies) w.session.settings w.number c.args.staff.calls l.worker t.new.worker l.served t.new.served l.kept.share t.new.kept.share l.invariant r.0 r.1 r.2 t.ensures.settings t.ensures.worked
+
+pub loop-preserved : goal.loop-preserved
+loop-preserved g c =
+    let w = c.args.staff.worker in
+    let l = c.loop in
+    let t = c.take_turns in
+    let r = t.ensures.rings in
+    stands_on (does_shared g.C.Calls.gives) (receives_on w.jobs) (sends_on w.replies) w.session.settings w.number c.args.staff.calls l.worker t.new.worker l.served t.new.served l.kept.share t.new.kept.share l.invariant r.0 r.1 r.2 t.ensures.settings t.ensures.worked
+
+pub returns-clause-over : goal.returns-clause-over
+returns-clause-over g c =
+    let w = c.args.staff.worker in
+    let l = c.loop in
+    let m = c.match-next in
+    let e = c.into_passes in
+    let does = does_shared g.C.Calls.gives in
+    let at : Stands does (receives_on w.jobs) (sends_on w.replies) w.session.settings w.number c.args.staff.calls m.worker m.served m.kept.share = elim m.branch [
+      | in-None b ↦ stands_as does (receives_on w.jobs) (sends_on w.replies) w.session.settings w.number c.args.staff.calls l.worker m.worker l.served m.served l.kept.share m.kept.share b.worker-is b.served-is (ap (λ k. k.share) b.kept-is) l.invariant
+      | in-Some+else-read+then-is_over b ↦ (
+        let t = b.take_turns in
+        let r = t.ensures.rings in
+        stands_as does (receives_on w.jobs) (sends_on w.replies) w.session.settings w.number c.args.staff.calls t.new.worker m.worker t.new.served m.served t.new.kept.share m.kept.share b.worker-is b.served-is (ap (λ k. k.share) b.kept-is)
+        (stands_on does (receives_on w.jobs) (sends_on w.replies) w.session.settings w.number c.args.staff.calls l.worker t.new.worker l.served t.new.served l.kept.share t.new.kept.share l.invariant r.0 r.1 r.2 t.ensures.settings t.ensures.worked))
+    ] in
+    is_over does (receives_on w.jobs) (sends_on w.replies) w.session.settings w.number c.args.staff.calls m.worker m.served m.kept.share e.result at e.ensures.number e.ensures.seats.0 e.ensures.seats.1 e.ensures.passes.0 e.ensures.passes.1

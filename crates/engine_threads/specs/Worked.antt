@@ -1,0 +1,87 @@
+-- What the workers of a session did, and the starter after them.
+use Rattle.std.specs.Prelude.{◌≡◌, List, [], ◌∷◌, ◌++◌, Option, Some, None}
+use Rattle.std.specs.Borrow.{Bor}
+use Rattle.crossbeam_channel.specs.Claims.{view, IsSeatAt}
+use Rattle.crossbeam_channel.specs.Ends.{sends_on, receives_on}
+use Rattle.ledger.specs.Shares.{Part, nothing}
+use Rattle.table_steps.specs.Answers.{Settlement}
+use Rattle.ops.specs.declared.replies.Settings.{Settings}
+use Rattle.backing.specs.Calls.{Asked}
+use Rattle.backing.specs.declared.call.Answer.{Answer}
+use Rattle.handles.specs.Calls.{Shares}
+use Rattle.handles.specs.declared.limits.FolderLimits.{FolderLimits}
+use Rattle.engine.specs.Serving.{Behaviour, does}
+use Rattle.engine_jobs.specs.declared.jobs.Job.{Job}
+use Rattle.engine_queues.specs.Jobs.{hand}
+use Rattle.engine_queues.specs.Letters.{sender}
+use Rattle.engine_queues.specs.declared.passes.Passes.{Passes}
+use Rattle.engine_roles.specs.Queues.{JobQueue, ReplyQueue}
+use Rattle.engine_workers.specs.Turns.{AnswersJob, Means, standing}
+use Rattle.engine_workers.specs.Works.{HasWorked, newcomer}
+use Rattle.engine_workers.specs.declared.replies.Reply.{Reply}
+use Rattle.engine_workers.specs.declared.working.Worker.{Worker}
+
+-- calls of a directory, and of the open folders that all threads share
+abbrev pub does_shared : {C : Type 0} → (C → Asked → Answer → C → Type 0) → Behaviour C (Bor FolderLimits)
+does_shared gives = does gives Shares
+
+-- these passes have taken no job and put no reply
+pub record AreUnused (passes : Passes Job Reply) : Type 0 where
+  pub takes_none : view passes.job_pass ≡ hand 1 [] []
+  pub puts_none : view passes.reply_pass ≡ sender passes.number []
+
+-- a worker at these queues, by these settings, that has taken no job and put no reply
+pub record IsHired (jobs : JobQueue) (replies : ReplyQueue) (settings : Settings) (worker : Worker) : Type 0 where
+  pub takes_from : receives_on worker.jobs ≡ jobs
+  pub puts_into : sends_on worker.replies ≡ replies
+  pub settings_are : worker.session.settings ≡ settings
+  pub takes_none : view worker.job_pass ≡ hand 1 [] []
+  pub puts_none : view worker.reply_pass ≡ sender worker.number []
+
+-- the same with a share on which nothing stands
+pub record IsStaffed (jobs : JobQueue) (replies : ReplyQueue) (settings : Settings) (worker : Worker) (share : Part) : Type 0 where
+  pub hired : IsHired jobs replies settings worker
+  pub share_is : share.totals ≡ nothing
+
+-- the worker of these passes began with this directory, and left that one and this share
+pub record HasWorkedFrom {C D : Type 0} (does : Behaviour C D) (settings : Settings) (given : C) (passes : Passes Job Reply) (left : C) (share : Part) : Type 0 where
+  pub dirs : D
+  pub worked : HasWorked does settings passes.number given (standing (view passes.job_pass) (view passes.reply_pass) (record { calls = left; dirs = dirs }) share)
+
+-- the same, at these queues
+pub record IsOver {C D : Type 0} (jobs : JobQueue) (replies : ReplyQueue) (does : Behaviour C D) (settings : Settings) (given : C) (passes : Passes Job Reply) (left : C) (share : Part) : Type 0 where
+  pub job_seat : IsSeatAt jobs passes.job_pass
+  pub reply_seat : IsSeatAt replies passes.reply_pass
+  pub worked : HasWorkedFrom does settings given passes left share
+
+-- each directory's worker worked so, whatever it left; the starter comes last
+abbrev pub WorkedEach : {C D : Type 0} → Behaviour C D → Settings → (given : List C) → List (Passes Job Reply) → Type 0
+WorkedEach does settings [] passes = (own : Passes Job Reply) × (passes ≡ own ∷ [])
+WorkedEach does settings (calls ∷ given) [] = ⊥
+WorkedEach {C = C} does settings (calls ∷ given) (one ∷ passes) = ((left : C) × (share : Part) × HasWorkedFrom does settings calls one left share) × WorkedEach does settings given passes
+
+-- a job that was not queued is answered by who has these passes, with this directory and this share
+pub record AnswersLast {C D : Type 0} (does : Behaviour C D) (settings : Settings) (job : Job) (calls : C) (share : Part) (passes : Passes Job Reply) : Type 0 where
+  pub dirs : D
+  pub settled : Option Settlement
+  pub means : Means C D
+  pub answers : AnswersJob does settings passes.number job (newcomer passes.number calls dirs share) settled (record { hand = view passes.job_pass; lane = view passes.reply_pass; means = means })
+
+-- the frame that ended the session is answered, if one did; else nothing is put
+abbrev pub AnswersFarewell : {C D : Type 0} → Behaviour C D → Settings → (farewell : Option Job) → C → Part → Passes Job Reply → Type 0
+AnswersFarewell does settings None calls share passes = AreUnused passes
+AnswersFarewell does settings (Some job) calls share passes = AnswersLast does settings job calls share passes
+
+-- the starter, who comes last, does so with what the last worker left
+pub record BidsFarewell {C D : Type 0} (does : Behaviour C D) (settings : Settings) (given : List C) (farewell : Option Job) (passes : List (Passes Job Reply)) : Type 0 where
+  pub others : List C
+  pub calls : C
+  pub given_are : given ≡ others ++ calls ∷ []
+  pub workers : List (Passes Job Reply)
+  pub worker : Passes Job Reply
+  pub own : Passes Job Reply
+  pub passes_are : passes ≡ workers ++ worker ∷ own ∷ []
+  pub left : C
+  pub share : Part
+  pub worked : HasWorkedFrom does settings calls worker left share
+  pub ends : AnswersFarewell does settings farewell left share own
