@@ -1,6 +1,6 @@
 -- What the code of a session has done from its first byte to its end is a whole session.
 use Rattle.std.proofs.lemmas.Option.{none-some, same_Some}
-use Rattle.std.proofs.Common.{◌≡◌, false, ℕ, ◌≤◌, ◌-◌, suc, zero, List, [], ◌∷◌, ◌++◌, length, take, drop, refl, sym, subst, ap, ◌∙◌, append_assoc, append-nil, arith, inl, inr, ◌⊎◌, Option, Some, None}
+use Rattle.std.proofs.Common.{◌≡◌, ◌≢◌, Bool, true, false, if◌then◌else◌, ℕ, ◌≤◌, ◌-◌, suc, zero, List, [], ◌∷◌, ◌++◌, length, take, drop, refl, sym, subst, ap, ◌∙◌, append_assoc, append-nil, arith, inl, inr, ◌⊎◌, Option, Some, None}
 use Rattle.std.specs.Prelude.{option_to_list}
 use Rattle.std.specs.List.{AllByRecursion}
 use Rattle.std.proofs.lemmas.Bool.{cases_lt}
@@ -17,8 +17,8 @@ use Rattle.engine.specs.declared.served.Served.{Served}
 use Rattle.ops.specs.declared.replies.Settings.{Settings}
 use Rattle.engine.specs.Chain.{Chain}
 use Rattle.engine.specs.Links.{Heard, Piece, Ended, Broke, Event, Happens}
-use Rattle.engine.specs.Reference.{At, Offer, Stop, AtEnd, Lost, IsTurn, frames_of, starting, Closes}
-use Rattle.engine.specs.Serving.{Behaviour, Draws, Environment, Step, Hears, Traffic, Works, GoesOn, IsClientRun, Paces, bytes_of, events_of, folders_of, heard_of, made_of, sent_of, stop_in, stops_of, turns_of, around}
+use Rattle.engine.specs.Reference.{At, Offer, Stop, AtEnd, Lost, IsTurn, Turn, frames_of, sent_in, starting, was_broken, Closes}
+use Rattle.engine.specs.Serving.{Behaviour, Draws, Environment, Step, Hears, Traffic, Works, GoesOn, IsClientRun, LacksMemory, Paces, bytes_of, events_of, folders_of, heard_of, made_of, sent_of, stop_in, stops_of, turns_of, around}
 use Rattle.engine.specs.Tables.{Table}
 use Rattle.engine.specs.Walks.{Side, Stand, reaching, side, stand, WorksOffFrames, IsStep, Passes, Stops, Walks}
 use Rattle.engine.proofs.Runs.{draws_on}
@@ -91,6 +91,28 @@ joined_append (f ∷ fs) gs = ap (λ xs. f ++ xs) (joined_append fs gs) ∙ sym 
 each_append : (fs gs : List (List ℕ)) → AllByRecursion IsFramed fs → AllByRecursion IsFramed gs → AllByRecursion IsFramed (fs ++ gs)
 each_append [] gs a b = b
 each_append (f ∷ fs) gs a b = (a.0, each_append fs gs a.1 b)
+
+-- a whole frame that stands first is one of them
+some_dropped : (bytes : List ℕ) (frames : List (List ℕ)) (rest : List ℕ) → Splits bytes frames rest → (len : ℕ) → IsWhole bytes len → frames ≢ []
+some_dropped bytes frames rest splits len whole none =
+    let front = handed bytes (take len bytes) len whole refl in
+    let all : rest ≡ bytes = sym (splits.whole ∙ ap (λ (fs : List (List ℕ)). joined fs ++ rest) none) in
+    splits.ends (take len bytes) (drop len bytes) front.1 (all ∙ front.0)
+
+-- ---- the end of a session that a frame did not end for want of memory
+
+lacks_none : (end : SessionEnd) (steps : List Step) (dropped : List (List ℕ)) → end ≢ ends.Memory → LacksMemory end steps dropped
+lacks_none (ends.Closed len) steps dropped other = tt
+lacks_none ends.Destroyed steps dropped other = tt
+lacks_none (ends.BadLength len) steps dropped other = tt
+lacks_none ends.LinkBroken steps dropped other = tt
+lacks_none ends.Memory steps dropped other = absurd (other refl)
+lacks_none ends.NoWorkers steps dropped other = tt
+
+ends_otherwise : (broken destroyed : Bool) → (if broken then Some ends.LinkBroken else (if destroyed then Some ends.Destroyed else None)) ≢ Some ends.Memory
+ends_otherwise true destroyed e = cc
+ends_otherwise false true e = cc
+ends_otherwise false false e = none-some ends.Memory e
 
 -- ---- steps, told apart
 
@@ -167,12 +189,17 @@ module _ {W L C D : Type 0} (table : Table W) (settings : Settings) (over : Traf
 
   -- ---- a whole session
 
+  -- no frame ends a session for want of memory
+  never_short : (turns : List Turn) (old new : At W) → old.end ≢ Some ends.Memory → Chain (IsTurn table settings) old turns new → new.end ≢ Some ends.Memory
+  never_short [] old new other chain = λ e. other (sym (ap (λ (a : At W). a.end) chain) ∙ e)
+  never_short (turn ∷ turns) old new other chain = never_short turns chain.0 new (λ e. ends_otherwise (was_broken (sent_in turn.offer)) turn.destroyed (sym chain.1.end ∙ e)) chain.2
+
   closing : (start s : Side W L C D) (last : List Step) (new : Environment (At W) L C D) (kept : List ℕ) (stop : Option Stop) (dropped : List (List ℕ)) (rest : List ℕ) (end : SessionEnd) (world : W)
       → start.at ≡ starting world → start.kept ≡ [] → table.is_idle world
-      → Walks table settings over does start s → Tells s last new kept (option_to_list stop)
-      → Splits kept dropped rest → Closes new.at.end end stop dropped rest
+      → (walks : Walks table settings over does start s) → Tells s last new kept (option_to_list stop)
+      → Splits kept dropped rest → Closes new.at.end end stop dropped rest → LacksMemory end (walks.steps ++ last) dropped
       → IsClientRun table settings over does (around start.link start.served world) (around new.link new.served new.at.world) end
-  closing start s last new kept stop dropped rest end world begins empty fresh walks t splits closes =
+  closing start s last new kept stop dropped rest end world begins empty fresh walks t splits closes lacks =
       let all = tells_on walks.steps last start s new kept (option_to_list stop) walks.chain t in
       let steps = walks.steps ++ last in
       let frames = frames_of (turns_of steps) in
@@ -199,6 +226,7 @@ module _ {W L C D : Type 0} (table : Table W) (settings : Settings) (over : Traf
           last_is = refl;
           closes = closes;
         };
+        memory = lacks;
       }
 
   -- the table is fresh, and no version is agreed on
@@ -209,24 +237,24 @@ module _ {W L C D : Type 0} (table : Table W) (settings : Settings) (over : Traf
 
   module _ (old : Environment W L C D) (mid : Environment (Stand W) L C D) (kept : List ℕ) (fresh : table.is_idle old.at) (partial : IsPartial kept) (walks : Walks table settings over does (beginning old) (side mid kept)) where
     -- hearing ends
-    by_heard : (heard : Heard) (link : L) (now : List ℕ) (stop : Option Stop) (dropped : List (List ℕ)) (rest : List ℕ) (end : SessionEnd) → over.receives mid.link heard link → now ≡ kept ++ bytes_of heard → stop_in heard ++ [] ≡ option_to_list stop → Splits now dropped rest → Closes None end stop dropped rest
+    by_heard : (heard : Heard) (link : L) (now : List ℕ) (stop : Option Stop) (dropped : List (List ℕ)) (rest : List ℕ) (end : SessionEnd) → over.receives mid.link heard link → now ≡ kept ++ bytes_of heard → stop_in heard ++ [] ≡ option_to_list stop → Splits now dropped rest → Closes None end stop dropped rest → LacksMemory end (walks.steps ++ Hears heard ∷ []) dropped
         → IsClientRun table settings over does old (around link mid.served mid.at.world) end
-    by_heard heard link now stop dropped rest end r is stops splits closes =
+    by_heard heard link now stop dropped rest end r is stops splits closes lacks =
         let new = around link mid.served (side mid kept).at in
         closing (beginning old) (side mid kept) (Hears heard ∷ []) new now stop dropped rest end old.at refl refl fresh walks
         (subst (λ (ss : List Stop). Tells (side mid kept) (Hears heard ∷ []) new now ss) stops (tells_heard (side mid kept) heard link now refl partial r is))
-        splits closes
+        splits closes lacks
 
     pub at_end : (link : L) (rest : ℕ) → over.receives mid.link Ended link → rest ≡ length kept → IsClientRun table settings over does old (around link mid.served mid.at.world) (ends.Closed rest)
-    at_end link rest r is = by_heard Ended link kept (Some AtEnd) [] kept (ends.Closed rest) r (sym (append-nil kept)) refl (no_frame kept (partial_ends kept partial)) (refl, refl, partial, is)
+    at_end link rest r is = by_heard Ended link kept (Some AtEnd) [] kept (ends.Closed rest) r (sym (append-nil kept)) refl (no_frame kept (partial_ends kept partial)) (refl, refl, partial, is) tt
 
     pub at_break : (link : L) → over.receives mid.link Broke link → IsClientRun table settings over does old (around link mid.served mid.at.world) ends.LinkBroken
-    at_break link r = by_heard Broke link kept (Some Lost) [] kept ends.LinkBroken r (sym (append-nil kept)) refl (no_frame kept (partial_ends kept partial)) (refl, refl, partial)
+    at_break link r = by_heard Broke link kept (Some Lost) [] kept ends.LinkBroken r (sym (append-nil kept)) refl (no_frame kept (partial_ends kept partial)) (refl, refl, partial) tt
 
     pub unfed : (link : L) (piece : List ℕ) → over.receives mid.link (Piece piece) link → IsClientRun table settings over does old (around link mid.served mid.at.world) ends.Memory
     unfed link piece r =
         let all = splits_all (kept ++ piece) in
-        by_heard (Piece piece) link (kept ++ piece) None all.frames all.rest ends.Memory r refl refl all.splits refl
+        by_heard (Piece piece) link (kept ++ piece) None all.frames all.rest ends.Memory r refl refl all.splits refl (inl (walks.steps, piece, refl))
 
   -- the session ended by a frame, a bad length or want of memory
   by_stop : (old : Environment W L C D) (new : Environment (Stand W) L C D) (kept : List ℕ) (reached : Option SessionEnd) (end : SessionEnd) → table.is_idle old.at → Walks table settings over does (beginning old) (reaching (side new kept) reached) → Stops reached (Some end) kept
@@ -234,18 +262,21 @@ module _ {W L C D : Type 0} (table : Table W) (settings : Settings) (over : Traf
   by_stop old new kept (Some reached) end fresh walks stops =
       let all = splits_all kept in
       let last = reaching (side new kept) (Some reached) in
+      let told = tells_on walks.steps [] (beginning old) last (around new.link new.served last.at) kept [] walks.chain (tells_none last) in
+      let other = never_short (turns_of (walks.steps ++ [])) (beginning old).at last.at (none-some ends.Memory) told.run in
       closing (beginning old) last [] (around new.link new.served last.at) kept None all.frames all.rest end old.at refl refl fresh walks
       (tells_none last) all.splits (same_Some end reached stops, refl)
+      (lacks_none end (walks.steps ++ []) all.frames (λ e. other (ap Some (sym (same_Some end reached stops) ∙ e))))
   by_stop old new kept None (ends.Closed len) fresh walks stops = absurd stops
   by_stop old new kept None ends.Destroyed fresh walks stops = absurd stops
   by_stop old new kept None (ends.BadLength len) fresh walks stops =
       closing (beginning old) (side new kept) [] (around new.link new.served (side new kept).at) kept None [] kept (ends.BadLength len) old.at refl refl fresh walks
-      (tells_none (side new kept)) (no_frame kept (bad_ends kept len stops)) (refl, refl, stops)
+      (tells_none (side new kept)) (no_frame kept (bad_ends kept len stops)) (refl, refl, stops) tt
   by_stop old new kept None ends.LinkBroken fresh walks stops = absurd stops
   by_stop old new kept None ends.Memory fresh walks stops =
       let all = splits_all kept in
       closing (beginning old) (side new kept) [] (around new.link new.served (side new kept).at) kept None all.frames all.rest ends.Memory old.at refl refl fresh walks
-      (tells_none (side new kept)) all.splits refl
+      (tells_none (side new kept)) all.splits refl (inr (some_dropped kept all.frames all.rest all.splits stops.0 stops.1))
   by_stop old new kept None ends.NoWorkers fresh walks stops = absurd stops
 
   pub drained_end : (old : Environment W L C D) (mid new : Environment (Stand W) L C D) (fed kept : List ℕ) (result : Option SessionEnd) (end : SessionEnd) (now : Settings) → now ≡ settings → table.is_idle old.at → Walks table settings over does (beginning old) (side mid fed) → result ≡ Some end

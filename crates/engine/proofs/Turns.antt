@@ -1,5 +1,5 @@
 -- What came of one frame.
-use Rattle.std.proofs.Common.{ℕ, ℤ, ◌≡◌, Bool, true, false, List, [], ◌++◌, Option, Some, None, IfSome, IfNone, inl, inr, refl, sym, ap, ◌∙◌, subst, append_assoc, append-nil}
+use Rattle.std.proofs.Common.{ℕ, ℤ, ◌≡◌, ◌≢◌, Bool, true, false, List, [], ◌++◌, Option, Some, None, IfSome, IfNone, inl, inr, refl, sym, ap, ◌∙◌, subst, append_assoc, append-nil}
 use Rattle.errno.specs.declared.TheConstants.{ENOMEM}
 use Rattle.table_files.specs.declared.data.OpenFile.{OpenFile}
 use Rattle.table_requests.specs.declared.data.Want.{Want}
@@ -18,7 +18,7 @@ use Rattle.engine.specs.declared.using.HandleUse.{HandleUse}
 use Rattle.ops.specs.Intents.{Intent, intent}
 use Rattle.ops.specs.Intents as intents
 use Rattle.handles.specs.Calls.{FolderCall}
-use Rattle.engine.specs.Reference.{Place, AtBegin, AtScript, AtListing, AtReply, Turn, ForgetsAll, IsSaid, IsTold, Says, Serves, RunsRequest, WorksOff}
+use Rattle.engine.specs.Reference.{Attempt, Place, AtBegin, AtScript, AtListing, AtReply, Turn, ForgetsAll, HasNames, IsSaid, IsTold, Says, Serves, RunsRequest, WorksOff, attempt}
 use Rattle.wire.specs.declared.pairs.Forgotten.{Forgotten}
 use Rattle.ops.specs.declared.intents.FolderUse.{FolderUse}
 use Rattle.ops.specs.declared.intents.FolderUse.TheVariants as uses
@@ -28,7 +28,7 @@ use Rattle.engine.specs.Replies.{refusal, TakesMemory}
 use Rattle.ops.specs.Replies.{file_reply}
 use Rattle.ops.specs.Scripts.{Made}
 use Rattle.engine.specs.Serving.{Behaviour, Environment, around}
-use Rattle.engine.specs.Walks.{Attempt, Rules, IsAnswered, WorkedOff, RunsScript, RunsOut, TellsOut, UsesOut, attempt, begun}
+use Rattle.engine.specs.Walks.{Rules, IsAnswered, WorkedOff, RunsScript, RunsOut, RunsOwned, TellsOut, UsesOut, begun}
 use Rattle.engine.proofs.Runs.{chain_append}
 
 -- a frame with its reply
@@ -60,6 +60,13 @@ answered sends meant old new sent s = record { refused = None; said = meant.body
 
 pub starved : {L : Type 0} (sends : L → List ℕ → Sent → L → Type 0) (meant : Reply) (old new : L) (sent : Sent) → TakesMemory meant.body → sends old (reply_bytes (refusal meant.unique ENOMEM)) sent new → IsAnswered sends meant old sent new
 starved sends meant old new sent takes s = record { refused = Some AtReply; said = Failed ENOMEM; said_is = (takes, refl); offer = s }
+
+-- what is said tells that memory was not refused before
+said_later : (refused : Option Place) (meant said : ReplyBody) → IsSaid refused meant said → refused ≢ Some AtBegin
+said_later refused meant said is none = subst (λ (place : Option Place). IsSaid place meant said) none is
+
+told_later : (refused : Option Place) (meant said : ReplyBody) → IsTold refused meant said → refused ≢ Some AtBegin
+told_later refused meant said is none = subst (λ (place : Option Place). IsTold place meant said) none is
 
 module _ {W L C D : Type 0} (rules : Rules W L) (does : Behaviour C D) where
   -- a frame that is no request
@@ -213,8 +220,8 @@ module _ {W L C D : Type 0} (rules : Rules W L) (does : Behaviour C D) where
 
   -- ---- a request from begin to settle
 
-  works_by : (refused : Option Place) (a : Attempt) (old : W) (turn : Turn) (new : W) (meant said : ReplyBody) → IsTold refused meant said → RunsRequest rules.table rules.settings a.q a.want a.lends a.page old turn new
-      → WorksOff rules.table rules.settings refused a.q a.want a.lends a.page old turn new
+  works_by : (refused : Option Place) (a : Attempt) (old : W) (turn : Turn) (new : W) (meant said : ReplyBody) → IsTold refused meant said → RunsRequest rules.table rules.settings a old turn new
+      → WorksOff rules.table rules.settings refused a old turn new
   works_by None a old turn new meant said is c = inr c
   works_by (Some AtBegin) a old turn new meant said is c = absurd is
   works_by (Some AtScript) a old turn new meant said is c = c
@@ -223,43 +230,46 @@ module _ {W L C D : Type 0} (rules : Rules W L) (does : Behaviour C D) where
 
   pub goes_on : (a : Attempt) (ticket : Claim) (old new : Environment W L C D) (at : W) (sent : Sent) (kept : Bool) → rules.table.begins old.at kept a.q.unique a.want (Go ticket) at
       → (p : RunsScript rules does (begun a.q a.page ticket) (around old.link old.served at) sent new) → rules.table.knows p.concludes.so.answer
-      → RunsOut rules does a old sent new
+      → RunsOwned rules does a old sent new
   goes_on a ticket old new at sent kept b p known =
       let e = p.concludes.so in
       let more = p.concludes.folders in
       record {
-        refused = e.refused;
-        kept = kept;
-        made = p.made;
-        more = more;
-        said = e.said;
-        draws = record { makes = p.makes; keeps = p.concludes.chain };
-        offer = e.offer;
-        works = λ frame. works_by e.refused a old.at (acting frame e.refused kept p.made (a.lends ++ more) a.q.unique e.said sent) new.at _ e.said e.said_is (record {
-          ticket = ticket;
-          begun = at;
-          begins = b;
-          end = p.end;
-          script = e.script;
-          answer = e.answer;
-          finished = e.finished;
-          finishes = e.finishes;
-          known = known;
-          put = e.put;
-          first = e.first;
-          stores = e.stores;
+        runs = record {
+          refused = e.refused;
+          kept = kept;
+          made = p.made;
+          more = more;
           said = e.said;
-          said_is = e.said_is;
-          offers = refl;
-          settles = e.settles;
-          last = e.last;
-          gives_up = e.gives_up;
-          folders_are = ap (λ (fs : List FolderCall). a.lends ++ fs) e.folders_are ∙ sym (append_assoc a.lends e.first e.last);
-        });
+          draws = record { makes = p.makes; keeps = p.concludes.chain };
+          offer = e.offer;
+          works = λ frame. works_by e.refused a old.at (acting frame e.refused kept p.made (a.lends ++ more) a.q.unique e.said sent) new.at _ e.said e.said_is (record {
+            ticket = ticket;
+            begun = at;
+            begins = b;
+            end = p.end;
+            script = e.script;
+            answer = e.answer;
+            finished = e.finished;
+            finishes = e.finishes;
+            known = known;
+            put = e.put;
+            first = e.first;
+            stores = e.stores;
+            said = e.said;
+            said_is = e.said_is;
+            offers = refl;
+            settles = e.settles;
+            last = e.last;
+            gives_up = e.gives_up;
+            folders_are = ap (λ (fs : List FolderCall). a.lends ++ fs) e.folders_are ∙ sym (append_assoc a.lends e.first e.last);
+          });
+        };
+        owned = told_later e.refused _ e.said e.said_is;
       }
 
   by_refusal : (refused : Option Place) (a : Attempt) (errno : ℤ) (said : ReplyBody) (world world' : W) (turn : Turn) → IsSaid refused (Failed errno) said → rules.table.begins world turn.kept a.q.unique a.want (Refused errno) world' → Says turn.kept a.lends a.q.unique said world' turn world'
-      → WorksOff rules.table rules.settings refused a.q a.want a.lends a.page world turn world'
+      → WorksOff rules.table rules.settings refused a world turn world'
   by_refusal None a errno said world world' turn is b says = inl (record { errno = errno; begins = b; says = subst (λ (body : ReplyBody). Says turn.kept a.lends a.q.unique body world' turn world') is says })
   by_refusal (Some AtBegin) a errno said world world' turn is b says = absurd is
   by_refusal (Some AtScript) a errno said world world' turn is b says = absurd is
@@ -269,22 +279,25 @@ module _ {W L C D : Type 0} (rules : Rules W L) (does : Behaviour C D) where
   -- the table refuses it
   pub table_refused : (a : Attempt) (errno : ℤ) (old : Environment W L C D) (link : L) (at : W) (sent : Sent) (kept : Bool) → rules.table.begins old.at kept a.q.unique a.want (Refused errno) at
       → IsAnswered rules.sends (refusal a.q.unique errno) old.link sent link
-      → RunsOut rules does a old sent (around link old.served at)
+      → RunsOwned rules does a old sent (around link old.served at)
   table_refused a errno old link at sent kept b w = record {
-    refused = w.refused;
-    kept = kept;
-    made = [];
-    more = [];
-    said = w.said;
-    draws = record { makes = refl; keeps = refl };
-    offer = w.offer;
-    works = λ frame. by_refusal w.refused a errno w.said old.at at (acting frame w.refused kept [] (a.lends ++ []) a.q.unique w.said sent) w.said_is b (record { offers = refl; no_call = refl; folders_are = append-nil a.lends; same = refl; kept_is = refl });
+    runs = record {
+      refused = w.refused;
+      kept = kept;
+      made = [];
+      more = [];
+      said = w.said;
+      draws = record { makes = refl; keeps = refl };
+      offer = w.offer;
+      works = λ frame. by_refusal w.refused a errno w.said old.at at (acting frame w.refused kept [] (a.lends ++ []) a.q.unique w.said sent) w.said_is b (record { offers = refl; no_call = refl; folders_are = append-nil a.lends; same = refl; kept_is = refl });
+    };
+    owned = said_later w.refused (Failed errno) w.said w.said_is;
   }
 
   -- there is no memory to begin
-  pub page_unbegun : (a : Attempt) (old : Environment W L C D) (link : L) (sent : Sent) → rules.sends old.link (reply_bytes (refusal a.q.unique ENOMEM)) sent link
+  pub page_unbegun : (a : Attempt) (old : Environment W L C D) (link : L) (sent : Sent) → HasNames a.want → rules.sends old.link (reply_bytes (refusal a.q.unique ENOMEM)) sent link
       → RunsOut rules does a old sent (around link old.served old.at)
-  page_unbegun a old link sent s = record {
+  page_unbegun a old link sent named s = record {
     refused = Some AtBegin;
     kept = false;
     made = [];
@@ -292,5 +305,5 @@ module _ {W L C D : Type 0} (rules : Rules W L) (does : Behaviour C D) where
     said = Failed ENOMEM;
     draws = record { makes = refl; keeps = refl };
     offer = s;
-    works = λ frame. record { offers = refl; no_call = refl; folders_are = append-nil a.lends; same = refl; kept_is = refl };
+    works = λ frame. (named, record { offers = refl; no_call = refl; folders_are = append-nil a.lends; same = refl; kept_is = refl });
   }

@@ -4,6 +4,7 @@ use Rattle.std.specs.Option.{option_map}
 use Rattle.errno.specs.declared.TheConstants.{EIO, ENOMEM, EPROTO}
 use Rattle.table_files.specs.declared.data.OpenFile.{OpenFile}
 use Rattle.table_requests.specs.declared.data.Want.{Want}
+use Rattle.table_requests.specs.declared.data.Want.TheVariants as wants
 use Rattle.table_steps.specs.Answers.{Claim, Answer}
 use Rattle.table_steps.specs.declared.data.Begin.TheVariants.{Go, Refused}
 use Rattle.table_steps.specs.declared.data.Outcome.TheVariants as outcomes
@@ -151,6 +152,13 @@ abbrev pub taken_of : Option Place → Option Offer → Bool
 taken_of None offer = was_taken (sent_in offer)
 taken_of (Some place) offer = false
 
+-- names, or a page of them, are copied for it before it begins, which takes memory
+abbrev pub HasNames : Want → Type 0
+HasNames (wants.Node number handle) = ⊥
+HasNames (wants.Open number access) = ⊥
+HasNames (wants.Release number fh) = ⊥
+HasNames want = Unit {0}
+
 -- The calls of a request that has begun, and what they come to. Without memory for its script it makes none, and fails.
 abbrev pub Plays : Option Place → Operation → Claim → List Made → End → Type 0
 Plays (Some AtScript) operation ticket made end = LooksAtEach operation × (made ≡ []) × (end ≡ record { outcome = outcomes.Failed; findings = findings.Error ENOMEM })
@@ -203,52 +211,62 @@ HandlesInit unique (Some answer) before old turn new now = Answers unique (init_
 abbrev pub ForgetsAll : {W : Type 0} → Table W → W → List Forgotten → W → Type 0
 ForgetsAll {W = W} table = Chain (λ (old : W) (lookups : Forgotten) (new : W). table.forgets old lookups.node lookups.nlookup new)
 
+-- a request that is to begin with a want, after these calls of the open folders, and is to tell this page
+pub record Attempt : Type 0 where
+  pub q : Request
+  pub want : Want
+  pub lends : List FolderCall
+  pub page : Paged
+
+abbrev pub attempt : Request → Want → List FolderCall → Paged → Attempt
+attempt q want lends page = record { q = q; want = want; lends = lends; page = page }
+
 module _ {W : Type 0} (table : Table W) (settings : Settings) where
-  -- a request from begin to settle, for which these calls of the open folders were made before, and which tells this page
-  pub record RunsRequest (q : Request) (want : Want) (lends : List FolderCall) (page : Paged) (old : W) (turn : Turn) (new : W) : Type 0 where
+  -- a request from begin to settle
+  pub record RunsRequest (a : Attempt) (old : W) (turn : Turn) (new : W) : Type 0 where
     pub ticket : Claim
     pub begun : W
-    pub begins : table.begins old turn.kept q.unique want (Go ticket) begun
+    pub begins : table.begins old turn.kept a.q.unique a.want (Go ticket) begun
     pub end : End
-    pub script : Plays turn.refused q.operation ticket turn.made end
+    pub script : Plays turn.refused a.q.operation ticket turn.made end
     pub answer : Answer
     pub finished : W
     pub finishes : table.finishes begun ticket.id end.outcome answer finished
     pub known : table.knows answer
     pub put : Option ℕ
     pub first : List FolderCall
-    pub stores : Stores turn.refused q.node end.findings first put
+    pub stores : Stores turn.refused a.q.node end.findings first put
     pub said : ReplyBody
-    pub said_is : IsTold turn.refused (reply_to settings q.node page end.findings put answer) said
-    pub offers : Offers turn.offer q.unique said
+    pub said_is : IsTold turn.refused (reply_to settings a.q.node a.page end.findings put answer) said
+    pub offers : Offers turn.offer a.q.unique said
     pub settles : table.settles finished answer put (taken_of turn.refused turn.offer) new
     pub last : List FolderCall
     pub gives_up : GivesUp (taken_of turn.refused turn.offer) put last
-    pub folders_are : turn.folders ≡ lends ++ first ++ last
+    pub folders_are : turn.folders ≡ a.lends ++ first ++ last
 
   -- the table refuses it
-  pub record IsRefused (q : Request) (want : Want) (lends : List FolderCall) (old : W) (turn : Turn) (new : W) : Type 0 where
+  pub record IsRefused (a : Attempt) (old : W) (turn : Turn) (new : W) : Type 0 where
     pub errno : ℤ
-    pub begins : table.begins old turn.kept q.unique want (Refused errno) new
-    pub says : Says turn.kept lends q.unique (Failed errno) new turn new
+    pub begins : table.begins old turn.kept a.q.unique a.want (Refused errno) new
+    pub says : Says turn.kept a.lends a.q.unique (Failed errno) new turn new
 
-  -- No other request is in flight, so none is in its way.
-  abbrev pub WorksOff : Option Place → Request → Want → (lends : List FolderCall) → (page : Paged) → W → Turn → W → Type 0
-  WorksOff None q want lends page old turn new = IsRefused q want lends old turn new ⊎ RunsRequest q want lends page old turn new
-  WorksOff (Some AtBegin) q want lends page old turn new = Says false lends q.unique (Failed ENOMEM) old turn new
-  WorksOff (Some AtScript) q want lends page old turn new = RunsRequest q want lends page old turn new
-  WorksOff (Some AtListing) q want lends page old turn new = RunsRequest q want lends page old turn new
-  WorksOff (Some AtReply) q want lends page old turn new = RunsRequest q want lends page old turn new
+  -- No other request is in flight, so none is in its way. It finds no memory to begin only where names are copied for it.
+  abbrev pub WorksOff : Option Place → Attempt → W → Turn → W → Type 0
+  WorksOff None a old turn new = IsRefused a old turn new ⊎ RunsRequest a old turn new
+  WorksOff (Some AtBegin) a old turn new = HasNames a.want × Says false a.lends a.q.unique (Failed ENOMEM) old turn new
+  WorksOff (Some AtScript) a old turn new = RunsRequest a old turn new
+  WorksOff (Some AtListing) a old turn new = RunsRequest a old turn new
+  WorksOff (Some AtReply) a old turn new = RunsRequest a old turn new
 
   -- a request that tells entries of an open folder, and begins
   abbrev pub TellsEntries : Request → (fh : ℕ) → FolderUse → W → Turn → W → Type 0
   TellsEntries q fh (ReadEntries offset size) old turn new =
-      (lends : List FolderCall) × (page : Paged) × LendsPage q.node fh offset size lends page × WorksOff turn.refused q (page_want q.node page.entries) lends page old turn new
+      (lends : List FolderCall) × (page : Paged) × LendsPage q.node fh offset size lends page × WorksOff turn.refused (attempt q (page_want q.node page.entries) lends page) old turn new
   TellsEntries q fh usage old turn new = ⊥
 
   abbrev pub Serves : Request → Intent → W → Turn → W → Type 0
   Serves q (intents.Reply meant) old turn new = Answers q.unique meant old turn new
-  Serves q (intents.Begin want) old turn new = WorksOff turn.refused q want [] no_page old turn new
+  Serves q (intents.Begin want) old turn new = WorksOff turn.refused (attempt q want [] no_page) old turn new
   Serves q (intents.File fh) old turn new = (file : Option OpenFile) × table.finds old fh file × Answers q.unique (file_reply q.node file) old turn new
   Serves q (intents.Folder fh usage) old turn new = UsesFolder q fh usage old turn new ⊎ TellsEntries q fh usage old turn new
   Serves q (intents.Forget lookups) old turn new = IsSilent turn × ForgetsAll table old lookups new

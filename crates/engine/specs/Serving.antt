@@ -1,5 +1,5 @@
 -- What a server does: a session as it ought to go, over a link, on a directory and open folders.
-use Rattle.std.specs.Prelude.{ℕ, ◌≡◌, ◌⊎◌, List, [], ◌∷◌, ◌++◌, map, Option, Some, None, option_to_list}
+use Rattle.std.specs.Prelude.{ℕ, ◌≡◌, ◌≢◌, ◌⊎◌, List, [], ◌∷◌, ◌++◌, map, Option, Some, None, option_to_list}
 use Rattle.paths.specs.Prefixes.{Names}
 use Rattle.backing.specs.Calls.{Asked, AskRemove}
 use Rattle.backing.specs.declared.call.Answer.{Answer}
@@ -7,6 +7,7 @@ use Rattle.wire.specs.Requests.{IsFramed}
 use Rattle.wire.specs.Stream.{IsPartial}
 use Rattle.wire.specs.Written.{reply_bytes}
 use Rattle.engine.specs.declared.ends.SessionEnd.{SessionEnd}
+use Rattle.engine.specs.declared.ends.SessionEnd.TheVariants as ends
 use Rattle.engine.specs.declared.links.Sent.{Sent}
 use Rattle.engine.specs.declared.served.Served.{Served}
 use Rattle.handles.specs.Calls.{FolderCall}
@@ -134,6 +135,12 @@ around link served at = record { link = link; served = served; at = at }
 
 -- ---- what serving promises
 
+-- A session ends for want of memory only where a piece was heard last, for which there may have been no room, or where a whole frame is
+-- dropped, of which there may have been no copy.
+abbrev pub LacksMemory : SessionEnd → List Step → (dropped : List (List ℕ)) → Type 0
+LacksMemory ends.Memory steps dropped = ((before : List Step) × (bytes : List ℕ) × (steps ≡ before ++ Hears (Piece bytes) ∷ [])) ⊎ (dropped ≢ [])
+LacksMemory end steps dropped = Unit {0}
+
 -- The client was served as it ought to be: the bytes are those that the link gave; its replies were offered, and the calls made, each once
 -- and in order.
 pub record IsClientRun {W L C D : Type 0} (table : Table W) (settings : Settings) (over : Traffic L) (does : Behaviour C D) (old new : Environment W L C D) (end : SessionEnd) : Type 0 where
@@ -145,6 +152,7 @@ pub record IsClientRun {W L C D : Type 0} (table : Table W) (settings : Settings
   pub stop : Option Stop
   pub stopped : stops_of steps ≡ option_to_list stop
   pub session : IsSession table settings old.at (heard_of steps) stop (turns_of steps) new.at end
+  pub memory : LacksMemory end steps session.dropped
 
 -- At the end of a session each file that is still hidden is removed by one call, whatever its answer. That there was no memory for the
 -- list of them is an input: then nothing is removed.

@@ -1,5 +1,5 @@
 -- Where the code of a session stands, and what it has done.
-use Rattle.std.specs.Prelude.{ℕ, ◌≡◌, ◌⊎◌, Bool, true, false, is_some, map, List, ◌++◌, Option, Some, None}
+use Rattle.std.specs.Prelude.{ℕ, ◌≡◌, ◌≢◌, ◌⊎◌, Bool, true, false, is_some, map, List, ◌++◌, Option, Some, None}
 use Rattle.backing.specs.declared.call.Child.{Child}
 use Rattle.errno.specs.declared.TheConstants.{ENOMEM}
 use Rattle.table_steps.specs.declared.data.Outcome.TheVariants.{Done}
@@ -7,10 +7,10 @@ use Rattle.table_steps.specs.declared.data.Outcome.TheVariants as outcomes
 use Rattle.ops.specs.declared.findings.Found.{Found}
 use Rattle.ops.specs.declared.findings.ScriptResult.{ScriptResult}
 use Rattle.ops.specs.declared.findings.ScriptResult.TheVariants as findings
-use Rattle.table_requests.specs.declared.data.Want.{Want}
 use Rattle.table_steps.specs.Answers.{Claim, Answer as Given}
 use Rattle.wire.specs.Faults.{IsFirstFault, fault_errno}
 use Rattle.wire.specs.Requests.{IsFramed, IsRequest, opcode_in, unique_in}
+use Rattle.wire.specs.NextFrame.{IsWhole}
 use Rattle.wire.specs.Stream.{BeginsBadly, IsPartial}
 use Rattle.wire.specs.Written.{reply_bytes}
 use Rattle.wire.specs.declared.fault.WireFault.{WireFault}
@@ -30,7 +30,7 @@ use Rattle.ops.specs.declared.intents.FolderUse.{FolderUse}
 use Rattle.ops.specs.declared.intents.FolderUse.TheVariants.{ReadEntries}
 use Rattle.ops.specs.Pages.{Paged, page_want}
 use Rattle.engine.specs.Links.{Piece, Ended, Broke}
-use Rattle.engine.specs.Reference.{At, Place, Turn, Offer, IsSaid, IsTold, IsTurn, Asks, HandlesFrame, Plays, Stores, WorksOff, agrees, ending, init_reply_of, negotiated_by, sent_in, taken_of}
+use Rattle.engine.specs.Reference.{At, AtBegin, Attempt, Place, Turn, Offer, IsSaid, IsTold, IsTurn, Asks, HandlesFrame, Plays, Stores, WorksOff, agrees, attempt, ending, init_reply_of, negotiated_by, sent_in, taken_of}
 use Rattle.engine.specs.Replies.{done_reply, refusal}
 use Rattle.ops.specs.Replies.{reply_to}
 use Rattle.ops.specs.Scripts.{End, Made}
@@ -96,7 +96,7 @@ module _ {W L C D : Type 0} (table : Table W) (settings : Settings) (over : Traf
     pub steps : List Step
     pub chain : Chain IsStep old steps new
 
--- why no further frame is worked off: none is there whole, or the session is over
+-- why no further frame is worked off: none is there whole, or the session is over; memory is wanted only for a frame that stands whole
 abbrev pub Stops : Option SessionEnd → Option SessionEnd → List ℕ → Type 0
 Stops (Some reached) end kept = end ≡ Some reached
 Stops None None kept = IsPartial kept
@@ -104,7 +104,7 @@ Stops None (Some (ends.Closed len)) kept = ⊥
 Stops None (Some ends.Destroyed) kept = ⊥
 Stops None (Some (ends.BadLength len)) kept = BeginsBadly kept len
 Stops None (Some ends.LinkBroken) kept = ⊥
-Stops None (Some ends.Memory) kept = Unit {0}
+Stops None (Some ends.Memory) kept = (len : ℕ) × IsWhole kept len
 Stops None (Some ends.NoWorkers) kept = ⊥
 
 -- the frames that stand whole are worked off
@@ -190,16 +190,6 @@ pub record Begun : Type 0 where
 abbrev pub begun : Request → Paged → Claim → Begun
 begun q page ticket = record { q = q; page = page; ticket = ticket }
 
--- a request that is to begin with a want, after these calls of the open folders, and is to tell this page
-pub record Attempt : Type 0 where
-  pub q : Request
-  pub want : Want
-  pub lends : List FolderCall
-  pub page : Paged
-
-abbrev pub attempt : Request → Want → List FolderCall → Paged → Attempt
-attempt q want lends page = record { q = q; want = want; lends = lends; page = page }
-
 -- where a reply goes, and where the table stands
 pub record LinkAndTable (L W : Type 0) : Type 0 where
   pub link : L
@@ -262,7 +252,12 @@ module _ {W L C D : Type 0} (rules : Rules W L) (does : Behaviour C D) where
     pub said : ReplyBody
     pub draws : Draws does old.served made more new.served
     pub offer : rules.sends old.link (reply_bytes (record { unique = a.q.unique; body = said })) sent new.link
-    pub works : (frame : List ℕ) → WorksOff rules.table rules.settings refused a.q a.want a.lends a.page old.at (record { frame = frame; refused = refused; kept = kept; made = made; folders = a.lends ++ more; offer = Some (record { reply = record { unique = a.q.unique; body = said }; sent = sent }); destroyed = false }) new.at
+    pub works : (frame : List ℕ) → WorksOff rules.table rules.settings refused a old.at (record { frame = frame; refused = refused; kept = kept; made = made; folders = a.lends ++ more; offer = Some (record { reply = record { unique = a.q.unique; body = said }; sent = sent }); destroyed = false }) new.at
+
+  -- the same of a want that has its names already: it was not for want of memory for these that it did not begin
+  pub record RunsOwned (a : Attempt) (old : Environment W L C D) (sent : Sent) (new : Environment W L C D) : Type 0 where
+    pub runs : RunsOut a old sent new
+    pub owned : runs.refused ≢ Some AtBegin
 
   -- a request that uses an open folder and is answered at once
   pub record IsUsedBy (q : Request) (used : HandleUse) (old : Environment W L C D) (sent : Sent) (new : Environment W L C D) : Type 0 where

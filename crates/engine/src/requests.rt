@@ -6,11 +6,11 @@ ghost use Rattle.wire.specs.Requests.{opcode_in, unique_in, IsFramed};
 ghost use Rattle.wire.specs.Written.{reply_bytes};
 ghost use Rattle.engine.specs.Classes.{is_unanswered};
 ghost use Rattle.handles.specs.Calls.{FolderCall};
-ghost use Rattle.engine.specs.Reference.{is_taken, ForgetsAll};
+ghost use Rattle.engine.specs.Reference.{attempt, is_taken, ForgetsAll};
 ghost use Rattle.wire.specs.Pairs.{pairs_in};
 ghost use Rattle.engine.specs.Replies.{done_reply, refusal, TakesMemory};
 ghost use Rattle.engine.specs.Serving.{around, does};
-ghost use Rattle.engine.specs.Walks.{attempt, begun, by_rules, RunsOut, IsAnswered, IsUntouched, RunsScript, WorkedOff};
+ghost use Rattle.engine.specs.Walks.{begun, by_rules, RunsOut, RunsOwned, IsAnswered, IsUntouched, RunsScript, WorkedOff};
 ghost use Rattle.ops.specs.Intents.{want_of};
 ghost use Rattle.ops.specs.Pages.{no_page};
 
@@ -187,7 +187,7 @@ impl Session {
     ) -> Option<Sent>
         requires free { R.steps.is_free (R.world table.old) }
         requires idle { R.steps.is_idle (R.world table.old) }
-        ensures some { IfSome result (λ sent. (lends : List FolderCall) → RunsOut (by_rules R.steps self.old.settings L.sends) (does C.gives D.keeps) (attempt request.entry want lends page.now)
+        ensures some { IfSome result (λ sent. (lends : List FolderCall) → RunsOwned (by_rules R.steps self.old.settings L.sends) (does C.gives D.keeps) (attempt request.entry want lends page.now)
             (around link.old served.old (R.world table.old)) sent (around link.new served.new (R.world table.new))) }
         ensures none { IfNone result (IsUntouched (around link.old served.old (R.world table.old)) (around link.new served.new (R.world table.new))) }
         ensures gains { R.steps.gains (R.world table.old) share.old (R.world table.new) share.new }

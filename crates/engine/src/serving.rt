@@ -1,6 +1,6 @@
 //! A whole session on one thread.
 
-ghost use Rattle.std.specs.Prelude.{◌≡◌, None, IfNone};
+ghost use Rattle.std.specs.Prelude.{◌≡◌, None, IfNone, IfOk, OnErr};
 ghost use Rattle.table_steps.specs.Kept.{world_of};
 ghost use Rattle.table.specs.Gains.{GainsInAll};
 ghost use Rattle.engine.specs.Serving.{around, does, traffic, IsClientRun, IsSessionRun, RemovesAll, RemovesLeft};
@@ -13,10 +13,11 @@ use crate::requests::Session;
 use crate::served::Served;
 use backing::{Call, Calls};
 use handles::Folders;
+use holds::Paths;
 use ledger::{Ledgers, Share};
 use ops::Settings;
 use paths::Path;
-use std::alloc::Global;
+use std::alloc::{AllocError, Global};
 use std::sync::Wait;
 use table::Table;
 use wire::{CutFault, Cutter};
@@ -115,14 +116,22 @@ fn remove_all<C: Calls>(calls: &mut C, paths: &[Path])
     }
 }
 
+/// Removes the files of a list, if there was memory for it.
+fn remove_listed<C: Calls>(calls: &mut C, listed: Result<Paths, AllocError>)
+    ensures listed { IfOk listed (λ paths. RemovesAll C.gives calls.old paths calls.new) }
+    ensures unlisted { OnErr listed (calls.new ≡ calls.old) }
+{
+    match listed {
+        Ok(paths) => remove_all(calls, paths.as_slice()),
+        Err(_) => {}
+    }
+}
+
 /// Removes the files that are still hidden, each by one call. Without memory for the list of them nothing is removed.
 pub fn remove_leftovers<T: Ledgers, C: Calls>(calls: &mut C, table: &Table<T>)
     ensures { RemovesLeft worlds C.gives calls.old (world_of table.now) calls.new }
 {
-    match table.leftover() {
-        Ok(paths) => remove_all(calls, paths.as_slice()),
-        Err(_) => {}
-    }
+    remove_listed(calls, table.leftover());
 }
 
 /// Serves a client on one thread until its session ends, and removes the files that are still hidden then. The share counts the

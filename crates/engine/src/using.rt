@@ -4,8 +4,9 @@ ghost use Rattle.std.specs.Prelude.{◌≡◌, List};
 ghost use Rattle.ops.specs.Pages.{page_want};
 ghost use Rattle.handles.specs.Calls.{FolderCall};
 ghost use Rattle.ops.specs.declared.intents.FolderUse.TheVariants.{ReadEntries};
+ghost use Rattle.engine.specs.Reference.{attempt};
 ghost use Rattle.engine.specs.Serving.{around, does};
-ghost use Rattle.engine.specs.Walks.{attempt, by_rules, RunsOut, UsesOut};
+ghost use Rattle.engine.specs.Walks.{by_rules, RunsOut, UsesOut};
 
 use crate::entries::{Lends, PageAsk, lend_page};
 use crate::folders::use_folder;

@@ -1,12 +1,6 @@
-use Rattle.std.proofs.Common.{Some}
+use Rattle.table_steps.specs.Kept.{world_of}
+use Rattle.engine.proofs.Removing.{left_removed}
 use Rattle.engine.proofs.serving.remove_leftovers.Goals as goal
 
-pub returns-in-Ok : goal.returns-in-Ok
-returns-in-Ok g c =
-    let removed = c.remove_all.ensures in
-    record {
-      listed = Some c.in-Ok.paths;
-      removals = removed.removals;
-      removes = (c.in-Ok.ensures, rw c.as_slice.ensures at removed.asked);
-      makes = removed.makes;
-    }
+pub returns : goal.returns
+returns g c = left_removed g.C.Calls.gives (world_of c.args.table.now) c.args.calls.now c.remove_listed.new.calls c.leftover.result c.leftover.ensures c.remove_listed.ensures.listed c.remove_listed.ensures.unlisted

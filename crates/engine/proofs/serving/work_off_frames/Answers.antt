@@ -5,7 +5,7 @@ use Rattle.table.proofs.Gaining.{gains_totals, in_all_on}
 use Rattle.engine.specs.Serving.{around, does, traffic}
 use Rattle.engine.specs.Tables.{worlds}
 use Rattle.engine.specs.Walks.{side, stand}
-use Rattle.engine.proofs.Walking.{bad_stop, frame_on, walks_none}
+use Rattle.engine.proofs.Walking.{bad_stop, frame_on, short_stop, walks_none}
 use Rattle.engine.proofs.serving.work_off_frames.Goals as goal
 
 pub loop-frame-init : goal.loop-frame-init
@@ -58,3 +58,12 @@ returns-in-Err-BadLength-clause-drains g c =
     (side (around c.args.link.now c.args.served.now (stand (world_of c.args.table.now) c.args.session.now.agreed)) c.args.cutter.now.kept)
     (around c.loop-frame.link c.loop-frame.served (stand (world_of c.loop-frame.table) c.loop-frame.session.agreed)) c.loop-frame.cutter.kept c.next.new.self.kept arm.len
     c.loop-frame.invariant.walks (sym (ap (λ (k : Cutting). k.kept) stopped)) ((arm.ensures.bad arm.len).0 (ap Err arm.field-0-is))
+
+pub returns-in-Err-Memory-clause-drains : goal.returns-in-Err-Memory-clause-drains
+returns-in-Err-Memory-clause-drains g c =
+    let arm = c.in-Err-Memory in
+    let is = ap Err arm.field-0-is in
+    short_stop worlds c.args.session.now.settings (traffic g.L.LinkIn.receives g.L.LinkOut.sends) (does g.C.Calls.gives g.D.Folders.keeps)
+    (side (around c.args.link.now c.args.served.now (stand (world_of c.args.table.now) c.args.session.now.agreed)) c.args.cutter.now.kept)
+    (around c.loop-frame.link c.loop-frame.served (stand (world_of c.loop-frame.table) c.loop-frame.session.agreed)) c.loop-frame.cutter.kept c.next.new.self.kept
+    c.loop-frame.invariant.walks (sym (ap (λ (k : Cutting). k.kept) (arm.ensures.memory is))) (arm.ensures.asked is)

@@ -1,10 +1,18 @@
+use Rattle.std.proofs.Common.{refl}
 use Rattle.ops.specs.Pages.{page_want}
 use Rattle.engine.specs.Serving.{around, does}
-use Rattle.engine.specs.Walks.{attempt, by_rules}
-use Rattle.engine.proofs.Waiting.{unbegun_after}
+use Rattle.engine.specs.Reference.{attempt}
+use Rattle.engine.specs.Walks.{by_rules}
+use Rattle.engine.proofs.Waiting.{runs_after, unbegun_after}
 use Rattle.engine.proofs.requests.Session.run_page.Goals as goal
 
 pub returns-in-Err-clause-runs_out : goal.returns-in-Err-clause-runs_out
 returns-in-Err-clause-runs_out g c lends =
     unbegun_after (by_rules g.R.Reach.steps c.args.self.now.settings g.L.Outlet.sends) (does g.C.Calls.gives g.D.Folders.keeps) (attempt c.args.request (page_want c.args.request.node c.args.page.now.entries) lends c.args.page.now)
-    (around c.args.link.now c.args.served.now (g.R.Reach.world c.args.table.now)) (around c.loop.link c.loop.served (g.R.Reach.world c.loop.table)) c.refuse.new.link c.refuse.result c.loop.invariant.untouched c.refuse.ensures
+    (around c.args.link.now c.args.served.now (g.R.Reach.world c.args.table.now)) (around c.loop.link c.loop.served (g.R.Reach.world c.loop.table)) c.refuse.new.link c.refuse.result tt c.loop.invariant.untouched c.refuse.ensures
+
+pub returns-in-Some-run_request-clause-runs_out : goal.returns-in-Some-run_request-clause-runs_out
+returns-in-Some-run_request-clause-runs_out g c lends =
+    runs_after g.R.Reach.steps g.L.Outlet.sends (does g.C.Calls.gives g.D.Folders.keeps) c.args.self.now.settings c.loop.self.settings c.args.request (page_want c.args.request.node c.args.page.now.entries) c.in-Ok.want lends c.args.page.now c.args.page.now
+    (around c.args.link.now c.args.served.now (g.R.Reach.world c.args.table.now)) (around c.loop.link c.loop.served (g.R.Reach.world c.loop.table)) (around c.run_request.new.link c.run_request.new.served (g.R.Reach.world c.run_request.new.table)) c.in-Some-run_request.sent
+    c.loop.invariant.settings c.in-Ok.ensures refl c.loop.invariant.untouched (c.in-Some-run_request.ensures.some lends)

@@ -1,6 +1,7 @@
 use Rattle.std.proofs.Common.{refl, subst, sym, to_z, of_z, w32}
 use Rattle.engine.specs.Serving.{around, does}
-use Rattle.engine.specs.Walks.{attempt, by_rules}
+use Rattle.engine.specs.Reference.{attempt}
+use Rattle.engine.specs.Walks.{by_rules}
 use Rattle.engine.proofs.Turns.{goes_on, table_refused}
 use Rattle.engine.proofs.requests.Session.run_request.Goals as goal
 
