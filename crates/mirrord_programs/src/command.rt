@@ -145,6 +145,15 @@ fn with_limits<'a>(alloc: Global, command: Command<'a>) -> Result<Command<'a>, A
         .arg(number_option(alloc, "requests", 1, 65_536, "64", REQUESTS))
 }
 
+/// A command that is also told how far the table may grow.
+fn with_bounds<'a>(alloc: Global, command: Command<'a>) -> Result<Command<'a>, AllocError>
+    ensures app { IfOk result (λ c. app_of c ≡ bounded (limited (app_of command.entry))) }
+    ensures local { (fields_of command.entry).has_globals ≡ false → IfOk result (λ c. (fields_of c).has_globals ≡ false) }
+{
+    let limited = with_limits(alloc, command)?;
+    with_postings(alloc, limited)
+}
+
 fn hex_command<'a>(alloc: Global) -> Result<Command<'a>, AllocError>
     ensures app { IfOk result (λ c. app_of c ≡ hex_app) }
     ensures local { IfOk result (λ c. (fields_of c).has_globals ≡ false) }
@@ -185,8 +194,7 @@ fn pipe_command<'a>(alloc: Global) -> Result<Command<'a>, AllocError>
         .after_help(PIPE_EXAMPLE)
         .arg(text_option(alloc, "root", "DIR", ROOT))?;
     let owned = with_owner(alloc, rooted)?;
-    let limited = with_limits(alloc, owned)?;
-    with_postings(alloc, limited)
+    with_bounds(alloc, owned)
 }
 
 fn serve_command<'a>(alloc: Global) -> Result<Command<'a>, AllocError>
@@ -200,8 +208,7 @@ fn serve_command<'a>(alloc: Global) -> Result<Command<'a>, AllocError>
         .arg(text_option(alloc, "socket", "PATH", SOCKET))?;
     let staffed = with_workers(alloc, placed)?;
     let owned = with_owner(alloc, staffed)?;
-    let limited = with_limits(alloc, owned)?;
-    with_postings(alloc, limited)
+    with_bounds(alloc, owned)
 }
 
 /// The program without its subcommands.
