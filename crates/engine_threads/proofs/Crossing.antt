@@ -25,9 +25,21 @@ use Rattle.engine_workers.proofs.halls.Hall.TheSendSync as hall
 use Rattle.engine_workers.specs.contracts.halls.Hall as Hall
 use Rattle.engine_threads.specs.contracts.places.Common as Common
 use Rattle.engine_threads.specs.contracts.working.Staff as Staff
+use Rattle.engine_threads.specs.contracts.working.WorkerEnd as WorkerEnd
+use Rattle.engine_jobs.specs.contracts.jobs.Job as Job
+use Rattle.engine_queues.proofs.passes.Passes.TheSendSync as passes
+use Rattle.engine_queues.specs.contracts.passes.Passes as Passes
+use Rattle.engine_workers.specs.contracts.replies.Reply as Reply
 use Rattle.ledger.specs.declared.ledgers.Ledgers.{Ghosts}
 
 module _ (T C : RattleType) (g : Ghosts T.Denot) where
+  -- what a worker leaves has a snapshot, so Rattle makes no such lemma of its own
+  pub worker_end_send : IsSend T → IsSync T → IsSend C → IsSend (WorkerEnd.the_row T C g)
+  worker_end_send s y c =
+      let a : IsSend (Kept.the_field T g).row = search (kept.the_field_send T g, sendable) in
+      let b : IsSend (Passes.the_field Job.the_row Reply.the_row).row = search (passes.the_field_send Job.the_row Reply.the_row, sendable) in
+      search (heap.crosses, sendable) depth 20
+
   pub staff_send : IsSend T → IsSync T → IsSend C → IsSend (Staff.the_row T C g)
   staff_send s y c = let a : IsSend (Kept.the_field T g).row = search (kept.the_field_send T g, sendable) in let b = worker_send in search sendable depth 20
 

@@ -1,8 +1,9 @@
 -- Lists that are taken apart in step.
-use Rattle.std.proofs.Common.{◌≡◌, ℕ, zero, suc, ◌+◌, List, [], ◌∷◌, ◌++◌, length, map, refl, sym, ap, ◌∙◌, subst, append_assoc, append-nil, arith}
+use Rattle.std.proofs.Common.{◌≡◌, ℕ, zero, suc, ◌+◌, List, [], ◌∷◌, ◌++◌, length, map, Option, Some, None, IfSome, refl, sym, ap, ◌∙◌, subst, append_assoc, append-nil, arith}
 use Rattle.std.specs.List.{All, range_with_len}
 use Rattle.std.proofs.lemmas.List.{map-append}
-use Rattle.std.proofs.lemmas.List.Elements.{All-head, All-push, All-rest, All-same}
+use Rattle.ledger.specs.Shares.{Part, nothing}
+use Rattle.std.proofs.lemmas.List.Elements.{All-cons, All-head, All-nil, All-push, All-rest, All-same}
 
 -- the last of a list that each element is made of
 pub map_last : {X V : Type 0} (f : X → V) (xs : List X) (x : X) → map f (xs ++ x ∷ []) ≡ map f xs ++ f x ∷ []
@@ -45,3 +46,13 @@ module _ {X : Type 0} (P : X → Type 0) where
 pub range_more : (a n : ℕ) → range_with_len a (suc n) ≡ range_with_len a n ++ (a + n) ∷ []
 range_more a zero = let e : a ≡ a + 0 = omega arith in ap (λ k. k ∷ []) e
 range_more a (suc n) = let e : (a + 1) + n ≡ a + suc n = omega arith in ap (λ l. a ∷ l) (range_more (a + 1) n ∙ ap (λ k. range_with_len (a + 1) n ++ k ∷ []) e)
+
+-- what is known of a part of what is there
+pub some_by : {A B : Type 0} (Q : B → Type 0) (f : A → B) (b : B) (o : Option A) → IfSome o (λ a. f a ≡ b) → Q b → IfSome o (λ a. Q (f a))
+some_by Q f b None h q = tt
+some_by Q f b (Some a) h q = subst Q (sym h) q
+
+-- nothing stands on new shares
+pub none_posted : (indices : List ℕ) → All (λ (p : Part). p.totals ≡ nothing) (map (λ (i : ℕ). let p : Part = record { index = i; totals = nothing } in p) indices)
+none_posted [] = All-nil (λ (p : Part). p.totals ≡ nothing)
+none_posted (i ∷ indices) = All-cons (λ (p : Part). p.totals ≡ nothing) (record { index = i; totals = nothing }) (map (λ (k : ℕ). let p : Part = record { index = k; totals = nothing } in p) indices) refl (none_posted indices)

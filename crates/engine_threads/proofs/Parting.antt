@@ -14,6 +14,9 @@ use Rattle.engine_threads.specs.Worked.{AnswersFarewell, BidsFarewell, IsOver, W
 use Rattle.engine_threads.specs.declared.working.WorkerEnd.{WorkerEnd}
 use Rattle.engine_threads.proofs.Lists.{map_last, range_more}
 
+abbrev Seated : JobQueue → ReplyQueue → Passes Job Reply → Type 0
+Seated jobs replies p = IsSeatAt jobs p.job_pass × IsSeatAt replies p.reply_pass
+
 module _ {T C D : Type 0} (jobs : JobQueue) (replies : ReplyQueue) (does : Behaviour C D) (settings : Settings) where
   abbrev pub Ends : WorkerEnd T C → Type 0
   Ends e = IsOver jobs replies does settings e.given.value e.passes e.calls e.kept.share
@@ -28,15 +31,12 @@ module _ {T C D : Type 0} (jobs : JobQueue) (replies : ReplyQueue) (does : Behav
   each_worked [] own h = (own, refl)
   each_worked (e ∷ es) own h = ((e.calls, e.kept.share, (All-head Ends e es h).worked), each_worked es own (All-tail Ends e es h))
 
-  abbrev Seated : Passes Job Reply → Type 0
-  Seated p = IsSeatAt jobs p.job_pass × IsSeatAt replies p.reply_pass
-
-  are_seated : (es : List (WorkerEnd T C)) → All Ends es → All Seated (passes_of es)
-  are_seated [] h = All-nil Seated
-  are_seated (e ∷ es) h = let one = All-head Ends e es h in All-cons Seated e.passes (passes_of es) (one.job_seat, one.reply_seat) (are_seated es (All-tail Ends e es h))
+  are_seated : (es : List (WorkerEnd T C)) → All Ends es → All (Seated jobs replies) (passes_of es)
+  are_seated [] h = All-nil (Seated jobs replies)
+  are_seated (e ∷ es) h = let one = All-head Ends e es h in All-cons (Seated jobs replies) e.passes (passes_of es) (one.job_seat, one.reply_seat) (are_seated es (All-tail Ends e es h))
 
   pub all_seated : (es : List (WorkerEnd T C)) (own : Passes Job Reply) → All Ends es → IsSeatAt jobs own.job_pass → IsSeatAt replies own.reply_pass → AreSeated (λ p. IsSeatAt jobs p) (λ p. IsSeatAt replies p) (passes_of es ++ own ∷ [])
-  all_seated es own h j r = All-push Seated (passes_of es) own (are_seated es h) (j, r)
+  all_seated es own h j r = All-push (Seated jobs replies) (passes_of es) own (are_seated es h) (j, r)
 
   numbers_in : (es : List (WorkerEnd T C)) → numbers_of (passes_of es) ≡ map (λ (e : WorkerEnd T C). e.passes.number) es
   numbers_in [] = refl

@@ -55,18 +55,21 @@ pub fn cut_passes(
 fn hire(
     alloc: Global,
     settings: Settings,
+    jobs: &JobSender<Job>,
     work: &JobReceiver<Job>,
     replies: &ReplySender<Reply>,
     passes: Passes<Job, Reply>,
 ) -> Option<Worker>
-    requires seats { IsSeatAt (receives_on work.now) passes.job_pass × IsSeatAt (sends_on replies.now) passes.reply_pass }
+    requires ring { receives_on work.now ≡ sends_on jobs.now }
+    requires seats { IsSeatAt (sends_on jobs.now) passes.job_pass × IsSeatAt (sends_on replies.now) passes.reply_pass }
     requires unused { AreUnused passes }
-    ensures hired { IfSome result (λ w. IsHired (receives_on work.now) (sends_on replies.now) settings w) }
+    ensures hired { IfSome result (IsHired (sends_on jobs.now) (sends_on replies.now) settings) }
     ensures number { IfSome result (λ w. w.number ≡ passes.number) }
 {
-    let jobs = work.try_clone().ok()?;
+    let _ring = jobs;
+    let work = work.try_clone().ok()?;
     let replies = replies.try_clone().ok()?;
-    Some(Worker::new(alloc, settings, jobs, replies, passes))
+    Some(Worker::new(alloc, settings, work, replies, passes))
 }
 
 /// So many workers, by their numbers.
@@ -100,7 +103,7 @@ fn hire_all(
     let mut workers = Vec::with_capacity(alloc, 4).ok()?;
     for number in 0..count {
         let passes = cut_passes(jobs, replies, read, written, number);
-        workers.push_reserved(hire(alloc, settings, work, replies, passes)?);
+        workers.push_reserved(hire(alloc, settings, jobs, work, replies, passes)?);
     }
     Some(workers)
 }

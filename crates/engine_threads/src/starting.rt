@@ -57,7 +57,7 @@ fn start_one<
     settings: Settings,
     one: Staff<T, C>,
 ) -> Option<Working<T, C>>
-    requires { IsStaffed (sends_on jobs.now) (sends_on replies.now) settings one.worker one.kept.share }
+    requires staffed { IsStaffed (sends_on jobs.now) (sends_on replies.now) settings one.worker one.kept.share }
     ensures rings { IfSome result (λ h. (sends_on h.promise.jobs.value ≡ sends_on jobs.now) × (sends_on h.promise.replies.value ≡ sends_on replies.now) × (h.promise.settings ≡ settings)) }
     ensures same { IfSome result (λ h. (h.promise.number ≡ one.worker.number) × (h.promise.calls.value ≡ one.calls)) }
 {

@@ -111,7 +111,7 @@ pub fn work_all<
     C: Calls + Drop,
     S: Source<I> + Sink<O>,
 >(common: Shared<H, T, I, O, S>, staff: Staff<T, C>) -> WorkerEnd<T, C>
-    requires { IsStaffed (receives_on staff.worker.jobs) (sends_on staff.worker.replies) staff.worker.session.settings staff.worker staff.kept.share }
+    requires staffed { IsStaffed (receives_on staff.worker.jobs) (sends_on staff.worker.replies) staff.worker.session.settings staff.worker staff.kept.share }
     ensures number { result.passes.number ≡ staff.worker.number }
     ensures given { result.given.value ≡ staff.calls }
     ensures over { IsOver (receives_on staff.worker.jobs) (sends_on staff.worker.replies) (does_shared C.gives) staff.worker.session.settings staff.calls result.passes result.calls result.kept.share }

@@ -8,7 +8,7 @@ use Rattle.engine_workers.specs.declared.replies.Reply.{Reply}
 use Rattle.engine_threads.proofs.ending.end_all.Goals as goal
 
 pub gather-taken-requires-clause-numbers : goal.gather-taken-requires-clause-numbers
-gather-taken-requires-clause-numbers g c = c.take_leave.ensures.numbers ∙ ap (range_with_len 0) (sym c.take_leave.ensures.len)
+gather-taken-requires-clause-numbers g c = c.take_leave-passes.ensures.numbers ∙ ap (range_with_len 0) (sym c.take_leave-passes.ensures.len)
 
 pub returns-clause-shared : goal.returns-clause-shared
 returns-clause-shared g c =

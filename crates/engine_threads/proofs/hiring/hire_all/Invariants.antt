@@ -1,8 +1,9 @@
 use Rattle.std.specs.Prelude.{◌≡◌, ◌+◌, ◌≤◌, [], map, vec_len, vec_capacity}
 use Rattle.std.specs.List.{All, range_with_len}
 use Rattle.crossbeam_channel.specs.Claims.{view, IsSeatAt}
-use Rattle.crossbeam_channel.specs.Ends.{sends_on, receives_on}
+use Rattle.crossbeam_channel.specs.Ends.{sends_on}
 use Rattle.engine_queues.specs.Letters.{writer}
+use Rattle.engine_threads.specs.Worked.{IsHired}
 use Rattle.engine_threads.proofs.hiring.hire_all.Given as goal
 
 abbrev pub invariant-loop-number : goal.invariant-loop-number
@@ -13,7 +14,7 @@ invariant-loop-number l = record {
   taken : (view l.read).taken ≡ (view l.fn.read).taken;
   written : IsSeatAt (sends_on l.replies) l.written;
   writes : view l.written ≡ writer [] l.number [];
-  hired : All (λ w. (receives_on w.jobs ≡ sends_on l.jobs) × (sends_on w.replies ≡ sends_on l.replies)) l.workers.items;
+  hired : All (IsHired (sends_on l.jobs) (sends_on l.replies) l.settings) l.workers.items;
   numbers : map (λ w. w.number) l.workers.items ≡ range_with_len 0 l.number;
   len : vec_len l.workers ≡ l.number;
   room : 4 ≤ vec_capacity l.workers;

@@ -10,9 +10,9 @@ abbrev pub invariant-loop-worker : goal.invariant-loop-worker
 invariant-loop-worker g l =
     let rest = into_iter_items l.worker-iterator in
     record {
-      hired : All (IsHired (sends_on l.jobs) (sends_on l.replies) l.settings) rest;
+      hired : All (IsHired (sends_on l.jobs) (sends_on l.replies) l.fn.settings) rest;
       shares : All (λ p. p.totals ≡ nothing) l.shares.shares.items;
-      staffed : All (λ s. IsStaffed (sends_on l.jobs) (sends_on l.replies) l.settings s.worker s.kept.share) l.staff.items;
+      staffed : All (λ s. IsStaffed (sends_on l.jobs) (sends_on l.replies) l.fn.settings s.worker s.kept.share) l.staff.items;
       numbers : map (λ s. s.worker.number) l.staff.items ++ map (λ w. w.number) rest ≡ map (λ w. w.number) l.fn.workers.items;
       given : map (λ s. s.calls) l.staff.items ++ into_iter_items l.left ≡ l.fn.trees.items;
       each : length (into_iter_items l.left) ≡ length rest;

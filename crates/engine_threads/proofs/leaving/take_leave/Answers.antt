@@ -1,4 +1,4 @@
-use Rattle.std.proofs.Common.{◌≡◌, ◌+◌, ℕ, List, Option, ◌∷◌, ◌++◌, [], sym, ap, ◌∙◌, subst, vec_len, arith}
+use Rattle.std.proofs.Common.{◌≡◌, ◌+◌, ℕ, List, Option, length, ◌∷◌, ◌++◌, [], sym, ap, ◌∙◌, subst, vec_len, arith}
 use Rattle.std.specs.List.{range_with_len}
 use Rattle.std.specs.Prelude.{option_to_list}
 use Rattle.crossbeam_channel.specs.Claims.{IsSeatAt}
@@ -32,7 +32,7 @@ returns g c =
     ∙ (ap (λ (ps : List Pass). ps ++ last.passes ∷ []) c.part_all-passes.ensures.passes ∙ sym (passes_in jobs replies does settings ends rest last parted))) in
     let whole = sym items in
     record {
-      len = (let a = c.push_reserved-2.ensures.len in let b = c.push_reserved.ensures.len in let d = c.part_all-passes.ensures.len in let e = c.pop.ensures.len in omega arith);
+      len = (let a = c.push_reserved-2.ensures.len in let b = c.push_reserved.ensures.len in let d = c.part_all-passes.ensures.len in let e = c.pop.ensures.len in let one : length (option_to_list c.pop.result) ≡ 1 = ap (λ (o : Option End). length (option_to_list o)) c.in-Some.is in omega arith);
       numbers = subst (λ (ps : List Pass). numbers_of ps ≡ range_with_len 0 (vec_len c.args.ends + 1)) whole (all_numbered jobs replies does settings ends own (vec_len c.args.ends) c.requires.numbers (said.number ∙ c.requires.number));
       seats = subst (λ (ps : List Pass). AreSeated (λ p. IsSeatAt jobs p) (λ p. IsSeatAt replies p) ps) whole (all_seated jobs replies does settings ends own c.requires.over (subst (λ (q : JobQueue). IsSeatAt q own.job_pass) c.requires.work said.seats.0) (subst (λ (q : ReplyQueue). IsSeatAt q own.reply_pass) c.requires.ring said.seats.1));
       worked = subst (λ (ps : List Pass). WorkedEach does settings (given_of jobs replies does settings ends) ps) whole (each_worked jobs replies does settings ends own c.requires.over);

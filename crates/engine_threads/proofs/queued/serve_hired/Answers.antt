@@ -1,16 +1,23 @@
-use Rattle.std.proofs.Common.{◌≡◌, ◌+◌, ℕ, List, Some, IfSome, subst, subst₂, vec_len}
-use Rattle.std.specs.List.{range_with_len}
+use Rattle.std.proofs.Common.{◌≡◌, ◌+◌, ℕ, List, Some, IfSome, sym, subst, subst₂, vec_len}
+use Rattle.std.specs.List.{All, range_with_len}
 use Rattle.crossbeam_channel.specs.Claims.{view}
+use Rattle.crossbeam_channel.specs.Ends.{sends_on}
 use Rattle.ops.specs.declared.replies.Settings.{Settings}
 use Rattle.engine_queues.specs.Gathered.{numbers_of}
 use Rattle.engine_roles.specs.Writes.{HasWrittenAll}
-use Rattle.engine_threads.specs.Worked.{BidsFarewell, WorkedEach, does_shared}
+use Rattle.engine_threads.specs.Worked.{BidsFarewell, IsStaffed, WorkedEach, does_shared}
+use Rattle.engine_threads.specs.declared.working.Staff.{Staff}
 use Rattle.engine_threads.proofs.queued.serve_hired.Goals as goal
 
 pub invariant_of-parts : goal.invariant_of-parts
 invariant_of-parts g c =
     let r = c.in_ok-parts.parts.reader in
     record { seated = r.seated; some_part = r.some_part; takes_none = r.takes_none; counted = r.counted; numbered = r.numbered }
+
+pub serve_staffed-requires-clause-staff : goal.serve_staffed-requires-clause-staff
+serve_staffed-requires-clause-staff g c κs within =
+    let One : Type 0 = Staff g.row.T.Denot g.row.C.Denot in
+    subst (λ (s : Settings). All (λ (v : One). IsStaffed (sends_on c.args.jobs.now) (sends_on c.args.replies.now) s v.worker v.kept.share) c.in_ok-staff.staff.items) (sym c.in_ok-room.ensures.settings) c.in_ok-staff.ensures.staffed
 
 pub returns-clause-taken : goal.returns-clause-taken
 returns-clause-taken g c =

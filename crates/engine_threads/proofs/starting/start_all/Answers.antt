@@ -9,8 +9,8 @@ use Rattle.engine_threads.specs.declared.working.WorkerEnd.{WorkerEnd}
 use Rattle.engine_threads.proofs.Lists.{all_made, first_of, one_more, others_of}
 use Rattle.engine_threads.proofs.starting.start_all.Goals as goal
 
-pub start_one-requires : goal.start_one-requires
-start_one-requires g c κs within =
+pub start_one-requires-clause-staffed : goal.start_one-requires-clause-staffed
+start_one-requires-clause-staffed g c κs within =
     let One : Type 0 = Staff g.row.T.Denot g.row.C.Denot in
     let P : One → Type 0 = λ (v : One). IsStaffed (sends_on c.args.jobs.now) (sends_on c.args.replies.now) c.args.settings v.worker v.kept.share in
     first_of P c.in-Some.one (into_iter_items c.loop-one.one-iterator) (into_iter_items c.next.new.self) c.in-Some.ensures.steps.0 c.loop-one.invariant.staffed

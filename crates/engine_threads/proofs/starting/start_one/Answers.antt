@@ -1,6 +1,6 @@
 use denote.Param.{param}
 use denote.Param.Send.{IsSend, IsSync, sendable}
-use Rattle.engine_threads.proofs.Crossing.{shared_send, staff_send}
+use Rattle.engine_threads.proofs.Crossing.{shared_send, staff_send, worker_end_send}
 use Rattle.engine_threads.proofs.starting.start_one.Goals as goal
 
 pub spawn_with-requires-send-F : goal.spawn_with-requires-send-F
@@ -22,4 +22,14 @@ spawn_with-requires-send-F g c κs within =
     let m : IsSend S = search sendable in
     let shared = shared_send H T I O S g.I.LinkIn g.O.LinkOut g.S.Source g.S.Sink g.T.Ledgers h k s y d e m in
     let staff = staff_send T C g.T.Ledgers s y f in
+    search sendable depth 20
+
+pub spawn_with-requires-send-T : goal.spawn_with-requires-send-T
+spawn_with-requires-send-T g c κs within =
+    let T = param 1 g.row.T in
+    let C = param 4 g.row.C in
+    let s : IsSend T = search sendable in
+    let y : IsSync T = search sendable in
+    let f : IsSend C = search sendable in
+    let end = worker_end_send T C g.T.Ledgers s y f in
     search sendable depth 20

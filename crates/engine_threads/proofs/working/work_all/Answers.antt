@@ -8,7 +8,7 @@ use Rattle.engine_threads.proofs.working.work_all.Goals.{in-None, in-Some+else-r
 
 pub loop-init : goal.loop-init
 loop-init g c =
-    let r = c.requires in
+    let r = c.requires.staffed in
     let s = c.args.staff in
     let w = s.worker in
     record {

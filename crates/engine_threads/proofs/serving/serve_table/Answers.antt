@@ -1,0 +1,16 @@
+use Rattle.std.proofs.Common.{◌≡◌, ◌∙◌, List, ap, vec_len}
+use Rattle.std.specs.List.{range_with_len}
+use Rattle.std.proofs.lemmas.List.Elements.{All-same}
+use Rattle.ledger.specs.Shares.{Part, nothing}
+use Rattle.engine_threads.specs.Worked.{WorkedEach, does_shared}
+use Rattle.engine_threads.specs.declared.ended.Account.{Account}
+use Rattle.engine_threads.specs.declared.ended.Passed.{Passed}
+use Rattle.engine_threads.proofs.Lists.{none_posted, some_by}
+use Rattle.engine_threads.proofs.serving.serve_table.Goals as goal
+
+pub serve_queued-requires-clause-shares : goal.serve_queued-requires-clause-shares
+serve_queued-requires-clause-shares g c κs within = All-same (λ (p : Part). p.totals ≡ nothing) _ _ (ap (λ v. v.items) c.new-shares.ensures ∙ c.in_ok-table.ensures.shares) (none_posted (range_with_len 0 (vec_len c.args.trees + 1)))
+
+pub returns-clause-worked : goal.returns-clause-worked
+returns-clause-worked g c =
+    some_by (λ (p : Passed). WorkedEach (does_shared g.C.Calls.gives) c.args.settings c.args.trees.items p.passes.value.items) (λ (a : Account). a.passed) c.in_ok-over.over.passed c.conclude.result c.conclude.ensures.passed c.in_ok-over.ensures.worked
