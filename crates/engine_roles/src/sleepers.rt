@@ -56,12 +56,14 @@ impl Sleepers {
         }
     }
 
-    /// Sleeps until another thread wakes this one. One thread at a time sleeps for at most a millisecond where that is asked for.
-    pub fn sleep<H: Wait>(&self, rt: &H, number: usize, is_watch_wanted: bool) {
+    /// Sleeps until another thread wakes this one. One thread at a time sleeps for at most a millisecond where that is asked for: whether
+    /// this was the one is the result.
+    pub fn sleep<H: Wait>(&self, rt: &H, number: usize, is_watch_wanted: bool) -> bool {
         let Some(place) = self.places.get(number) else {
-            return;
+            return false;
         };
-        if is_watch_wanted && !self.is_watched.swap(true, Ordering::SeqCst) {
+        let watches = is_watch_wanted && !self.is_watched.swap(true, Ordering::SeqCst);
+        if watches {
             place
                 .parker
                 .park_timeout(rt, Duration::from_millis(NAP_MILLIS));
@@ -70,6 +72,7 @@ impl Sleepers {
             place.parker.park(rt);
         }
         place.is_asleep.store(false, Ordering::SeqCst);
+        watches
     }
 
     /// Whether a thread sleeps that looks again by itself.

@@ -19,9 +19,16 @@ pub struct Signs {
     pub is_over: AtomicBool,
     /// How many receives have ended.
     pub receives: AtomicU64,
-    /// How many jobs are queued or worked on.
-    pub unfinished: AtomicU64,
+    /// How many jobs were queued.
+    pub queued: AtomicU64,
+    /// How many of them were worked on.
+    pub worked: AtomicU64,
+    /// Whether jobs take long: few were worked on while a thread watched, though there were some.
+    pub is_slow: AtomicBool,
 }
+
+/// Fewer jobs than this that are worked on in the millisecond of a thread that watches are few.
+const FEW: u64 = 16;
 
 impl Signs {
     pub fn new() -> Signs {
@@ -30,7 +37,9 @@ impl Signs {
             is_broken: AtomicBool::new(false),
             is_over: AtomicBool::new(false),
             receives: AtomicU64::new(0),
-            unfinished: AtomicU64::new(0),
+            queued: AtomicU64::new(0),
+            worked: AtomicU64::new(0),
+            is_slow: AtomicBool::new(false),
         }
     }
 
@@ -48,19 +57,35 @@ impl Signs {
 
     /// A receive has ended, which queued so many jobs.
     pub fn tell_received(&self, queued: u64) {
-        self.unfinished.fetch_add(queued, Ordering::SeqCst);
+        self.queued.fetch_add(queued, Ordering::SeqCst);
         self.receives.fetch_add(1, Ordering::SeqCst);
     }
 
     /// A job was worked on, and its reply may be there.
     pub fn tell_worked(&self) {
-        self.unfinished.fetch_sub(1, Ordering::SeqCst);
+        self.worked.fetch_add(1, Ordering::SeqCst);
         self.tell_ready();
+    }
+
+    /// How many jobs were worked on.
+    pub fn worked(&self) -> u64 {
+        self.worked.load(Ordering::SeqCst)
     }
 
     /// Whether jobs are queued or worked on.
     pub fn is_busy(&self) -> bool {
-        self.unfinished.load(Ordering::SeqCst) != 0
+        self.queued.load(Ordering::SeqCst) != self.worked()
+    }
+
+    /// A thread has watched, before which so many jobs were worked on.
+    pub fn tell_watched(&self, before: u64) {
+        let is_slow = self.is_busy() && self.worked().wrapping_sub(before) < FEW;
+        self.is_slow.store(is_slow, Ordering::SeqCst);
+    }
+
+    /// Whether jobs take long.
+    pub fn is_slow(&self) -> bool {
+        self.is_slow.load(Ordering::SeqCst)
     }
 }
 

@@ -75,9 +75,9 @@ pub fn read<
     true
 }
 
-/// Wakes those who may have something to do after a receive: all, where the session has ended, and else one where something came and nobody
-/// would look by itself. Calls that are short are worked off by the one who read them, without a wake-up; for one that takes long, who watches
-/// comes within a millisecond.
+/// Wakes those who may have something to do after a receive: all, where the session has ended; one for each job, where jobs take long; and
+/// else one where something came and nobody would look by itself. Jobs that are short are worked off by the one who read them, without a
+/// wake-up, and for the first that takes long who watches comes within a millisecond.
 fn tell_read<H: Drop, T: Ledgers, I: LinkIn + Drop, O: LinkOut + Drop, S: Source<I> + Sink<O>>(
     common: &Common<H, T, I, O, S>,
     queued: u64,
@@ -89,7 +89,9 @@ fn tell_read<H: Drop, T: Ledgers, I: LinkIn + Drop, O: LinkOut + Drop, S: Source
         return;
     }
     common.signs.tell_received(queued);
-    if queued > 0 {
+    if common.signs.is_slow() {
+        common.sleepers.wake(queued);
+    } else if queued > 0 {
         common.sleepers.call_watch();
     }
 }

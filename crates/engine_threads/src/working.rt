@@ -96,7 +96,10 @@ impl Rest {
         let receives = common.signs.receives.load(Ordering::SeqCst);
         let is_news = receives != self.seen;
         self.seen = receives;
-        common.sleepers.sleep(&common.rt, self.number, is_news);
+        let before = common.signs.worked();
+        if common.sleepers.sleep(&common.rt, self.number, is_news) {
+            common.signs.tell_watched(before);
+        }
         self.is_lying = false;
         self.has_slept = true;
     }

@@ -16,4 +16,4 @@ returns-clause-read g c =
     let same = c.new.ensures.same in
     subst (λ (end : Option SessionEnd). ∥ HasReadAll g.I.LinkIn.receives g.S.Source.heard_from end (queued_of (view r.pass).put) (option_map shown r.farewell) ∥₁) (sym same.1)
     (has_ended g.I.LinkIn.receives g.S.Source.heard_from (reading s.link s.reader) s.end (queued_of (view r.pass).put) (option_map shown r.farewell)
-        (ap (λ (v : Hand Job). queued_of v.put) same.0) (ap (λ (o : Option Job). option_map shown o) same.2) s.read)
+    (ap (λ (v : Hand Job). queued_of v.put) same.0) (ap (λ (o : Option Job). option_map shown o) same.2) s.read)
