@@ -45,9 +45,9 @@ returns-clause-over g c =
     let at : Stands does (receives_on w.jobs) (sends_on w.replies) w.session.settings w.number c.args.staff.calls m.worker m.served m.kept.share = elim m.branch [
       | in-None b ↦ stands_as does (receives_on w.jobs) (sends_on w.replies) w.session.settings w.number c.args.staff.calls l.worker m.worker l.served m.served l.kept.share m.kept.share b.worker-is b.served-is (ap (λ k. k.share) b.kept-is) l.invariant
       | in-Some+else-read+then-is_over b ↦ (
-        let t = b.take_turns in
-        let r = t.ensures.rings in
-        stands_as does (receives_on w.jobs) (sends_on w.replies) w.session.settings w.number c.args.staff.calls t.new.worker m.worker t.new.served m.served t.new.kept.share m.kept.share b.worker-is b.served-is (ap (λ k. k.share) b.kept-is)
-        (stands_on does (receives_on w.jobs) (sends_on w.replies) w.session.settings w.number c.args.staff.calls l.worker t.new.worker l.served t.new.served l.kept.share t.new.kept.share l.invariant r.0 r.1 r.2 t.ensures.settings t.ensures.worked))
+          let t = b.take_turns in
+          let r = t.ensures.rings in
+          stands_as does (receives_on w.jobs) (sends_on w.replies) w.session.settings w.number c.args.staff.calls t.new.worker m.worker t.new.served m.served t.new.kept.share m.kept.share b.worker-is b.served-is (ap (λ k. k.share) b.kept-is)
+          (stands_on does (receives_on w.jobs) (sends_on w.replies) w.session.settings w.number c.args.staff.calls l.worker t.new.worker l.served t.new.served l.kept.share t.new.kept.share l.invariant r.0 r.1 r.2 t.ensures.settings t.ensures.worked))
     ] in
     is_over does (receives_on w.jobs) (sends_on w.replies) w.session.settings w.number c.args.staff.calls m.worker m.served m.kept.share e.result at e.ensures.number e.ensures.seats.0 e.ensures.seats.1 e.ensures.passes.0 e.ensures.passes.1
