@@ -1,6 +1,8 @@
 -- Lists that are taken apart in step.
-use Rattle.std.proofs.Common.{◌≡◌, ℕ, zero, suc, ◌+◌, List, [], ◌∷◌, ◌++◌, length, map, Option, Some, None, IfSome, refl, sym, ap, ◌∙◌, subst, append_assoc, append-nil, arith}
+use Rattle.std.proofs.Common.{◌≡◌, ℕ, zero, suc, ◌+◌, List, [], ◌∷◌, ◌++◌, length, map, Option, Some, None, IfSome, Result, Ok, Err, IfOk, refl, sym, ap, ◌∙◌, subst, append_assoc, append-nil, arith}
 use Rattle.std.specs.List.{All, range_with_len}
+use Rattle.std.specs.Result.{result_ok}
+use Rattle.std.proofs.lemmas.Option.{none-some}
 use Rattle.std.proofs.lemmas.List.{map-append}
 use Rattle.ledger.specs.Shares.{Part, nothing}
 use Rattle.std.proofs.lemmas.List.Elements.{All-cons, All-head, All-nil, All-push, All-rest, All-same}
@@ -56,3 +58,8 @@ some_by Q f b (Some a) h q = subst Q (sym h) q
 pub none_posted : (indices : List ℕ) → All (λ (p : Part). p.totals ≡ nothing) (map (λ (i : ℕ). let p : Part = record { index = i; totals = nothing } in p) indices)
 none_posted [] = All-nil (λ (p : Part). p.totals ≡ nothing)
 none_posted (i ∷ indices) = All-cons (λ (p : Part). p.totals ≡ nothing) (record { index = i; totals = nothing }) (map (λ (k : ℕ). let p : Part = record { index = k; totals = nothing } in p) indices) refl (none_posted indices)
+
+-- what is known of a value that was taken out
+pub ok_of : {A E : Type 0} (P : A → Type 0) (r : Result A E) (x : A) → Some x ≡ result_ok r → IfOk r P → P x
+ok_of P (Ok y) x e h = let same : y ≡ x = cc in subst P same h
+ok_of P (Err y) x e h = absurd (none-some x (sym e))

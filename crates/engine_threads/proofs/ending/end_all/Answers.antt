@@ -1,10 +1,7 @@
-use Rattle.std.proofs.Common.{◌≡◌, List, map, sym, ap, ◌∙◌, subst}
+use Rattle.std.proofs.Common.{sym, ap, ◌∙◌}
 use Rattle.std.specs.List.{range_with_len}
 use Rattle.crossbeam_channel.specs.Claims.{view}
-use Rattle.engine_jobs.specs.declared.jobs.Job.{Job}
-use Rattle.engine_queues.specs.declared.passes.Passes.{Passes}
 use Rattle.engine_threads.proofs.Sharing.{shared_as}
-use Rattle.engine_workers.specs.declared.replies.Reply.{Reply}
 use Rattle.engine_threads.proofs.ending.end_all.Goals as goal
 
 pub gather-taken-requires-clause-numbers : goal.gather-taken-requires-clause-numbers

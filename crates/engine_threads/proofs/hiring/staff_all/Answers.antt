@@ -1,12 +1,12 @@
-use Rattle.std.proofs.Common.{◌≡◌, ◌+◌, ◌∙◌, suc, length, Some, ap, sym, subst, arith}
+use Rattle.std.proofs.Common.{◌≡◌, ◌∙◌, suc, length, Some, ap, sym, subst, arith}
 use Rattle.std.proofs.lemmas.List.Elements.{All-pop}
-use Rattle.std.specs.Vec.Iter.{into_iter_items, into_iter_len}
+use Rattle.std.specs.Vec.Iter.{into_iter_items}
 use Rattle.crossbeam_channel.specs.Ends.{sends_on}
 use Rattle.ledger.specs.Shares.{Part, nothing}
 use Rattle.engine_workers.specs.declared.working.Worker.{Worker}
 use Rattle.engine_threads.specs.Worked.{IsHired, IsStaffed}
 use Rattle.engine_threads.specs.declared.working.Staff.{Staff}
-use Rattle.engine_threads.proofs.Lists.{all_made, first_of, next_given, none_left, one_more, others_of}
+use Rattle.engine_threads.proofs.Lists.{all_made, first_of, next_given, one_more, others_of}
 use Rattle.engine_threads.proofs.hiring.staff_all.Goals as goal
 
 pub loop-worker-preserved : goal.loop-worker-preserved

@@ -1,5 +1,5 @@
-use Rattle.std.proofs.Common.{◌≡◌, ◌+◌, ◌∙◌, suc, length, map, List, ◌∷◌, ◌++◌, [], sym, ap, append_assoc, arith}
-use Rattle.std.specs.Vec.Iter.{into_iter_items, into_iter_len}
+use Rattle.std.proofs.Common.{◌≡◌, ◌∙◌, suc, length, map, List, ◌∷◌, ◌++◌, [], sym, ap, append_assoc, arith}
+use Rattle.std.specs.Vec.Iter.{into_iter_items}
 use Rattle.engine_jobs.specs.declared.jobs.Job.{Job}
 use Rattle.engine_queues.specs.declared.passes.Passes.{Passes}
 use Rattle.engine_workers.specs.declared.replies.Reply.{Reply}

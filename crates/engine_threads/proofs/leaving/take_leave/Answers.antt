@@ -1,4 +1,4 @@
-use Rattle.std.proofs.Common.{◌≡◌, ◌+◌, ℕ, List, Option, length, ◌∷◌, ◌++◌, [], sym, ap, ◌∙◌, subst, vec_len, arith}
+use Rattle.std.proofs.Common.{◌≡◌, ◌+◌, List, Option, length, ◌∷◌, ◌++◌, [], sym, ap, ◌∙◌, subst, vec_len, arith}
 use Rattle.std.specs.List.{range_with_len}
 use Rattle.std.specs.Prelude.{option_to_list}
 use Rattle.crossbeam_channel.specs.Claims.{IsSeatAt}

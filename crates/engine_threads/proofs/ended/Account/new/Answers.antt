@@ -1,4 +1,4 @@
-use Rattle.std.proofs.Common.{◌≡◌, ◌-◌, ℕ, Option, ◌++◌, sym, ap, ◌∙◌, vec_len}
+use Rattle.std.proofs.Common.{◌-◌, ℕ, Option, ◌++◌, sym, ap, ◌∙◌, vec_len}
 use Rattle.std.specs.Prelude.{option_to_list, slice_index_or}
 use Rattle.engine_threads.proofs.ended.Account.new.Goals as goal
 
