@@ -83,8 +83,17 @@ fn serve_and_pipe(rt: HostRuntime) -> Result<(), Fail> {
     };
     assert_eq!(rt; read_options(rt.alloc(), &words)?, left_out);
     let words = [
-        "mirrord", "pipe", "--gid", "1", "--root", "/srv", "--nodes", "2", "--files=1",
-        "--requests=1", "--postings=1",
+        "mirrord",
+        "pipe",
+        "--gid",
+        "1",
+        "--root",
+        "/srv",
+        "--nodes",
+        "2",
+        "--files=1",
+        "--requests=1",
+        "--postings=1",
     ];
     let least = Bounds {
         nodes: 2,
