@@ -11,39 +11,75 @@ ghost use Rattle.engine_threads.specs.Worked.{does_shared};
 use crate::places::Common;
 use backing::Calls;
 use engine::{LinkIn, LinkOut, Served};
-use engine_roles::{Kept, Sink, Source};
-use engine_workers::{BATCH, Turn, Worker};
+use engine_roles::{Kept, Sink, Source, WriterRole};
+use engine_workers::{BATCH, Hall, Turn, Worker};
 use handles::Dirs;
 use ledger::Ledgers;
-use std::sync::Wait;
 use std::sync::atomic::Ordering;
+use std::sync::{MutexGuard, Wait};
 
-/// How many jobs a thread works on before it looks whether their replies can be offered. They go out together then.
+/// How many jobs a thread works on before it has to see that none of their replies waits. They go out together then. Four threads leave no
+/// more replies than their queue has places, so nobody waits for a place there: where all threads did, nobody would be left who offers.
 const JOINED: usize = 8;
 
-/// Offers the replies that are ready, unless another thread does. Whether it took any.
+/// The writer. Who has to offer waits for it, and others get it only where nobody has it.
+fn writer_of<
+    'a,
+    H: Wait + Drop,
+    T: Ledgers,
+    I: LinkIn + Drop,
+    O: LinkOut + Drop,
+    S: Source<I> + Sink<O>,
+>(common: &'a Common<H, T, I, O, S>, has_to: bool) -> Option<MutexGuard<'a, WriterRole<T, O, S>>> {
+    if has_to {
+        Some(common.writer.lock(&common.rt))
+    } else {
+        common.writer.try_lock()
+    }
+}
+
+/// Offers what is queued, until nothing is left. Whether there was any.
+fn offer_queued<H: Wait, T: Ledgers, O: LinkOut + Drop, S: Sink<O>>(
+    rt: &H,
+    hall: &Hall<T>,
+    dirs: &Dirs,
+    writer: &mut WriterRole<T, O, S>,
+) -> bool {
+    let mut dirs = dirs;
+    let mut is_any = false;
+    for _ in rt.forever() {
+        let count = writer.turn(rt, hall, &mut dirs);
+        is_any = is_any || count > 0;
+        if count < BATCH {
+            break;
+        }
+    }
+    is_any
+}
+
+/// Offers the replies that are ready, unless another thread does; a thread that left as many as it may waits for that one. Whether it took
+/// any. Once it had the writer, none that it left before waits.
 fn offer<H: Wait + Drop, T: Ledgers, I: LinkIn + Drop, O: LinkOut + Drop, S: Source<I> + Sink<O>>(
     common: &Common<H, T, I, O, S>,
+    left: &mut usize,
 ) -> bool {
     let signs = &common.signs;
-    if !signs.is_ready.load(Ordering::SeqCst) {
+    let has_to = *left >= JOINED;
+    if !has_to && !signs.is_ready.load(Ordering::SeqCst) {
         return false;
     }
-    let Some(mut writer) = common.writer.try_lock() else {
+    let Some(mut writer) = writer_of(common, has_to) else {
         // Who has it looks again at the sign once it has let go.
         return false;
     };
     // Before the look into the queue: what is put after it is told anew.
     signs.is_ready.store(false, Ordering::SeqCst);
-    let mut dirs = &common.dirs;
-    let count = writer.turn(&common.rt, &common.hall, &mut dirs);
+    let is_any = offer_queued(&common.rt, &common.hall, &common.dirs, &mut *writer);
     if writer.writer.is_broken {
         signs.is_broken.store(true, Ordering::SeqCst);
     }
-    if count == BATCH {
-        signs.tell_ready();
-    }
-    count > 0
+    *left = 0;
+    is_any
 }
 
 /// Makes one receive, unless another thread does, and wakes others for what came. Whether it was made.
@@ -96,7 +132,8 @@ fn tell_read<H: Drop, T: Ledgers, I: LinkIn + Drop, O: LinkOut + Drop, S: Source
     }
 }
 
-/// Offers what is ready, and works on the jobs that are queued, a few at most. Whether there was something to do.
+/// Offers what is ready, and works on the jobs that are queued, a few at most. Whether there was something to do. On so many jobs this thread
+/// has worked since it had the writer.
 pub fn take_turns<
     H: Wait + Drop,
     T: Ledgers,
@@ -109,17 +146,19 @@ pub fn take_turns<
     worker: &mut Worker,
     kept: &mut Kept<T>,
     served: &mut Served<C, &Dirs>,
+    left: &mut usize,
 ) -> bool
     ensures rings { (receives_on worker.new.jobs ≡ receives_on worker.old.jobs) × (sends_on worker.new.replies ≡ sends_on worker.old.replies) × (worker.new.number ≡ worker.old.number) }
     ensures settings { worker.new.session.settings ≡ worker.old.session.settings }
     ensures worked { (settled : List (Option Settlement)) × WorkedAll (does_shared C.gives) worker.old.session.settings worker.old.number (standing (view worker.old.job_pass) (view worker.old.reply_pass) served.old kept.old.share) settled
         (standing (view worker.new.job_pass) (view worker.new.reply_pass) served.new kept.new.share) }
 {
-    let mut is_busy = offer(common);
-    for _ in 0..JOINED {
+    let mut is_busy = offer(common, left);
+    for _ in *left..JOINED {
         match worker.turn(&common.rt, &common.hall, &mut kept.share, served) {
             Turn::Worked(_settled) => {
                 common.signs.tell_worked();
+                *left = left.saturating_add(1);
                 is_busy = true;
             }
             Turn::Nothing => break,

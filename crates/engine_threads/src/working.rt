@@ -131,11 +131,14 @@ pub fn work_all<
     };
     let number = worker.number as usize;
     let mut rest = Rest::new(number);
+    let mut left = 0;
     for _ in common.rt.forever() {
         // Before the turns: once it is over nothing more comes.
         let is_over = common.signs.is_over();
         rest.look(&common);
-        if take_turns(&common, &mut worker, &mut kept, &mut served) || read(&common, number) {
+        if take_turns(&common, &mut worker, &mut kept, &mut served, &mut left)
+            || read(&common, number)
+        {
             rest.rise(&common);
         } else if is_over {
             break;

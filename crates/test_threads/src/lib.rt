@@ -12,6 +12,8 @@ mod rows;
 #[cfg(test)]
 mod sleeping;
 #[cfg(test)]
+mod slow;
+#[cfg(test)]
 mod teller;
 #[cfg(test)]
 mod turns;

@@ -1,0 +1,63 @@
+//! A client that takes its replies slowly, while more of them wait than their queue has places.
+
+ghost use Rattle.std.specs.Prelude.{◌≡◌};
+
+use crate::client::{Fates, Hears};
+use crate::teller::{Client, Comes, Story, check_over, client_of, holds_of};
+use engine::{LinkOut, Sent, SessionEnd};
+use std::sync::Wait;
+use std::test::Fail;
+use std::thread;
+use wire::Operation::Lookup;
+
+/// How often it lets others go first before it takes a reply.
+const YIELDS: u32 = 100;
+
+/// Takes each reply after a while.
+#[derive(Drop)]
+struct Slow<H: Wait + Drop> {
+    hears: Hears<H>,
+}
+
+impl<H: Wait + Drop> LinkOut for Slow<H> {
+    ghost use Rattle.engine.specs.Links.{counted, missed};
+
+    ghost sends = { λ old _ sent new. new.hears.failures ≡ counted old.hears.failures (missed sent) };
+
+    ghost failed_sends = { λ link. link.hears.failures };
+
+    ghost counts_sends = { λ _ _ _ _ counts. counts };
+
+    fn send(&mut self, frame: &[u8]) -> Sent {
+        for _ in 0..YIELDS {
+            thread::yield_now();
+        }
+        self.hears.send(frame)
+    }
+}
+
+const MANY: Story = Story {
+    says: "a hundred entries whose replies are taken slowly",
+    workers: 4,
+    comes: Comes::Together,
+    asks: &[(1, Lookup { name: "a" }); 100],
+    rest: &[],
+    fates: Fates::Taken,
+    end: SessionEnd::Closed { rest: 0 },
+    offers: 101,
+    last: 0,
+    taken: 101,
+    births: Some(1),
+    totals: Some((100, 0, 0)),
+};
+
+// Where all threads waited for a place in the queue of replies, none would be left who offers them.
+#[test]
+fn more_replies_than_places(rt: HostRuntime) -> Result<(), Fail> {
+    for _ in 0..5 {
+        let trees = holds_of(&rt, rt.alloc(), MANY.workers)?;
+        let Client { asks, hears, heard } = client_of(&rt, rt.alloc(), &MANY)?;
+        check_over(&rt, rt.alloc(), &MANY, asks, Slow { hears }, &heard, trees)?;
+    }
+    Ok(())
+}
