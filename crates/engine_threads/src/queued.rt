@@ -19,6 +19,7 @@ use crate::farewell::Starter;
 use crate::hiring::{cut_passes, hire_staff};
 use crate::running::{Parts, run};
 use crate::starting::Working;
+use crate::turns::JOINED;
 use crate::working::{Staff, WorkerEnd};
 use backing::Calls;
 use crossbeam_channel::bounded_with;
@@ -40,8 +41,8 @@ use std::thread::Threads;
 /// How many jobs wait at most: more than one receive can bring.
 const JOBS: usize = 4_096;
 
-/// How many replies wait at most while the client does not take them.
-const REPLIES: usize = 32;
+/// How many replies wait to be offered at most: as many as four threads may leave, so that nobody waits for a place.
+const REPLIES: usize = 4 * JOINED;
 
 /// An empty vector with room for so many. None is want of memory.
 fn room_for<X: Drop>(alloc: Global, count: usize) -> Option<Vec<X>>

@@ -20,7 +20,7 @@ use std::sync::{MutexGuard, Wait};
 
 /// How many jobs a thread works on before it has to see that none of their replies waits. They go out together then. Four threads leave no
 /// more replies than their queue has places, so nobody waits for a place there: where all threads did, nobody would be left who offers.
-const JOINED: usize = 8;
+pub const JOINED: usize = 8;
 
 /// The writer. Who has to offer waits for it, and others get it only where nobody has it.
 fn writer_of<
