@@ -1,3 +1,3 @@
-pub mod Dense
-pub mod Counted
-pub mod Same
+pub mod Written
+pub mod Linking
+pub mod Unlinking

@@ -1,204 +1,226 @@
-//! Who is a child of whom, with no list that is walked over: children by their ordinals under their parents.
+//! Who is a child of whom, with no list that is walked over: siblings are linked to each other, and a parent to its newest child.
 //!
-//! A number may have children once it is known. The children of one parent have the ordinals from 0 on, none left out: one
-//! that goes is replaced by the last. So each call is a fixed number of look-ups.
+//! The links stand beside the values in a slab, so that they take memory with them alone. A value stands under a number, which is its
+//! key and one more. Who is whose parent the values tell. So each call is a fixed number of look-ups.
 #![tactic(auto)]
 
-ghost use Rattle.std.specs.Prelude.{true, false, ◌≡◌, ◌≢◌, ◌<◌, ◌≤◌, ◌+◌, ◌*◌, ℕ, None, Some, nat_eq, if◌then◌else◌, IfNone, IfSome, OnOk, is_some};
-ghost use Rattle.std.proofs.Common.{rules};
-ghost use Rattle.std.specs.Cmp.Rules.{comparing};
-ghost use Rattle.steady_map.specs.Living.{live, places};
-ghost use Rattle.tree_children.specs.Positions.{same_position};
-ghost use Rattle.tree_children.specs.declared.Position.{Position};
-ghost use Rattle.tree_children.specs.Ordinals.{IsLawful, HasPlaces, KeepsPlaces, parent_of, is_known, child_count, known_count, count_in};
+ghost use Rattle.std.specs.Prelude.{true, false, ◌≡◌, ◌≢◌, ◌+◌, ℕ, Option, None, Some, if◌then◌else◌, ◌==◌, IfNone, IfSome};
+ghost use Rattle.std.specs.Option.{option_copied};
+ghost use Rattle.slab.specs.Slab.{Slab, slab_len};
+ghost use Rattle.tree_children.specs.declared.Kin.{Kin};
+ghost use Rattle.tree_children.specs.Links.{IsLawful, IsThere, no_kin, kin_at, value_at, with_parent};
 
-use indexmap::IndexMap;
-use std::alloc::{AllocError, Global};
-use std::hash::RandomState;
-use steady_map::{make_places, put, set, take_out, value_of};
+use slab::Slab;
 
-/// Where a child stands: under a parent, behind so many of its children.
-#[derive(Clone, Copy, Eq, Hash)]
-pub struct Position {
-    pub parent: u64,
-    pub ordinal: u64,
+/// Stands for no number: numbers begin at 1.
+const NONE: u64 = 0;
+
+/// What a number is linked to.
+#[derive(Clone, Copy)]
+pub struct Kin {
+    /// The sibling that was put there next after it.
+    pub newer: u64,
+    /// The sibling that was put there next before it.
+    pub older: u64,
+    /// Its newest child.
+    pub newest: u64,
 }
 
-impl PartialEq for Position {
-    ghost eq = { same_position };
-
-    ghost laws = { Prim.search (comparing, rules) };
-
-    fn eq(&self, other: &Position) -> bool {
-        self.parent == other.parent && self.ordinal == other.ordinal
-    }
-}
-
-/// Children and parents, as three maps that lose no room.
+/// A value, and what its number is linked to.
 #[derive(Drop)]
-pub struct Children {
-    /// The child at each position.
-    pub by_position: IndexMap<Position, Option<u64>, RandomState>,
-    /// The position of each child.
-    pub positions: IndexMap<u64, Option<Position>, RandomState>,
-    /// How many children each known number has.
-    pub counts: IndexMap<u64, Option<u64>, RandomState>,
+pub struct Linked<T> {
+    pub value: T,
+    pub kin: Kin,
 }
 
-/// No children, and no number that may have some. The maps hash by that seed.
-pub fn no_children(alloc: Global, seed: RandomState) -> Children
-    ensures lawful { IsLawful result }
-    ensures none { (n : ℕ) → parent_of result n ≡ None }
-    ensures unknown { (n : ℕ) → is_known result n ≡ false }
-    ensures empty { (child_count result ≡ 0) × (known_count result ≡ 0) }
+/// The value with no links.
+pub fn unlinked<T>(value: T) -> Linked<T>
+    ensures value { result.value ≡ value }
+    ensures kin { result.kin ≡ no_kin }
 {
-    Children {
-        by_position: IndexMap::with_hasher(alloc, seed),
-        positions: IndexMap::with_hasher(alloc, seed),
-        counts: IndexMap::with_hasher(alloc, seed),
+    Linked {
+        value,
+        kin: alone(),
     }
 }
 
-/// Makes places for so many children more and so many known numbers more, where there are so many of each.
-/// Without memory nothing is seen to change.
-pub fn make_child_places(
-    children: &mut Children,
-    count: usize,
-    known: usize,
-    more: usize,
-) -> Result<(), AllocError>
-    requires lawful { IsLawful children.old }
-    requires counted { count ≡ child_count children.old }
-    requires known { known ≡ known_count children.old }
-    ensures ok { OnOk result (HasPlaces children.new (count + more) (known + more)) }
-    ensures lawful { IsLawful children.new }
-    ensures parents { (m : ℕ) → parent_of children.new m ≡ parent_of children.old m }
-    ensures known { (q : ℕ) → is_known children.new q ≡ is_known children.old q }
-    ensures counts { (child_count children.new ≡ child_count children.old) × (known_count children.new ≡ known_count children.old) }
-    ensures places { KeepsPlaces children.old children.new }
+/// No links.
+fn alone() -> Kin
+    ensures { result ≡ no_kin }
 {
-    make_places(&mut children.by_position, count, more)?;
-    make_places(&mut children.positions, count, more)?;
-    make_places(&mut children.counts, known, more)
+    Kin {
+        newer: NONE,
+        older: NONE,
+        newest: NONE,
+    }
 }
 
-/// How many children the number has.
-fn count_of(counts: &IndexMap<u64, Option<u64>, RandomState>, parent: u64) -> u64
-    ensures { result ≡ count_in counts.now parent }
+/// The key that the value of that number has.
+pub fn key_of(number: u64) -> Option<usize>
+    ensures none { IfNone result (number ≡ 0) }
+    ensures some { IfSome result (λ k. number ≡ k + 1) }
 {
-    match value_of(counts, &parent) {
-        Some(count) => count,
-        None => 0,
+    let key = number.checked_sub(1)?;
+    Some(key as usize)
+}
+
+/// The value of that number.
+pub fn value_in<T>(nodes: &Slab<Linked<T>>, number: u64) -> Option<&T>
+    ensures { option_copied result ≡ value_at nodes.now number }
+{
+    let key = key_of(number)?;
+    let linked = nodes.get(key)?;
+    Some(&linked.value)
+}
+
+/// What the number is linked to.
+fn kin_in<T>(nodes: &Slab<Linked<T>>, number: u64) -> Kin
+    ensures { result ≡ kin_at nodes.now number }
+{
+    let Some(key) = key_of(number) else {
+        return alone();
+    };
+    match nodes.get(key) {
+        Some(linked) => linked.kin,
+        None => alone(),
+    }
+}
+
+/// Links the number to others, if a value stands there.
+fn write_kin<T>(nodes: &mut Slab<Linked<T>>, number: u64, kin: Kin)
+    ensures wrote { IsThere nodes.old number → (m : ℕ) → kin_at nodes.new m ≡ (if number == m then kin else kin_at nodes.old m) }
+    ensures absent { (IsThere nodes.old number → ⊥) → nodes.new ≡ nodes.old }
+    ensures values { value_at nodes.new ≡ value_at nodes.old }
+    ensures len { slab_len nodes.new ≡ slab_len nodes.old }
+    ensures capacity { nodes.new.capacity ≡ nodes.old.capacity }
+{
+    let Some(key) = key_of(number) else {
+        return;
+    };
+    if nodes.contains(key) {
+        let linked = &mut nodes[key];
+        linked.kin = kin;
+    }
+}
+
+/// Links the number to its next newer sibling, if a value stands there.
+fn set_newer<T>(nodes: &mut Slab<Linked<T>>, number: u64, newer: u64)
+    ensures newer { IsThere nodes.old number → (m : ℕ) → (kin_at nodes.new m).newer ≡ (if number == m then newer else (kin_at nodes.old m).newer) }
+    ensures none { number ≡ 0 → (m : ℕ) → (kin_at nodes.new m).newer ≡ (kin_at nodes.old m).newer }
+    ensures older { (m : ℕ) → (kin_at nodes.new m).older ≡ (kin_at nodes.old m).older }
+    ensures newest { (m : ℕ) → (kin_at nodes.new m).newest ≡ (kin_at nodes.old m).newest }
+    ensures values { value_at nodes.new ≡ value_at nodes.old }
+    ensures len { slab_len nodes.new ≡ slab_len nodes.old }
+    ensures capacity { nodes.new.capacity ≡ nodes.old.capacity }
+{
+    let kin = kin_in(nodes, number);
+    let linked = Kin {
+        newer,
+        older: kin.older,
+        newest: kin.newest,
+    };
+    write_kin(nodes, number, linked);
+}
+
+/// Links the number to its next older sibling, if a value stands there.
+fn set_older<T>(nodes: &mut Slab<Linked<T>>, number: u64, older: u64)
+    ensures older { IsThere nodes.old number → (m : ℕ) → (kin_at nodes.new m).older ≡ (if number == m then older else (kin_at nodes.old m).older) }
+    ensures none { number ≡ 0 → (m : ℕ) → (kin_at nodes.new m).older ≡ (kin_at nodes.old m).older }
+    ensures newer { (m : ℕ) → (kin_at nodes.new m).newer ≡ (kin_at nodes.old m).newer }
+    ensures newest { (m : ℕ) → (kin_at nodes.new m).newest ≡ (kin_at nodes.old m).newest }
+    ensures values { value_at nodes.new ≡ value_at nodes.old }
+    ensures len { slab_len nodes.new ≡ slab_len nodes.old }
+    ensures capacity { nodes.new.capacity ≡ nodes.old.capacity }
+{
+    let kin = kin_in(nodes, number);
+    let linked = Kin {
+        newer: kin.newer,
+        older,
+        newest: kin.newest,
+    };
+    write_kin(nodes, number, linked);
+}
+
+/// Links the number to its newest child, if a value stands there.
+fn set_newest<T>(nodes: &mut Slab<Linked<T>>, number: u64, newest: u64)
+    ensures newest { IsThere nodes.old number → (m : ℕ) → (kin_at nodes.new m).newest ≡ (if number == m then newest else (kin_at nodes.old m).newest) }
+    ensures newer { (m : ℕ) → (kin_at nodes.new m).newer ≡ (kin_at nodes.old m).newer }
+    ensures older { (m : ℕ) → (kin_at nodes.new m).older ≡ (kin_at nodes.old m).older }
+    ensures values { value_at nodes.new ≡ value_at nodes.old }
+    ensures len { slab_len nodes.new ≡ slab_len nodes.old }
+    ensures capacity { nodes.new.capacity ≡ nodes.old.capacity }
+{
+    let kin = kin_in(nodes, number);
+    let linked = Kin {
+        newer: kin.newer,
+        older: kin.older,
+        newest,
+    };
+    write_kin(nodes, number, linked);
+}
+
+/// Where the child with these links was the newest one, the next older one is that now.
+fn hand_on<T>(nodes: &mut Slab<Linked<T>>, parent: u64, kin: Kin)
+    ensures top { kin.newer ≡ 0 → IsThere nodes.old parent → (m : ℕ) → (kin_at nodes.new m).newest ≡ (if parent == m then kin.older else (kin_at nodes.old m).newest) }
+    ensures newest { kin.newer ≢ 0 → (m : ℕ) → (kin_at nodes.new m).newest ≡ (kin_at nodes.old m).newest }
+    ensures newer { (m : ℕ) → (kin_at nodes.new m).newer ≡ (kin_at nodes.old m).newer }
+    ensures older { (m : ℕ) → (kin_at nodes.new m).older ≡ (kin_at nodes.old m).older }
+    ensures values { value_at nodes.new ≡ value_at nodes.old }
+    ensures len { slab_len nodes.new ≡ slab_len nodes.old }
+    ensures capacity { nodes.new.capacity ≡ nodes.old.capacity }
+{
+    if kin.newer == NONE {
+        set_newest(nodes, parent, kin.older);
     }
 }
 
 /// Whether the number has a child.
-pub fn has_children(children: &Children, parent: u64) -> bool
-    requires { IsLawful children.now }
-    ensures yes { result ≡ true → (n : ℕ) × (parent_of children.now n ≡ Some parent) }
-    ensures no { result ≡ false → (n : ℕ) → parent_of children.now n ≡ Some parent → ⊥ }
+pub fn has_children<T>(nodes: &Slab<Linked<T>>, parent: u64) -> bool
+    ensures yes { (parents : ℕ → Option ℕ) → IsLawful parents nodes.now → result ≡ true → (n : ℕ) × (parents n ≡ Some parent) }
+    ensures no { (parents : ℕ → Option ℕ) → IsLawful parents nodes.now → result ≡ false → (n : ℕ) → parents n ≡ Some parent → ⊥ }
 {
-    count_of(&children.counts, parent) > 0
+    kin_in(nodes, parent).newest != NONE
 }
 
-/// The last child of the number.
-pub fn last_child(children: &Children, parent: u64) -> Option<u64>
-    requires { IsLawful children.now }
-    ensures none { IfNone result ((n : ℕ) → parent_of children.now n ≡ Some parent → ⊥) }
-    ensures some { IfSome result (λ n. parent_of children.now n ≡ Some parent) }
+/// The newest child of the number.
+pub fn newest_child<T>(nodes: &Slab<Linked<T>>, parent: u64) -> Option<u64>
+    ensures none { (parents : ℕ → Option ℕ) → IsLawful parents nodes.now → IfNone result ((n : ℕ) → parents n ≡ Some parent → ⊥) }
+    ensures some { (parents : ℕ → Option ℕ) → IsLawful parents nodes.now → IfSome result (λ n. parents n ≡ Some parent) }
 {
-    let count = count_of(&children.counts, parent);
-    if count == 0 {
+    let newest = kin_in(nodes, parent).newest;
+    if newest == NONE {
         return None;
     }
-    let end = Position {
-        parent,
-        ordinal: count - 1,
-    };
-    value_of(&children.by_position, &end)
+    Some(newest)
 }
 
-/// From now on the number may have children, and has none. It takes no memory.
-pub fn add_known(children: &mut Children, number: u64)
-    requires lawful { IsLawful children.old }
-    requires unknown { is_known children.old number ≡ false }
-    requires room { 2 * (known_count children.old + 1) ≤ places children.old.counts }
-    ensures lawful { IsLawful children.new }
-    ensures parents { (m : ℕ) → parent_of children.new m ≡ parent_of children.old m }
-    ensures known { is_known children.new number ≡ true }
-    ensures others { (m : ℕ) → number ≢ m → is_known children.new m ≡ is_known children.old m }
-    ensures counts { (child_count children.new ≡ child_count children.old) × (known_count children.new ≡ known_count children.old + 1) }
-    ensures places { KeepsPlaces children.old children.new }
+/// Puts a child under a parent, as its newest one. It takes no memory.
+pub fn add_child<T>(nodes: &mut Slab<Linked<T>>, child: u64, parent: u64)
+    requires there { IsThere nodes.old child }
+    requires above { IsThere nodes.old parent }
+    ensures lawful { (parents : ℕ → Option ℕ) → IsLawful parents nodes.old → parents child ≡ None → IsLawful (with_parent parents child (Some parent)) nodes.new }
+    ensures values { value_at nodes.new ≡ value_at nodes.old }
+    ensures len { slab_len nodes.new ≡ slab_len nodes.old }
+    ensures capacity { nodes.new.capacity ≡ nodes.old.capacity }
 {
-    put(&mut children.counts, number, 0);
+    let first = kin_in(nodes, parent).newest;
+    set_older(nodes, child, first);
+    set_newer(nodes, first, child);
+    set_newest(nodes, parent, child);
 }
 
-/// The number may have no children any more, and has none. It takes no memory.
-pub fn remove_known(children: &mut Children, number: u64)
-    requires lawful { IsLawful children.old }
-    requires known { is_known children.old number ≡ true }
-    requires childless { (n : ℕ) → parent_of children.old n ≡ Some number → ⊥ }
-    ensures lawful { IsLawful children.new }
-    ensures parents { (m : ℕ) → parent_of children.new m ≡ parent_of children.old m }
-    ensures unknown { is_known children.new number ≡ false }
-    ensures others { (m : ℕ) → number ≢ m → is_known children.new m ≡ is_known children.old m }
-    ensures counts { (child_count children.new ≡ child_count children.old) × (known_count children.new + 1 ≡ known_count children.old) }
-    ensures places { KeepsPlaces children.old children.new }
+/// Takes a child away from its parent. It takes no memory.
+pub fn remove_child<T>(nodes: &mut Slab<Linked<T>>, child: u64, parent: u64)
+    requires there { IsThere nodes.old child }
+    ensures lawful { (parents : ℕ → Option ℕ) → IsLawful parents nodes.old → parents child ≡ Some parent → IsLawful (with_parent parents child None) nodes.new }
+    ensures values { value_at nodes.new ≡ value_at nodes.old }
+    ensures len { slab_len nodes.new ≡ slab_len nodes.old }
+    ensures capacity { nodes.new.capacity ≡ nodes.old.capacity }
 {
-    take_out(&mut children.counts, &number);
-}
-
-/// Puts a child under a parent, as its last one. It takes no memory.
-pub fn add_child(children: &mut Children, child: u64, parent: u64)
-    requires lawful { IsLawful children.old }
-    requires fresh { parent_of children.old child ≡ None }
-    requires known { is_known children.old parent ≡ true }
-    requires by_position { 2 * (child_count children.old + 1) ≤ places children.old.by_position }
-    requires positions { 2 * (child_count children.old + 1) ≤ places children.old.positions }
-    ensures lawful { IsLawful children.new }
-    ensures parent { parent_of children.new child ≡ Some parent }
-    ensures others { (m : ℕ) → child ≢ m → parent_of children.new m ≡ parent_of children.old m }
-    ensures known { (q : ℕ) → is_known children.new q ≡ is_known children.old q }
-    ensures counts { (child_count children.new ≡ child_count children.old + 1) × (known_count children.new ≡ known_count children.old) }
-    ensures places { KeepsPlaces children.old children.new }
-{
-    let _places = children.positions.capacity();
-    let count = count_of(&children.counts, parent);
-    let position = Position {
-        parent,
-        ordinal: count,
-    };
-    put(&mut children.by_position, position, child);
-    put(&mut children.positions, child, position);
-    set(&mut children.counts, &parent, count + 1);
-}
-
-/// Takes a child away from its parent, whose last child takes its ordinal. It takes no memory.
-pub fn remove_child(children: &mut Children, child: u64)
-    requires lawful { IsLawful children.old }
-    requires placed { (p : ℕ) × (parent_of children.old child ≡ Some p) }
-    ensures lawful { IsLawful children.new }
-    ensures gone { parent_of children.new child ≡ None }
-    ensures others { (m : ℕ) → child ≢ m → parent_of children.new m ≡ parent_of children.old m }
-    ensures known { (q : ℕ) → is_known children.new q ≡ is_known children.old q }
-    ensures counts { (child_count children.new + 1 ≡ child_count children.old) × (known_count children.new ≡ known_count children.old) }
-    ensures places { KeepsPlaces children.old children.new }
-{
-    let Some(position) = value_of(&children.positions, &child) else {
-        unreachable!();
-    };
-    let parent = position.parent;
-    let less = count_of(&children.counts, parent) - 1;
-    let end = Position {
-        parent,
-        ordinal: less,
-    };
-    let Some(last) = value_of(&children.by_position, &end) else {
-        unreachable!();
-    };
-    set(&mut children.by_position, &position, last);
-    take_out(&mut children.by_position, &end);
-    set(&mut children.positions, &last, position);
-    take_out(&mut children.positions, &child);
-    set(&mut children.counts, &parent, less);
+    let kin = kin_in(nodes, child);
+    set_older(nodes, kin.newer, kin.older);
+    set_newer(nodes, kin.older, kin.newer);
+    hand_on(nodes, parent, kin);
+    set_newer(nodes, child, NONE);
+    set_older(nodes, child, NONE);
 }

@@ -1,32 +1,31 @@
-use Rattle.std.proofs.Common.{ℕ, ◌+◌, Option, nat_eq, arith}
-use Rattle.steady_map.specs.Living.{found}
-use Rattle.tree_children.specs.Ordinals.{child_at, position_in, count_in, child_count}
-use Rattle.tree_children.proofs.Counted.{count_within, sum_set}
-use Rattle.tree_children.proofs.Dense.{IsDense-with, counts_set, last_free, parentless}
+use Rattle.std.proofs.Common.{◌≡◌, ◌+◌, ◌==◌, if◌then◌else◌, refl, sym, ap, ◌∙◌, subst}
+use Rattle.tree_children.specs.declared.Kin.{Kin}
+use Rattle.tree_children.specs.Links.{IsThere, kin_at}
+use Rattle.tree_children.proofs.Linking.{linked_with}
+use Rattle.tree_children.proofs.Written.{there_as, there_real, there_with}
 use Rattle.tree_children.proofs.add_child.Goals as goal
 
-pub put-requires-clause-free : goal.put-requires-clause-free
-put-requires-clause-free c =
-    let k = c.args.children.now in
-    rw c.count_of-count.ensures (last_free (child_at k.by_position) (child_at k.by_position) (position_in k.positions) (position_in k.positions) (count_in k.counts) (count_in k.counts) c.args.child c.args.parent c.requires.lawful.dense (parentless (position_in k.positions c.args.child) c.requires.fresh))
-
-pub overflow_add-count : goal.overflow_add-count
-overflow_add-count c =
-    let k = c.args.children.now in
-    let low = count_within (λ q. found nat_eq k.counts q) (λ q. found nat_eq k.counts q) c.args.parent (child_count k) (child_count k) c.requires.lawful.sum in
-    omega (arith, low, c.count_of-count.ensures, c.requires.positions)
-
 pub returns-clause-lawful : goal.returns-clause-lawful
-returns-clause-lawful c =
-    let k = c.args.children.now in
-    let old : ℕ → Option ℕ = λ q. found nat_eq k.counts q in
-    let new : ℕ → Option ℕ = λ q. found nat_eq c.set.new.map q in
-    let fresh = parentless (position_in k.positions c.args.child) c.requires.fresh in
+returns-clause-lawful g c parents law fresh =
+    let s = c.args.nodes.now in
+    let kin = kin_at s in
+    let child = c.args.child in
+    let p = c.args.parent in
+    let first : c.kin_in-first.result.newest ≡ (kin p).newest = ap (λ (k : Kin). k.newest) c.kin_in-first.ensures in
+    let one = c.set_older.ensures in
+    let two = c.set_newer.ensures in
+    let three = c.set_newest.ensures in
+    let values = two.values ∙ one.values in
+    let link = linked_with parents kin (kin_at c.set_newest.new.nodes) law.rank child p law.linked fresh (there_real s child c.requires.there)
+    (λ some m.
+    let there : IsThere s (kin p).newest = law.there (kin p).newest p (law.linked.newest (kin p).newest p refl some).0 in
+    let there' = subst (IsThere c.set_older.new.nodes) (sym first) (there_as s c.set_older.new.nodes one.values (kin p).newest there) in
+    three.newer m ∙ (two.newer there' m ∙ (λ i. if first i == m then child else one.newer m i)))
+    (λ none m. three.newer m ∙ (two.none (first ∙ none) m ∙ one.newer m))
+    (λ m. three.older m ∙ (two.older m ∙ (one.older c.requires.there m ∙ (λ i. if child == m then first i else (kin m).older))))
+    (λ m. three.newest (there_as s c.set_newer.new.nodes values p c.requires.above) m ∙ (λ i. if p == m then child else (two.newest m ∙ one.newest m) i)) in
     record {
-      dense = IsDense-with (child_at k.by_position) (child_at c.put.new.map) (position_in k.positions) (position_in c.put-2.new.map) (count_in k.counts) (count_in c.set.new.map) c.args.child c.args.parent c.requires.lawful.dense fresh
-          (λ q. rw c.count_of-count.ensures at (c.put.ensures.put q))
-          (λ m. rw c.count_of-count.ensures at (c.put-2.ensures.put m))
-          (counts_set old new c.args.parent (count_in k.counts c.args.parent + 1) (λ q. rw c.count_of-count.ensures at (c.set.ensures.set q)));
-      sum = sum_set old new c.args.parent (child_count k) _ c.requires.lawful.sum (count_in k.counts c.args.parent + 1) c.requires.known (λ q. rw c.count_of-count.ensures at (c.set.ensures.set q)) (omega (arith, c.put-2.ensures.live));
-      even = omega (arith, c.put.ensures.live, c.put-2.ensures.live, c.requires.lawful.even);
+      there = there_with s c.set_newest.new.nodes (three.values ∙ values) parents child _ c.requires.there law.there;
+      rank = λ m. if child == m then 0 else law.rank m + 1;
+      linked = link;
     }

@@ -1,23 +1,23 @@
-use Rattle.std.proofs.Common.{◌<◌, ◌≡◌, true, false, sym, ◌∙◌, inl, inr, arith}
-use Rattle.std.proofs.lemmas.Bool.{cases_lt, le-ltb, lt-ltb}
-use Rattle.tree_children.specs.Ordinals.{child_at, position_in, count_in}
-use Rattle.tree_children.proofs.Dense.{first_child, some_child}
+use Rattle.std.proofs.Common.{◌≡◌, true, false, sym, ap, ◌∙◌, inl, inr}
+use Rattle.std.proofs.lemmas.Bool.{cases_eq, eq-eqb, ne_eqb}
+use Rattle.std.specs.Prelude.{not, Bool}
+use Rattle.tree_children.specs.declared.Kin.{Kin}
+use Rattle.tree_children.specs.Links.{kin_at}
+use Rattle.tree_children.proofs.Linking.{childless}
 use Rattle.tree_children.proofs.has_children.Goals as goal
 
 pub returns-clause-yes : goal.returns-clause-yes
-returns-clause-yes c h =
-    let k = c.args.children.now in
-    let count = c.count_of.result in
-    let low : 0 < count = elim (cases_lt 0 count) [
-      | inl some ↦ some
-      | inr none ↦ let bad : true ≡ false = sym h ∙ le-ltb 0 count none in cc
-    ] in
-    first_child (child_at k.by_position) (position_in k.positions) (count_in k.counts) c.requires.dense c.args.parent (omega (arith, low, c.count_of.ensures))
+returns-clause-yes g c parents law h =
+    let n = c.kin_in.result.newest in
+    elim (cases_eq n 0) [
+      | inl e ↦ let bad : false ≡ true = sym (ap (λ (b : Bool). not b) (eq-eqb n 0 e)) ∙ h in cc
+      | inr some ↦ (n, (law.linked.newest n c.args.parent (ap (λ (k : Kin). k.newest) (sym c.kin_in.ensures)) some).0)
+    ]
 
 pub returns-clause-no : goal.returns-clause-no
-returns-clause-no c h n e =
-    let k = c.args.children.now in
-    let low = some_child (child_at k.by_position) (position_in k.positions) (count_in k.counts) c.requires.dense n c.args.parent e in
-    let some : 0 < c.count_of.result = omega (arith, low, c.count_of.ensures) in
-    let bad : false ≡ true = sym h ∙ lt-ltb 0 c.count_of.result some in
-    cc
+returns-clause-no g c parents law h n stood =
+    let newest = c.kin_in.result.newest in
+    elim (cases_eq newest 0) [
+      | inl e ↦ childless parents (kin_at c.args.nodes.now) law.rank law.linked c.args.parent (ap (λ (k : Kin). k.newest) (sym c.kin_in.ensures) ∙ e) n stood
+      | inr some ↦ let bad : true ≡ false = sym (ap (λ (b : Bool). not b) (ne_eqb newest 0 some)) ∙ h in cc
+    ]
