@@ -1,14 +1,13 @@
 -- What an exchange of two names comes to: two nodes change places, one moves, or none does.
-use Rattle.std.proofs.Common.{ℕ, ◌≡◌, if◌then◌else◌, true, false, [], ◌∷◌, ◌++◌, Some, None, length, drop, reverse, refl, sym, ap, ◌∙◌, subst, inl, inr}
+use Rattle.std.proofs.Common.{ℕ, ◌≡◌, if◌then◌else◌, true, [], ◌∷◌, ◌++◌, length, drop, reverse, refl, sym, ap, ◌∙◌, subst, inl, inr}
 use Rattle.std.proofs.lemmas.Bool.{cases_Bool, cond-true, cond-false}
 use Rattle.std.proofs.lemmas.List.{reverse-append}
 use Rattle.paths.specs.Prefixes.{Name, Names, is_prefix}
 use Rattle.paths.proofs.PrefixLemmas.{is_prefix-more, is_prefix-trans, is_prefix-append, drop-append}
-use Rattle.tree.specs.declared.nodes.Node.{Node}
-use Rattle.tree.specs.Places.{Lookup, with_node, IsNamed, IsFree, IsPathOf, Climbs, IsBelow, IsTree}
+use Rattle.tree.specs.Places.{Lookup, with_node, IsNamed, IsFree, IsPathOf, Climbs, IsTree}
 use Rattle.tree.specs.Moves.{Where, at_path, cut, Stands, Changes, CanExchange, Exchanges, IsMovable, after_exchange, moved_node, stays}
 use Rattle.tree.proofs.LookupLemmas.{with_other}
-use Rattle.tree.proofs.Climbing.{named_same, root_unnamed, named_at, path_once, path_same, path_under, reaches_split}
+use Rattle.tree.proofs.Climbing.{root_unnamed, named_at, path_once, path_same, path_under, reaches_split}
 use Rattle.tree.proofs.Moving.{after_shift, Changes-shift}
 use Rattle.tree.proofs.Transfers.{below_prefix}
 use Rattle.tree.proofs.Exchanging.{CanSwap, Changes-swap, differ, swapped, swap_other}

@@ -1,14 +1,18 @@
 -- What is found in a slab of nodes after one was put in, written or taken out.
 use Rattle.std.proofs.Common.{ℕ, zero, suc, ◌+◌, ◌-◌, ◌<◌, ◌≤◌, ◌≡◌, ◌==◌, ◌^◌, nat_lt, true, false, if◌then◌else◌, List, [], ◌∷◌, Option, Some, None, is_some, cond, count_by, length, get_or, refl, sym, ap, ◌∙◌, subst, inl, inr, arith}
-use Rattle.std.proofs.lemmas.Bool.{cases_eq, cond-false, cond-true, eq-eqb, ne_eqb, lt-ltb, le-ltb}
+use Rattle.std.proofs.lemmas.Bool.{cases_eq, cond-false, cond-true, lt-ltb, le-ltb}
 use Rattle.std.proofs.lemmas.List.Sums.{sum_by-cons}
 use Rattle.std.proofs.lemmas.Option.{none-some}
 use Rattle.std.specs.FinMap as map
+use Rattle.std.specs.Prelude.{option_map}
 use mathlib.Core.Path.{fun_ext}
 use Rattle.slab.specs.Slab.{Slab, get, slab_len, Updates}
 use Rattle.sums.specs.Sum.{IsSum}
 use Rattle.sums.proofs.Changing.{part_of_sum, sum_changed, sum_with, sum_without}
 use Rattle.sums.proofs.Once.{sum_once}
+use Rattle.tree_children.specs.declared.Linked.{Linked}
+use Rattle.tree_children.specs.Links.{value_of}
+use Rattle.tree_children.proofs.Written.{linked_none, linked_of, value_some, value_updated}
 use Rattle.tree.specs.declared.nodes.Node.{Node}
 use Rattle.tree.specs.Places.{Lookup, Nodes, at_in, with_node, without, IsTree, IsCensus}
 use Rattle.tree.specs.Listed.{node_at, next_of, IsDistinct, IsLeastFree, IsGrown, nodes_of, counts_of}
@@ -18,77 +22,84 @@ use Rattle.tree.proofs.Census.{census_of}
 use Rattle.tree.proofs.Walking.{next_is}
 use Rattle.tree.proofs.LookupLemmas.{with_other, with_same}
 
--- the number of a key
-pub slot_of : (s : Slab Node) (n k : ℕ) → n ≡ k + 1 → slot_at s n ≡ get s k
-slot_of s n k e =
-    let less : n - 1 ≡ k = omega arith in
-    cond-false (n == 0) None (get s (n - 1)) (ne_eqb n 0 (λ z. omega arith)) ∙ ap (get s) less
+-- the value of what stands at a key
+abbrev pub value_or : Option (Linked Node) → Option Node
+value_or o = option_map value_of o
 
-pub slot_none : (s : Slab Node) (n : ℕ) → n ≡ 0 → slot_at s n ≡ None
-slot_none s n e = cond-true (n == 0) None (get s (n - 1)) (eq-eqb n 0 e)
+-- the number of a key
+pub slot_of : (s : Slab (Linked Node)) (n k : ℕ) → n ≡ k + 1 → slot_at s n ≡ value_or (get s k)
+slot_of s n k e = ap value_or (linked_of s n k e)
+
+pub slot_none : (s : Slab (Linked Node)) (n : ℕ) → n ≡ 0 → slot_at s n ≡ None
+slot_none s n e = ap value_or (linked_none s n e)
 
 -- who is found has a key
-pub key_of : (s : Slab Node) (n : ℕ) (x : Node) → slot_at s n ≡ Some x → (k : ℕ) × (n ≡ k + 1) × (get s k ≡ Some x)
+pub key_of : (s : Slab (Linked Node)) (n : ℕ) (x : Node) → slot_at s n ≡ Some x → (k : ℕ) × (n ≡ k + 1) × (l : Linked Node) × (get s k ≡ Some l) × (l.value ≡ x)
 key_of s n x h = elim (cases_eq n 0) [
   | inl e ↦ absurd (none-some x (sym (slot_none s n e) ∙ h))
-  | inr ne ↦ let e : n ≡ n - 1 + 1 = omega arith in (n - 1, e, sym (slot_of s n (n - 1) e) ∙ h)
+  | inr ne ↦ let e : n ≡ n - 1 + 1 = omega arith in let it = value_some (get s (n - 1)) x (sym (slot_of s n (n - 1) e) ∙ h) in (n - 1, e, it.0, it.1, it.2)
 ]
 
+-- what a key has is a node
+pub key_alive : (o : Option (Linked Node)) → is_some o ≡ true → (x : Node) × (value_or o ≡ Some x)
+key_alive None h = absurd (let bad : false ≡ true = h in cc)
+key_alive (Some l) h = (l.value, refl)
+
+pub has_key : (o : Option (Linked Node)) (x : Node) → value_or o ≡ Some x → is_some o ≡ true
+has_key None x h = absurd (none-some x h)
+has_key (Some l) x h = refl
+
+pub key_dead : (o : Option (Linked Node)) → (is_some o ≡ true → ⊥) → value_or o ≡ None
+key_dead None h = refl
+key_dead (Some l) h = absurd (h refl)
+
 -- a change of one key
-pub slot_updated : (old new : Slab Node) (k : ℕ) (o : Option Node) (n : ℕ) → n ≡ k + 1 → Updates old new k o → slot_at new ≡ (λ m. if n == m then o else slot_at old m)
-slot_updated old new k o n e u = fun_ext (λ m. elim (cases_eq n m) [
-  | inl same ↦ slot_of new m k (sym same ∙ e) ∙ (u.changed ∙ sym (cond-true (n == m) o (slot_at old m) (eq-eqb n m same)))
-  | inr ne ↦ elim (cases_eq m 0) [
-    | inl none ↦ slot_none new m none ∙ (sym (slot_none old m none) ∙ sym (cond-false (n == m) o (slot_at old m) (ne_eqb n m ne)))
-    | inr some ↦
-        let here : m ≡ m - 1 + 1 = omega arith in
-        slot_of new m (m - 1) here ∙ (u.others (m - 1) (λ same. ne (omega arith)) ∙ (sym (slot_of old m (m - 1) here) ∙ sym (cond-false (n == m) o (slot_at old m) (ne_eqb n m ne))))
-  ]
-])
+pub slot_updated : (old new : Slab (Linked Node)) (k : ℕ) (o : Option (Linked Node)) (n : ℕ) → n ≡ k + 1 → Updates old new k o → slot_at new ≡ (λ m. if n == m then value_or o else slot_at old m)
+slot_updated old new k o n e u = value_updated old new k n o e u
 
 -- ---- the nodes as a list
 
 -- each node bears the number of its place, where the first place has that number
-abbrev pub Bears : ℕ → List (Option Node) → Type 0
-Bears first slots = (k : ℕ) (x : Node) → get_or slots k None ≡ Some x → x.number ≡ first + k
+abbrev pub Bears : ℕ → List (Option (Linked Node)) → Type 0
+Bears first slots = (k : ℕ) (l : Linked Node) → get_or slots k None ≡ Some l → l.value.number ≡ first + k
 
-bears_rest : (first : ℕ) (slot : Option Node) (rest : List (Option Node)) → Bears first (slot ∷ rest) → Bears (first + 1) rest
+bears_rest : (first : ℕ) (slot : Option (Linked Node)) (rest : List (Option (Linked Node))) → Bears first (slot ∷ rest) → Bears (first + 1) rest
 bears_rest first slot rest h k x e = let it = h (suc k) x e in omega arith
 
-list_low : (first : ℕ) (slots : List (Option Node)) → Bears first slots → (n : ℕ) → n < first → node_at (listed slots) n ≡ None
+list_low : (first : ℕ) (slots : List (Option (Linked Node))) → Bears first slots → (n : ℕ) → n < first → node_at (listed slots) n ≡ None
 list_low first [] h n low = refl
 list_low first (None ∷ rest) h n low = list_low (first + 1) rest (bears_rest first None rest h) n (omega arith)
-list_low first (Some x ∷ rest) h n low =
-    let number = h 0 x refl in
-    with_other (node_at (listed rest)) x.number x n (λ e. omega arith) ∙ list_low (first + 1) rest (bears_rest first (Some x) rest h) n (omega arith)
+list_low first (Some l ∷ rest) h n low =
+    let number = h 0 l refl in
+    with_other (node_at (listed rest)) l.value.number l.value n (λ e. omega arith) ∙ list_low (first + 1) rest (bears_rest first (Some l) rest h) n (omega arith)
 
-list_at : (first : ℕ) (slots : List (Option Node)) → Bears first slots → (k n : ℕ) → n ≡ first + k → node_at (listed slots) n ≡ get_or slots k None
+list_at : (first : ℕ) (slots : List (Option (Linked Node))) → Bears first slots → (k n : ℕ) → n ≡ first + k → node_at (listed slots) n ≡ value_or (get_or slots k None)
 list_at first [] h k n e = refl
 list_at first (None ∷ rest) h zero n e = list_low (first + 1) rest (bears_rest first None rest h) n (omega arith)
 list_at first (None ∷ rest) h (suc k) n e = list_at (first + 1) rest (bears_rest first None rest h) k n (omega arith)
-list_at first (Some x ∷ rest) h zero n e =
-    let number = h 0 x refl in
-    let same : x.number ≡ n = omega arith in
-    subst (λ m. with_node (node_at (listed rest)) x.number x m ≡ Some x) same (with_same (node_at (listed rest)) x.number x)
-list_at first (Some x ∷ rest) h (suc k) n e =
-    let number = h 0 x refl in
-    with_other (node_at (listed rest)) x.number x n (λ same. omega arith) ∙ list_at (first + 1) rest (bears_rest first (Some x) rest h) k n (omega arith)
+list_at first (Some l ∷ rest) h zero n e =
+    let number = h 0 l refl in
+    let same : l.value.number ≡ n = omega arith in
+    subst (λ m. with_node (node_at (listed rest)) l.value.number l.value m ≡ Some l.value) same (with_same (node_at (listed rest)) l.value.number l.value)
+list_at first (Some l ∷ rest) h (suc k) n e =
+    let number = h 0 l refl in
+    with_other (node_at (listed rest)) l.value.number l.value n (λ same. omega arith) ∙ list_at (first + 1) rest (bears_rest first (Some l) rest h) k n (omega arith)
 
-list_distinct : (first : ℕ) (slots : List (Option Node)) → Bears first slots → IsDistinct (listed slots)
+list_distinct : (first : ℕ) (slots : List (Option (Linked Node))) → Bears first slots → IsDistinct (listed slots)
 list_distinct first [] h = tt
 list_distinct first (None ∷ rest) h = list_distinct (first + 1) rest (bears_rest first None rest h)
-list_distinct first (Some x ∷ rest) h =
-    let number = h 0 x refl in
-    (list_low (first + 1) rest (bears_rest first (Some x) rest h) x.number (omega arith), list_distinct (first + 1) rest (bears_rest first (Some x) rest h))
+list_distinct first (Some l ∷ rest) h =
+    let number = h 0 l refl in
+    (list_low (first + 1) rest (bears_rest first (Some l) rest h) l.value.number (omega arith), list_distinct (first + 1) rest (bears_rest first (Some l) rest h))
 
-list_length : (slots : List (Option Node)) → length (listed slots) ≡ count_by is_some slots
+list_length : (slots : List (Option (Linked Node))) → length (listed slots) ≡ count_by is_some slots
 list_length [] = refl
-list_length (None ∷ rest) = omega (arith, list_length rest, sum_by-cons (λ (o : Option Node). cond (is_some o) 1 0) None rest)
-list_length (Some x ∷ rest) = omega (arith, list_length rest, sum_by-cons (λ (o : Option Node). cond (is_some o) 1 0) (Some x) rest)
+list_length (None ∷ rest) = omega (arith, list_length rest, sum_by-cons (λ (o : Option (Linked Node)). cond (is_some o) 1 0) None rest)
+list_length (Some l ∷ rest) = omega (arith, list_length rest, sum_by-cons (λ (o : Option (Linked Node)). cond (is_some o) 1 0) (Some l) rest)
 
-module _ (s : Slab Node) (numbered : (n : ℕ) (x : Node) → slot_at s n ≡ Some x → x.number ≡ n) where
+module _ (s : Slab (Linked Node)) (numbered : (n : ℕ) (x : Node) → slot_at s n ≡ Some x → x.number ≡ n) where
   bears : Bears 1 s.slots
-  bears k x h = numbered (k + 1) x (slot_of s (k + 1) k refl ∙ h) ∙ omega arith
+  bears k l h = numbered (k + 1) l.value (slot_of s (k + 1) k refl ∙ ap value_or h) ∙ omega arith
 
   pub length_listed : length (listed s.slots) ≡ slab_len s
   length_listed = list_length s.slots
@@ -112,7 +123,7 @@ module _ (s : Slab Node) (numbered : (n : ℕ) (x : Node) → slot_at s n ≡ So
   pub counts_sum : IsSum (slot_at s) (λ (x : Node). x.count) (counts_of (listed s.slots))
   counts_sum = census_listed.counts_is
 
-pub grown_listed : (s : Slab Node) → IsTree (slot_at s) → IsGrown (listed s.slots)
+pub grown_listed : (s : Slab (Linked Node)) → IsTree (slot_at s) → IsGrown (listed s.slots)
 grown_listed s tree = record {
   distinct = distinct_listed s tree.numbered;
   positive = ap (λ (at : Lookup). at 0) (listed_at s tree.numbered);
@@ -120,7 +131,7 @@ grown_listed s tree = record {
 }
 
 -- the sum of the counts after a change of one node
-module _ (old new : Slab Node) (numbered : (n : ℕ) (x : Node) → slot_at old n ≡ Some x → x.number ≡ n) (numbered' : (n : ℕ) (x : Node) → slot_at new n ≡ Some x → x.number ≡ n) where
+module _ (old new : Slab (Linked Node)) (numbered : (n : ℕ) (x : Node) → slot_at old n ≡ Some x → x.number ≡ n) (numbered' : (n : ℕ) (x : Node) → slot_at new n ≡ Some x → x.number ≡ n) where
   pub counts_changed : (n : ℕ) (x y : Node) → slot_at old n ≡ Some x → slot_at new ≡ with_node (slot_at old) n y → counts_of (listed new.slots) + x.count ≡ counts_of (listed old.slots) + y.count
   counts_changed n x y here wrote =
       let s = counts_of (listed old.slots) in
@@ -155,7 +166,7 @@ module _ (old new : Slab Node) (numbered : (n : ℕ) (x : Node) → slot_at old 
       omega arith
 
 -- the same of what callers see
-pub census_in : (s : Slab Node) → ((n : ℕ) (x : Node) → slot_at s n ≡ Some x → x.number ≡ n) → (t : Nodes) (limit room next : ℕ) (cut : List ℕ) → record { nodes = nodes_of (listed s.slots); living = slab_len s; counts = counts_of (listed s.slots); limit = limit; room = room; next = next; newly_cut = cut } ≡ t → IsCensus (at_in t) t.living t.counts
+pub census_in : (s : Slab (Linked Node)) → ((n : ℕ) (x : Node) → slot_at s n ≡ Some x → x.number ≡ n) → (t : Nodes) (limit room next : ℕ) (cut : List ℕ) → record { nodes = nodes_of (listed s.slots); living = slab_len s; counts = counts_of (listed s.slots); limit = limit; room = room; next = next; newly_cut = cut } ≡ t → IsCensus (at_in t) t.living t.counts
 census_in s numbered t limit room next cut view =
     let P : Nodes → Type 0 = λ u. IsCensus (at_in u) u.living u.counts in
     let here : IsCensus (at_in (record { nodes = nodes_of (listed s.slots); living = slab_len s; counts = counts_of (listed s.slots); limit = limit; room = room; next = next; newly_cut = cut })) (slab_len s) (counts_of (listed s.slots)) =
@@ -163,18 +174,18 @@ census_in s numbered t limit room next cut view =
     subst P view here
 
 -- the number of the next birth
-pub next_fits : (s : Slab Node) (n : ℕ) → n ≡ s.vacant_key + 1 → n < 2 ^ 64 → n ≡ next_number s
+pub next_fits : (s : Slab (Linked Node)) (n : ℕ) → n ≡ s.vacant_key + 1 → n < 2 ^ 64 → n ≡ next_number s
 unfolding next_number
 next_fits s n e fits =
     let small : nat_lt (s.vacant_key + 1) (2 ^ 64) ≡ true = lt-ltb (s.vacant_key + 1) (2 ^ 64) (omega arith) in
     e ∙ sym (cond-true (nat_lt (s.vacant_key + 1) (2 ^ 64)) (s.vacant_key + 1) (next_of (listed s.slots)) small)
 
-next_same : (s s' : Slab Node) → s'.slots ≡ s.slots → s'.vacant_key ≡ s.vacant_key → next_number s' ≡ next_number s
+next_same : (s s' : Slab (Linked Node)) → s'.slots ≡ s.slots → s'.vacant_key ≡ s.vacant_key → next_number s' ≡ next_number s
 unfolding next_number
 next_same s s' slots next = λ i. if nat_lt (next i + 1) (2 ^ 64) then next i + 1 else next_of (listed (slots i))
 
 -- callers see no capacity
-pub view_same : (s s' : Slab Node) → s'.slots ≡ s.slots → s'.vacant_key ≡ s.vacant_key → (limit room : ℕ) (cut cut' : List ℕ) → cut' ≡ cut
+pub view_same : (s s' : Slab (Linked Node)) → s'.slots ≡ s.slots → s'.vacant_key ≡ s.vacant_key → (limit room : ℕ) (cut cut' : List ℕ) → cut' ≡ cut
     → ◌≡◌ {A = Nodes} (record { nodes = nodes_of (listed s'.slots); living = slab_len s'; counts = counts_of (listed s'.slots); limit = limit; room = room; next = next_number s'; newly_cut = cut' })
     (record { nodes = nodes_of (listed s.slots); living = slab_len s; counts = counts_of (listed s.slots); limit = limit; room = room; next = next_number s; newly_cut = cut })
 view_same s s' slots next limit room cut cut' same =
@@ -182,7 +193,7 @@ view_same s s' slots next limit room cut cut' same =
     λ i. record { nodes = nodes_of (listed (slots i)); living = count_by is_some (slots i); counts = counts_of (listed (slots i)); limit = limit; room = room; next = number i; newly_cut = same i }
 
 -- where the slab's next key is the greatest number, the least free one is next
-pub next_full : (s : Slab Node) (n : ℕ) → 2 ^ 64 ≤ s.vacant_key + 1 → IsDistinct (listed s.slots) → IsLeastFree (listed s.slots) n → n ≡ next_number s
+pub next_full : (s : Slab (Linked Node)) (n : ℕ) → 2 ^ 64 ≤ s.vacant_key + 1 → IsDistinct (listed s.slots) → IsLeastFree (listed s.slots) n → n ≡ next_number s
 unfolding next_number
 next_full s n full distinct least =
     let large : nat_lt (s.vacant_key + 1) (2 ^ 64) ≡ false = le-ltb (s.vacant_key + 1) (2 ^ 64) (omega arith) in

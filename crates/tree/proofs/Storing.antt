@@ -1,11 +1,11 @@
 -- What a change of one node makes of all that is stored.
-use Rattle.std.proofs.Common.{ℕ, ◌+◌, ◌<◌, ◌≤◌, ◌≡◌, if◌then◌else◌, List, [], Option, Some, None, length, refl, sym, ap, ◌∙◌, subst, inl, inr, arith, is_some, count_by}
+use Rattle.std.proofs.Common.{ℕ, ◌+◌, ◌<◌, ◌≤◌, ◌≡◌, if◌then◌else◌, List, [], Option, Some, None, length, refl, sym, ap, ◌∙◌, subst, inl, inr, arith, is_some}
 use Rattle.std.proofs.lemmas.Bool.{cases_eq, cond-false, cond-true, cases_Bool}
-use Rattle.std.proofs.lemmas.Option.{none-some}
+use Rattle.std.proofs.lemmas.Option.{none-some, same_Some}
 use Rattle.std.proofs.lemmas.List.{get_or_past}
 use Rattle.std.proofs.lemmas.Bool.{cases_lt}
 use Rattle.indexmap.specs.IndexMap.{IndexMap}
-use Rattle.slab.specs.Slab.{Slab, get, slab_len, with_value}
+use Rattle.slab.specs.Slab.{Slab, get, with_value}
 use Rattle.slab.proofs.SlabLemmas.{Updates-with_value}
 use Rattle.std.specs.Prelude.{IfNone, IfSome}
 use Rattle.std.specs.Map.{lookup}
@@ -19,39 +19,50 @@ use Rattle.tree.specs.Keys.{same_key}
 use Rattle.tree.specs.Moves.{cut_node, moved_node}
 use Rattle.tree.specs.Places.{Lookup, with_node, IsNamed, IsFree, IsTree}
 use Rattle.tree.specs.Stored.{slot_at, IsIndexed, IsStored}
-use Rattle.tree_children.specs.declared.Children.{Children}
-use Rattle.tree_children.specs.Ordinals.{IsLawful, parent_of, is_known, child_count, known_count}
-use Rattle.tree.specs.Children.{place_parent}
-use Rattle.tree.proofs.Relating.{related_changed, related_same, parent_here, known_here}
+use Rattle.tree_children.specs.declared.Linked.{Linked}
+use Rattle.tree_children.specs.Links.{kin_at, kin_or}
+use Rattle.tree_children.proofs.Written.{kin_kept}
+use Rattle.tree.specs.Children.{parents_in, place_parent}
+use Rattle.tree.proofs.Relating.{parent_here, parent_same, parents_with, related_as}
 use Rattle.tree.proofs.Climbing.{place_same, cut_unnamed}
 use Rattle.tree.proofs.Indexing.{IsIndexed-unnamed, IsIndexed-named, IsIndexed-same}
 use Rattle.tree.proofs.LookupLemmas.{with_other, with_same}
-use Rattle.tree.proofs.Slots.{slot_updated}
+use Rattle.tree.proofs.Slots.{slot_of, slot_updated, value_or}
 use Rattle.tree.proofs.Writing.{IsSamePlace, IsTree-write, named_now, named_was}
 
 -- a write of one node in the slab
-pub slot_written : (s : Slab Node) (n k : ℕ) (x y : Node) → n ≡ k + 1 → get s k ≡ Some x → slot_at (with_value s k y) ≡ with_node (slot_at s) n y
-slot_written s n k x y e read = slot_updated s (with_value s k y) k (Some y) n e (Updates-with_value s k y (ap (λ (o : Option Node). is_some o) read))
+module _ (s : Slab (Linked Node)) (n k : ℕ) (l : Linked Node) (y : Node) (e : n ≡ k + 1) (read : get s k ≡ Some l) where
+  pub slot_written : slot_at (with_value s k (record l { value = y })) ≡ with_node (slot_at s) n y
+  slot_written = let new : Linked Node = record l { value = y } in slot_updated s (with_value s k new) k (Some new) n e (Updates-with_value s k new (ap (λ (o : Option (Linked Node)). is_some o) read))
+
+  pub kin_written : kin_at (with_value s k (record l { value = y })) ≡ kin_at s
+  kin_written =
+      let new : Linked Node = record l { value = y } in
+      kin_kept s (with_value s k new) k n (Some new) e (Updates-with_value s k new (ap (λ (o : Option (Linked Node)). is_some o) read)) (ap kin_or (sym read))
+
+  -- the node that is read there
+  pub node_read : (x : Node) → slot_at s n ≡ Some x → l.value ≡ x
+  node_read x stood = same_Some l.value x (sym (ap value_or read) ∙ (sym (slot_of s n k e) ∙ stood))
 
 -- who is found has a key below the capacity
-pub within : (s : Slab Node) (k bound : ℕ) (x : Node) → length s.slots ≤ bound → get s k ≡ Some x → k < bound
-within s k bound x fits h = elim (cases_lt k bound) [
+pub within : (s : Slab (Linked Node)) (k bound : ℕ) (l : Linked Node) → length s.slots ≤ bound → get s k ≡ Some l → k < bound
+within s k bound l fits h = elim (cases_lt k bound) [
   | inl low ↦ low
-  | inr high ↦ absurd (none-some x (sym (get_or_past s.slots k None (omega arith)) ∙ h))
+  | inr high ↦ absurd (none-some l (sym (get_or_past s.slots k None (omega arith)) ∙ h))
 ]
 
 -- the node keeps its place
-pub stored_written : {S : Type 0} (s s' : Slab Node) (m : IndexMap Key (Option ℕ) S) (c : Children) (named n : ℕ) (x y : Node) → slot_at s n ≡ Some x → slot_at s' ≡ with_node (slot_at s) n y → slab_len s' ≡ slab_len s → IsSamePlace x y → IsStored s m c named → IsStored s' m c named
-stored_written s s' m c named n x y stood wrote len keeps old = record {
+pub stored_written : {S : Type 0} (s s' : Slab (Linked Node)) (m : IndexMap Key (Option ℕ) S) (named n : ℕ) (x y : Node) → slot_at s n ≡ Some x → slot_at s' ≡ with_node (slot_at s) n y → kin_at s' ≡ kin_at s → IsSamePlace x y → IsStored s m named → IsStored s' m named
+stored_written s s' m named n x y stood wrote links keeps old = record {
   tree = subst IsTree (sym wrote) (IsTree-write (slot_at s) n x y stood keeps old.tree);
   indexed = record {
     sound = λ k j h. subst (λ (a : Lookup). IsNamed a j k.parent k.name) (sym wrote) (named_now (slot_at s) n x y stood keeps j k.parent k.name (old.indexed.sound k j h));
     whole = λ k j h. old.indexed.whole k j (named_was (slot_at s) n x y stood keeps j k.parent k.name (subst (λ (a : Lookup). IsNamed a j k.parent k.name) wrote h));
   };
-  related = related_changed (slot_at s) (slot_at s') c c n y wrote old.related old.related.lawful (parent_here (slot_at s) c old.related n x stood ∙ ap place_parent (sym keeps.place)) (λ j ne. refl) (known_here (slot_at s) c old.related n x stood) (λ j ne. refl);
+  related = related_as (parents_in (slot_at s)) s s'
+      (λ j. parents_with (slot_at s) (slot_at s') n y wrote j ∙ sym (parent_same (parents_in (slot_at s)) n (place_parent y.place) (parent_here (slot_at s) n x stood ∙ ap place_parent (sym keeps.place)) j))
+      links old.related;
   counted = old.counted;
-  placed = old.placed;
-  known = old.known ∙ sym len;
 }
 
 -- a free name is not in the index
@@ -118,21 +129,21 @@ moved_indexed old new n x k k' m m' m'' stood is free wrote indexed taken put =
     first put
 
 -- the same slots and entries
-pub same_slots : (s s' : Slab Node) → s'.slots ≡ s.slots → slot_at s' ≡ slot_at s
-same_slots s s' e = ap (λ (slots : List (Option Node)). slot_at (record s { slots = slots })) e
+pub same_slots : (s s' : Slab (Linked Node)) → s'.slots ≡ s.slots → slot_at s' ≡ slot_at s
+same_slots s s' e = ap (λ (slots : List (Option (Linked Node))). slot_at (record s { slots = slots })) e
 
-pub stored_same : {S : Type 0} (s s' : Slab Node) (m m' : IndexMap Key (Option ℕ) S) (c c' : Children) (named : ℕ) → s'.slots ≡ s.slots → m'.entries ≡ m.entries → IsLawful c' → ((n : ℕ) → parent_of c' n ≡ parent_of c n) → ((n : ℕ) → is_known c' n ≡ is_known c n)
-    → child_count c' ≡ child_count c → known_count c' ≡ known_count c → IsStored s m c named → IsStored s' m' c' named
-stored_same s s' m m' c c' named slots entries law parents known children numbers old = record {
+pub same_links : (s s' : Slab (Linked Node)) → s'.slots ≡ s.slots → kin_at s' ≡ kin_at s
+same_links s s' e = ap (λ (slots : List (Option (Linked Node))). kin_at (record s { slots = slots })) e
+
+pub stored_same : {S : Type 0} (s s' : Slab (Linked Node)) (m m' : IndexMap Key (Option ℕ) S) (named : ℕ) → s'.slots ≡ s.slots → m'.entries ≡ m.entries → IsStored s m named → IsStored s' m' named
+stored_same s s' m m' named slots entries old = record {
   tree = subst IsTree (sym (same_slots s s' slots)) old.tree;
   indexed = record {
     sound = λ k n h. subst (λ (a : Lookup). IsNamed a n k.parent k.name) (sym (same_slots s s' slots)) (old.indexed.sound k n (ap (λ (es : List (Key × Option ℕ)). joined (lookup (same_key k) es)) (sym entries) ∙ h));
     whole = λ k n h. ap (λ (es : List (Key × Option ℕ)). joined (lookup (same_key k) es)) entries ∙ old.indexed.whole k n (subst (λ (a : Lookup). IsNamed a n k.parent k.name) (same_slots s s' slots) h);
   };
-  related = related_same (slot_at s) (slot_at s') c c' (same_slots s s' slots) old.related law parents known;
+  related = related_as (parents_in (slot_at s)) s s' (λ n. ap (λ (a : Lookup). parents_in a n) (same_slots s s' slots)) (same_links s s' slots) old.related;
   counted = old.counted ∙ ap (λ (es : List (Key × Option ℕ)). living es) (sym entries);
-  placed = children ∙ old.placed;
-  known = numbers ∙ (old.known ∙ ap (λ (slots : List (Option Node)). count_by is_some slots) (sym slots));
 }
 
 -- what a search of the index tells

@@ -1,7 +1,5 @@
--- Children beside the nodes that name their parents.
-use Rattle.std.specs.Prelude.{ℕ, ◌≡◌, Option, Some, None, is_some}
-use Rattle.tree_children.specs.declared.Children.{Children}
-use Rattle.tree_children.specs.Ordinals.{IsLawful, parent_of, is_known}
+-- The parents that nodes name.
+use Rattle.std.specs.Prelude.{ℕ, Option, Some, None}
 use Rattle.tree.specs.declared.nodes.Node.{Node}
 use Rattle.tree.specs.declared.nodes.Place.{Place}
 use Rattle.tree.specs.declared.nodes.Place.TheVariants as place
@@ -18,8 +16,6 @@ abbrev pub node_parent : Option Node → Option ℕ
 node_parent None = None
 node_parent (Some x) = place_parent x.place
 
--- each number is a child of the parent that its node names, and the numbers of nodes are those that may have children
-pub record IsChildrenOf (at : Lookup) (children : Children) : Type 0 where
-  pub lawful : IsLawful children
-  pub parents : (n : ℕ) → parent_of children n ≡ node_parent (at n)
-  pub known : (n : ℕ) → is_known children n ≡ is_some (at n)
+-- the parents by the numbers of their children
+abbrev pub parents_in : Lookup → ℕ → Option ℕ
+parents_in at n = node_parent (at n)

@@ -1,12 +1,12 @@
--- Nodes that stand in a slab, each under its number less one, an index of them by parents and names, and their children.
-use Rattle.std.specs.Prelude.{ℕ, ◌+◌, ◌-◌, ◌*◌, ◌≤◌, ◌≡◌, ◌^◌, ◌==◌, nat_lt, if◌then◌else◌, List, [], ◌∷◌, Option, Some, None, Vec, vec_len, vec_capacity}
+-- Nodes that stand in a slab, each under its number less one, with the links of their children, and an index of them by parents and names.
+use Rattle.std.specs.Prelude.{ℕ, ◌+◌, ◌*◌, ◌≤◌, ◌≡◌, ◌^◌, nat_lt, if◌then◌else◌, List, [], ◌∷◌, Option, Some, None, Vec, vec_len, vec_capacity}
 use Rattle.indexmap.specs.IndexMap.{IndexMap}
 use Rattle.std.specs.declared.alloc.Global.{Global}
-use Rattle.slab.specs.Slab.{Slab, get, slab_len}
+use Rattle.slab.specs.Slab.{Slab, slab_len}
 use Rattle.steady_map.specs.Living.{found, live, places}
-use Rattle.tree_children.specs.declared.Children.{Children}
-use Rattle.tree_children.specs.Ordinals.{HasPlaces, child_count, known_count}
-use Rattle.tree.specs.Children.{IsChildrenOf}
+use Rattle.tree_children.specs.declared.Linked.{Linked}
+use Rattle.tree_children.specs.Links.{IsLawful, value_at}
+use Rattle.tree.specs.Children.{parents_in}
 use Rattle.tree.specs.declared.nodes.Key.{Key}
 use Rattle.tree.specs.declared.nodes.Node.{Node}
 use Rattle.tree.specs.Keys.{same_key}
@@ -14,14 +14,14 @@ use Rattle.tree.specs.Listed.{next_of}
 use Rattle.tree.specs.Places.{Lookup, IsNamed, IsTree}
 
 -- the node of that number
-abbrev pub slot_at : Slab Node → Lookup
-slot_at s n = if n == 0 then None else get s (n - 1)
+abbrev pub slot_at : Slab (Linked Node) → Lookup
+slot_at s = value_at s
 
 -- the nodes in the order of their numbers
-abbrev pub listed : List (Option Node) → List Node
+abbrev pub listed : List (Option (Linked Node)) → List Node
 listed [] = []
 listed (None ∷ rest) = listed rest
-listed (Some x ∷ rest) = x ∷ listed rest
+listed (Some l ∷ rest) = l.value ∷ listed rest
 
 -- the numbers in the index are those of the named nodes
 pub record IsIndexed {S : Type 0} (at : Lookup) (m : IndexMap Key (Option ℕ) S) : Type 0 where
@@ -29,28 +29,26 @@ pub record IsIndexed {S : Type 0} (at : Lookup) (m : IndexMap Key (Option ℕ) S
   pub whole : (k : Key) (n : ℕ) → IsNamed at n k.parent k.name → found same_key m k ≡ Some n
 
 -- the law of what is stored
-pub record IsStored {S : Type 0} (nodes : Slab Node) (index : IndexMap Key (Option ℕ) S) (children : Children) (named : ℕ) : Type 0 where
+pub record IsStored {S : Type 0} (nodes : Slab (Linked Node)) (index : IndexMap Key (Option ℕ) S) (named : ℕ) : Type 0 where
   pub tree : IsTree (slot_at nodes)
   pub indexed : IsIndexed (slot_at nodes) index
-  pub related : IsChildrenOf (slot_at nodes) children
+  -- the links are those of the parents that the nodes name
+  pub related : IsLawful (parents_in (slot_at nodes)) nodes
   pub counted : named ≡ live index
-  pub placed : child_count children ≡ named
-  pub known : known_count children ≡ slab_len nodes
 
 -- so many births take no memory, and are allowed
-pub record HasRoom {S : Type 0} (nodes : Slab Node) (index : IndexMap Key (Option ℕ) S) (children : Children) (named room limit : ℕ) : Type 0 where
+pub record HasRoom {S : Type 0} (nodes : Slab (Linked Node)) (index : IndexMap Key (Option ℕ) S) (named room limit : ℕ) : Type 0 where
   pub slots : slab_len nodes + room ≤ nodes.capacity
   pub keys : 2 * (named + room) ≤ places index
-  pub child_places : HasPlaces children (named + room) (slab_len nodes + room)
   pub within : slab_len nodes + room ≤ limit
   pub few : slab_len nodes + room ≤ 2 ^ 62
 
 -- the number that the next birth bears: one more than the slab's next key, and where that is no number the least free one
-unfoldable pub next_number : Slab Node → ℕ
+unfoldable pub next_number : Slab (Linked Node) → ℕ
 next_number s = if nat_lt (s.vacant_key + 1) (2 ^ 64) then s.vacant_key + 1 else next_of (listed s.slots)
 
 -- the law of a tree: each named node, and each that is born without memory, may be listed as newly cut without memory
-pub record IsHeld {S : Type 0} (nodes : Slab Node) (index : IndexMap Key (Option ℕ) S) (children : Children) (newly_cut : Vec ℕ Global) (named room limit : ℕ) : Type 0 where
-  pub stored : IsStored nodes index children named
-  pub reserved : HasRoom nodes index children named room limit
+pub record IsHeld {S : Type 0} (nodes : Slab (Linked Node)) (index : IndexMap Key (Option ℕ) S) (newly_cut : Vec ℕ Global) (named room limit : ℕ) : Type 0 where
+  pub stored : IsStored nodes index named
+  pub reserved : HasRoom nodes index named room limit
   pub lists : vec_len newly_cut + (named + room) ≤ vec_capacity newly_cut

@@ -6,33 +6,31 @@ ghost use Rattle.steady_map.specs.Living.{live, places};
 ghost use Rattle.tree.specs.declared.nodes.Key.{Key};
 ghost use Rattle.tree.specs.declared.nodes.Node.{Node};
 ghost use Rattle.tree.specs.declared.nodes.Place.TheVariants as Place;
-ghost use Rattle.tree_children.specs.Ordinals.{HasPlaces, KeepsPlaces, child_count, known_count};
-ghost use Rattle.tree.specs.Children.{IsChildrenOf};
+ghost use Rattle.tree_children.specs.Links.{IsLawful};
+ghost use Rattle.tree.specs.Children.{parents_in};
 ghost use Rattle.tree.specs.Places.{IsAlive, IsNamed, HasChild, IsFree, Leads, with_node, without, born_node};
 ghost use Rattle.tree.specs.Listed.{counts_of};
 ghost use Rattle.tree.specs.Moves.{CanRelink, IsFreed, ListsCuts, Moves, moved_node, cut_node};
 ghost use Rattle.tree.specs.Stored.{slot_at, listed, IsIndexed, IsStored};
 
 use crate::leaves::cut_leaves;
-use crate::lookups::key_of;
 use crate::nodes::{Key, Node, Place};
 use crate::writes::{Store, find_in, forget_place, mark, replace_place, write_number};
 use steady_map::put;
-use tree_children::{add_child, add_known, remove_known};
+use tree_children::{add_child, key_of, unlinked};
 
 /// Cuts a node that has no children.
 pub(crate) fn cut_leaf(store: &mut Store, number: u64)
     requires named { (p : ℕ) × (name : List ℕ) × IsNamed (slot_at store.old.nodes) number p name }
     requires not_root { number ≢ 1 }
     requires childless { HasChild (slot_at store.old.nodes) number → ⊥ }
-    requires stored { IsStored store.old.nodes store.old.index store.old.children store.old.named }
+    requires stored { IsStored store.old.nodes store.old.index store.old.named }
     ensures cut { (x : Node) → slot_at store.old.nodes number ≡ Some x → slot_at store.new.nodes ≡ with_node (slot_at store.old.nodes) number (cut_node x) }
-    ensures stored { IsStored store.new.nodes store.new.index store.new.children store.new.named }
+    ensures stored { IsStored store.new.nodes store.new.index store.new.named }
     ensures less { store.new.named + 1 ≡ store.old.named }
     ensures len { slab_len store.new.nodes ≡ slab_len store.old.nodes }
     ensures capacity { store.new.nodes.capacity ≡ store.old.nodes.capacity }
     ensures places { places store.new.index ≡ places store.old.index }
-    ensures child_places { KeepsPlaces store.old.children store.new.children }
 {
     let was = replace_place(&mut store.nodes, number, Place::Cut);
     mark(&mut store.nodes, number, false);
@@ -46,26 +44,23 @@ pub(crate) fn place_number(store: &mut Store, number: u64, key: Key, copy: Key)
     requires named { (p : ℕ) × (name : List ℕ) × IsNamed (slot_at store.old.nodes) number p name }
     requires free { IsFree (slot_at store.old.nodes) key.parent key.name }
     requires above { IsAlive (slot_at store.old.nodes) key.parent }
-    requires stored { IsStored store.old.nodes store.old.index store.old.children store.old.named }
+    requires stored { IsStored store.old.nodes store.old.index store.old.named }
     requires room { 2 * store.old.named ≤ places store.old.index }
-    requires child_places { HasPlaces store.old.children store.old.named (slab_len store.old.nodes) }
     ensures moved { (x : Node) → slot_at store.old.nodes number ≡ Some x → slot_at store.new.nodes ≡ with_node (slot_at store.old.nodes) number (moved_node x key.parent key.name) }
     ensures indexed { IsIndexed (slot_at store.new.nodes) store.new.index }
-    ensures related { IsChildrenOf (slot_at store.new.nodes) store.new.children }
+    ensures related { IsLawful (parents_in (slot_at store.new.nodes)) store.new.nodes }
     ensures counted { store.new.named ≡ live store.new.index }
     ensures same { store.new.named ≡ store.old.named }
-    ensures counts { (child_count store.new.children ≡ store.new.named) × (known_count store.new.children ≡ slab_len store.new.nodes) }
     ensures len { slab_len store.new.nodes ≡ slab_len store.old.nodes }
     ensures capacity { store.new.nodes.capacity ≡ store.old.nodes.capacity }
     ensures places { places store.old.index ≤ places store.new.index }
-    ensures child_places { KeepsPlaces store.old.children store.new.children }
 {
     let _places = store.index.capacity();
     let parent = key.parent;
     let was = replace_place(&mut store.nodes, number, Place::Named(key));
     forget_place(store, number, &was);
     put(&mut store.index, copy, number);
-    add_child(&mut store.children, number, parent);
+    add_child(&mut store.nodes, number, parent);
     store.named += 1;
 }
 
@@ -73,18 +68,17 @@ pub(crate) fn place_number(store: &mut Store, number: u64, key: Key, copy: Key)
 fn make_free(store: &mut Store, newly_cut: &mut Vec<u64>, number: u64, key: &Key) -> bool
     requires can { CanRelink (slot_at store.old.nodes) number key.now.parent key.now.name }
     requires few { slab_len store.old.nodes ≤ 2 ^ 62 }
-    requires stored { IsStored store.old.nodes store.old.index store.old.children store.old.named }
+    requires stored { IsStored store.old.nodes store.old.index store.old.named }
     requires list_room { vec_len newly_cut.old + store.old.named ≤ vec_capacity newly_cut.old }
     ensures there { result ≡ true → IsNamed (slot_at store.old.nodes) number key.now.parent key.now.name }
     ensures same { result ≡ true → slot_at store.new.nodes ≡ slot_at store.old.nodes }
     ensures free { result ≡ false → IsFreed (slot_at store.old.nodes) (slot_at store.new.nodes) number key.now.parent key.now.name }
-    ensures stored { IsStored store.new.nodes store.new.index store.new.children store.new.named }
+    ensures stored { IsStored store.new.nodes store.new.index store.new.named }
     ensures counts { counts_of (listed store.new.nodes.slots) ≡ counts_of (listed store.old.nodes.slots) }
     ensures fewer { store.new.named ≤ store.old.named }
     ensures len { slab_len store.new.nodes ≡ slab_len store.old.nodes }
     ensures capacity { store.new.nodes.capacity ≡ store.old.nodes.capacity }
     ensures places { places store.new.index ≡ places store.old.index }
-    ensures child_places { KeepsPlaces store.old.children store.new.children }
     ensures lists { ListsCuts (slot_at store.old.nodes) (slot_at store.new.nodes) newly_cut.old.items newly_cut.new.items }
     ensures list_room { vec_len newly_cut.new + store.new.named ≡ vec_len newly_cut.old + store.old.named }
     ensures list_capacity { vec_capacity newly_cut.new ≡ vec_capacity newly_cut.old }
@@ -111,19 +105,17 @@ pub(crate) fn move_number(
 )
     requires copy { copy ≡ key }
     requires can { CanRelink (slot_at store.old.nodes) number key.parent key.name }
-    requires stored { IsStored store.old.nodes store.old.index store.old.children store.old.named }
+    requires stored { IsStored store.old.nodes store.old.index store.old.named }
     requires list_room { vec_len newly_cut.old + store.old.named ≤ vec_capacity newly_cut.old }
     requires few { slab_len store.old.nodes ≤ 2 ^ 62 }
     requires room { 2 * store.old.named ≤ places store.old.index }
-    requires child_places { HasPlaces store.old.children store.old.named (slab_len store.old.nodes) }
     ensures moved { Moves (slot_at store.old.nodes) (slot_at store.new.nodes) number key.parent key.name }
-    ensures stored { IsStored store.new.nodes store.new.index store.new.children store.new.named }
+    ensures stored { IsStored store.new.nodes store.new.index store.new.named }
     ensures counts { counts_of (listed store.new.nodes.slots) ≡ counts_of (listed store.old.nodes.slots) }
     ensures fewer { store.new.named ≤ store.old.named }
     ensures len { slab_len store.new.nodes ≡ slab_len store.old.nodes }
     ensures capacity { store.new.nodes.capacity ≡ store.old.nodes.capacity }
     ensures places { places store.old.index ≤ places store.new.index }
-    ensures child_places { KeepsPlaces store.old.children store.new.children }
     ensures lists { ListsCuts (slot_at store.old.nodes) (slot_at store.new.nodes) newly_cut.old.items newly_cut.new.items }
     ensures list_room { vec_len newly_cut.new + store.new.named ≡ vec_len newly_cut.old + store.old.named }
     ensures list_capacity { vec_capacity newly_cut.new ≡ vec_capacity newly_cut.old }
@@ -136,62 +128,59 @@ pub(crate) fn move_number(
 
 /// Takes the node out, if it is there.
 pub(crate) fn drop_number(store: &mut Store, number: u64)
-    requires stored { IsStored store.old.nodes store.old.index store.old.children store.old.named }
+    requires stored { IsStored store.old.nodes store.old.index store.old.named }
     requires not_root { number ≢ 1 }
     requires childless { HasChild (slot_at store.old.nodes) number → ⊥ }
     ensures gone { slot_at store.new.nodes ≡ without (slot_at store.old.nodes) number }
-    ensures stored { IsStored store.new.nodes store.new.index store.new.children store.new.named }
+    ensures stored { IsStored store.new.nodes store.new.index store.new.named }
     ensures none { slot_at store.old.nodes number ≡ None → (slab_len store.new.nodes ≡ slab_len store.old.nodes) × (counts_of (listed store.new.nodes.slots) ≡ counts_of (listed store.old.nodes.slots)) }
     ensures some { (x : Node) → slot_at store.old.nodes number ≡ Some x → (slab_len store.new.nodes + 1 ≡ slab_len store.old.nodes) × (counts_of (listed store.new.nodes.slots) + x.count ≡ counts_of (listed store.old.nodes.slots)) }
     ensures shrinks { slab_len store.new.nodes ≤ slab_len store.old.nodes }
     ensures fewer { store.new.named ≤ store.old.named }
     ensures capacity { store.new.nodes.capacity ≡ store.old.nodes.capacity }
     ensures places { places store.new.index ≡ places store.old.index }
-    ensures child_places { KeepsPlaces store.old.children store.new.children }
 {
     let Some(key) = key_of(number) else {
         return;
     };
-    let Some(node) = store.nodes.try_remove(key) else {
-        return;
-    };
-    forget_place(store, number, &node.place);
-    remove_known(&mut store.children, number);
+    if store.nodes.contains(key) {
+        let was = replace_place(&mut store.nodes, number, Place::Cut);
+        forget_place(store, number, &was);
+        store.nodes.remove(key);
+    }
 }
 
 /// A node is born at the key's place, under the slab's next key, which with one more is the result.
 pub(crate) fn bear(store: &mut Store, generation: u64, key: Key, copy: Key) -> u64
     requires copy { copy ≡ key }
-    requires stored { IsStored store.old.nodes store.old.index store.old.children store.old.named }
+    requires stored { IsStored store.old.nodes store.old.index store.old.named }
     requires free { IsFree (slot_at store.old.nodes) key.parent key.name }
     requires above { Leads (slot_at store.old.nodes) key.parent }
     requires slots { HasRoomFor store.old.nodes 1 }
     requires keys { 2 * (store.old.named + 1) ≤ places store.old.index }
-    requires child_places { HasPlaces store.old.children (store.old.named + 1) (slab_len store.old.nodes + 1) }
     ensures number { result ≡ store.old.nodes.vacant_key + 1 }
     ensures fresh { slot_at store.old.nodes result ≡ None }
     ensures nodes { slot_at store.new.nodes ≡ with_node (slot_at store.old.nodes) result (born_node result generation key.parent key.name) }
-    ensures stored { IsStored store.new.nodes store.new.index store.new.children store.new.named }
+    ensures stored { IsStored store.new.nodes store.new.index store.new.named }
     ensures counts { counts_of (listed store.new.nodes.slots) ≡ counts_of (listed store.old.nodes.slots) }
     ensures named { store.new.named ≡ store.old.named + 1 }
     ensures len { slab_len store.new.nodes ≡ slab_len store.old.nodes + 1 }
     ensures capacity { store.new.nodes.capacity ≡ store.old.nodes.capacity }
     ensures places { places store.old.index ≤ places store.new.index }
-    ensures child_places { KeepsPlaces store.old.children store.new.children }
 {
     let _places = store.index.capacity();
     let parent = key.parent;
-    let at = store.nodes.insert_reserved(Node {
+    let node = Node {
         number: 0,
         generation,
         place: Place::Named(key),
         count: 0,
         hidden: false,
-    });
+    };
+    let at = store.nodes.insert_reserved(unlinked(node));
     let number = write_number(&mut store.nodes, at);
     put(&mut store.index, copy, number);
-    add_known(&mut store.children, number);
-    add_child(&mut store.children, number, parent);
+    add_child(&mut store.nodes, number, parent);
     store.named += 1;
     number
 }

@@ -1,11 +1,11 @@
 //! An exchange of what stands at two names, in a fixed number of look-ups and writes. It takes no memory.
 
-ghost use Rattle.std.specs.Prelude.{ℕ, true, ◌≡◌, ◌≢◌, ◌≤◌, ◌*◌, Some};
-ghost use Rattle.slab.specs.Slab.{slab_len};
+ghost use Rattle.std.specs.Prelude.{ℕ, ◌≡◌, ◌≢◌, ◌≤◌, ◌*◌, Option, Some};
+ghost use Rattle.slab.specs.Slab.{Slab, slab_len};
 ghost use Rattle.steady_map.specs.Living.{live, places};
 ghost use Rattle.tree.specs.declared.nodes.Node.{Node};
-ghost use Rattle.tree_children.specs.Ordinals.{HasPlaces, IsLawful, KeepsPlaces, child_count, is_known, known_count, parent_of};
-ghost use Rattle.tree.specs.Children.{IsChildrenOf};
+ghost use Rattle.tree_children.specs.Links.{IsLawful, kin_at, with_parent};
+ghost use Rattle.tree.specs.Children.{parents_in};
 ghost use Rattle.tree.specs.Places.{IsAlive, IsNamed, with_node};
 ghost use Rattle.tree.specs.Listed.{counts_of};
 ghost use Rattle.tree.specs.Moves.{CanExchange, Exchanges, moved_node};
@@ -16,14 +16,15 @@ use crate::nodes::{Key, Node, Place};
 use crate::writes::{Store, find_in, replace_place};
 use slab::Slab;
 use steady_map::set;
-use tree_children::{Children, add_child, remove_child};
+use tree_children::{Linked, add_child, remove_child};
 
 /// Each of the two nodes stands where the other stood.
-fn swap_places(nodes: &mut Slab<Node>, one: u64, two: u64)
+fn swap_places(nodes: &mut Slab<Linked<Node>>, one: u64, two: u64)
     requires first { IsAlive (slot_at nodes.old) one }
     requires second { IsAlive (slot_at nodes.old) two }
     requires differ { one ≢ two }
     ensures swapped { (x y : Node) → slot_at nodes.old one ≡ Some x → slot_at nodes.old two ≡ Some y → slot_at nodes.new ≡ with_node (with_node (slot_at nodes.old) one (record x { place = y.place })) two (record y { place = x.place }) }
+    ensures links { kin_at nodes.new ≡ kin_at nodes.old }
     ensures len { slab_len nodes.new ≡ slab_len nodes.old }
     ensures capacity { nodes.new.capacity ≡ nodes.old.capacity }
 {
@@ -32,21 +33,17 @@ fn swap_places(nodes: &mut Slab<Node>, one: u64, two: u64)
     let _cut = replace_place(nodes, one, second);
 }
 
-/// The child has that parent now.
-fn move_child(children: &mut Children, child: u64, parent: u64)
-    requires lawful { IsLawful children.old }
-    requires placed { (p : ℕ) × (parent_of children.old child ≡ Some p) }
-    requires known { is_known children.old parent ≡ true }
-    requires room { HasPlaces children.old (child_count children.old) (known_count children.old) }
-    ensures lawful { IsLawful children.new }
-    ensures parent { parent_of children.new child ≡ Some parent }
-    ensures others { (m : ℕ) → child ≢ m → parent_of children.new m ≡ parent_of children.old m }
-    ensures known { (q : ℕ) → is_known children.new q ≡ is_known children.old q }
-    ensures counts { (child_count children.new ≡ child_count children.old) × (known_count children.new ≡ known_count children.old) }
-    ensures places { KeepsPlaces children.old children.new }
+/// The child of the one parent has the other parent now.
+fn move_child(nodes: &mut Slab<Linked<Node>>, child: u64, from: u64, to: u64)
+    requires there { IsAlive (slot_at nodes.old) child }
+    requires above { IsAlive (slot_at nodes.old) to }
+    ensures lawful { (parents : ℕ → Option ℕ) → IsLawful parents nodes.old → parents child ≡ Some from → IsLawful (with_parent parents child (Some to)) nodes.new }
+    ensures nodes { slot_at nodes.new ≡ slot_at nodes.old }
+    ensures len { slab_len nodes.new ≡ slab_len nodes.old }
+    ensures capacity { nodes.new.capacity ≡ nodes.old.capacity }
 {
-    remove_child(children, child);
-    add_child(children, child, parent);
+    remove_child(nodes, child, from);
+    add_child(nodes, child, to);
 }
 
 /// Each of the two nodes has the other's name.
@@ -56,24 +53,21 @@ fn swap_numbers(store: &mut Store, one: u64, at_one: &Key, two: u64, at_two: &Ke
     requires differ { one ≢ two }
     requires above { IsAlive (slot_at store.old.nodes) at_one.now.parent }
     requires new_above { IsAlive (slot_at store.old.nodes) at_two.now.parent }
-    requires stored { IsStored store.old.nodes store.old.index store.old.children store.old.named }
-    requires child_places { HasPlaces store.old.children store.old.named (slab_len store.old.nodes) }
+    requires stored { IsStored store.old.nodes store.old.index store.old.named }
     ensures swapped { (x y : Node) → slot_at store.old.nodes one ≡ Some x → slot_at store.old.nodes two ≡ Some y → slot_at store.new.nodes ≡ with_node (with_node (slot_at store.old.nodes) one (moved_node x at_two.now.parent at_two.now.name)) two (moved_node y at_one.now.parent at_one.now.name) }
     ensures indexed { IsIndexed (slot_at store.new.nodes) store.new.index }
-    ensures related { IsChildrenOf (slot_at store.new.nodes) store.new.children }
+    ensures related { IsLawful (parents_in (slot_at store.new.nodes)) store.new.nodes }
     ensures counted { store.new.named ≡ live store.new.index }
     ensures same { store.new.named ≡ store.old.named }
-    ensures counts { (child_count store.new.children ≡ store.new.named) × (known_count store.new.children ≡ slab_len store.new.nodes) }
     ensures len { slab_len store.new.nodes ≡ slab_len store.old.nodes }
     ensures capacity { store.new.nodes.capacity ≡ store.old.nodes.capacity }
     ensures places { places store.new.index ≡ places store.old.index }
-    ensures child_places { KeepsPlaces store.old.children store.new.children }
 {
     swap_places(&mut store.nodes, one, two);
     set(&mut store.index, at_one, two);
     set(&mut store.index, at_two, one);
-    move_child(&mut store.children, one, at_two.parent);
-    move_child(&mut store.children, two, at_one.parent);
+    move_child(&mut store.nodes, one, at_one.parent, at_two.parent);
+    move_child(&mut store.nodes, two, at_two.parent, at_one.parent);
 }
 
 /// What stands at the two names, with all below, changes places. Each name is handed in twice, since one node alone may stand there.
@@ -87,17 +81,15 @@ pub(crate) fn exchange_names(
     requires source_copy { source_copy ≡ source }
     requires target_copy { target_copy ≡ target }
     requires can { CanExchange (slot_at store.old.nodes) source.parent source.name target.parent target.name }
-    requires stored { IsStored store.old.nodes store.old.index store.old.children store.old.named }
+    requires stored { IsStored store.old.nodes store.old.index store.old.named }
     requires room { 2 * store.old.named ≤ places store.old.index }
-    requires child_places { HasPlaces store.old.children store.old.named (slab_len store.old.nodes) }
     ensures exchanged { Exchanges (slot_at store.old.nodes) (slot_at store.new.nodes) source.parent source.name target.parent target.name }
-    ensures stored { IsStored store.new.nodes store.new.index store.new.children store.new.named }
+    ensures stored { IsStored store.new.nodes store.new.index store.new.named }
     ensures counts { counts_of (listed store.new.nodes.slots) ≡ counts_of (listed store.old.nodes.slots) }
     ensures same { store.new.named ≡ store.old.named }
     ensures len { slab_len store.new.nodes ≡ slab_len store.old.nodes }
     ensures capacity { store.new.nodes.capacity ≡ store.old.nodes.capacity }
     ensures places { places store.old.index ≤ places store.new.index }
-    ensures child_places { KeepsPlaces store.old.children store.new.children }
 {
     let at_source = find_in(&store.index, &source);
     let at_target = find_in(&store.index, &target);

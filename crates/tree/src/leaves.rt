@@ -8,27 +8,25 @@ ghost use Rattle.tree.specs.Places.{IsNamed, IsTree, HasChild, with_node};
 ghost use Rattle.tree.specs.Listed.{counts_of};
 ghost use Rattle.tree.specs.Moves.{CutsBelow, ListsCuts, cut_node};
 ghost use Rattle.tree.specs.Stored.{slot_at, listed, IsIndexed, IsStored};
-ghost use Rattle.tree_children.specs.Ordinals.{KeepsPlaces};
 
 use crate::changes::cut_leaf;
 use crate::lookups::parent_of;
 use crate::writes::Store;
-use tree_children::last_child;
+use tree_children::newest_child;
 
 /// Cuts the node, and all below it: from it down to a child without children, which goes, and up again. What is cut is listed.
 pub(crate) fn cut_leaves(store: &mut Store, newly_cut: &mut Vec<u64>, number: u64)
     requires named { (p : ℕ) × (name : List ℕ) × IsNamed (slot_at store.old.nodes) number p name }
     requires few { slab_len store.old.nodes ≤ 2 ^ 62 }
-    requires stored { IsStored store.old.nodes store.old.index store.old.children store.old.named }
+    requires stored { IsStored store.old.nodes store.old.index store.old.named }
     requires room { vec_len newly_cut.old + store.old.named ≤ vec_capacity newly_cut.old }
     ensures cuts { CutsBelow (slot_at store.old.nodes) (slot_at store.new.nodes) number }
-    ensures stored { IsStored store.new.nodes store.new.index store.new.children store.new.named }
+    ensures stored { IsStored store.new.nodes store.new.index store.new.named }
     ensures counts { counts_of (listed store.new.nodes.slots) ≡ counts_of (listed store.old.nodes.slots) }
     ensures fewer { store.new.named ≤ store.old.named }
     ensures len { slab_len store.new.nodes ≡ slab_len store.old.nodes }
     ensures capacity { store.new.nodes.capacity ≡ store.old.nodes.capacity }
     ensures places { places store.new.index ≡ places store.old.index }
-    ensures child_places { KeepsPlaces store.old.children store.new.children }
     ensures lists { ListsCuts (slot_at store.old.nodes) (slot_at store.new.nodes) newly_cut.old.items newly_cut.new.items }
     ensures list_room { vec_len newly_cut.new + store.new.named ≡ vec_len newly_cut.old + store.old.named }
     ensures list_capacity { vec_capacity newly_cut.new ≡ vec_capacity newly_cut.old }
@@ -36,7 +34,7 @@ pub(crate) fn cut_leaves(store: &mut Store, newly_cut: &mut Vec<u64>, number: u6
     let mut current = number;
     let mut depth = 0usize;
     loop {
-        match last_child(&store.children, current) {
+        match newest_child(&store.nodes, current) {
             Some(child) => {
                 current = child;
                 depth += 1;

@@ -16,29 +16,20 @@ use crate::nodes::{Node, Place, TreeFault};
 use paths::{Name, Path};
 use slab::Slab;
 use std::alloc::{AllocError, Global};
+use tree_children::{Linked, value_in};
 
 /// No path has more bytes.
 const PATH_BYTES: usize = 4096;
 
-/// The key that the node of that number has.
-pub(crate) fn key_of(number: u64) -> Option<usize>
-    ensures none { IfNone result (number ≡ 0) }
-    ensures some { IfSome result (λ k. number ≡ k + 1) }
-{
-    let key = number.checked_sub(1)?;
-    Some(key as usize)
-}
-
 /// The node of that number.
-pub(crate) fn node_in(nodes: &Slab<Node>, number: u64) -> Option<&Node>
+pub(crate) fn node_in(nodes: &Slab<Linked<Node>>, number: u64) -> Option<&Node>
     ensures { option_copied result ≡ slot_at nodes.now number }
 {
-    let key = key_of(number)?;
-    nodes.get(key)
+    value_in(nodes, number)
 }
 
 /// The number that the node of that number is named under.
-pub(crate) fn parent_of(nodes: &Slab<Node>, number: u64) -> Option<u64>
+pub(crate) fn parent_of(nodes: &Slab<Linked<Node>>, number: u64) -> Option<u64>
     ensures none { IfNone result ((p : ℕ) (name : List ℕ) → IsNamed (slot_at nodes.now) number p name → ⊥) }
     ensures some { IfSome result (λ p. (name : List ℕ) × IsNamed (slot_at nodes.now) number p name) }
 {
@@ -51,7 +42,7 @@ pub(crate) fn parent_of(nodes: &Slab<Node>, number: u64) -> Option<u64>
 }
 
 /// Whether following parents meets the other number.
-pub(crate) fn climbs_to(nodes: &Slab<Node>, number: u64, other: u64) -> bool
+pub(crate) fn climbs_to(nodes: &Slab<Linked<Node>>, number: u64, other: u64) -> bool
     requires short { (way : Names) → Reaches (slot_at nodes.now) other number way → length way < slab_len nodes.now }
     ensures yes { result ≡ true → IsBelow (slot_at nodes.now) other number }
     ensures no { result ≡ false → IsBelow (slot_at nodes.now) other number → ⊥ }
@@ -70,7 +61,7 @@ pub(crate) fn climbs_to(nodes: &Slab<Node>, number: u64, other: u64) -> bool
 }
 
 /// The least number above that one that a node bears.
-pub(crate) fn next_alive(nodes: &Slab<Node>, number: u64) -> Option<u64>
+pub(crate) fn next_alive(nodes: &Slab<Linked<Node>>, number: u64) -> Option<u64>
     ensures none { IfNone result ((n : ℕ) → IsAlive (slot_at nodes.now) n → n ≤ number) }
     ensures some { IfSome result (IsNextAlive (slot_at nodes.now) number) }
 {
@@ -83,7 +74,7 @@ pub(crate) fn next_alive(nodes: &Slab<Node>, number: u64) -> Option<u64>
 }
 
 /// Tests that the node has a path.
-pub(crate) fn expect_path(nodes: &Slab<Node>, number: u64) -> Result<(), TreeFault>
+pub(crate) fn expect_path(nodes: &Slab<Linked<Node>>, number: u64) -> Result<(), TreeFault>
     requires { IsTree (slot_at nodes.now) }
     ensures ok { OnOk result (Leads (slot_at nodes.now) number) }
     ensures err { IfErr result (IsFault (slot_at nodes.now) number) }
@@ -100,7 +91,7 @@ pub(crate) fn expect_path(nodes: &Slab<Node>, number: u64) -> Result<(), TreeFau
 
 /// The path that goes from the root down to the node, and then by the names handed in, which run upwards and have so many bytes.
 pub(crate) fn climb(
-    nodes: &Slab<Node>,
+    nodes: &Slab<Linked<Node>>,
     number: u64,
     below: Vec<Name>,
     below_bytes: usize,
@@ -134,7 +125,11 @@ pub(crate) fn climb(
 }
 
 /// The path that goes from the root down to the node, however many bytes it has.
-pub(crate) fn way_to(alloc: Global, nodes: &Slab<Node>, number: u64) -> Result<Path, AllocError>
+pub(crate) fn way_to(
+    alloc: Global,
+    nodes: &Slab<Linked<Node>>,
+    number: u64,
+) -> Result<Path, AllocError>
     requires tree { IsTree (slot_at nodes.now) }
     requires leads { Leads (slot_at nodes.now) number }
     ensures { IfOk result (IsPathOf (slot_at nodes.now) number) }
@@ -192,7 +187,7 @@ pub(crate) fn add_name(names: &mut Vec<Name>, bytes: usize, name: &Name) -> Resu
 }
 
 /// The least number from 1 on that no node bears.
-pub(crate) fn least_free(nodes: &Slab<Node>) -> u64
+pub(crate) fn least_free(nodes: &Slab<Linked<Node>>) -> u64
     requires tree { IsTree (slot_at nodes.now) }
     requires few { slab_len nodes.now ≤ 2 ^ 62 }
     ensures { IsLeastFree (listed nodes.now.slots) result }

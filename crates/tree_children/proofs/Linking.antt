@@ -3,7 +3,7 @@ use Rattle.std.proofs.Common.{ℕ, zero, suc, ◌+◌, ◌<◌, ◌≡◌, ◌==
 use Rattle.std.proofs.lemmas.Bool.{cases_eq}
 use Rattle.std.proofs.lemmas.Option.{none-some, same_Some}
 use Rattle.tree_children.specs.declared.Kin.{Kin}
-use Rattle.tree_children.specs.Links.{IsLinked, IsNext, with_parent}
+use Rattle.tree_children.specs.Links.{IsLinked, IsNext, no_kin, with_parent}
 use Rattle.tree_children.proofs.Written.{if_same, if_other}
 
 -- who has a parent is not 0
@@ -28,6 +28,34 @@ module _ (parents : ℕ → Option ℕ) (kin : ℕ → Kin) (rank : ℕ → ℕ)
 
   pub childless : (n : ℕ) → parents n ≡ Some p → ⊥
   childless n stood = none_ranked (rank n + 1) n (omega arith) stood
+
+-- who has neither a parent nor a child has no links
+pub bare_kin : (parents : ℕ → Option ℕ) (kin : ℕ → Kin) (rank : ℕ → ℕ) → IsLinked parents kin rank → (n : ℕ) → parents n ≡ None → ((m : ℕ) → parents m ≡ Some n → ⊥) → kin n ≡ no_kin
+bare_kin parents kin rank law n orphan none =
+    let newer : (kin n).newer ≡ 0 = elim (cases_eq (kin n).newer 0) [
+      | inl e ↦ e
+      | inr ne ↦ let next = law.newer n (kin n).newer refl ne in absurd (none-some next.parent (sym orphan ∙ next.older_parent))
+    ] in
+    let older : (kin n).older ≡ 0 = elim (cases_eq (kin n).older 0) [
+      | inl e ↦ e
+      | inr ne ↦ let next = law.older (kin n).older n refl ne in absurd (none-some next.parent (sym orphan ∙ next.newer_parent))
+    ] in
+    let newest : (kin n).newest ≡ 0 = elim (cases_eq (kin n).newest 0) [
+      | inl e ↦ e
+      | inr ne ↦ absurd (none (kin n).newest (law.newest (kin n).newest n refl ne).0)
+    ] in
+    λ i. record { newer = newer i; older = older i; newest = newest i }
+
+-- with no parents no links are needed
+pub linked_bare : (parents : ℕ → Option ℕ) (kin : ℕ → Kin) → ((n : ℕ) → parents n ≡ None) → ((n : ℕ) → kin n ≡ no_kin) → IsLinked parents kin (λ n. 0)
+linked_bare parents kin orphans bare = record {
+  none = orphans 0;
+  first = λ n p stood top. absurd (none-some p (sym (orphans n) ∙ stood));
+  newest = λ n p e some. absurd (some (sym e ∙ ap (λ (k : Kin). k.newest) (bare p)));
+  newer = λ n m e some. absurd (some (sym e ∙ ap (λ (k : Kin). k.newer) (bare n)));
+  older = λ n m e some. absurd (some (sym e ∙ ap (λ (k : Kin). k.older) (bare m)));
+  rises = λ n m e some. absurd (some (sym e ∙ ap (λ (k : Kin). k.newer) (bare n)));
+}
 
 -- child c comes under p, where the newest child was the first
 module _ (parents : ℕ → Option ℕ) (kin kin' : ℕ → Kin) (rank : ℕ → ℕ) (c p : ℕ) (law : IsLinked parents kin rank) (fresh : parents c ≡ None) (real : c ≡ 0 → ⊥)

@@ -96,3 +96,7 @@ module _ {T : Type 0} where
     rank = law.rank;
     linked = subst (λ (f : ℕ → Option ℕ). IsLinked f (kin_at s') law.rank) (sym (fun_ext same)) (subst (λ (k : ℕ → Kin). IsLinked parents k law.rank) (sym links) law.linked);
   }
+
+  -- the same links and the same values
+  pub lawful_kept : (parents : ℕ → Option ℕ) (s s' : Slab (Linked T)) → kin_at s' ≡ kin_at s → ((n p : ℕ) → parents n ≡ Some p → IsThere s' n) → IsLawful parents s → IsLawful parents s'
+  lawful_kept parents s s' links there law = lawful_as parents parents s s' (λ n. refl) links there law

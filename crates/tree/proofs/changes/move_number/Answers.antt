@@ -51,8 +51,6 @@ returns-clause-stored c =
       indexed = c.place_number.ensures.indexed;
       related = c.place_number.ensures.related;
       counted = c.place_number.ensures.counted;
-      placed = c.place_number.ensures.counts.0;
-      known = c.place_number.ensures.counts.1;
     }
 
 pub returns-clause-counts : goal.returns-clause-counts

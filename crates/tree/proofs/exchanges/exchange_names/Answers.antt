@@ -1,4 +1,4 @@
-use Rattle.std.proofs.Common.{◌≡◌, None, Some, reverse, refl, sym, ap, ◌∙◌, subst, arith}
+use Rattle.std.proofs.Common.{◌≡◌, None, reverse, refl, sym, ◌∙◌, subst, arith}
 use Rattle.std.proofs.lemmas.Option.{none-some}
 use Rattle.steady_map.specs.Living.{found}
 use Rattle.tree.specs.Keys.{same_key}
@@ -55,8 +55,6 @@ returns-then-one-two-clause-stored c =
       indexed = c.swap_numbers.ensures.indexed;
       related = c.swap_numbers.ensures.related;
       counted = c.swap_numbers.ensures.counted;
-      placed = c.swap_numbers.ensures.counts.0;
-      known = c.swap_numbers.ensures.counts.1;
     }
 
 pub returns-then-one-two-clause-counts : goal.returns-then-one-two-clause-counts
@@ -150,8 +148,6 @@ returns-in-Some-None-clause-stored c =
       indexed = c.place_number.ensures.indexed;
       related = c.place_number.ensures.related;
       counted = c.place_number.ensures.counted;
-      placed = c.place_number.ensures.counts.0;
-      known = c.place_number.ensures.counts.1;
     }
 
 pub returns-in-Some-None-clause-counts : goal.returns-in-Some-None-clause-counts
@@ -231,8 +227,6 @@ returns-in-None-Some-clause-stored c =
       indexed = c.place_number-in-None-Some.ensures.indexed;
       related = c.place_number-in-None-Some.ensures.related;
       counted = c.place_number-in-None-Some.ensures.counted;
-      placed = c.place_number-in-None-Some.ensures.counts.0;
-      known = c.place_number-in-None-Some.ensures.counts.1;
     }
 
 pub returns-in-None-Some-clause-counts : goal.returns-in-None-Some-clause-counts

@@ -8,7 +8,7 @@ returns-clause-stored c =
     let x = c.requires.alive.0 in
     let stood = c.requires.alive.1 in
     let y = record x { count = c.args.count } in
-    stored_written c.args.store.now.nodes c.count_as.new.nodes c.args.store.now.index c.args.store.now.children c.args.store.now.named c.args.number x y stood (c.count_as.ensures.wrote x stood) c.count_as.ensures.len (record { number = refl; generation = refl; place = refl }) c.requires.stored
+    stored_written c.args.store.now.nodes c.count_as.new.nodes c.args.store.now.index c.args.store.now.named c.args.number x y stood (c.count_as.ensures.wrote x stood) c.count_as.ensures.links (record { number = refl; generation = refl; place = refl }) c.requires.stored
 
 pub returns-clause-counts : goal.returns-clause-counts
 returns-clause-counts c x stood =

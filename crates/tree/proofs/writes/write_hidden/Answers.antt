@@ -8,7 +8,7 @@ returns-clause-stored c =
     let x = c.requires.alive.0 in
     let stood = c.requires.alive.1 in
     let y = record x { hidden = c.args.hidden } in
-    stored_written c.args.store.now.nodes c.mark.new.nodes c.args.store.now.index c.args.store.now.children c.args.store.now.named c.args.number x y stood (c.mark.ensures.wrote x stood) c.mark.ensures.len (record { number = refl; generation = refl; place = refl }) c.requires.stored
+    stored_written c.args.store.now.nodes c.mark.new.nodes c.args.store.now.index c.args.store.now.named c.args.number x y stood (c.mark.ensures.wrote x stood) c.mark.ensures.links (record { number = refl; generation = refl; place = refl }) c.requires.stored
 
 pub returns-clause-counts : goal.returns-clause-counts
 returns-clause-counts c =
