@@ -45,7 +45,7 @@ pub record IsNext (parents : ℕ → Option ℕ) (kin : ℕ → Kin) (n m : ℕ)
   pub newer : (kin n).newer ≡ m
   pub older : (kin m).older ≡ n
 
--- the links are those of these parents. The rank tells how many siblings are newer, or have been
+-- the links are those of these parents. The rank of a child is lower the later it was put there
 pub record IsLinked (parents : ℕ → Option ℕ) (kin : ℕ → Kin) (rank : ℕ → ℕ) : Type 0 where
   -- 0 is nobody's number
   pub none : parents 0 ≡ None
