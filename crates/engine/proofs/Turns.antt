@@ -112,17 +112,17 @@ module _ {W L C D : Type 0} (rules : Rules W L) (does : Behaviour C D) where
       }
 
   -- a request that asks whether a file is open
-  pub asked_of_file : (frame : List ℕ) (q : Request) (fh : ℕ) (file : Option OpenFile) (meant : ReplyBody) (old : Environment W L C D) (link : L) (sent : Sent) → IsRequest frame q → intents.File fh ≡ intent q → rules.table.finds old.at fh file → meant ≡ file_reply q.node file
+  pub asked_of_file : (frame : List ℕ) (q : Request) (fh : ℕ) (file : Option OpenFile) (meant : ReplyBody) (old : Environment W L C D) (at : W) (link : L) (sent : Sent) → IsRequest frame q → intents.File fh ≡ intent q → rules.table.finds old.at fh file at → meant ≡ file_reply q.node file
       → IsAnswered rules.sends (record { unique = q.unique; body = meant }) old.link sent link
-      → WorkedOff rules does frame old (Some sent) (around link old.served old.at)
-  asked_of_file frame q fh file meant old link sent is i found e a =
+      → WorkedOff rules does frame old (Some sent) (around link old.served at)
+  asked_of_file frame q fh file meant old at link sent is i found e a =
       let turn = answering frame a.refused [] q.unique a.said sent in
       record {
         turn = turn;
         frame_is = refl;
         sent_is = refl;
         lives = refl;
-        asks = inl (q, is, subst (λ (x : Intent). Serves rules.table rules.settings q x old.at turn old.at) i (file, found, (a.said, subst (λ (body : ReplyBody). IsSaid a.refused body a.said) e a.said_is, record { offers = refl; no_call = refl; folders_are = refl; same = refl; kept_is = refl })));
+        asks = inl (q, is, subst (λ (x : Intent). Serves rules.table rules.settings q x old.at turn at) i (file, at, found, (a.said, subst (λ (body : ReplyBody). IsSaid a.refused body a.said) e a.said_is, record { offers = refl; no_call = refl; folders_are = refl; same = refl; kept_is = refl })));
         draws = record { makes = refl; keeps = refl };
         passes = a.offer;
       }

@@ -1,6 +1,7 @@
 -- A table that one thread has alone, as a way to reach it.
-use Rattle.std.proofs.Common.{ℕ, ℤ, ◌≡◌, Bool, Option, to_z, of_z, w32, sym, ap, ◌∙◌}
+use Rattle.std.proofs.Common.{ℕ, ℤ, ◌≡◌, Bool, Option, to_z, of_z, w32, sym, ap, subst, ◌∙◌}
 use Rattle.std.proofs.lemmas.Option.{none-some}
+use Rattle.table_files.specs.declared.data.OpenFile.{OpenFile}
 use Rattle.table_requests.specs.declared.data.Want.{Want}
 use Rattle.ledger.specs.Shares.{Part}
 use Rattle.table_steps.specs.Answers.{Answer, Claim}
@@ -33,3 +34,6 @@ completes old mid fin new kept unique want claim outcome answer put taken idle b
 
 pub forgets : (old new : World) (number n : ℕ) → IsIdle old → worlds.forgets old number n new → IsIdle new
 forgets old new number n idle f = forgets_idle old new number n f.0 idle f.1
+
+pub finds : (old new : World) (fh : ℕ) (file : Option OpenFile) → IsIdle old → worlds.finds old fh file new → IsIdle new
+finds old new fh file idle found = subst IsIdle (sym found.1) idle

@@ -267,7 +267,7 @@ module _ {W : Type 0} (table : Table W) (settings : Settings) where
   abbrev pub Serves : Request → Intent → W → Turn → W → Type 0
   Serves q (intents.Reply meant) old turn new = Answers q.unique meant old turn new
   Serves q (intents.Begin want) old turn new = WorksOff turn.refused (attempt q want [] no_page) old turn new
-  Serves q (intents.File fh) old turn new = (file : Option OpenFile) × table.finds old fh file × Answers q.unique (file_reply q.node file) old turn new
+  Serves q (intents.File fh) old turn new = (file : Option OpenFile) × (found : W) × table.finds old fh file found × Answers q.unique (file_reply q.node file) found turn new
   Serves q (intents.Folder fh usage) old turn new = UsesFolder q fh usage old turn new ⊎ TellsEntries q fh usage old turn new
   Serves q (intents.Forget lookups) old turn new = IsSilent turn × ForgetsAll table old lookups new
   Serves q intents.Nothing old turn new = IsSilent turn × (new ≡ old)

@@ -22,7 +22,7 @@ pub record Table (W : Type 0) : Type 1 where
   pub settles : W → Answer → (put : Option ℕ) → (taken : Bool) → W → Type 0
   pub forgets : W → (number n : ℕ) → W → Type 0
   -- the open file under a handle, if there is one
-  pub finds : W → (fh : ℕ) → Option OpenFile → Type 0
+  pub finds : W → (fh : ℕ) → Option OpenFile → W → Type 0
   -- an answer of its own
   pub knows : Answer → Type 0
   -- no request was finished since the caller came to it
@@ -46,7 +46,7 @@ worlds = record {
   finishes = λ old id outcome answer new. Finishes old id outcome answer new × IsLawfulWorld new;
   settles = λ old answer put taken new. (settled : Settlement) × Settles old answer taken settled new × IsLawfulWorld new;
   forgets = λ old number n new. (amount : ℕ) × Forgets old number n amount new × IsLawfulWorld new;
-  finds = λ w fh file. file ≡ w.files fh;
+  finds = λ old fh file new. (file ≡ old.files fh) × (new ≡ old);
   knows = λ answer. answer.lost ≡ false;
   is_free = λ w. Unit {0};
   holds = λ w answer. Unit {0};

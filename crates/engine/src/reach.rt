@@ -55,8 +55,8 @@ pub trait Reach<T: Ledgers> {
 
     /// The open file under a handle.
     fn find(&mut self, fh: u64) -> Option<OpenFile>
-        ensures finds { steps.finds (world self.old) fh result }
-        ensures world { world self.new ≡ world self.old };
+        ensures finds { steps.finds (world self.old) fh result (world self.new) }
+        ensures gains { (share : Part) → steps.gains (world self.old) share (world self.new) share };
 
     /// What is gained one call after another is gained in all.
     ghost gains_on: { (old mid new : World) (before between after : Part) → steps.gains old before mid between → steps.gains mid between new after → steps.gains old before new after };
@@ -77,6 +77,9 @@ pub trait Reach<T: Ledgers> {
 
     /// Lookups that are given back leave it idle.
     ghost forgets_idle: { (old new : World) (number n : ℕ) → steps.is_idle old → steps.forgets old number n new → steps.is_idle new };
+
+    /// A look at an open file leaves it idle.
+    ghost finds_idle: { (old new : World) (fh : ℕ) (file : Option OpenFile) → steps.is_idle old → steps.finds old fh file new → steps.is_idle new };
 }
 
 impl<T: Ledgers> Reach<T> for Table<T> {
@@ -113,6 +116,7 @@ impl<T: Ledgers> Reach<T> for Table<T> {
     }
 
     fn find(&mut self, fh: u64) -> Option<OpenFile> {
+        Table::attest(self); // proof: its law
         Table::file(self, fh)
     }
 
@@ -127,4 +131,6 @@ impl<T: Ledgers> Reach<T> for Table<T> {
     ghost completes = { laws.completes };
 
     ghost forgets_idle = { laws.forgets };
+
+    ghost finds_idle = { laws.finds };
 }

@@ -1,6 +1,6 @@
-//! A worker at the hall: what its calls on the table came to in one turn.
+//! A thread at the hall: the calls that it makes on the table, and what they came to in one turn.
 
-ghost use Rattle.std.specs.Prelude.{◌≡◌};
+ghost use Rattle.engine_visits.specs.Visits.{HasBits};
 
 use engine::Reach;
 use engine_jobs::Left;
@@ -14,7 +14,7 @@ use table_histories::Front;
 use table_recorded::{Entry, Opening, Runs};
 use table_requests::Want;
 
-/// What a visit has come to.
+/// What a turn has come to.
 #[derive(Drop)]
 pub enum ComeTo {
     Nothing,
@@ -23,32 +23,30 @@ pub enum ComeTo {
     Settled(Settled),
 }
 
-/// One turn's way to reach the table, with the front of its thread.
+/// A thread's way to reach the table, with its front, and what its turn has come to.
 #[derive(Drop)]
-pub struct Visit<'a, H: Wait, T: Ledgers, O: Opening> {
-    rt: &'a H,
-    hall: &'a Hall<T, O>,
+pub struct Visitor<'a, H: Wait, T: Ledgers, O: Opening> {
+    pub rt: &'a H,
+    pub hall: &'a Hall<T, O>,
     pub front: Front<Entry<T>, Runs<O>>,
     pub come_to: ComeTo,
 }
 
-impl<'a, H: Wait, T: Ledgers, O: Opening> Reach<T> for Visit<'a, H, T, O> {
-    ghost use Rattle.table_steps.specs.World as worlds;
-    ghost use Rattle.table_recorded.specs.declared.entries.Entry as entries;
+impl<'a, H: Wait, T: Ledgers, O: Opening> Reach<T> for Visitor<'a, H, T, O> {
     ghost use Rattle.engine_visits.specs.Visiting as laws;
     ghost use Rattle.engine_visits.specs.Visits as visits;
 
-    ghost World = { visits.Turned };
+    ghost World = { visits.Known };
 
-    ghost world = { λ visit. visits.turned visit.come_to visit.front };
+    ghost world = { λ visitor. visits.known visitor.come_to visitor.front };
 
-    ghost steps = { visits.visits T (worlds.opened_world O.limits) };
+    ghost steps = { visits.visits };
 
     fn attest(&self) {}
 
     fn begin(&mut self, unique: u64, want: Want) -> Begin {
         let begin = self.hall.begin(self.rt, &mut self.front, unique, want);
-        self.front.attest(); // proof: its law
+        has_bits(&begin); // proof: of an error
         begin
     }
 
@@ -56,7 +54,6 @@ impl<'a, H: Wait, T: Ledgers, O: Opening> Reach<T> for Visit<'a, H, T, O> {
         let answered = self
             .hall
             .finish(self.rt, &mut self.front, share, ticket, outcome);
-        self.front.attest(); // proof: its law
         self.come_to = ComeTo::Answer(Snapshot::of(&answered));
         answered
     }
@@ -68,31 +65,41 @@ impl<'a, H: Wait, T: Ledgers, O: Opening> Reach<T> for Visit<'a, H, T, O> {
             let settled = self
                 .hall
                 .settle(self.rt, &mut self.front, share, answered, false);
-            self.front.attest(); // proof: its law
             self.come_to = ComeTo::Settled(settled);
         }
     }
 
     fn forget(&mut self, share: &mut Share<T>, number: u64, n: u64) {
         let _ = self.hall.forget(self.rt, &mut self.front, share, number, n);
-        self.front.attest(); // proof: its law
     }
 
     fn find(&mut self, fh: u64) -> Option<OpenFile> {
-        let found = self.hall.find(self.rt, &mut self.front, fh);
-        self.front.attest(); // proof: its law
-        found
+        self.hall.find(self.rt, &mut self.front, fh)
     }
 
-    ghost gains_on = { laws.gains_on T (worlds.opened_world O.limits) };
+    ghost gains_on = { laws.gains_on };
 
-    ghost waits = { laws.waits T (worlds.opened_world O.limits) };
+    ghost waits = { laws.waits };
 
-    ghost refuses = { laws.refuses T (worlds.opened_world O.limits) };
+    ghost refuses = { laws.refuses };
 
-    ghost begins_free = { laws.begins_free T (worlds.opened_world O.limits) };
+    ghost begins_free = { laws.begins_free };
 
-    ghost completes = { laws.completes T (worlds.opened_world O.limits) };
+    ghost completes = { laws.completes };
 
-    ghost forgets_idle = { laws.forgets_idle T (worlds.opened_world O.limits) };
+    ghost forgets_idle = { laws.forgets_idle };
+
+    ghost finds_idle = { laws.finds_idle };
+}
+
+// An error has 32 bits.
+fn has_bits(begin: &Begin)
+    ensures { HasBits begin.now }
+{
+    match begin {
+        Begin::Refused(errno) => {
+            let _bits = *errno;
+        }
+        Begin::Go(_) | Begin::Busy => {}
+    }
 }

@@ -1,17 +1,16 @@
 //! The table behind its lock.
 
-ghost use Rattle.std.specs.Prelude.{◌≡◌, ◌+◌, ◌<◌, ◌↔◌, Bool, [], IfOk, IsErr, map, vec_len};
+ghost use Rattle.std.specs.Prelude.{◌≡◌, ◌+◌, ◌≤◌, ℕ, Bool, [], IfOk, map};
 ghost use Rattle.std.specs.List.{range_with_len};
 ghost use Rattle.table_histories.specs.Views.{front};
-ghost use Rattle.ledger.specs.Shares.{sum_of};
-ghost use Rattle.ledger.specs.Sums.{totals_over};
 ghost use Rattle.table_steps.specs.Answers.{entries_in};
 ghost use Rattle.table_steps.specs.Kept.{world_of};
 ghost use Rattle.table_steps.specs.World.{opened_world};
+ghost use Rattle.table_recorded.specs.Histories.{IsHistory, calls_by, calls_of, history_of, last_world};
 ghost use Rattle.table_recorded.specs.Runs as Call;
-ghost use Rattle.table_recorded.specs.Runs.{Looks, Makes, end_of};
+ghost use Rattle.table_recorded.specs.Runs.{Makes};
 
-use ledger::{Gather, Ledgers, Share, Totals};
+use ledger::{Ledgers, Share};
 use std::alloc::{AllocError, Global};
 use std::sync::{Condvar, Mutex, Wait};
 use table::{Answered, Begin, Outcome, Settled, Table, Ticket};
@@ -36,35 +35,30 @@ pub struct Closed<T: Ledgers, O: Opening> {
 }
 
 impl<T: Ledgers, O: Opening> Closed<T, O> {
-    /// Sees the whole history.
+    /// What all threads did is one history of the opened table, and nobody made a call but the threads that it was opened for: a call
+    /// that does nothing.
+    pub fn attest(&self)
+        ensures history { IsHistory (opened_world O.limits) (history_of self.now.table.log) }
+        ensures nobody { (index : ℕ) → O.threads ≤ index → calls_by index (history_of self.now.table.log) ≡ [] }
+    {
+        self.table.attest(); // proof: its law
+    }
+
+    /// The calls that a thread made are those that the history has of it.
     pub fn look(&mut self, me: &mut Front<Entry<T>, Runs<O>>)
-        ensures looks { Looks (opened_world O.limits) (λ w. Unit {0}) me.old me.new }
-        ensures whole { (me.new.seen ≡ self.new.table.log) × (self.new.table.log ≡ self.old.table.log) }
+        ensures calls { calls_by me.old.by (history_of self.old.table.log) ≡ calls_of me.old.mine }
+        ensures me { (me.new.by ≡ me.old.by) × (me.new.mine ≡ me.old.mine) }
+        ensures same { self.new.table.log ≡ self.old.table.log }
     {
         self.table.look(&self.history, me);
     }
 
-    /// The table. It is at the end of the whole history.
-    pub fn into_table(self, me: &mut Front<Entry<T>, Runs<O>>) -> Table<T>
-        ensures looks { Looks (opened_world O.limits) (λ w. world_of result ≡ w) me.old me.new }
-        ensures whole { me.new.seen ≡ self.table.log }
+    /// The table. It is where the history ends.
+    pub fn into_table(self) -> Table<T>
+        ensures { world_of result ≡ last_world (opened_world O.limits) (history_of self.table.log) }
     {
-        let Closed { history, table } = self;
-        table.into_table(&history, me)
-    }
-
-    /// Adds up the shares. Where none is missing, their sum is what the ledger holds at the end of the whole history.
-    pub fn gather(
-        self,
-        me: &mut Front<Entry<T>, Runs<O>>,
-        shares: Vec<Share<T>>,
-    ) -> Result<Totals, Gather>
-        ensures whole { me.new.seen ≡ self.table.log }
-        ensures missing { IsErr result ↔ (vec_len shares < T.names.parts) }
-        ensures sums { IfOk result (λ totals. totals ≡ sum_of shares.items) }
-        ensures ledger { IfOk result (λ totals. totals ≡ totals_over (end_of (opened_world O.limits) me.new.seen).postings) }
-    {
-        self.into_table(me).gather(shares)
+        let Closed { history: _, table } = self;
+        table.into_table()
     }
 }
 
@@ -78,6 +72,7 @@ impl<T: Ledgers, O: Opening> Hall<T, O> {
     ) -> Result<(Hall<T, O>, Vec<Front<Entry<T>, Runs<O>>>), AllocError>
         requires history { opened.table.shared.table_id ≡ O.history }
         requires table { world_of table ≡ opened_world O.limits }
+        requires threads { threads ≡ O.threads }
         ensures { IfOk result (λ r. r.1.items ≡ map (λ index. front index [] []) (range_with_len 0 threads)) }
     {
         let mut fronts = Vec::with_capacity(alloc, threads)?;
@@ -189,7 +184,7 @@ impl<T: Ledgers, O: Opening> Hall<T, O> {
         me: &mut Front<Entry<T>, Runs<O>>,
         fh: u64,
     ) -> Option<OpenFile>
-        ensures { Looks (opened_world O.limits) (λ w. result ≡ w.files fh) me.old me.new }
+        ensures { Makes (opened_world O.limits) (Call.looked fh result) me.old me.new }
     {
         let mut table = self.table.lock(rt);
         table.find(&self.history, me, fh)

@@ -2,7 +2,7 @@
 
 ghost use Rattle.std.specs.Prelude.{◌≡◌, ◌+◌, ◌<◌, ◌++◌, ◌∷◌, ◌⊎◌, [], true};
 ghost use mathlib.Core.List.{IsPrefix};
-ghost use Rattle.table_histories.specs.Views.{Extends, both, front, keeper, own, view_in};
+ghost use Rattle.table_histories.specs.Views.{Extends, IsFresh, both, front, keeper, own, view_in};
 
 use crate::views::{Added, Adds, Enters, Grows, Meets, View};
 use atomic_table::{Badge, Seat, Shared, Table};
@@ -260,9 +260,10 @@ impl<E, J: Naming<E>> History<E, J> {
 }
 
 impl<E, J: Naming<E>> Keeper<E, J> {
-    /// The whole log is lawful: a call that does nothing.
+    /// The whole log is lawful, and has nothing of an index that was not given yet: a call that does nothing.
     pub fn attest(&self)
         ensures lawful { J.lawful self.now.log }
+        ensures fresh { IsFresh self.now }
     {
         let _badge = &self.badge;
     }

@@ -1,10 +1,10 @@
 -- A run goes on.
-use Rattle.std.proofs.Common.{ℕ, ◌≡◌, [], ◌∷◌, ◌++◌, length, refl, ap, sym, subst, ◌∙◌, append_assoc}
+use Rattle.std.proofs.Common.{ℕ, ◌≡◌, [], ◌∷◌, ◌++◌, refl, ap, sym, subst, ◌∙◌}
 use mathlib.Core.List.{IsPrefix}
 use Rattle.table_histories.specs.declared.views.View.{View}
 use Rattle.table_histories.specs.Views.{front}
 use Rattle.table_steps.specs.World.{IsLawfulWorld, World}
-use Rattle.table_recorded.specs.Runs.{Call, IsRun, IsStep, Log, Looks, Makes, StandsAt, after, call_in, call_of, end_of}
+use Rattle.table_recorded.specs.Runs.{Call, IsRun, IsStep, Log, Makes, after, call_in, call_of, end_of}
 use Rattle.table_recorded.specs.declared.entries.Entry.{Entry}
 
 module _ {L : Type 0} where
@@ -44,44 +44,4 @@ module _ {L : Type 0} where
     run = subst (λ (v : View (Entry L)). IsRun w v.seen) (sym is) run;
     mine = ap (λ v. v.mine) is;
     index = ap (λ v. v.by) is;
-  }
-
-  pub looks : (w : World) (holds : World → Type 0) (log : Log L) (old new : View (Entry L)) → IsPrefix old.seen log → new ≡ front old.by log old.mine → IsRun w log → holds (end_of w log) → Looks w holds old new
-  looks w holds log old new begins is run there = record {
-    between = begins.0;
-    seen = ap (λ v. v.seen) is ∙ sym begins.1;
-    run = subst (λ (v : View (Entry L)). IsRun w v.seen) (sym is) run;
-    there = subst (λ (v : View (Entry L)). holds (end_of w v.seen)) (sym is) there;
-    mine = ap (λ v. v.mine) is;
-    index = ap (λ v. v.by) is;
-  }
-
-  -- a call that was made stands at its number in what was seen
-  pub stands : (w : World) (call : Call) (old new : View (Entry L)) → (m : Makes w call old new) → StandsAt w new.seen (length (old.seen ++ m.between)) old.by call
-  stands w call old new m =
-      let before = old.seen ++ m.between in
-      let at = run_at w before (old.by, m.entry) [] (subst (IsRun w) m.seen m.run) in record {
-        before = before;
-        entry = m.entry;
-        rest = [];
-        log_is = m.seen;
-        number_is = refl;
-        call_is = m.call_is;
-        old_lawful = at.0;
-        steps = subst (λ (c : Call). IsStep (end_of w before) c (after (old.by, m.entry))) m.call_is at.1;
-        new_lawful = at.2;
-      }
-
-  -- and it stands there in each longer log
-  pub stands_on : (w : World) (log log' : Log L) (number by : ℕ) (call : Call) → StandsAt w log number by call → IsPrefix log log' → StandsAt w log' number by call
-  stands_on w log log' number by call s p = record {
-    before = s.before;
-    entry = s.entry;
-    rest = s.rest ++ p.0;
-    log_is = sym p.1 ∙ (ap (λ (l : Log L). l ++ p.0) s.log_is ∙ append_assoc s.before ((by, s.entry) ∷ s.rest) p.0);
-    number_is = s.number_is;
-    call_is = s.call_is;
-    old_lawful = s.old_lawful;
-    steps = s.steps;
-    new_lawful = s.new_lawful;
   }

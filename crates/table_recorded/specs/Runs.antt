@@ -1,6 +1,6 @@
 -- Runs of a table, call by call, with the world after each.
-use Rattle.std.specs.Prelude.{ℕ, ◌+◌, ◌≤◌, ◌≡◌, Bool, List, [], ◌∷◌, ◌++◌, length, map}
-use mathlib.Core.List.{IsPrefix}
+use Rattle.std.specs.Prelude.{ℕ, ◌≡◌, Bool, List, Option, [], ◌∷◌, ◌++◌}
+use Rattle.table_files.specs.declared.data.OpenFile.{OpenFile}
 use Rattle.table_requests.specs.declared.data.Want.{Want}
 use Rattle.table_steps.specs.Answers.{Answer, Settlement}
 use Rattle.table_steps.specs.declared.data.Begin.{Begin}
@@ -23,12 +23,15 @@ pub data Call : Type 0 where
   finished : (id : ℕ) (outcome : Outcome) (told : Answer) → Call
   settled : (answer : Answer) (taken : Bool) (told : Settlement) → Call
   forgot : (number n told : ℕ) → Call
+  -- the open file under a handle, if there is one
+  looked : (fh : ℕ) (told : Option OpenFile) → Call
 
 abbrev pub call_of : Event → Call
 call_of (event.Begin kept unique want told) = began kept unique want.value told.value
 call_of (event.Finish id outcome told) = finished id outcome.value told.value
 call_of (event.Settle answered taken told) = settled answered.value taken told.value
 call_of (event.Forget number n told) = forgot number n told
+call_of (event.Look fh told) = looked fh told.value
 
 -- it led from one world to the other
 abbrev pub IsStep : World → Call → World → Type 0
@@ -36,6 +39,7 @@ IsStep old (began kept unique want told) new = BeginsAnew old kept unique want t
 IsStep old (finished id outcome told) new = Finishes old id outcome told new
 IsStep old (settled answer taken told) new = Settles old answer taken told new
 IsStep old (forgot number n told) new = Forgets old number n told new
+IsStep old (looked fh told) new = (told ≡ old.files fh) × (new ≡ old)
 
 -- ---- all calls of a log
 
@@ -70,43 +74,4 @@ module _ {L : Type 0} where
     pub seen : new.seen ≡ (old.seen ++ between) ++ (old.by, entry) ∷ []
     pub run : IsRun start new.seen
     pub mine : new.mine ≡ old.mine ++ entry ∷ []
-    pub index : new.by ≡ old.by
-
-  -- the thread looked: its front is a log that begins with the one before, and a run, at whose end this holds
-  pub record Looks (start : World) (holds : World → Type 0) (old new : View (Entry L)) : Type 0 where
-    pub between : Log L
-    pub seen : new.seen ≡ old.seen ++ between
-    pub run : IsRun start new.seen
-    pub there : holds (end_of start new.seen)
-    pub mine : new.mine ≡ old.mine
-    pub index : new.by ≡ old.by
-
-  -- ---- where a call stands
-
-  -- the call with that number in a log: it led from one lawful world to the next
-  pub record StandsAt (start : World) (log : Log L) (number : ℕ) (by : ℕ) (call : Call) : Type 0 where
-    pub before : Log L
-    pub entry : Entry L
-    pub rest : Log L
-    pub log_is : log ≡ before ++ (by, entry) ∷ rest
-    pub number_is : number ≡ length before
-    pub call_is : call_of entry.event ≡ call
-    pub old_lawful : IsLawfulWorld (end_of start before)
-    pub steps : IsStep (end_of start before) call (after (by, entry))
-    pub new_lawful : IsLawfulWorld (after (by, entry))
-
-  -- the calls stand in a log in this order, at numbers that rise from one on
-  abbrev pub StandFrom : World → Log L → ℕ → ℕ → List Call → Type 0
-  StandFrom start log by from [] = Unit {0}
-  StandFrom start log by from (call ∷ calls) = (number : ℕ) × (from ≤ number) × StandsAt start log number by call × StandFrom start log by (number + 1) calls
-
-  -- the thread made these calls and no others: they stand in its front, which is a run and begins with the one before, behind all that it
-  -- had seen
-  pub record Turns (start : World) (calls : List Call) (old new : View (Entry L)) : Type 0 where
-    pub begins : IsPrefix old.seen new.seen
-    pub run : IsRun start new.seen
-    pub stand : StandFrom start new.seen old.by (length old.seen) calls
-    pub entries : List (Entry L)
-    pub mine : new.mine ≡ old.mine ++ entries
-    pub calls_are : map (λ e. call_of e.event) entries ≡ calls
     pub index : new.by ≡ old.by

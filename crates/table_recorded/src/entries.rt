@@ -4,6 +4,7 @@ use ledger::Ledgers;
 use std::marker::{Brand, PhantomData};
 use std::snapshot::Snapshot;
 use table::{Answered, Begin, Outcome, Settled, Table};
+use table_files::OpenFile;
 use table_histories::Naming;
 use table_requests::Want;
 
@@ -32,6 +33,11 @@ pub enum Event {
         n: u64,
         told: u64,
     },
+    /// A look at the open file under a handle.
+    Look {
+        fh: u64,
+        told: Snapshot<Option<OpenFile>>,
+    },
 }
 
 /// The call, and the table after it.
@@ -41,14 +47,17 @@ pub struct Entry<T: Ledgers> {
     pub after: Snapshot<Table<T>>,
 }
 
-/// Which history it is, and how the table was opened. Each call of a program picks them.
+/// Which history it is, how the table was opened, and for how many threads. Each call of a program picks them.
 pub trait Opening {
+    ghost use Rattle.std.specs.Prelude.{ℕ};
     ghost use Rattle.atomic_table.specs.Seated.{TableId};
     ghost use Rattle.table_steps.specs.declared.data.Limits.{Limits};
 
     ghost history: { TableId };
 
     ghost limits: { Limits };
+
+    ghost threads: { ℕ };
 }
 
 impl Opening for Brand {
@@ -57,6 +66,8 @@ impl Opening for Brand {
     ghost history = { record { words = 0; slots = 0; views_name = 0; atom = 0; block = 0; offset = 0; slot_names = [] } };
 
     ghost limits = { record { nodes = 0; postings = 0; flights = 0; files = 0 } };
+
+    ghost threads = { 0 };
 }
 
 /// A log is lawful where it is a run of the opened table.

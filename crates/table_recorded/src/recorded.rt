@@ -1,15 +1,15 @@
 //! The table under a lock, beside the keeper of its history.
 
-ghost use Rattle.std.specs.Prelude.{◌≡◌, ◌+◌, [], Bool};
+ghost use Rattle.std.specs.Prelude.{◌≡◌, ◌+◌, ◌<◌, ◌≤◌, ℕ, [], Bool};
 ghost use Rattle.ledger.specs.Shares.{plus};
 ghost use Rattle.ledger.specs.Sums.{totals_of};
-ghost use Rattle.table_histories.specs.Views.{front};
+ghost use Rattle.table_histories.specs.Views.{front, own};
 ghost use Rattle.table_steps.specs.Answers.{entries_in};
 ghost use Rattle.table_steps.specs.Kept.{world_of};
 ghost use Rattle.table_steps.specs.Steps.{gained};
 ghost use Rattle.table_steps.specs.World.{opened_world};
 ghost use Rattle.table_recorded.specs.Runs as Call;
-ghost use Rattle.table_recorded.specs.Runs.{IsStep, Looks, Makes, call_of, end_of};
+ghost use Rattle.table_recorded.specs.Runs.{IsRun, IsStep, Makes, call_of, end_of};
 
 use crate::entries::{Entry, Event, Opening, Runs};
 use ledger::{Ledgers, Share};
@@ -20,7 +20,8 @@ use table_files::OpenFile;
 use table_histories::{Front, History, Keeper, Opened};
 use table_requests::Want;
 
-/// A table and the keeper of its history, which is a run of the opened table. The table is where it ends.
+/// A table and the keeper of its history, which is a run of the opened table. The table is where it ends. It has as many threads at most
+/// as it was opened for.
 #[derive(Drop)]
 pub struct Recorded<T: Ledgers, O: Opening> {
     table: Table<T>,
@@ -28,7 +29,7 @@ pub struct Recorded<T: Ledgers, O: Opening> {
 }
 
 impl<T: Ledgers, O: Opening> Model for Recorded<T, O> {
-    ghost use Rattle.std.specs.Prelude.{◌≡◌};
+    ghost use Rattle.std.specs.Prelude.{◌≡◌, ◌≤◌};
     ghost use Rattle.table_histories.specs.declared.views.View.{View};
     ghost use Rattle.table_recorded.specs.declared.entries.Entry.{Entry};
     ghost use Rattle.table_recorded.specs.Runs.{end_of};
@@ -45,7 +46,7 @@ impl<T: Ledgers, O: Opening> Model for Recorded<T, O> {
 
     ghost view = { λ r. r.keeper };
 
-    ghost invariant = { λ r. world_of r.table ≡ end_of (opened_world O.limits) r.keeper.log };
+    ghost invariant = { λ r. (world_of r.table ≡ end_of (opened_world O.limits) r.keeper.log) × (r.keeper.given ≤ O.threads) };
 }
 
 impl<T: Ledgers, O: Opening> Recorded<T, O> {
@@ -170,42 +171,50 @@ impl<T: Ledgers, O: Opening> Recorded<T, O> {
         me: &mut Front<Entry<T>, Runs<O>>,
         fh: u64,
     ) -> Option<OpenFile>
-        ensures looks { Looks (opened_world O.limits) (λ w. result ≡ w.files fh) me.old me.new }
-        ensures log { (self.new ≡ self.old) × (self.new.log ≡ me.new.seen) }
+        ensures makes { Makes (opened_world O.limits) (Call.looked fh result) me.old me.new }
+        ensures log { self.new.log ≡ me.new.seen }
     {
-        self.look(history, me);
-        self.table.file(fh)
+        let found = self.table.file(fh);
+        let event = Event::Look {
+            fh,
+            told: Snapshot::of(&found),
+        };
+        enter(history, &mut self.keeper, me, &self.table, event);
+        found
     }
 
     /// A thread more, with an index of its own. It has seen all that happened, and has done nothing.
     pub fn thread(&mut self, history: &History<Entry<T>, Runs<O>>) -> Front<Entry<T>, Runs<O>>
+        requires room { self.old.given < O.threads }
         ensures thread { result ≡ front self.old.given self.old.log [] }
         ensures keeper { (self.new.log ≡ self.old.log) × (self.new.given ≡ self.old.given + 1) }
     {
         history.enter(&mut self.keeper)
     }
 
-    /// Sees the whole history, and does nothing.
-    pub fn look(&mut self, history: &History<Entry<T>, Runs<O>>, me: &mut Front<Entry<T>, Runs<O>>)
-        ensures looks { Looks (opened_world O.limits) (λ w. Unit {0}) me.old me.new }
-        ensures log { (self.new ≡ self.old) × (self.new.log ≡ me.new.seen) }
+    /// The history is a run, in which nobody made a call but the threads that the table was opened for: a call that does nothing.
+    pub fn attest(&self)
+        ensures run { IsRun (opened_world O.limits) self.now.log }
+        ensures nobody { (index : ℕ) → O.threads ≤ index → own index self.now.log ≡ [] }
     {
         self.keeper.attest(); // proof: its law
-        history.observe(&mut self.keeper, me);
     }
 
-    /// The table, with a front that has seen the whole history. It is where that ends.
-    pub fn into_table(
-        self,
-        history: &History<Entry<T>, Runs<O>>,
-        me: &mut Front<Entry<T>, Runs<O>>,
-    ) -> Table<T>
-        ensures looks { Looks (opened_world O.limits) (λ w. world_of result ≡ w) me.old me.new }
-        ensures whole { me.new.seen ≡ self.log }
+    /// What a thread made is what the whole history has of it.
+    pub fn look(&mut self, history: &History<Entry<T>, Runs<O>>, me: &mut Front<Entry<T>, Runs<O>>)
+        ensures own { own me.old.by self.old.log ≡ me.old.mine }
+        ensures me { (me.new.by ≡ me.old.by) × (me.new.mine ≡ me.old.mine) }
+        ensures same { self.new ≡ self.old }
     {
-        let Recorded { table, mut keeper } = self;
-        keeper.attest(); // proof: its law
-        history.observe(&mut keeper, me);
+        history.observe(&mut self.keeper, me);
+        me.attest(); // proof: its law
+    }
+
+    /// The table. It is where the history ends.
+    pub fn into_table(self) -> Table<T>
+        ensures { world_of result ≡ end_of (opened_world O.limits) self.log }
+    {
+        let Recorded { table, keeper: _ } = self;
         table
     }
 }

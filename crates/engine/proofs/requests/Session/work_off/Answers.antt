@@ -53,13 +53,14 @@ returns-in-Forget-clause-gains g c = c.forget.ensures.gains
 
 pub returns-in-File-clause-worked : goal.returns-in-File-clause-worked
 returns-in-File-clause-worked g c =
-    rw c.find.ensures.world (
-    asked_of_file (by_rules g.R.Reach.steps c.args.self.now.settings g.L.Outlet.sends) (does g.C.Calls.gives g.D.Folders.keeps) c.args.frame.now c.in-Ok.request c.in-File.fh c.find.result c.file_reply-body.result (around c.args.link.now c.args.served.now (g.R.Reach.world c.args.table.now)) c.answer-in-File.new.link c.answer-in-File.result
+    asked_of_file (by_rules g.R.Reach.steps c.args.self.now.settings g.L.Outlet.sends) (does g.C.Calls.gives g.D.Folders.keeps) c.args.frame.now c.in-Ok.request c.in-File.fh c.find.result c.file_reply-body.result (around c.args.link.now c.args.served.now (g.R.Reach.world c.args.table.now)) (g.R.Reach.world c.find.new.self) c.answer-in-File.new.link c.answer-in-File.result
     c.in-Ok.ensures.found c.in-File.ensures c.find.ensures.finds c.file_reply-body.ensures c.answer-in-File.ensures.said
-    )
 
 pub returns-in-File-clause-gains : goal.returns-in-File-clause-gains
-returns-in-File-clause-gains g c = rw c.find.ensures.world (c.attest.ensures c.args.share.now)
+returns-in-File-clause-gains g c = c.find.ensures.gains c.args.share.now
+
+pub returns-in-File-clause-idle : goal.returns-in-File-clause-idle
+returns-in-File-clause-idle g c = g.met.R.Reach.finds_idle (g.R.Reach.world c.args.table.now) (g.R.Reach.world c.find.new.self) c.in-File.fh c.find.result c.requires.idle c.find.ensures.finds
 
 pub returns-in-Want-clause-worked : goal.returns-in-Want-clause-worked
 returns-in-Want-clause-worked g c =

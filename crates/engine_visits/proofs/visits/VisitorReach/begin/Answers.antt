@@ -1,0 +1,12 @@
+use Rattle.std.proofs.Common.{ap}
+use Rattle.table_steps.specs.World.{opened_world}
+use Rattle.table_recorded.specs.Runs.{began}
+use Rattle.engine_visits.proofs.Stepping.{made}
+use Rattle.engine_visits.specs.Visits.{Known, OnTable, visited_of}
+use Rattle.engine_visits.proofs.visits.VisitorReach.begin.Goals as goal
+
+pub returns-clause-begins : goal.returns-clause-begins
+returns-clause-begins g c =
+    let old = c.args.self.now in
+    let kept = c.begin-begin.ensures.0 in
+    (kept, (c.has_bits.ensures, ap (λ (on : OnTable). record { visited = visited_of old.come_to; on_table = on }) (made (opened_world g.O.Opening.limits) (began kept c.args.unique c.args.want c.begin-begin.result) old.front c.begin-begin.new.me c.begin-begin.ensures.1)))
