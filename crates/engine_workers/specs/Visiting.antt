@@ -1,5 +1,6 @@
 -- A table behind a lock, as a way to reach it.
 use Rattle.std.proofs.Common.{ℕ, ℤ, ◌≡◌, Bool, Option, to_z, of_z, w32, ◌∙◌, arith}
+use Rattle.table_files.specs.declared.data.OpenFile.{OpenFile}
 use Rattle.table_requests.specs.declared.data.Want.{Want}
 use Rattle.ledger.specs.Shares.{Part}
 use Rattle.table_steps.specs.Answers.{Answer, Claim}
@@ -29,3 +30,6 @@ completes old mid fin new kept unique want claim outcome answer put taken idle b
 
 pub forgets_idle : (old new : Visited) (number n : ℕ) → halls.is_idle old → halls.forgets old number n new → halls.is_idle new
 forgets_idle old new number n idle f = tt
+
+pub finds_idle : (old new : Visited) (fh : ℕ) (file : Option OpenFile) → halls.is_idle old → halls.finds old fh file new → halls.is_idle new
+finds_idle old new fh file idle f = tt

@@ -107,4 +107,6 @@ impl<'a, H: Wait, T: Ledgers> Reach<T> for Visit<'a, H, T> {
     ghost completes = { laws.completes };
 
     ghost forgets_idle = { laws.forgets_idle };
+
+    ghost finds_idle = { laws.finds_idle };
 }
