@@ -49,6 +49,7 @@ use Rattle.engine_roles.specs.contracts.shares.Kept as Kept
 use Rattle.engine_roles.specs.contracts.writing.WriterRole as WriterRole
 use Rattle.engine_roles.specs.declared.origins.Sink as sink
 use Rattle.engine.specs.declared.links.LinkOut as out
+use Rattle.table_recorded.specs.declared.entries.Opening as opening
 use Rattle.ledger.specs.declared.ledgers.Ledgers.{Ghosts}
 
 -- a queue of messages X, whose passes are seen as V, under the rule P
@@ -129,9 +130,9 @@ module _ (T : RattleType) (g : Ghosts T.Denot) where
   pub kept_send : IsSend T → IsSync T → IsSend (Kept.the_row T g)
   kept_send s y = search (kept.the_send T g, sendable)
 
-  module _ (O S : RattleType) (o : out.Ghosts O.Denot) (k : sink.Ghosts S.Denot O.Denot) where
-    pub writer_role_send : IsSend T → IsSync T → IsSend O → IsSend S → IsSend (WriterRole.the_row T O S o k g)
-    writer_role_send s y c d =
+  module _ (N O S : RattleType) (n : opening.Ghosts N.Denot) (o : out.Ghosts O.Denot) (k : sink.Ghosts S.Denot O.Denot) where
+    pub writer_role_send : IsSend T → IsSync T → IsSend N → IsSend O → IsSend S → IsSend (WriterRole.the_row T N O S o k g n)
+    writer_role_send s y m c d =
         let a : IsSend (Writer.the_field).row = writer_send in
         let b : IsSend (Kept.the_field T g).row = search (kept.the_field_send T g, sendable) in
         search sendable depth 20

@@ -1,11 +1,10 @@
 -- What a writer has done since it began.
 use Rattle.std.specs.Prelude.{ℕ, ◌≡◌, Bool, true, false, List, [], Option, Some}
-use Rattle.handles.specs.Calls.{FolderCall}
-use Rattle.table_steps.specs.Answers.{Settlement}
 use Rattle.engine.specs.declared.links.Sent.{Sent}
 use Rattle.engine_queues.specs.Letters.{writer}
 use Rattle.engine_queues.specs.declared.letters.ReplyLane.{ReplyLane}
-use Rattle.engine_workers.specs.Batches.{Writing, WritesAll}
+use Rattle.engine_visits.specs.Visits.{OnTable, idle, then_all}
+use Rattle.engine_workers.specs.Batches.{Endings, WritesAll, Writing}
 use Rattle.engine_workers.specs.declared.replies.Reply.{Reply}
 
 abbrev pub writing : {L : Type 0} → ReplyLane Reply → L → (is_broken : Bool) → Writing L
@@ -19,15 +18,16 @@ none_got senders = writer [] senders []
 abbrev pub unsent : {L : Type 0} → L → (senders : ℕ) → Writing L
 unsent link senders = writing (none_got senders) link false
 
--- it began with this link, and has offered what it got so far, each reply once and in order
-pub record HasWritten {L : Type 0} (sends : L → List ℕ → Sent → L → Type 0) (from : Option L) (senders : ℕ) (now : Writing L) : Type 0 where
+-- it began with this link, and has offered what it got so far, each reply once and in order. All that it did on the table are the settles of
+-- their answers
+pub record HasWritten {L : Type 0} (sends : L → List ℕ → Sent → L → Type 0) (from : Option L) (senders : ℕ) (on_table : OnTable) (now : Writing L) : Type 0 where
   pub link : L
   pub began : from ≡ Some link
-  pub settled : List (Option Settlement)
-  pub folders : List FolderCall
-  pub writes : WritesAll sends (unsent link senders) settled folders now
+  pub all : Endings
+  pub writes : WritesAll sends (unsent link senders) all now
+  pub calls_are : on_table ≡ then_all (idle senders) all.on_table
 
 -- the same, once its link is gone
-pub record HasWrittenAll {L : Type 0} (sends : L → List ℕ → Sent → L → Type 0) (from : Option L) (senders : ℕ) (lane : ReplyLane Reply) (is_broken : Bool) : Type 0 where
+pub record HasWrittenAll {L : Type 0} (sends : L → List ℕ → Sent → L → Type 0) (from : Option L) (senders : ℕ) (on_table : OnTable) (lane : ReplyLane Reply) (is_broken : Bool) : Type 0 where
   pub last : L
-  pub written : HasWritten sends from senders (writing lane last is_broken)
+  pub written : HasWritten sends from senders on_table (writing lane last is_broken)

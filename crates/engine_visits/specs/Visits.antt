@@ -1,5 +1,5 @@
 -- A table behind a lock, as a thread knows it: by the calls that it makes.
-use Rattle.std.specs.Prelude.{ℕ, ◌≡◌, ◌+◌, Bool, true, false, List, [], ◌++◌, Option}
+use Rattle.std.specs.Prelude.{ℕ, ◌≡◌, ◌+◌, Bool, true, false, List, [], ◌++◌, Option, Some, None}
 use Rattle.std.proofs.Common.{w32}
 use mir.Val.{SFits}
 use Rattle.ledger.specs.Shares.{Part}
@@ -29,9 +29,12 @@ on_table_of front = record { by = front.by; calls = calls_of front.mine }
 abbrev pub idle : ℕ → OnTable
 idle index = record { by = index; calls = [] }
 
--- one call more
+-- these calls more
+abbrev pub then_all : OnTable → List Call → OnTable
+then_all old calls = record { by = old.by; calls = old.calls ++ calls }
+
 abbrev pub then_made : OnTable → Call → OnTable
-then_made old call = record { by = old.by; calls = old.calls ++ unless_busy call }
+then_made old call = then_all old (unless_busy call)
 
 -- ---- what a turn has come to
 
@@ -53,6 +56,20 @@ listed (Given answer) = entries_in answer.given
 listed (Leaves left) = entries_in left.answered.given
 listed (Settled settlement) = settlement.entries
 
+-- what is left to the writer
+abbrev pub left_in : Visited → Option Left
+left_in Fresh = None
+left_in (Given answer) = None
+left_in (Leaves left) = Some left
+left_in (Settled settlement) = None
+
+-- the settle that was made
+abbrev pub settled_in : Visited → Option Settlement
+settled_in Fresh = None
+settled_in (Given answer) = None
+settled_in (Leaves left) = None
+settled_in (Settled settlement) = Some settlement
+
 -- ---- the table
 
 pub record Known : Type 0 where
@@ -62,13 +79,14 @@ pub record Known : Type 0 where
 abbrev pub known : {L : Type 0} → ComeTo → View (Entry L) → Known
 known come_to front = record { visited = visited_of come_to; on_table = on_table_of front }
 
-abbrev pub untaken : Answer → Settlement
-untaken answer = record { id = answer.id; entries = entries_in answer.given; taken = false }
+-- what a settle tells
+abbrev pub settlement_of : Answer → (taken : Bool) → Settlement
+settlement_of answer taken = record { id = answer.id; entries = entries_in answer.given; taken = taken }
 
 -- one that is taken is left to the writer
 abbrev pub settling : Known → Answer → (put : Option ℕ) → (taken : Bool) → Known
 settling old answer put true = record { visited = Leaves (record { answered = answer; put = put }); on_table = old.on_table }
-settling old answer put false = record { visited = Settled (untaken answer); on_table = then_made old.on_table (settled answer false (untaken answer)) }
+settling old answer put false = record { visited = Settled (settlement_of answer false); on_table = then_made old.on_table (settled answer false (settlement_of answer false)) }
 
 pub record GainsListed (old : Visited) (before : Part) (new : Visited) (after : Part) : Type 0 where
   pub entries : after.totals.entries + listed old ≡ before.totals.entries + listed new

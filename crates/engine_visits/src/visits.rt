@@ -1,10 +1,12 @@
 //! A thread at the hall: the calls that it makes on the table, and what they came to in one turn.
 
-ghost use Rattle.engine_visits.specs.Visits.{HasBits};
+ghost use Rattle.std.specs.Prelude.{◌≡◌};
+ghost use Rattle.engine_visits.specs.Visits.{Fresh, HasBits, visited_of};
 
 use engine::Reach;
 use engine_jobs::Left;
 use ledger::{Ledgers, Share};
+use std::mem;
 use std::snapshot::Snapshot;
 use std::sync::Wait;
 use table::{Answered, Begin, Outcome, Settled, Ticket};
@@ -30,6 +32,46 @@ pub struct Visitor<'a, H: Wait, T: Ledgers, O: Opening> {
     pub hall: &'a Hall<T, O>,
     pub front: Front<Entry<T>, Runs<O>>,
     pub come_to: ComeTo,
+}
+
+impl<'a, H: Wait, T: Ledgers, O: Opening> Visitor<'a, H, T, O> {
+    /// A thread that comes to the hall with its front.
+    pub fn new(
+        rt: &'a H,
+        hall: &'a Hall<T, O>,
+        front: Front<Entry<T>, Runs<O>>,
+    ) -> Visitor<'a, H, T, O>
+        ensures { result.front ≡ front }
+    {
+        Visitor {
+            rt,
+            hall,
+            front,
+            come_to: ComeTo::Nothing,
+        }
+    }
+
+    /// Its front, once it has ended.
+    pub fn into_front(self) -> Front<Entry<T>, Runs<O>>
+        ensures { result ≡ self.front }
+    {
+        let Visitor {
+            rt: _,
+            hall: _,
+            front,
+            come_to: _,
+        } = self;
+        front
+    }
+
+    /// What its turn has come to. Another one may begin.
+    pub fn take_end(&mut self) -> ComeTo
+        ensures end { result ≡ self.old.come_to }
+        ensures fresh { visited_of self.new.come_to ≡ Fresh }
+        ensures front { self.new.front ≡ self.old.front }
+    {
+        mem::replace(&mut self.come_to, ComeTo::Nothing)
+    }
 }
 
 impl<'a, H: Wait, T: Ledgers, O: Opening> Reach<T> for Visitor<'a, H, T, O> {

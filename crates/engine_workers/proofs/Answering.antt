@@ -1,18 +1,18 @@
 -- A job that was handled, and its reply.
-use Rattle.std.proofs.Common.{◌≡◌, ℕ, false, List, [], Option, Some, None, refl, sym, ap, ◌∙◌, arith}
+use Rattle.std.proofs.Common.{◌≡◌, ℕ, false, List, [], ◌++◌, Option, Some, None, refl, sym, ap, ◌∙◌, append-nil, append_assoc, arith}
 use Rattle.std.proofs.lemmas.Option.{none-some}
 use Rattle.ledger.specs.Shares.{Part}
-use Rattle.table_steps.specs.Answers.{Settlement}
 use Rattle.ops.specs.declared.replies.Settings.{Settings}
 use Rattle.engine.specs.Reference.{Offer}
 use Rattle.engine.specs.Serving.{Behaviour}
 use Rattle.engine.specs.declared.served.Served.{Served}
 use Rattle.engine_queues.specs.declared.letters.Letter.{Letter}
-use Rattle.engine_workers.specs.Halls.{Visited, left_in}
+use Rattle.table_recorded.specs.Runs.{Call}
+use Rattle.engine_visits.specs.Visits.{OnTable, Visited, left_in, then_all}
 use Rattle.engine_workers.specs.Rights.{IsRight}
 use Rattle.engine.specs.Batches.{bytes_of}
 use Rattle.engine_workers.specs.Slips.{bytes_in}
-use Rattle.engine_workers.specs.Turns.{Means, MeetsJob, Met, Writes, ended_as, untaken_of}
+use Rattle.engine_workers.specs.Turns.{Means, MeetsJob, Met, Writes, means}
 use Rattle.engine_jobs.specs.declared.jobs.Job.{Job}
 use Rattle.engine_jobs.specs.declared.left.Left.{Left}
 use Rattle.engine_workers.specs.declared.replies.Reply.{Reply}
@@ -30,7 +30,9 @@ right_of does settings job old new said visited bytes m is = by_offer m.turn.off
   by_offer None e w = absurd (none-some (bytes_of bytes) (sym w ∙ ap bytes_in is))
   by_offer (Some offer) e w = record {
     turn = m.turn;
+    before = old.on_table;
     visited = visited;
+    after = new.on_table;
     handled = m.handled;
     offer = offer;
     offered = e;
@@ -39,9 +41,9 @@ right_of does settings job old new said visited bytes m is = by_offer m.turn.off
   }
 
 -- the share stays where the reply is put
-pub met_on : {C D : Type 0} (does : Behaviour C D) (settings : Settings) (job : Job) (old : Means C D) (served : Served C D) (mid after : Part) (met : Met)
-    → MeetsJob does settings job old met (record { served = served; share = mid }) → after.totals.entries ≡ mid.totals.entries → after.index ≡ mid.index → MeetsJob does settings job old met (record { served = served; share = after })
-met_on does settings job old served mid after met m e i = record {
+pub met_on : {C D : Type 0} (does : Behaviour C D) (settings : Settings) (job : Job) (old : Means C D) (served : Served C D) (mid after : Part) (handled : OnTable) (met : Met)
+    → MeetsJob does settings job old met (means served mid handled) → after.totals.entries ≡ mid.totals.entries → after.index ≡ mid.index → MeetsJob does settings job old met (means served after handled)
+met_on does settings job old served mid after handled met m e i = record {
   turn = m.turn;
   handled = m.handled;
   draws = m.draws;
@@ -49,14 +51,14 @@ met_on does settings job old served mid after met m e i = record {
   gains = record { entries = (let g = m.gains.entries in omega arith); index = i ∙ m.gains.index };
 }
 
-pub untaken_some : (left : Option Left) (settled : Option Settlement) (x : Settlement) → Some x ≡ ended_as left false → Some x ≡ untaken_of left settled
-untaken_some None settled x e = absurd (none-some x (sym e))
-untaken_some (Some left) settled x e = e
-
-pub untaken_none : (left : Option Left) (settled : Option Settlement) → None ≡ ended_as left false → settled ≡ untaken_of left settled
-untaken_none None settled e = refl
-untaken_none (Some left) settled e = absurd (none-some _ e)
-
 abbrev pub left_by : Option (Letter Reply) → Option Left
 left_by None = None
 left_by (Some letter) = letter.reply.left
+
+-- nothing more was done on the table
+pub none_more : (on_table : OnTable) → on_table ≡ then_all on_table []
+none_more on_table = ap (λ (cs : List Call). record { by = on_table.by; calls = cs }) (sym (append-nil on_table.calls))
+
+-- what was done after what was done
+pub and_more : (old mid new : OnTable) (first next : List Call) → mid ≡ then_all old first → new ≡ then_all mid next → new ≡ then_all old (first ++ next)
+and_more old mid new first next m n = n ∙ (ap (λ (o : OnTable). then_all o next) m ∙ ap (λ (cs : List Call). record { by = old.by; calls = cs }) (append_assoc old.calls first next))

@@ -2,9 +2,9 @@
 use Rattle.std.specs.Prelude.{◌≡◌, ℕ, suc, ◌-◌, Bool, true, false, List, [], ◌∷◌, length, map, flat_map, get_or, Option, Some}
 use Rattle.handles.specs.Calls.{FolderCall}
 use Rattle.table_steps.specs.Answers.{Settlement}
+use Rattle.table_recorded.specs.Runs.{Call}
 use Rattle.engine.specs.Batches.{SendsEach}
 use Rattle.engine.specs.Chain.{Chain}
-use Rattle.engine.specs.Folders.{GivesUp}
 use Rattle.engine.specs.Reference.{is_broken, is_taken}
 use Rattle.engine.specs.declared.bytes.Bytes.{Bytes}
 use Rattle.engine.specs.declared.links.Sent.{Sent}
@@ -13,7 +13,7 @@ use Rattle.engine_jobs.specs.declared.left.Left.{Left}
 use Rattle.engine_queues.specs.Letters.{got_of}
 use Rattle.engine_queues.specs.declared.letters.Letter.{Letter}
 use Rattle.engine_queues.specs.declared.letters.ReplyLane.{ReplyLane}
-use Rattle.engine_workers.specs.Turns.{Ending, Wrote, ended_as, put_in}
+use Rattle.engine_workers.specs.Turns.{Ending, IsEnded, Wrote}
 use Rattle.engine_workers.specs.declared.replies.Reply.{Reply}
 
 -- ---- the turns
@@ -25,14 +25,28 @@ pub record Writing (L : Type 0) : Type 0 where
   pub is_broken : Bool
 
 abbrev pub WritesOne : {L : Type 0} → (L → List ℕ → Sent → L → Type 0) → Writing L → Ending → Writing L → Type 0
-WritesOne sends old ending new = Wrote sends old.lane old.link old.is_broken ending.settled ending.folders new.lane new.link new.is_broken
+WritesOne sends old ending new = Wrote sends old.lane old.link old.is_broken ending new.lane new.link new.is_broken
 
--- one such turn after another: these are all settles, and all calls of the open folders
-pub record WritesAll {L : Type 0} (sends : L → List ℕ → Sent → L → Type 0) (old : Writing L) (settled : List (Option Settlement)) (folders : List FolderCall) (new : Writing L) : Type 0 where
-  pub endings : List Ending
-  pub chain : Chain (WritesOne sends) old endings new
-  pub settled_are : settled ≡ map (λ ending. ending.settled) endings
-  pub folders_are : folders ≡ flat_map (λ ending. ending.folders) endings
+-- all settles, all calls of the open folders, and all on the table
+pub record Endings : Type 0 where
+  pub settled : List (Option Settlement)
+  pub folders : List FolderCall
+  pub on_table : List Call
+
+abbrev pub endings : List (Option Settlement) → List FolderCall → List Call → Endings
+endings settled folders on_table = record { settled = settled; folders = folders; on_table = on_table }
+
+-- they are those of these turns
+pub record AreEndings (all : Endings) (turns : List Ending) : Type 0 where
+  pub settled_are : all.settled ≡ map (λ turn. turn.settled) turns
+  pub folders_are : all.folders ≡ flat_map (λ turn. turn.folders) turns
+  pub on_table_are : all.on_table ≡ flat_map (λ turn. turn.on_table) turns
+
+-- one such turn after another
+pub record WritesAll {L : Type 0} (sends : L → List ℕ → Sent → L → Type 0) (old : Writing L) (all : Endings) (new : Writing L) : Type 0 where
+  pub turns : List Ending
+  pub chain : Chain (WritesOne sends) old turns new
+  pub all_are : AreEndings all turns
 
 -- ---- the same by kinds: all are taken from the queue, all are offered, all answers are settled
 
@@ -59,17 +73,13 @@ OffersAll sends link frames false sents link' after = SendsEach sends link frame
 abbrev pub taken_at : List Sent → ℕ → Bool
 taken_at sents n = is_taken (get_or sents n Untaken)
 
-abbrev pub IsEnded : Option Left → (taken : Bool) → Ending → Type 0
-IsEnded left taken ending = (ending.settled ≡ ended_as left taken) × GivesUp taken (put_in left) ending.folders
-
 -- each answer is settled by what became of its own reply, the first by that at a place
 abbrev pub SettlesEach : List Sent → (place : ℕ) → List (Option Left) → List Ending → Type 0
-SettlesEach sents place [] endings = endings ≡ []
+SettlesEach sents place [] turns = turns ≡ []
 SettlesEach sents place (left ∷ lefts) [] = ⊥
-SettlesEach sents place (left ∷ lefts) (ending ∷ endings) = IsEnded left (taken_at sents place) ending × SettlesEach sents (suc place) lefts endings
+SettlesEach sents place (left ∷ lefts) (turn ∷ turns) = IsEnded left (taken_at sents place) turn × SettlesEach sents (suc place) lefts turns
 
-pub record SettlesAll (lefts : List (Option Left)) (sents : List Sent) (settled : List (Option Settlement)) (folders : List FolderCall) : Type 0 where
-  pub endings : List Ending
-  pub each : SettlesEach sents 0 lefts endings
-  pub settled_are : settled ≡ map (λ ending. ending.settled) endings
-  pub folders_are : folders ≡ flat_map (λ ending. ending.folders) endings
+pub record SettlesAll (lefts : List (Option Left)) (sents : List Sent) (all : Endings) : Type 0 where
+  pub turns : List Ending
+  pub each : SettlesEach sents 0 lefts turns
+  pub all_are : AreEndings all turns

@@ -2,11 +2,11 @@
 
 ghost use Rattle.std.specs.Prelude.{◌≡◌, ◌≤◌, ◌<◌, ◌+◌, ◌++◌, ◌∷◌, [], None, length, map, set, slice_index_or, IfOk, vec_len, vec_capacity};
 ghost use Rattle.engine.specs.Batches.{bytes_of, SendsEach};
-ghost use Rattle.engine.specs.Folders.{ByCalls};
 ghost use Rattle.engine.specs.Reference.{is_broken};
-ghost use Rattle.engine_workers.specs.Batches.{last_of, taken_at, OffersAll, SettlesAll};
+ghost use Rattle.engine_visits.specs.Visits.{on_table_of};
+ghost use Rattle.engine_workers.specs.Batches.{endings, last_of, taken_at, OffersAll, SettlesAll};
+ghost use Rattle.engine_workers.specs.Turns.{ByBoth};
 
-use crate::halls::Hall;
 use crate::replies::Reply;
 use crate::working::settle_left;
 use engine::{Bytes, LinkOut, Sent};
@@ -16,6 +16,9 @@ use ledger::{Ledgers, Share};
 use std::alloc::{AllocError, Global};
 use std::sync::Wait;
 use table::Settled;
+use table_halls::Hall;
+use table_histories::Front;
+use table_recorded::{Entry, Opening, Runs};
 
 /// How many replies are offered together at most.
 pub const BATCH: usize = 16;
@@ -120,15 +123,16 @@ impl Batch {
     }
 
     /// Settles each answer by what became of its reply.
-    pub(crate) fn settle<H: Wait, T: Ledgers, D: Folders>(
+    pub(crate) fn settle<H: Wait, T: Ledgers, O: Opening, D: Folders>(
         &mut self,
         rt: &H,
-        hall: &Hall<T>,
+        hall: &Hall<T, O>,
+        front: &mut Front<Entry<T>, Runs<O>>,
         share: &mut Share<T>,
         dirs: &mut D,
     )
         requires few { vec_len self.old.left ≤ 16 }
-        ensures settles { ByCalls D.keeps dirs.old dirs.new (λ folders. SettlesAll self.old.left.items self.old.sent.items self.new.settled.items folders) }
+        ensures settles { ByBoth D.keeps dirs.old (on_table_of front.old) dirs.new (on_table_of front.new) (λ folders calls. SettlesAll self.old.left.items self.old.sent.items (endings self.new.settled.items folders calls)) }
         ensures count { vec_len self.new.settled ≡ vec_len self.old.left }
         ensures entries { share.new.totals.entries ≡ share.old.totals.entries }
         ensures index { share.new.index ≡ share.old.index }
@@ -137,7 +141,7 @@ impl Batch {
         for at in 0..self.left.len() {
             let left = take_at(&mut self.left, at);
             let taken = is_taken_at(self.sent.as_slice(), at);
-            let settled = settle_left(rt, hall, share, dirs, left, taken);
+            let settled = settle_left(rt, hall, front, share, dirs, left, taken);
             self.settled.push_reserved(settled);
         }
     }

@@ -3,33 +3,33 @@
 ghost use Rattle.std.specs.Prelude.{◌≡◌, ◌+◌, [], ◌∷◌, ◌++◌, length, true, None, Some, Option, List, ℕ};
 ghost use Rattle.crossbeam_channel.specs.Claims.{view, IsSeatAt};
 ghost use Rattle.crossbeam_channel.specs.Ends.{sends_on, receives_on};
-ghost use Rattle.table_steps.specs.Answers.{Settlement, entries_in};
+ghost use Rattle.table_steps.specs.Answers.{Settlement};
 ghost use Rattle.engine.specs.Batches.{bytes_of};
-ghost use Rattle.engine.specs.Folders.{ByCalls, GivesUp};
 ghost use Rattle.engine.specs.Reference.{Turn as IsHandled};
 ghost use Rattle.engine.specs.Serving.{does};
-ghost use Rattle.engine_workers.specs.Halls.{Visited, left_in, settled_in};
+ghost use Rattle.engine_visits.specs.Visits.{left_in, on_table_of, settled_in, visited_of};
 ghost use Rattle.engine_workers.specs.Rights.{IsRight};
 ghost use Rattle.engine_workers.specs.Slips.{bytes_in};
-ghost use Rattle.engine_workers.specs.Turns.{AnswersJob, ended_as, ending, put_in, standing, IsReplyTo, MeetsJob, PutsReply, Worked};
-ghost use Rattle.engine_workers.specs.Visits.{visited_of};
+ghost use Rattle.engine_workers.specs.Turns.{AnswersJob, ByBoth, IsEnded, IsReplyTo, MeetsJob, PutsReply, Worked, ending, means, standing};
 
-use crate::halls::Hall;
 use crate::replies::Reply;
 use crate::slips::Slip;
-use crate::visits::{ComeTo, Visit};
 use backing::Calls;
 use engine::{Bytes, Served, Session, Settings, give_up};
 use engine_jobs::{Job, Left};
 use engine_queues::jobs::{JobPass, JobReceiver, Takes};
 use engine_queues::letters::{Letter, Posts, ReplyPass, ReplySender};
 use engine_queues::passes::Passes;
+use engine_visits::{ComeTo, Visitor};
 use handles::Folders;
 use ledger::{Ledgers, Share};
 use std::alloc::Global;
 use std::snapshot::Snapshot;
 use std::sync::Wait;
 use table::Settled;
+use table_halls::Hall;
+use table_histories::Front;
+use table_recorded::{Entry, Opening, Runs};
 
 /// What a turn did.
 #[derive(Drop)]
@@ -41,29 +41,28 @@ pub enum Turn {
 }
 
 /// Meets a job by the rules of a session: what is replied, and what has come of it in the table.
-fn meet_job<H: Wait, T: Ledgers, C: Calls, D: Folders>(
+fn meet_job<'a, H: Wait, T: Ledgers, O: Opening, C: Calls, D: Folders>(
     session: &mut Session,
-    rt: &H,
-    hall: &Hall<T>,
+    visitor: &mut Visitor<'a, H, T, O>,
     share: &mut Share<T>,
     served: &mut Served<C, D>,
     job: &Job,
 ) -> (Option<Bytes>, ComeTo)
-    ensures meets { MeetsJob (does C.gives D.keeps) session.old.settings job.now (record { served = served.old; share = share.old }) (record { said = bytes_in result.0; visited = visited_of result.1 }) (record { served = served.new; share = share.new }) }
+    ensures meets { MeetsJob (does C.gives D.keeps) session.old.settings job.now (means served.old share.old (on_table_of visitor.old.front)) (record { said = bytes_in result.0; visited = visited_of result.1 }) (means served.new share.new (on_table_of visitor.new.front)) }
     ensures settings { session.new.settings ≡ session.old.settings }
 {
     session.agreed = job.agreed;
     let mut slip = Slip::new(session.alloc);
-    let mut visit = Visit::new(rt, hall);
+    let _ = visitor.take_end();
     session.handle_frame(
-        rt,
+        visitor.rt,
         &mut slip,
         served,
-        &mut visit,
+        visitor,
         share,
         job.frame.as_slice(),
     );
-    (slip.into_said(), visit.into_end())
+    (slip.into_said(), visitor.take_end())
 }
 
 /// The answer that is left, and the settle that was made.
@@ -92,16 +91,16 @@ fn reply_to(settings: Settings, job: &Job, bytes: Bytes, left: Option<Left>) -> 
 }
 
 /// Settles what is left. A listing that was put for it is given up where its reply was not taken.
-pub(crate) fn settle_left<H: Wait, T: Ledgers, D: Folders>(
+pub(crate) fn settle_left<H: Wait, T: Ledgers, O: Opening, D: Folders>(
     rt: &H,
-    hall: &Hall<T>,
+    hall: &Hall<T, O>,
+    front: &mut Front<Entry<T>, Runs<O>>,
     share: &mut Share<T>,
     dirs: &mut D,
     left: Option<Left>,
     taken: bool,
 ) -> Option<Settled>
-    ensures settled { result ≡ ended_as left taken }
-    ensures gives_up { ByCalls D.keeps dirs.old dirs.new (λ folders. GivesUp taken (put_in left) folders) }
+    ensures ends { ByBoth D.keeps dirs.old (on_table_of front.old) dirs.new (on_table_of front.new) (λ folders calls. IsEnded left taken (ending result folders calls)) }
     ensures entries { share.new.totals.entries ≡ share.old.totals.entries }
     ensures index { share.new.index ≡ share.old.index }
 {
@@ -109,7 +108,7 @@ pub(crate) fn settle_left<H: Wait, T: Ledgers, D: Folders>(
         return None;
     };
     let (answered, put) = left.into_parts();
-    let settled = hall.settle(rt, share, answered, taken);
+    let settled = hall.settle(rt, front, share, answered, taken);
     give_up(dirs, put, taken);
     Some(settled)
 }
@@ -197,10 +196,9 @@ impl Worker {
     }
 
     /// Puts the reply to a job, if there is one. One that is handed back is settled as untaken.
-    fn put<H: Wait, T: Ledgers, D: Folders>(
+    fn put<'a, H: Wait, T: Ledgers, O: Opening, D: Folders>(
         &mut self,
-        rt: &H,
-        hall: &Hall<T>,
+        visitor: &mut Visitor<'a, H, T, O>,
         share: &mut Share<T>,
         dirs: &mut D,
         job: &Job,
@@ -208,7 +206,7 @@ impl Worker {
         come_to: ComeTo,
     ) -> Option<Settled>
         requires right { (bytes : Bytes) → said ≡ Some bytes → IsRight self.old.session.settings job.now (bytes_of bytes) (left_in (visited_of come_to)) }
-        ensures puts { ByCalls D.keeps dirs.old dirs.new (λ folders. PutsReply self.old.session.settings self.old.number job.now (record { said = bytes_in said; visited = visited_of come_to }) (view self.old.reply_pass) (ending result folders) (view self.new.reply_pass)) }
+        ensures puts { ByBoth D.keeps dirs.old (on_table_of visitor.old.front) dirs.new (on_table_of visitor.new.front) (λ folders calls. PutsReply self.old.session.settings self.old.number job.now (record { said = bytes_in said; visited = visited_of come_to }) (view self.old.reply_pass) (ending result folders calls) (view self.new.reply_pass)) }
         ensures entries { share.new.totals.entries ≡ share.old.totals.entries }
         ensures index { share.new.index ≡ share.old.index }
         ensures jobs { (self.new.jobs ≡ self.old.jobs) × (view self.new.job_pass ≡ view self.old.job_pass) }
@@ -224,22 +222,16 @@ impl Worker {
         };
         match self
             .replies
-            .send_as::<Posts, H>(rt, &mut self.reply_pass, Some(letter))
+            .send_as::<Posts, H>(visitor.rt, &mut self.reply_pass, Some(letter))
         {
             Ok(()) => settled,
             Err(back) => match back.into_inner() {
                 Some(letter) => {
                     let Letter { from: _, reply } = letter;
-                    let Reply {
-                        settings: _,
-                        job: _,
-                        bytes: _,
-                        left,
-                    } = reply;
-                    match settle_left(rt, hall, share, dirs, left, false) {
-                        Some(untaken) => Some(untaken),
-                        None => settled,
-                    }
+                    let left = reply.into_left();
+                    let (rt, hall) = (visitor.rt, visitor.hall);
+                    let untaken = settle_left(rt, hall, &mut visitor.front, share, dirs, left, false);
+                    untaken.or(settled)
                 }
                 None => unreachable!(),
             },
@@ -247,44 +239,42 @@ impl Worker {
     }
 
     /// Meets a job, and puts its reply.
-    pub fn answer<H: Wait, T: Ledgers, C: Calls, D: Folders>(
+    pub fn answer<'a, H: Wait, T: Ledgers, O: Opening, C: Calls, D: Folders>(
         &mut self,
-        rt: &H,
-        hall: &Hall<T>,
+        visitor: &mut Visitor<'a, H, T, O>,
         share: &mut Share<T>,
         served: &mut Served<C, D>,
         job: &Job,
     ) -> Option<Settled>
         ensures rings { (receives_on self.new.jobs ≡ receives_on self.old.jobs) × (sends_on self.new.replies ≡ sends_on self.old.replies) × (self.new.number ≡ self.old.number) }
-        ensures answers { AnswersJob (does C.gives D.keeps) self.old.session.settings self.old.number job.now (standing (view self.old.job_pass) (view self.old.reply_pass) served.old share.old) result
-            (standing (view self.new.job_pass) (view self.new.reply_pass) served.new share.new) }
+        ensures answers { AnswersJob (does C.gives D.keeps) self.old.session.settings self.old.number job.now (standing (view self.old.job_pass) (view self.old.reply_pass) (means served.old share.old (on_table_of visitor.old.front))) result
+            (standing (view self.new.job_pass) (view self.new.reply_pass) (means served.new share.new (on_table_of visitor.new.front))) }
         ensures settings { self.new.session.settings ≡ self.old.session.settings }
     {
-        let (said, come_to) = meet_job(&mut self.session, rt, hall, share, served, job);
-        self.put(rt, hall, share, &mut served.dirs, job, said, come_to)
+        let (said, come_to) = meet_job(&mut self.session, visitor, share, served, job);
+        self.put(visitor, share, &mut served.dirs, job, said, come_to)
     }
 
     /// Takes one job, meets it, and puts its reply.
-    pub fn turn<H: Wait, T: Ledgers, C: Calls, D: Folders>(
+    pub fn turn<'a, H: Wait, T: Ledgers, O: Opening, C: Calls, D: Folders>(
         &mut self,
-        rt: &H,
-        hall: &Hall<T>,
+        visitor: &mut Visitor<'a, H, T, O>,
         share: &mut Share<T>,
         served: &mut Served<C, D>,
     ) -> Turn
         ensures rings { (receives_on self.new.jobs ≡ receives_on self.old.jobs) × (sends_on self.new.replies ≡ sends_on self.old.replies) × (self.new.number ≡ self.old.number) }
-        ensures worked { (settled : Option Settlement) → result ≡ Turn.Worked settled → Worked (does C.gives D.keeps) self.old.session.settings self.old.number (standing (view self.old.job_pass) (view self.old.reply_pass) served.old share.old) settled
-            (standing (view self.new.job_pass) (view self.new.reply_pass) served.new share.new) }
-        ensures nothing { result ≡ Turn.Nothing → (view self.new.job_pass ≡ view self.old.job_pass) × (view self.new.reply_pass ≡ view self.old.reply_pass) × (share.new ≡ share.old) × (served.new ≡ served.old) }
+        ensures worked { (settled : Option Settlement) → result ≡ Turn.Worked settled → Worked (does C.gives D.keeps) self.old.session.settings self.old.number (standing (view self.old.job_pass) (view self.old.reply_pass) (means served.old share.old (on_table_of visitor.old.front))) settled
+            (standing (view self.new.job_pass) (view self.new.reply_pass) (means served.new share.new (on_table_of visitor.new.front))) }
+        ensures nothing { result ≡ Turn.Nothing → (view self.new.job_pass ≡ view self.old.job_pass) × (view self.new.reply_pass ≡ view self.old.reply_pass) × (share.new ≡ share.old) × (served.new ≡ served.old) × (visitor.new ≡ visitor.old) }
         ensures settings { self.new.session.settings ≡ self.old.session.settings }
     {
         let Some(after) = self.count.checked_add(1) else {
             return Turn::Nothing;
         };
-        match self.jobs.try_recv_as::<Takes, H>(rt, &mut self.job_pass) {
+        match self.jobs.try_recv_as::<Takes, H>(visitor.rt, &mut self.job_pass) {
             Ok(Some(job)) => {
                 self.count = after;
-                Turn::Worked(self.answer(rt, hall, share, served, &job))
+                Turn::Worked(self.answer(visitor, share, served, &job))
             }
             Ok(None) | Err(_) => Turn::Nothing,
         }

@@ -3,11 +3,11 @@
 ghost use Rattle.std.specs.Prelude.{◌≡◌, ◌≤◌, false, length, true, IfOk, vec_len};
 ghost use Rattle.crossbeam_channel.specs.Claims.{view, IsSeatAt};
 ghost use Rattle.crossbeam_channel.specs.Ends.{receives_on};
-ghost use Rattle.engine.specs.Folders.{ByCalls};
-ghost use Rattle.engine_workers.specs.Batches.{GetsAll, WritesAll};
+ghost use Rattle.engine_visits.specs.Visits.{on_table_of};
+ghost use Rattle.engine_workers.specs.Batches.{endings, GetsAll, WritesAll};
+ghost use Rattle.engine_workers.specs.Turns.{ByBoth};
 
 use crate::batches::{BATCH, Batch};
-use crate::halls::Hall;
 use crate::replies::Reply;
 use engine::LinkOut;
 use engine_queues::letters::{Gets, Letter, ReplyPass, ReplyReceiver};
@@ -15,6 +15,9 @@ use handles::Folders;
 use ledger::{Ledgers, Share};
 use std::alloc::{AllocError, Global};
 use std::sync::Wait;
+use table_halls::Hall;
+use table_histories::Front;
+use table_recorded::{Entry, Opening, Runs};
 
 /// Who offers replies, in the order of their queue.
 #[derive(Drop)]
@@ -91,18 +94,19 @@ impl Writer {
 
     /// Takes what is queued, at most 16 replies, offers them together, and settles the answer of each: as taken only where the link took its reply.
     /// It waits for none, and says how many they were.
-    pub fn turns<H: Wait, T: Ledgers, L: LinkOut, D: Folders>(
+    pub fn turns<H: Wait, T: Ledgers, O: Opening, L: LinkOut, D: Folders>(
         &mut self,
         rt: &H,
         link: &mut L,
-        hall: &Hall<T>,
+        hall: &Hall<T, O>,
+        front: &mut Front<Entry<T>, Runs<O>>,
         share: &mut Share<T>,
         dirs: &mut D,
     ) -> usize
         ensures ring { receives_on self.new.replies ≡ receives_on self.old.replies }
         ensures made { (view self.new.pass).made ≡ (view self.old.pass).made }
-        ensures wrote { ByCalls D.keeps dirs.old dirs.new (λ folders. WritesAll L.sends
-            (record { lane = view self.old.pass; link = link.old; is_broken = self.old.is_broken }) self.new.batch.settled.items folders
+        ensures wrote { ByBoth D.keeps dirs.old (on_table_of front.old) dirs.new (on_table_of front.new) (λ folders calls. WritesAll L.sends
+            (record { lane = view self.old.pass; link = link.old; is_broken = self.old.is_broken }) (endings self.new.batch.settled.items folders calls)
             (record { lane = view self.new.pass; link = link.new; is_broken = self.new.is_broken })) }
         ensures count { (result ≡ vec_len self.new.batch.settled) × (result ≤ 16) }
         ensures entries { share.new.totals.entries ≡ share.old.totals.entries }
@@ -110,7 +114,7 @@ impl Writer {
     {
         self.take_queued(rt);
         self.is_broken = self.batch.offer(link, self.is_broken);
-        self.batch.settle(rt, hall, share, dirs);
+        self.batch.settle(rt, hall, front, share, dirs);
         self.batch.settled.len()
     }
 }

@@ -1,6 +1,7 @@
 use Rattle.std.proofs.Common.{◌≡◌, sym, subst}
 use Rattle.crossbeam_channel.specs.Claims.{view}
 use Rattle.engine_queues.specs.declared.letters.ReplyLane.{ReplyLane}
+use Rattle.engine_visits.specs.Visits.{on_table_of}
 use Rattle.engine_workers.specs.declared.replies.Reply.{Reply}
 use Rattle.engine_roles.specs.Writes.{HasWrittenAll}
 use Rattle.engine_roles.proofs.HasWritten.{has_ended}
@@ -9,5 +10,5 @@ use Rattle.engine_roles.proofs.writing.WriterRole.into_end.Goals as goal
 pub returns-clause-wrote : goal.returns-clause-wrote
 returns-clause-wrote g c =
     let s = c.args.self in
-    subst (λ (lane : ReplyLane Reply). ∥ HasWrittenAll g.O.LinkOut.sends g.S.Sink.sent_to g.S.Sink.senders lane s.writer.is_broken ∥₁) (sym c.into_pass.ensures.pass)
-    (has_ended g.O.LinkOut.sends g.S.Sink.sent_to g.S.Sink.senders (view s.writer.pass) s.link s.writer.is_broken s.wrote)
+    subst (λ (lane : ReplyLane Reply). ∥ HasWrittenAll g.O.LinkOut.sends g.S.Sink.sent_to g.S.Sink.senders (on_table_of s.front) lane s.writer.is_broken ∥₁) (sym c.into_pass.ensures.pass)
+    (has_ended g.O.LinkOut.sends g.S.Sink.sent_to g.S.Sink.senders (on_table_of s.front) (view s.writer.pass) s.link s.writer.is_broken s.wrote)

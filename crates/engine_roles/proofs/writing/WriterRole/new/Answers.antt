@@ -1,5 +1,6 @@
 use Rattle.std.proofs.Common.{ap, ap₂}
 use Rattle.crossbeam_channel.specs.Claims.{view}
+use Rattle.engine_visits.specs.Visits.{on_table_of}
 use Rattle.engine_roles.specs.Writes.{writing}
 use Rattle.engine_roles.proofs.HasWritten.{has_begun}
 use Rattle.engine_roles.proofs.writing.WriterRole.new.Goals as goal
@@ -11,5 +12,6 @@ invariant_of-result g c =
     record {
       ring = c.requires.ring;
       made = ap (λ lane. lane.made) c.requires.fresh;
-      wrote = has_begun g.O.LinkOut.sends g.S.Sink.sent_to g.S.Sink.senders link (writing (view w.pass) link w.is_broken) c.requires.from (ap₂ (λ lane b. writing lane link b) c.requires.fresh c.requires.whole);
+      index = ap (λ on_table. on_table.by) c.requires.front;
+      wrote = has_begun g.O.LinkOut.sends g.S.Sink.sent_to g.S.Sink.senders link (on_table_of c.args.front) (writing (view w.pass) link w.is_broken) c.requires.from c.requires.front (ap₂ (λ lane b. writing lane link b) c.requires.fresh c.requires.whole);
     }

@@ -1,5 +1,7 @@
 use Rattle.std.proofs.Common.{◌≡◌, Some, sym, ap, ◌∙◌}
 use Rattle.crossbeam_channel.specs.Claims.{view}
+use Rattle.engine_visits.specs.Visits.{on_table_of}
+use Rattle.engine_workers.specs.Batches.{endings}
 use Rattle.engine_roles.specs.Writes.{writing}
 use Rattle.engine_roles.proofs.HasWritten.{has_written_on}
 use Rattle.engine_roles.proofs.writing.WriterRole.turn.Goals as goal
@@ -12,5 +14,7 @@ invariant_of-self g c =
     record {
       ring = s.ring ∙ ap (λ q. Some q) (sym c.turns.ensures.ring);
       made = c.turns.ensures.made ∙ s.made;
-      wrote = has_written_on g.O.LinkOut.sends g.S.Sink.sent_to g.S.Sink.senders (writing (view s.writer.pass) s.link s.writer.is_broken) (writing (view n.self.pass) n.link n.self.is_broken) n.self.batch.settled.items by.folders s.wrote by.so;
+      index = ap (λ on_table. on_table.by) by.on_table ∙ s.index;
+      wrote = has_written_on g.O.LinkOut.sends g.S.Sink.sent_to g.S.Sink.senders (on_table_of s.front) (on_table_of n.front) (writing (view s.writer.pass) s.link s.writer.is_broken) (writing (view n.self.pass) n.link n.self.is_broken)
+          (endings n.self.batch.settled.items by.folders by.calls) s.wrote by.on_table by.so;
     }

@@ -1,14 +1,12 @@
 use Rattle.std.proofs.Common.{sym, subst}
 use Rattle.ops.specs.declared.replies.Settings.{Settings}
 use Rattle.crossbeam_channel.specs.Claims.{view}
-use Rattle.engine.specs.Folders.{ByCalls}
 use Rattle.engine.specs.Serving.{does}
-use Rattle.engine_workers.specs.Halls.{left_in}
+use Rattle.engine_visits.specs.Visits.{left_in, on_table_of, visited_of}
 use Rattle.engine_workers.specs.Rights.{IsRight}
 use Rattle.engine.specs.Batches.{bytes_of}
 use Rattle.engine_workers.specs.Slips.{bytes_in}
-use Rattle.engine_workers.specs.Turns.{Means, Met, PutsReply, ending}
-use Rattle.engine_workers.specs.Visits.{visited_of}
+use Rattle.engine_workers.specs.Turns.{ByBoth, Met, PutsReply, ending, means}
 use Rattle.engine_workers.proofs.Answering.{met_on, right_of}
 use Rattle.engine_workers.proofs.working.Worker.answer.Goals as goal
 
@@ -17,7 +15,7 @@ put-requires g c =
     let m = c.meet_job-said in
     record {
       right = λ bytes is. subst (λ (s : Settings). IsRight s c.args.job.now (bytes_of bytes) (left_in (visited_of m.result.1))) (sym m.ensures.settings)
-          (right_of (does g.C.Calls.gives g.D.Folders.keeps) c.args.self.now.session.settings c.args.job.now (record { served = c.args.served.now; share = c.args.share.now }) (record { served = m.new.served; share = m.new.share }) m.result.0 (visited_of m.result.1) bytes m.ensures.meets is);
+          (right_of (does g.C.Calls.gives g.D.Folders.keeps) c.args.self.now.session.settings c.args.job.now (means c.args.served.now c.args.share.now (on_table_of c.args.visitor.now.front)) (means m.new.served m.new.share (on_table_of m.new.visitor.front)) m.result.0 (visited_of m.result.1) bytes m.ensures.meets is);
     }
 
 pub returns-clause-answers : goal.returns-clause-answers
@@ -27,8 +25,9 @@ returns-clause-answers g c =
     record {
       met = met;
       between = m.new.served.dirs;
-      meets = met_on (does g.C.Calls.gives g.D.Folders.keeps) c.args.self.now.session.settings c.args.job.now (record { served = c.args.served.now; share = c.args.share.now }) m.new.served m.new.share c.put.new.share met
+      handled = on_table_of m.new.visitor.front;
+      meets = met_on (does g.C.Calls.gives g.D.Folders.keeps) c.args.self.now.session.settings c.args.job.now (means c.args.served.now c.args.share.now (on_table_of c.args.visitor.now.front)) m.new.served m.new.share c.put.new.share (on_table_of m.new.visitor.front) met
           m.ensures.meets c.put.ensures.entries c.put.ensures.index;
-      puts = subst (λ (s : Settings). ByCalls g.D.Folders.keeps m.new.served.dirs c.put.new.dirs (λ folders. PutsReply s c.args.self.now.number c.args.job.now met (view c.args.self.now.reply_pass) (ending c.put.result folders) (view c.put.new.self.reply_pass))) m.ensures.settings c.put.ensures.puts;
+      puts = subst (λ (s : Settings). ByBoth g.D.Folders.keeps m.new.served.dirs (on_table_of m.new.visitor.front) c.put.new.dirs (on_table_of c.put.new.visitor.front) (λ folders calls. PutsReply s c.args.self.now.number c.args.job.now met (view c.args.self.now.reply_pass) (ending c.put.result folders calls) (view c.put.new.self.reply_pass))) m.ensures.settings c.put.ensures.puts;
       hand_is = c.put.ensures.jobs.1;
     }

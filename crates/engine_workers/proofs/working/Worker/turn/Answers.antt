@@ -5,7 +5,8 @@ use Rattle.engine.specs.Serving.{does}
 use Rattle.engine_jobs.specs.declared.jobs.Job.{Job}
 use Rattle.engine_queues.proofs.JobSteps.{takes as takes_one}
 use Rattle.engine_queues.specs.declared.jobs.Hand.{Hand}
-use Rattle.engine_workers.specs.Turns.{AnswersJob, standing}
+use Rattle.engine_visits.specs.Visits.{on_table_of}
+use Rattle.engine_workers.specs.Turns.{AnswersJob, means, standing}
 use Rattle.engine_workers.specs.declared.working.Turn.{Turn}
 use Rattle.engine_workers.specs.declared.working.Turn.TheVariants.{Worked, Nothing}
 use Rattle.engine_workers.proofs.working.Worker.turn.Goals as goal
@@ -25,6 +26,6 @@ returns-in-Ok-Some-clause-worked g c settled e =
     let same : c.answer.result ≡ settled = ap settled_by e in
     record {
       job = c.in-Ok-Some.job;
-      answers = subst₂ (λ (h : Hand Job) (o : Option Settlement). AnswersJob (does g.C.Calls.gives g.D.Folders.keeps) s.session.settings s.number c.in-Ok-Some.job (standing h (view s.reply_pass) c.args.served.now c.args.share.now) o
-          (standing (view a.self.job_pass) (view a.self.reply_pass) a.served a.share)) taken same c.answer.ensures.answers;
+      answers = subst₂ (λ (h : Hand Job) (o : Option Settlement). AnswersJob (does g.C.Calls.gives g.D.Folders.keeps) s.session.settings s.number c.in-Ok-Some.job (standing h (view s.reply_pass) (means c.args.served.now c.args.share.now (on_table_of c.args.visitor.now.front))) o
+          (standing (view a.self.job_pass) (view a.self.reply_pass) (means a.served a.share (on_table_of a.visitor.front)))) taken same c.answer.ensures.answers;
     }
