@@ -26,7 +26,7 @@ use engine_queues::letters::ReplySender;
 use engine_queues::passes::Passes;
 use engine_reader::ReaderEnd;
 use engine_roles::{Shares, Sink, Source, WriterEnd, WriterRole};
-use engine_workers::{Hall, Reply};
+use engine_workers::Reply;
 use handles::Dirs;
 use ledger::Ledgers;
 use std::snapshot::Snapshot;
@@ -35,7 +35,7 @@ use table::Table;
 
 /// What the threads of a session have left.
 #[derive(Drop)]
-pub struct Over<T: Ledgers, C: Calls + Drop> {
+pub struct Over<T: Ledgers, N: Opening, C: Calls + Drop> {
     pub passed: Passed,
     pub taken: Vec<u64>,
     pub table: Table<T>,
@@ -54,11 +54,11 @@ pub struct Room<T: Ledgers> {
 }
 
 /// Offers all that is still queued.
-fn offer_all<H: Wait, T: Ledgers, O: LinkOut + Drop, S: Sink<O>>(
+fn offer_all<H: Wait, T: Ledgers, N: Opening, O: LinkOut + Drop, S: Sink<O>>(
     rt: &H,
-    hall: &Hall<T>,
+    hall: &Hall<T, N>,
     dirs: &Dirs,
-    writer: &mut WriterRole<T, O, S>,
+    writer: &mut WriterRole<T, N, O, S>,
 ) {
     let mut dirs = dirs;
     for _ in rt.forever() {
@@ -73,18 +73,19 @@ fn offer_all<H: Wait, T: Ledgers, O: LinkOut + Drop, S: Sink<O>>(
 pub fn end_all<
     H: Wait + Drop,
     T: Ledgers,
+    N: Opening,
     I: LinkIn + Drop,
     O: LinkOut + Drop,
     C: Calls + Drop,
     S: Source<I> + Sink<O>,
 >(
     rt: &H,
-    common: Common<H, T, I, O, S>,
+    common: Common<H, T, N, I, O, S>,
     jobs: &JobSender<Job>,
     replies: &ReplySender<Reply>,
-    ends: Vec<WorkerEnd<T, C>>,
-    room: Room<T>,
-) -> Over<T, C>
+    ends: Vec<WorkerEnd<T, N, C>>,
+    room: Room<T, N>,
+) -> Over<T, N, C>
     requires jobs { S.jobs ≡ Some (sends_on jobs.now) }
     requires replies { S.replies ≡ Some (sends_on replies.now) }
     requires parted { S.parted ≡ vec_len ends + 1 }

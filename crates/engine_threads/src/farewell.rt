@@ -13,7 +13,7 @@ use engine_queues::jobs::JobReceiver;
 use engine_queues::letters::ReplySender;
 use engine_queues::passes::Passes;
 use engine_roles::Kept;
-use engine_workers::{Hall, Reply, Worker};
+use engine_workers::{Reply, Worker};
 use handles::Folders;
 use ledger::Ledgers;
 use std::alloc::Global;
@@ -29,9 +29,9 @@ pub struct Starter {
 }
 
 /// Puts the reply to the frame that ended the session, as a worker does.
-fn answer_last<H: Wait + Drop, T: Ledgers, C: Calls + Drop, D: Folders>(
+fn answer_last<H: Wait + Drop, T: Ledgers, N: Opening, C: Calls + Drop, D: Folders>(
     rt: &H,
-    hall: &Hall<T>,
+    hall: &Hall<T, N>,
     starter: Starter,
     own: Passes<Job, Reply>,
     kept: &mut Kept<T>,
@@ -57,9 +57,9 @@ fn answer_last<H: Wait + Drop, T: Ledgers, C: Calls + Drop, D: Folders>(
 }
 
 /// Answers the frame that ended the session, if one did.
-pub fn bid_farewell<H: Wait + Drop, T: Ledgers, C: Calls + Drop, D: Folders>(
+pub fn bid_farewell<H: Wait + Drop, T: Ledgers, N: Opening, C: Calls + Drop, D: Folders>(
     rt: &H,
-    hall: &Hall<T>,
+    hall: &Hall<T, N>,
     starter: Starter,
     own: Passes<Job, Reply>,
     kept: &mut Kept<T>,

@@ -108,7 +108,7 @@ fn hire_all(
     Some(workers)
 }
 
-fn staffed<T: Ledgers, C: Calls + Drop>(worker: Worker, kept: Kept<T>, calls: C) -> Staff<T, C>
+fn staffed<T: Ledgers, N: Opening, C: Calls + Drop>(worker: Worker, kept: Kept<T>, calls: C) -> Staff<T, N, C>
     ensures { (result.worker ≡ worker) × (result.kept ≡ kept) × (result.calls ≡ calls) }
 {
     Staff {
@@ -119,15 +119,15 @@ fn staffed<T: Ledgers, C: Calls + Drop>(worker: Worker, kept: Kept<T>, calls: C)
 }
 
 /// A share and a directory for each worker. None where one is missing.
-fn staff_all<T: Ledgers, C: Calls + Drop>(
+fn staff_all<T: Ledgers, N: Opening, C: Calls + Drop>(
     jobs: &JobSender<Job>,
     replies: &ReplySender<Reply>,
     settings: Settings,
     workers: Vec<Worker>,
     shares: &mut Shares<T>,
     trees: Vec<C>,
-    staff: Vec<Staff<T, C>>,
-) -> Option<Vec<Staff<T, C>>>
+    staff: Vec<Staff<T, N, C>>,
+) -> Option<Vec<Staff<T, N, C>>>
     requires hired { All (IsHired (sends_on jobs.now) (sends_on replies.now) settings) workers.items }
     requires shares { All (λ p. p.totals ≡ nothing) shares.old.shares.items }
     requires each { vec_len workers ≡ vec_len trees }
@@ -149,7 +149,7 @@ fn staff_all<T: Ledgers, C: Calls + Drop>(
 }
 
 /// A staff for these directories: a worker, a share and a directory each, by their numbers. None where memory or a share is missing.
-pub fn hire_staff<T: Ledgers, C: Calls + Drop>(
+pub fn hire_staff<T: Ledgers, N: Opening, C: Calls + Drop>(
     alloc: Global,
     settings: Settings,
     jobs: &JobSender<Job>,
@@ -159,7 +159,7 @@ pub fn hire_staff<T: Ledgers, C: Calls + Drop>(
     written: &mut ReplyPass<Reply>,
     trees: Vec<C>,
     shares: &mut Shares<T>,
-) -> Option<Vec<Staff<T, C>>>
+) -> Option<Vec<Staff<T, N, C>>>
     requires few { vec_len trees ≤ 4 }
     requires ring { receives_on work.now ≡ sends_on jobs.now }
     requires read { IsSeatAt (sends_on jobs.now) read.old }

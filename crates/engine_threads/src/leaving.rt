@@ -16,7 +16,7 @@ use engine_queues::jobs::JobSender;
 use engine_queues::letters::ReplySender;
 use engine_queues::passes::Passes;
 use engine_roles::Shares;
-use engine_workers::{Hall, Reply};
+use engine_workers::Reply;
 use handles::Dirs;
 use ledger::Ledgers;
 use std::sync::Wait;
@@ -29,8 +29,8 @@ pub struct Left<C: Calls + Drop> {
 }
 
 /// What a worker leaves is taken apart: its share goes back.
-fn part<T: Ledgers, C: Calls + Drop>(
-    end: WorkerEnd<T, C>,
+fn part<T: Ledgers, N: Opening, C: Calls + Drop>(
+    end: WorkerEnd<T, N, C>,
     shares: &mut Shares<T>,
 ) -> Passes<Job, Reply>
     ensures { result ≡ end.passes }
@@ -46,8 +46,8 @@ fn part<T: Ledgers, C: Calls + Drop>(
 }
 
 /// The same of some workers, in their order.
-fn part_all<T: Ledgers, C: Calls + Drop>(
-    ends: Vec<WorkerEnd<T, C>>,
+fn part_all<T: Ledgers, N: Opening, C: Calls + Drop>(
+    ends: Vec<WorkerEnd<T, N, C>>,
     passes: Vec<Passes<Job, Reply>>,
     shares: &mut Shares<T>,
 ) -> Vec<Passes<Job, Reply>>
@@ -66,13 +66,13 @@ fn part_all<T: Ledgers, C: Calls + Drop>(
 
 /// Takes apart what the workers leave. With the directory and the share of the last of them the starter answers the frame that ended the
 /// session, if one did.
-pub fn take_leave<H: Wait + Drop, T: Ledgers, C: Calls + Drop>(
+pub fn take_leave<H: Wait + Drop, T: Ledgers, N: Opening, C: Calls + Drop>(
     rt: &H,
-    hall: &Hall<T>,
+    hall: &Hall<T, N>,
     dirs: &Dirs,
     jobs: &JobSender<Job>,
     replies: &ReplySender<Reply>,
-    ends: Vec<WorkerEnd<T, C>>,
+    ends: Vec<WorkerEnd<T, N, C>>,
     starter: Starter,
     own: Passes<Job, Reply>,
     passes: Vec<Passes<Job, Reply>>,

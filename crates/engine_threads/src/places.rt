@@ -2,7 +2,6 @@
 
 use engine::{LinkIn, LinkOut};
 use engine_roles::{ReaderRole, Sink, Sleepers, Source, WriterRole};
-use engine_workers::Hall;
 use handles::Dirs;
 use ledger::Ledgers;
 use std::sync::atomic::{AtomicBool, AtomicU64, Ordering};
@@ -94,17 +93,18 @@ impl Signs {
 pub struct Common<
     H: Drop,
     T: Ledgers,
+    N: Opening,
     I: LinkIn + Drop,
     O: LinkOut + Drop,
     S: Source<I> + Sink<O>,
 > {
     pub rt: H,
-    pub hall: Hall<T>,
+    pub hall: Hall<T, N>,
     pub dirs: Dirs,
     pub reader: Mutex<ReaderRole<I, S>>,
-    pub writer: Mutex<WriterRole<T, O, S>>,
+    pub writer: Mutex<WriterRole<T, N, O, S>>,
     pub sleepers: Sleepers,
     pub signs: Signs,
 }
 
-pub type Shared<H, T, I, O, S> = Arc<Common<H, T, I, O, S>>;
+pub type Shared<H, T, N, I, O, S> = Arc<Common<H, T, N, I, O, S>>;

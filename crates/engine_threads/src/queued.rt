@@ -30,7 +30,7 @@ use engine_queues::letters::{InOrder, Letter, ReplyLane, ReplyPass, ReplyReceive
 use engine_queues::passes::Passes;
 use engine_reader::Reader;
 use engine_roles::Shares;
-use engine_workers::{Hall, Reply, Writer};
+use engine_workers::{Reply, Writer};
 use handles::Dirs;
 use ledger::Ledgers;
 use std::alloc::Global;
@@ -73,7 +73,7 @@ fn room_of<T: Ledgers>(
     replies: &ReplySender<Reply>,
     own: Passes<Job, Reply>,
     shares: Shares<T>,
-) -> Option<Room<T>>
+) -> Option<Room<T, N>>
     ensures own { IfSome result (λ r. r.own ≡ own) }
     ensures settings { IfSome result (λ r. r.starter.settings ≡ settings) }
     ensures work { IfSome result (λ r. receives_on r.starter.work ≡ receives_on work) }
@@ -102,6 +102,7 @@ fn room_of<T: Ledgers>(
 fn serve_staffed<
     H: Threads + Wait + Send + Sync + Drop + 'static,
     T: Ledgers + Send + Sync + 'static,
+    N: Opening + Send + Sync + 'static,
     I: LinkIn + Send + Drop + 'static,
     O: LinkOut + Send + Drop + 'static,
     C: Calls + Send + Drop + 'static,
@@ -110,10 +111,10 @@ fn serve_staffed<
     alloc: Global,
     jobs: &JobSender<Job>,
     replies: &ReplySender<Reply>,
-    parts: Parts<H, T, I, O>,
-    staff: Vec<Staff<T, C>>,
-    room: Room<T>,
-) -> Option<Over<T, C>>
+    parts: Parts<H, T, N, I, O>,
+    staff: Vec<Staff<T, N, C>>,
+    room: Room<T, N>,
+) -> Option<Over<T, N, C>>
     requires some { 0 < vec_len staff }
     requires few { vec_len staff ≤ 4 }
     requires reads { sends_on parts.reader.to ≡ sends_on jobs.now }
@@ -141,31 +142,31 @@ fn serve_staffed<
     ensures worked { IfSome result (λ o. WorkedEach (does_shared C.gives) room.starter.settings (map (λ s. s.calls) staff.items) o.passed.passes.value.items) }
     ensures farewell { IfSome result (λ o. BidsFarewell (does_shared C.gives) room.starter.settings (map (λ s. s.calls) staff.items) o.passed.farewell.value o.passed.passes.value.items) }
 {
-    let ended = room_for::<WorkerEnd<T, C>>(alloc, 4)?;
-    let handles = room_for::<Working<T, C>>(alloc, 4)?;
-    run::<H, T, I, O, C, Brand>(rt, alloc, jobs, replies, parts, staff, handles, ended, room)
+    let ended = room_for::<WorkerEnd<T, N, C>>(alloc, 4)?;
+    let handles = room_for::<Working<T, N, C>>(alloc, 4)?;
+    run::<H, T, N, I, O, C, Brand>(rt, alloc, jobs, replies, parts, staff, handles, ended, room)
 }
 
 /// What a session has before its queues.
 #[derive(Drop)]
-pub struct Ground<H: Drop, T: Ledgers, I: LinkIn + Drop, O: LinkOut + Drop> {
+pub struct Ground<H: Drop, T: Ledgers, N: Opening, I: LinkIn + Drop, O: LinkOut + Drop> {
     pub rt: H,
-    pub hall: Hall<T>,
+    pub hall: Hall<T, N>,
     pub dirs: Dirs,
     pub link_in: I,
     pub link_out: O,
 }
 
 /// What the threads will share. None is want of memory, or a share that is missing.
-fn parts_of<H: Drop, T: Ledgers, I: LinkIn + Drop, O: LinkOut + Drop>(
+fn parts_of<H: Drop, T: Ledgers, N: Opening, I: LinkIn + Drop, O: LinkOut + Drop>(
     alloc: Global,
-    ground: Ground<H, T, I, O>,
+    ground: Ground<H, T, N, I, O>,
     jobs: &JobSender<Job>,
     read: JobPass<Job>,
     writes: ReplyReceiver<Reply>,
     written: ReplyPass<Reply>,
     shares: &mut Shares<T>,
-) -> Option<Parts<H, T, I, O>>
+) -> Option<Parts<H, T, N, I, O>>
     requires seat { IsSeatAt (sends_on jobs.now) read }
     requires parts { 0 < (view read).parts }
     requires takes_none { length (view read).taken ≡ 0 }
@@ -200,13 +201,14 @@ fn parts_of<H: Drop, T: Ledgers, I: LinkIn + Drop, O: LinkOut + Drop>(
 fn serve_hired<
     H: Threads + Wait + Send + Sync + Drop + 'static,
     T: Ledgers + Send + Sync + 'static,
+    N: Opening + Send + Sync + 'static,
     I: LinkIn + Send + Drop + 'static,
     O: LinkOut + Send + Drop + 'static,
     C: Calls + Send + Drop + 'static,
 >(
     rt: &H,
     alloc: Global,
-    ground: Ground<H, T, I, O>,
+    ground: Ground<H, T, N, I, O>,
     jobs: &JobSender<Job>,
     work: JobReceiver<Job>,
     read: JobPass<Job>,
@@ -216,7 +218,7 @@ fn serve_hired<
     trees: Vec<C>,
     shares: Shares<T>,
     settings: Settings,
-) -> Option<Over<T, C>>
+) -> Option<Over<T, N, C>>
     requires some { 0 < vec_len trees }
     requires few { vec_len trees ≤ 4 }
     requires shares { All (λ p. p.totals ≡ nothing) shares.shares.items }
@@ -276,17 +278,18 @@ fn reply_queue(
 pub fn serve_queued<
     H: Threads + Wait + Send + Sync + Drop + 'static,
     T: Ledgers + Send + Sync + 'static,
+    N: Opening + Send + Sync + 'static,
     I: LinkIn + Send + Drop + 'static,
     O: LinkOut + Send + Drop + 'static,
     C: Calls + Send + Drop + 'static,
 >(
     rt: &H,
     alloc: Global,
-    ground: Ground<H, T, I, O>,
+    ground: Ground<H, T, N, I, O>,
     trees: Vec<C>,
     shares: Shares<T>,
     settings: Settings,
-) -> Option<Over<T, C>>
+) -> Option<Over<T, N, C>>
     requires some { 0 < vec_len trees }
     requires few { vec_len trees ≤ 4 }
     requires shares { All (λ p. p.totals ≡ nothing) shares.shares.items }

@@ -23,7 +23,7 @@ use engine_queues::jobs::JobSender;
 use engine_queues::letters::ReplySender;
 use engine_reader::Reader;
 use engine_roles::{Kept, ReaderRole, Sink, Sleepers, Source, WriterRole};
-use engine_workers::{Hall, Reply, Writer};
+use engine_workers::{Reply, Writer};
 use handles::Dirs;
 use ledger::Ledgers;
 use std::alloc::Global;
@@ -32,9 +32,9 @@ use std::thread::Threads;
 
 /// What the threads of a session will share.
 #[derive(Drop)]
-pub struct Parts<H: Drop, T: Ledgers, I: LinkIn + Drop, O: LinkOut + Drop> {
+pub struct Parts<H: Drop, T: Ledgers, N: Opening, I: LinkIn + Drop, O: LinkOut + Drop> {
     pub rt: H,
-    pub hall: Hall<T>,
+    pub hall: Hall<T, N>,
     pub dirs: Dirs,
     pub reader: Reader,
     pub link_in: I,
@@ -44,10 +44,10 @@ pub struct Parts<H: Drop, T: Ledgers, I: LinkIn + Drop, O: LinkOut + Drop> {
 }
 
 /// Both roles at their beginning. None is want of memory.
-fn share<H: Drop, T: Ledgers, I: LinkIn + Drop, O: LinkOut + Drop, S: Source<I> + Sink<O>>(
+fn share<H: Drop, T: Ledgers, N: Opening, I: LinkIn + Drop, O: LinkOut + Drop, S: Source<I> + Sink<O>>(
     alloc: Global,
-    parts: Parts<H, T, I, O>,
-) -> Option<Shared<H, T, I, O, S>>
+    parts: Parts<H, T, N, I, O>,
+) -> Option<Shared<H, T, N, I, O, S>>
     requires jobs { S.jobs ≡ Some (sends_on parts.reader.to) }
     requires parts { (view parts.reader.pass).parts + S.parted ≡ 8 }
     requires from { S.heard_from ≡ Some parts.link_in }
@@ -83,19 +83,20 @@ fn share<H: Drop, T: Ledgers, I: LinkIn + Drop, O: LinkOut + Drop, S: Source<I> 
 fn start_staff<
     H: Threads + Wait + Send + Sync + Drop + 'static,
     T: Ledgers + Send + Sync + 'static,
+    N: Opening + Send + Sync + 'static,
     I: LinkIn + Send + Drop + 'static,
     O: LinkOut + Send + Drop + 'static,
     C: Calls + Send + Drop + 'static,
     S: Source<I> + Sink<O> + Send + Sync + 'static,
 >(
     rt: &H,
-    common: &Shared<H, T, I, O, S>,
+    common: &Shared<H, T, N, I, O, S>,
     jobs: &JobSender<Job>,
     replies: &ReplySender<Reply>,
     settings: Settings,
-    staff: Vec<Staff<T, C>>,
-    handles: Vec<Working<T, C>>,
-) -> Vec<Working<T, C>>
+    staff: Vec<Staff<T, N, C>>,
+    handles: Vec<Working<T, N, C>>,
+) -> Vec<Working<T, N, C>>
     requires staffed { All (λ s. IsStaffed (sends_on jobs.now) (sends_on replies.now) settings s.worker s.kept.share) staff.items }
     requires room { vec_len staff ≤ vec_capacity handles }
     requires empty { handles.items ≡ [] }
@@ -119,6 +120,7 @@ fn start_staff<
 pub fn run<
     H: Threads + Wait + Send + Sync + Drop + 'static,
     T: Ledgers + Send + Sync + 'static,
+    N: Opening + Send + Sync + 'static,
     I: LinkIn + Send + Drop + 'static,
     O: LinkOut + Send + Drop + 'static,
     C: Calls + Send + Drop + 'static,
@@ -128,12 +130,12 @@ pub fn run<
     alloc: Global,
     jobs: &JobSender<Job>,
     replies: &ReplySender<Reply>,
-    parts: Parts<H, T, I, O>,
-    staff: Vec<Staff<T, C>>,
-    handles: Vec<Working<T, C>>,
-    ended: Vec<WorkerEnd<T, C>>,
-    room: Room<T>,
-) -> Option<Over<T, C>>
+    parts: Parts<H, T, N, I, O>,
+    staff: Vec<Staff<T, N, C>>,
+    handles: Vec<Working<T, N, C>>,
+    ended: Vec<WorkerEnd<T, N, C>>,
+    room: Room<T, N>,
+) -> Option<Over<T, N, C>>
     requires some { 0 < vec_len staff }
     requires few { vec_len staff ≤ 4 }
     requires jobs { S.jobs ≡ Some (sends_on jobs.now) }
@@ -174,7 +176,7 @@ pub fn run<
     ensures farewell { IfSome result (λ o. BidsFarewell (does_shared C.gives) room.starter.settings (map (λ s. s.calls) staff.items) o.passed.farewell.value o.passed.passes.value.items) }
 {
     let count = staff.len();
-    let common: Shared<H, T, I, O, S> = share(alloc, parts)?;
+    let common: Shared<H, T, N, I, O, S> = share(alloc, parts)?;
     let settings = room.starter.settings;
     let handles = start_staff(rt, &common, jobs, replies, settings, staff, handles);
     let are_all = handles.len() == count;

@@ -31,7 +31,7 @@ pub struct WorkerKeeps<C> {
     pub calls: Snapshot<C>,
 }
 
-impl<T: Ledgers, C: Calls + Drop> Promise<WorkerEnd<T, C>> for WorkerKeeps<C> {
+impl<T: Ledgers, N: Opening, C: Calls + Drop> Promise<WorkerEnd<T, N, C>> for WorkerKeeps<C> {
     ghost use Rattle.std.specs.Prelude.{◌≡◌};
     ghost use Rattle.crossbeam_channel.specs.Ends.{sends_on};
     ghost use Rattle.engine_threads.specs.Worked.{does_shared, IsOver};
@@ -39,24 +39,25 @@ impl<T: Ledgers, C: Calls + Drop> Promise<WorkerEnd<T, C>> for WorkerKeeps<C> {
     ghost kept_by = { λ p r. (r.passes.number ≡ p.number) × (r.given.value ≡ p.calls.value) × IsOver (sends_on p.jobs.value) (sends_on p.replies.value) (does_shared C.gives) p.settings p.calls.value r.passes r.calls r.kept.share };
 }
 
-pub type Working<T, C> = PromisedHandle<WorkerEnd<T, C>, WorkerKeeps<C>>;
+pub type Working<T, N, C> = PromisedHandle<WorkerEnd<T, N, C>, WorkerKeeps<C>>;
 
 /// Starts a worker. None where no thread can be made.
 fn start_one<
     H: Threads + Wait + Send + Sync + Drop + 'static,
     T: Ledgers + Send + Sync + 'static,
+    N: Opening + Send + Sync + 'static,
     I: LinkIn + Send + Drop + 'static,
     O: LinkOut + Send + Drop + 'static,
     C: Calls + Send + Drop + 'static,
     S: Source<I> + Sink<O> + Send + Sync + 'static,
 >(
     rt: &H,
-    common: &Shared<H, T, I, O, S>,
+    common: &Shared<H, T, N, I, O, S>,
     jobs: &JobSender<Job>,
     replies: &ReplySender<Reply>,
     settings: Settings,
-    one: Staff<T, C>,
-) -> Option<Working<T, C>>
+    one: Staff<T, N, C>,
+) -> Option<Working<T, N, C>>
     requires staffed { IsStaffed (sends_on jobs.now) (sends_on replies.now) settings one.worker one.kept.share }
     ensures rings { IfSome result (λ h. (sends_on h.promise.jobs.value ≡ sends_on jobs.now) × (sends_on h.promise.replies.value ≡ sends_on replies.now) × (h.promise.settings ≡ settings)) }
     ensures same { IfSome result (λ h. (h.promise.number ≡ one.worker.number) × (h.promise.calls.value ≡ one.calls)) }
@@ -79,19 +80,20 @@ fn start_one<
 pub fn start_all<
     H: Threads + Wait + Send + Sync + Drop + 'static,
     T: Ledgers + Send + Sync + 'static,
+    N: Opening + Send + Sync + 'static,
     I: LinkIn + Send + Drop + 'static,
     O: LinkOut + Send + Drop + 'static,
     C: Calls + Send + Drop + 'static,
     S: Source<I> + Sink<O> + Send + Sync + 'static,
 >(
     rt: &H,
-    common: &Shared<H, T, I, O, S>,
+    common: &Shared<H, T, N, I, O, S>,
     jobs: &JobSender<Job>,
     replies: &ReplySender<Reply>,
     settings: Settings,
-    staff: Vec<Staff<T, C>>,
-    handles: Vec<Working<T, C>>,
-) -> Vec<Working<T, C>>
+    staff: Vec<Staff<T, N, C>>,
+    handles: Vec<Working<T, N, C>>,
+) -> Vec<Working<T, N, C>>
     requires staffed { All (λ s. IsStaffed (sends_on jobs.now) (sends_on replies.now) settings s.worker s.kept.share) staff.items }
     requires room { vec_len staff ≤ vec_capacity handles }
     requires empty { handles.items ≡ [] }
@@ -111,14 +113,14 @@ pub fn start_all<
 }
 
 /// Waits for the workers to end.
-pub fn join_all<H: Threads, T: Ledgers, C: Calls + Drop>(
+pub fn join_all<H: Threads, T: Ledgers, N: Opening, C: Calls + Drop>(
     rt: &H,
     jobs: &JobSender<Job>,
     replies: &ReplySender<Reply>,
     settings: Settings,
-    handles: Vec<Working<T, C>>,
-    ended: Vec<WorkerEnd<T, C>>,
-) -> Vec<WorkerEnd<T, C>>
+    handles: Vec<Working<T, N, C>>,
+    ended: Vec<WorkerEnd<T, N, C>>,
+) -> Vec<WorkerEnd<T, N, C>>
     requires rings { All (λ h. (sends_on h.promise.jobs.value ≡ sends_on jobs.now) × (sends_on h.promise.replies.value ≡ sends_on replies.now) × (h.promise.settings ≡ settings)) handles.items }
     requires room { vec_len handles ≤ vec_capacity ended }
     requires empty { ended.items ≡ [] }

@@ -12,7 +12,7 @@ use crate::places::Common;
 use backing::Calls;
 use engine::{LinkIn, LinkOut, Served};
 use engine_roles::{Kept, Sink, Source, WriterRole};
-use engine_workers::{BATCH, Hall, Turn, Worker};
+use engine_workers::{BATCH, Turn, Worker};
 use handles::Dirs;
 use ledger::Ledgers;
 use std::sync::atomic::Ordering;
@@ -27,10 +27,11 @@ fn writer_of<
     'a,
     H: Wait + Drop,
     T: Ledgers,
+    N: Opening,
     I: LinkIn + Drop,
     O: LinkOut + Drop,
     S: Source<I> + Sink<O>,
->(common: &'a Common<H, T, I, O, S>, has_to: bool) -> Option<MutexGuard<'a, WriterRole<T, O, S>>> {
+>(common: &'a Common<H, T, N, I, O, S>, has_to: bool) -> Option<MutexGuard<'a, WriterRole<T, N, O, S>>> {
     if has_to {
         Some(common.writer.lock(&common.rt))
     } else {
@@ -39,11 +40,11 @@ fn writer_of<
 }
 
 /// Offers what is queued, until nothing is left. Whether there was any.
-fn offer_queued<H: Wait, T: Ledgers, O: LinkOut + Drop, S: Sink<O>>(
+fn offer_queued<H: Wait, T: Ledgers, N: Opening, O: LinkOut + Drop, S: Sink<O>>(
     rt: &H,
-    hall: &Hall<T>,
+    hall: &Hall<T, N>,
     dirs: &Dirs,
-    writer: &mut WriterRole<T, O, S>,
+    writer: &mut WriterRole<T, N, O, S>,
 ) -> bool {
     let mut dirs = dirs;
     let mut is_any = false;
@@ -59,8 +60,8 @@ fn offer_queued<H: Wait, T: Ledgers, O: LinkOut + Drop, S: Sink<O>>(
 
 /// Offers the replies that are ready, unless another thread does; a thread that left as many as it may waits for that one. Whether it took
 /// any. Once it had the writer, none that it left before waits.
-fn offer<H: Wait + Drop, T: Ledgers, I: LinkIn + Drop, O: LinkOut + Drop, S: Source<I> + Sink<O>>(
-    common: &Common<H, T, I, O, S>,
+fn offer<H: Wait + Drop, T: Ledgers, N: Opening, I: LinkIn + Drop, O: LinkOut + Drop, S: Source<I> + Sink<O>>(
+    common: &Common<H, T, N, I, O, S>,
     left: &mut usize,
 ) -> bool {
     let signs = &common.signs;
@@ -86,10 +87,11 @@ fn offer<H: Wait + Drop, T: Ledgers, I: LinkIn + Drop, O: LinkOut + Drop, S: Sou
 pub fn read<
     H: Wait + Drop,
     T: Ledgers,
+    N: Opening,
     I: LinkIn + Drop,
     O: LinkOut + Drop,
     S: Source<I> + Sink<O>,
->(common: &Common<H, T, I, O, S>, number: usize) -> bool {
+>(common: &Common<H, T, N, I, O, S>, number: usize) -> bool {
     if common.signs.is_over() {
         return false;
     }
@@ -114,8 +116,8 @@ pub fn read<
 /// Wakes those who may have something to do after a receive: all, where the session has ended; one for each job, where jobs take long; and
 /// else one where something came and nobody would look by itself. Jobs that are short are worked off by the one who read them, without a
 /// wake-up, and for the first that takes long who watches comes within a millisecond.
-fn tell_read<H: Drop, T: Ledgers, I: LinkIn + Drop, O: LinkOut + Drop, S: Source<I> + Sink<O>>(
-    common: &Common<H, T, I, O, S>,
+fn tell_read<H: Drop, T: Ledgers, N: Opening, I: LinkIn + Drop, O: LinkOut + Drop, S: Source<I> + Sink<O>>(
+    common: &Common<H, T, N, I, O, S>,
     queued: u64,
     has_ended: bool,
 ) {
@@ -137,12 +139,13 @@ fn tell_read<H: Drop, T: Ledgers, I: LinkIn + Drop, O: LinkOut + Drop, S: Source
 pub fn take_turns<
     H: Wait + Drop,
     T: Ledgers,
+    N: Opening,
     I: LinkIn + Drop,
     O: LinkOut + Drop,
     C: Calls + Drop,
     S: Source<I> + Sink<O>,
 >(
-    common: &Common<H, T, I, O, S>,
+    common: &Common<H, T, N, I, O, S>,
     worker: &mut Worker,
     kept: &mut Kept<T>,
     served: &mut Served<C, &Dirs>,

@@ -19,7 +19,7 @@ use std::sync::atomic::Ordering;
 
 /// A worker with its share and its directory.
 #[derive(Drop)]
-pub struct Staff<T: Ledgers, C: Calls + Drop> {
+pub struct Staff<T: Ledgers, N: Opening, C: Calls + Drop> {
     pub worker: Worker,
     pub kept: Kept<T>,
     pub calls: C,
@@ -27,7 +27,7 @@ pub struct Staff<T: Ledgers, C: Calls + Drop> {
 
 /// What a worker leaves.
 #[derive(Drop)]
-pub struct WorkerEnd<T: Ledgers, C: Calls + Drop> {
+pub struct WorkerEnd<T: Ledgers, N: Opening, C: Calls + Drop> {
     /// The directory that it was given.
     pub given: Snapshot<C>,
     pub passes: Passes<Job, Reply>,
@@ -58,9 +58,9 @@ impl Rest {
     }
 
     /// It looks again. Where it comes out of its sleep and there are jobs, another is to watch before it takes one, for that may take long.
-    fn look<H: Drop, T: Ledgers, I: LinkIn + Drop, O: LinkOut + Drop, S: Source<I> + Sink<O>>(
+    fn look<H: Drop, T: Ledgers, N: Opening, I: LinkIn + Drop, O: LinkOut + Drop, S: Source<I> + Sink<O>>(
         &mut self,
-        common: &Common<H, T, I, O, S>,
+        common: &Common<H, T, N, I, O, S>,
     ) {
         if self.has_slept && common.signs.is_busy() {
             common.sleepers.call_watch();
@@ -69,9 +69,9 @@ impl Rest {
     }
 
     /// It found something to do.
-    fn rise<H: Drop, T: Ledgers, I: LinkIn + Drop, O: LinkOut + Drop, S: Source<I> + Sink<O>>(
+    fn rise<H: Drop, T: Ledgers, N: Opening, I: LinkIn + Drop, O: LinkOut + Drop, S: Source<I> + Sink<O>>(
         &mut self,
-        common: &Common<H, T, I, O, S>,
+        common: &Common<H, T, N, I, O, S>,
     ) {
         if self.is_lying {
             common.sleepers.get_up(self.number);
@@ -84,10 +84,11 @@ impl Rest {
     fn sink<
         H: Wait + Drop,
         T: Ledgers,
+        N: Opening,
         I: LinkIn + Drop,
         O: LinkOut + Drop,
         S: Source<I> + Sink<O>,
-    >(&mut self, common: &Common<H, T, I, O, S>) {
+    >(&mut self, common: &Common<H, T, N, I, O, S>) {
         if !self.is_lying {
             common.sleepers.lie_down(self.number);
             self.is_lying = true;
@@ -109,11 +110,12 @@ impl Rest {
 pub fn work_all<
     H: Wait + Drop,
     T: Ledgers,
+    N: Opening,
     I: LinkIn + Drop,
     O: LinkOut + Drop,
     C: Calls + Drop,
     S: Source<I> + Sink<O>,
->(common: Shared<H, T, I, O, S>, staff: Staff<T, C>) -> WorkerEnd<T, C>
+>(common: Shared<H, T, N, I, O, S>, staff: Staff<T, N, C>) -> WorkerEnd<T, N, C>
     requires staffed { IsStaffed (receives_on staff.worker.jobs) (sends_on staff.worker.replies) staff.worker.session.settings staff.worker staff.kept.share }
     ensures number { result.passes.number ≡ staff.worker.number }
     ensures given { result.given.value ≡ staff.calls }

@@ -15,6 +15,7 @@ pub gains_on : (old mid new : Known) (before between after : Part) → visits.ga
 gains_on old mid new before between after first next = record {
   entries = let a = first.entries in let b = next.entries in omega arith;
   index = next.index ∙ first.index;
+  by_is = next.by_is ∙ first.by_is;
 }
 
 pub waits : (old new : Known) (kept : Bool) (unique : ℕ) (want : Want) → visits.is_idle old → visits.begins old kept unique want Busy new → new ≡ old

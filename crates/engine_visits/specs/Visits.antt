@@ -88,9 +88,11 @@ abbrev pub settling : Known → Answer → (put : Option ℕ) → (taken : Bool)
 settling old answer put true = record { visited = Leaves (record { answered = answer; put = put }); on_table = old.on_table }
 settling old answer put false = record { visited = Settled (settlement_of answer false); on_table = then_made old.on_table (settled answer false (settlement_of answer false)) }
 
-pub record GainsListed (old : Visited) (before : Part) (new : Visited) (after : Part) : Type 0 where
-  pub entries : after.totals.entries + listed old ≡ before.totals.entries + listed new
+-- a share gains the entries listed; it stays that of the same thread
+pub record GainsListed (old : Known) (before : Part) (new : Known) (after : Part) : Type 0 where
+  pub entries : after.totals.entries + listed old.visited ≡ before.totals.entries + listed new.visited
   pub index : after.index ≡ before.index
+  pub by_is : new.on_table.by ≡ old.on_table.by
 
 -- an error that is told has 32 bits
 abbrev pub HasBits : Begin → Type 0
@@ -109,7 +111,7 @@ visits = record {
   knows = λ answer. Unit {0};
   is_free = λ old. old.visited ≡ Fresh;
   holds = λ old answer. old.visited ≡ Given answer;
-  gains = λ old before new after. GainsListed old.visited before new.visited after;
+  gains = GainsListed;
   leftovers = λ old paths. ⊥;
   is_idle = λ old. Unit {0};
 }

@@ -48,7 +48,7 @@ met_on does settings job old served mid after handled met m e i = record {
   handled = m.handled;
   draws = m.draws;
   writes = m.writes;
-  gains = record { entries = (let g = m.gains.entries in omega arith); index = i ∙ m.gains.index };
+  gains = record { entries = (let g = m.gains.entries in omega arith); index = i ∙ m.gains.index; by_is = m.gains.by_is };
 }
 
 abbrev pub left_by : Option (Letter Reply) → Option Left

@@ -54,7 +54,7 @@ pub record MeetsJob {C D : Type 0} (does : Behaviour C D) (settings : Settings) 
   pub handled : IsJobHandled settings job turn old.on_table met.visited new.on_table
   pub draws : Draws does old.served turn.made turn.folders new.served
   pub writes : Writes turn.offer met.said
-  pub gains : GainsListed Fresh old.share met.visited new.share
+  pub gains : GainsListed (record { visited = Fresh; on_table = old.on_table }) old.share (record { visited = met.visited; on_table = new.on_table }) new.share
 
 -- the handle of the listing that was put for an answer
 abbrev pub put_in : Option Left → Option ℕ
