@@ -1,5 +1,5 @@
 -- What the workers of a session did, and the starter after them.
-use Rattle.std.specs.Prelude.{◌≡◌, List, [], ◌∷◌, ◌++◌, Option, Some, None}
+use Rattle.std.specs.Prelude.{◌≡◌, ℕ, List, [], ◌∷◌, ◌++◌, Option, Some, None}
 use Rattle.std.specs.Borrow.{Bor}
 use Rattle.crossbeam_channel.specs.Claims.{view, IsSeatAt}
 use Rattle.crossbeam_channel.specs.Ends.{sends_on, receives_on}
@@ -16,7 +16,11 @@ use Rattle.engine_queues.specs.Jobs.{hand}
 use Rattle.engine_queues.specs.Letters.{sender}
 use Rattle.engine_queues.specs.declared.passes.Passes.{Passes}
 use Rattle.engine_roles.specs.Queues.{JobQueue, ReplyQueue}
-use Rattle.engine_workers.specs.Turns.{AnswersJob, Means, standing}
+use Rattle.engine.specs.declared.served.Served.{Served}
+use Rattle.table_recorded.specs.Histories.{calls_by, history_of}
+use Rattle.table_recorded.specs.Runs.{Call, Log}
+use Rattle.engine_visits.specs.Visits.{OnTable, idle}
+use Rattle.engine_workers.specs.Turns.{AnswersJob, means, standing}
 use Rattle.engine_workers.specs.Works.{HasWorked, newcomer}
 use Rattle.engine_workers.specs.declared.replies.Reply.{Reply}
 use Rattle.engine_workers.specs.declared.working.Worker.{Worker}
@@ -38,42 +42,52 @@ pub record IsHired (jobs : JobQueue) (replies : ReplyQueue) (settings : Settings
   pub takes_none : view worker.job_pass ≡ hand 1 [] []
   pub puts_none : view worker.reply_pass ≡ sender worker.number []
 
--- the same with a share on which nothing stands
-pub record IsStaffed (jobs : JobQueue) (replies : ReplyQueue) (settings : Settings) (worker : Worker) (share : Part) : Type 0 where
+-- the same with a share on which nothing stands, and no call on the table
+pub record IsStaffed (jobs : JobQueue) (replies : ReplyQueue) (settings : Settings) (worker : Worker) (share : Part) (on_table : OnTable) : Type 0 where
   pub hired : IsHired jobs replies settings worker
   pub share_is : share.totals ≡ nothing
+  pub idle_is : on_table ≡ idle worker.number
 
--- the worker of these passes began with this directory, and left that one and this share
-pub record HasWorkedFrom {C D : Type 0} (does : Behaviour C D) (settings : Settings) (given : C) (passes : Passes Job Reply) (left : C) (share : Part) : Type 0 where
+-- the worker of these passes began with this directory, did this on the table, and left that directory and this share
+pub record HasWorkedFrom {C D : Type 0} (does : Behaviour C D) (settings : Settings) (given : C) (passes : Passes Job Reply) (left : C) (share : Part) (on_table : OnTable) : Type 0 where
   pub dirs : D
-  pub worked : HasWorked does settings passes.number given (standing (view passes.job_pass) (view passes.reply_pass) (record { calls = left; dirs = dirs }) share)
+  pub worked : HasWorked does settings passes.number given (standing (view passes.job_pass) (view passes.reply_pass) (means (record { calls = left; dirs = dirs }) share on_table))
 
 -- the same, at these queues
-pub record IsOver {C D : Type 0} (jobs : JobQueue) (replies : ReplyQueue) (does : Behaviour C D) (settings : Settings) (given : C) (passes : Passes Job Reply) (left : C) (share : Part) : Type 0 where
+pub record IsOver {C D : Type 0} (jobs : JobQueue) (replies : ReplyQueue) (does : Behaviour C D) (settings : Settings) (given : C) (passes : Passes Job Reply) (left : C) (share : Part) (on_table : OnTable) : Type 0 where
   pub job_seat : IsSeatAt jobs passes.job_pass
   pub reply_seat : IsSeatAt replies passes.reply_pass
-  pub worked : HasWorkedFrom does settings given passes left share
+  pub worked : HasWorkedFrom does settings given passes left share on_table
 
--- each directory's worker worked so, whatever it left; the starter comes last
-abbrev pub WorkedEach : {C D : Type 0} → Behaviour C D → Settings → (given : List C) → List (Passes Job Reply) → Type 0
-WorkedEach does settings [] passes = (own : Passes Job Reply) × (passes ≡ own ∷ [])
-WorkedEach does settings (calls ∷ given) [] = ⊥
-WorkedEach {C = C} does settings (calls ∷ given) (one ∷ passes) = ((left : C) × (share : Part) × HasWorkedFrom does settings calls one left share) × WorkedEach does settings given passes
+-- what the thread of an index did on the table, where this says of each which calls it made
+abbrev pub made_by : (calls_by : ℕ → List Call) → ℕ → OnTable
+made_by calls_by index = record { by = index; calls = calls_by index }
 
--- a job that was not queued is answered by who has these passes, with this directory and this share
-pub record AnswersLast {C D : Type 0} (does : Behaviour C D) (settings : Settings) (job : Job) (calls : C) (share : Part) (passes : Passes Job Reply) : Type 0 where
+-- which calls each thread made, by a log of all
+abbrev pub did : {L : Type 0} → Log L → ℕ → List Call
+did log index = calls_by index (history_of log)
+
+-- each directory's worker worked so, by these calls on the table, whatever it left; the starter comes last
+abbrev pub WorkedEach : {C D : Type 0} → Behaviour C D → Settings → (calls_by : ℕ → List Call) → (given : List C) → List (Passes Job Reply) → Type 0
+WorkedEach does settings calls_by [] passes = (own : Passes Job Reply) × (passes ≡ own ∷ [])
+WorkedEach does settings calls_by (calls ∷ given) [] = ⊥
+WorkedEach {C = C} does settings calls_by (calls ∷ given) (one ∷ passes) = ((left : C) × (share : Part) × HasWorkedFrom does settings calls one left share (made_by calls_by one.number)) × WorkedEach does settings calls_by given passes
+
+-- a job that was not queued is answered by who has these passes, with this directory and this share, and by these calls on the table
+pub record AnswersLast {C D : Type 0} (does : Behaviour C D) (settings : Settings) (job : Job) (calls : C) (share : Part) (passes : Passes Job Reply) (on_table : OnTable) : Type 0 where
   pub dirs : D
   pub settled : Option Settlement
-  pub means : Means C D
-  pub answers : AnswersJob does settings passes.number job (newcomer passes.number calls dirs share) settled (record { hand = view passes.job_pass; lane = view passes.reply_pass; means = means })
+  pub served : Served C D
+  pub gained : Part
+  pub answers : AnswersJob does settings passes.number job (newcomer passes.number calls dirs share) settled (standing (view passes.job_pass) (view passes.reply_pass) (means served gained on_table))
 
--- the frame that ended the session is answered, if one did; else nothing is put
-abbrev pub AnswersFarewell : {C D : Type 0} → Behaviour C D → Settings → (farewell : Option Job) → C → Part → Passes Job Reply → Type 0
-AnswersFarewell does settings None calls share passes = AreUnused passes
-AnswersFarewell does settings (Some job) calls share passes = AnswersLast does settings job calls share passes
+-- the frame that ended the session is answered, if one did; else nothing is put, and nothing done
+abbrev pub AnswersFarewell : {C D : Type 0} → Behaviour C D → Settings → (farewell : Option Job) → C → Part → Passes Job Reply → OnTable → Type 0
+AnswersFarewell does settings None calls share passes on_table = AreUnused passes × (on_table ≡ idle passes.number)
+AnswersFarewell does settings (Some job) calls share passes on_table = AnswersLast does settings job calls share passes on_table
 
 -- the starter, who comes last, does so with what the last worker left
-pub record BidsFarewell {C D : Type 0} (does : Behaviour C D) (settings : Settings) (given : List C) (farewell : Option Job) (passes : List (Passes Job Reply)) : Type 0 where
+pub record BidsFarewell {C D : Type 0} (does : Behaviour C D) (settings : Settings) (calls_by : ℕ → List Call) (given : List C) (farewell : Option Job) (passes : List (Passes Job Reply)) : Type 0 where
   pub others : List C
   pub calls : C
   pub given_are : given ≡ others ++ calls ∷ []
@@ -83,5 +97,5 @@ pub record BidsFarewell {C D : Type 0} (does : Behaviour C D) (settings : Settin
   pub passes_are : passes ≡ workers ++ worker ∷ own ∷ []
   pub left : C
   pub share : Part
-  pub worked : HasWorkedFrom does settings calls worker left share
-  pub ends : AnswersFarewell does settings farewell left share own
+  pub worked : HasWorkedFrom does settings calls worker left share (made_by calls_by worker.number)
+  pub ends : AnswersFarewell does settings farewell left share own (made_by calls_by own.number)

@@ -1,6 +1,8 @@
 //! What a session on threads leaves.
 
-ghost use Rattle.std.specs.Prelude.{◌≡◌, ◌<◌, ◌+◌, [], length, map, None, Some, vec_len};
+ghost use Rattle.std.specs.Prelude.{◌≡◌, ◌<◌, ◌+◌, [], length, map, None, Some, IfSome, vec_len};
+ghost use Rattle.ledger.specs.Sums.{totals_over};
+ghost use Rattle.table_steps.specs.Kept.{world_of};
 ghost use Rattle.engine_queues.specs.Gathered.{takings_of};
 ghost use Rattle.engine_threads.specs.Ended.{AreCounts, IsGathered};
 
@@ -23,7 +25,9 @@ pub struct Sums {
 
 impl Sums {
     /// Adds up the shares. None where one is missing.
-    pub(crate) fn gather<T: Ledgers>(table: Table<T>, shares: Vec<Share<T>>) -> Option<Sums> {
+    pub(crate) fn gather<T: Ledgers>(table: Table<T>, shares: Vec<Share<T>>) -> Option<Sums>
+        ensures { IfSome result (λ sums. sums.totals ≡ totals_over (world_of table).postings) }
+    {
         table.attest(); // proof: its law
         match table.gather(shares) {
             Ok(totals) => Some(Sums { totals }),

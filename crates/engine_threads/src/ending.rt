@@ -6,16 +6,18 @@ ghost use Rattle.std.specs.Option.{option_map};
 ghost use Rattle.crossbeam_channel.specs.Claims.{view, IsSeatAt};
 ghost use Rattle.crossbeam_channel.specs.Ends.{sends_on, receives_on};
 ghost use Rattle.engine_queues.specs.Gathered.{numbers_of, takings_of};
+ghost use Rattle.engine_visits.specs.Visits.{idle, on_table_of};
 ghost use Rattle.engine_reader.specs.Shown.{queued_of, shown};
 ghost use Rattle.engine_roles.specs.Reads.{HasReadAll};
 ghost use Rattle.engine_roles.specs.Writes.{HasWrittenAll};
 ghost use Rattle.engine_threads.specs.Ended.{IsShared};
-ghost use Rattle.engine_threads.specs.Worked.{does_shared, AreUnused, BidsFarewell, IsOver, WorkedEach};
+ghost use Rattle.engine_threads.specs.Worked.{did, does_shared, made_by, AreUnused, BidsFarewell, IsOver, WorkedEach};
 
 use crate::ended::Passed;
-use crate::farewell::Starter;
-use crate::leaving::{Left, take_leave};
+use crate::farewell::{Bid, Starter};
+use crate::leaving::{part_with, take_leave};
 use crate::places::Common;
+use crate::turns::offer_queued;
 use crate::working::WorkerEnd;
 use backing::Calls;
 use engine::{LinkIn, LinkOut};
@@ -25,47 +27,33 @@ use engine_queues::jobs::JobSender;
 use engine_queues::letters::ReplySender;
 use engine_queues::passes::Passes;
 use engine_reader::ReaderEnd;
-use engine_roles::{Shares, Sink, Source, WriterEnd, WriterRole};
+use engine_roles::{Shares, Sink, Source, WriterEnd};
 use engine_workers::Reply;
-use handles::Dirs;
 use ledger::Ledgers;
 use std::snapshot::Snapshot;
 use std::sync::Wait;
-use table::Table;
+use table_halls::Closed;
+use table_recorded::Opening;
 
 /// What the threads of a session have left.
 #[derive(Drop)]
 pub struct Over<T: Ledgers, N: Opening, C: Calls + Drop> {
     pub passed: Passed,
     pub taken: Vec<u64>,
-    pub table: Table<T>,
+    /// The table and its whole history.
+    pub closed: Closed<T, N>,
     pub shares: Shares<T>,
     pub calls: C,
 }
 
-/// What the starter has of its own: passes, what it answers the last frame with, and room for what all leave.
+/// What the starter has of its own: passes and a front, what it answers the last frame with, and room for what all leave.
 #[derive(Drop)]
-pub struct Room<T: Ledgers> {
-    pub own: Passes<Job, Reply>,
+pub struct Room<T: Ledgers, N: Opening> {
+    pub own: Bid<T, N>,
     pub starter: Starter,
     pub passes: Vec<Passes<Job, Reply>>,
     pub taken: Vec<u64>,
     pub shares: Shares<T>,
-}
-
-/// Offers all that is still queued.
-fn offer_all<H: Wait, T: Ledgers, N: Opening, O: LinkOut + Drop, S: Sink<O>>(
-    rt: &H,
-    hall: &Hall<T, N>,
-    dirs: &Dirs,
-    writer: &mut WriterRole<T, N, O, S>,
-) {
-    let mut dirs = dirs;
-    for _ in rt.forever() {
-        if writer.turn(rt, hall, &mut dirs) == 0 {
-            return;
-        }
-    }
 }
 
 /// Answers the frame that ended the session, offers what is still queued, and gathers what all passes tell. The last of these is the
@@ -92,12 +80,13 @@ pub fn end_all<
     requires senders { S.senders ≡ vec_len ends + 1 }
     requires some { 0 < vec_len ends }
     requires few { vec_len ends ≤ 4 }
-    requires over { All (λ e. IsOver (sends_on jobs.now) (sends_on replies.now) (does_shared C.gives) room.starter.settings e.given.value e.passes e.calls e.kept.share) ends.items }
+    requires over { All (λ e. IsOver (sends_on jobs.now) (sends_on replies.now) (does_shared C.gives) room.starter.settings e.given.value e.passes e.calls e.kept.share (on_table_of e.front)) ends.items }
     requires numbers { map (λ e. e.passes.number) ends.items ≡ range_with_len 0 (vec_len ends) }
-    requires job_seat { IsSeatAt (sends_on jobs.now) room.own.job_pass }
-    requires reply_seat { IsSeatAt (sends_on replies.now) room.own.reply_pass }
-    requires unused { AreUnused room.own }
-    requires number { room.own.number ≡ vec_len ends }
+    requires job_seat { IsSeatAt (sends_on jobs.now) room.own.passes.job_pass }
+    requires reply_seat { IsSeatAt (sends_on replies.now) room.own.passes.reply_pass }
+    requires unused { AreUnused room.own.passes }
+    requires number { room.own.passes.number ≡ vec_len ends }
+    requires front { on_table_of room.own.front ≡ idle room.own.passes.number }
     requires work { receives_on room.starter.work ≡ sends_on jobs.now }
     requires ring { sends_on room.starter.replies ≡ sends_on replies.now }
     requires passes { 5 ≤ vec_capacity room.passes }
@@ -108,10 +97,10 @@ pub fn end_all<
     ensures counted { result.taken.items ≡ map (λ js. length js) (takings_of result.passed.passes.value.items) }
     ensures numbers { numbers_of result.passed.passes.value.items ≡ range_with_len 0 (vec_len ends + 1) }
     ensures reads { ∥ HasReadAll I.receives S.heard_from result.passed.input (queued_of (view result.passed.read.value).put) (option_map shown result.passed.farewell.value) ∥₁ }
-    ensures writes { ∥ HasWrittenAll O.sends S.sent_to S.senders (view result.passed.written.value) result.passed.is_broken ∥₁ }
+    ensures writes { ∥ HasWrittenAll O.sends S.sent_to S.senders (made_by (did result.closed.table.log) S.senders) (view result.passed.written.value) result.passed.is_broken ∥₁ }
     ensures shared { IsShared (view result.passed.read.value) result.passed.passes.value.items (view result.passed.written.value) }
-    ensures worked { WorkedEach (does_shared C.gives) room.starter.settings (map (λ e. e.given.value) ends.items) result.passed.passes.value.items }
-    ensures farewell { BidsFarewell (does_shared C.gives) room.starter.settings (map (λ e. e.given.value) ends.items) result.passed.farewell.value result.passed.passes.value.items }
+    ensures worked { WorkedEach (does_shared C.gives) room.starter.settings (did result.closed.table.log) (map (λ e. e.given.value) ends.items) result.passed.passes.value.items }
+    ensures farewell { BidsFarewell (does_shared C.gives) room.starter.settings (did result.closed.table.log) (map (λ e. e.given.value) ends.items) result.passed.farewell.value result.passed.passes.value.items }
 {
     let Room {
         own,
@@ -136,26 +125,20 @@ pub fn end_all<
     } = reader.into_inner().into_end();
     let mut writer = writer.into_inner();
     let last = Snapshot::of(&farewell);
-    let Left { passes, calls } = take_leave(
-        rt,
-        &hall,
-        &dirs,
-        jobs,
-        replies,
-        ends,
-        starter,
-        own,
-        passes,
-        &mut shares,
-        farewell,
+    let leaving = take_leave(
+        rt, &hall, &dirs, jobs, replies, ends, starter, own, farewell,
     );
-    offer_all(rt, &hall, &dirs, &mut writer);
+    offer_queued(rt, &hall, &dirs, &mut writer);
+    let mut closed = hall.close();
     let WriterEnd {
         pass: written,
         is_broken,
         kept,
+        mut front,
     } = writer.into_end();
+    closed.look(&mut front);
     shares.put(kept);
+    let (passes, calls) = part_with(&mut closed, leaving, passes, &mut shares);
     let passed = Passed {
         input: end,
         is_broken,
@@ -168,7 +151,7 @@ pub fn end_all<
     Over {
         passed,
         taken,
-        table: hall.into_table(),
+        closed,
         shares,
         calls,
     }

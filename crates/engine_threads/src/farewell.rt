@@ -4,6 +4,7 @@ ghost use Rattle.std.specs.Prelude.{◌≡◌};
 ghost use Rattle.crossbeam_channel.specs.Claims.{IsSeatAt};
 ghost use Rattle.crossbeam_channel.specs.Ends.{sends_on, receives_on};
 ghost use Rattle.engine.specs.Serving.{does};
+ghost use Rattle.engine_visits.specs.Visits.{idle, on_table_of};
 ghost use Rattle.engine_threads.specs.Worked.{AreUnused, AnswersFarewell, AnswersLast};
 
 use backing::Calls;
@@ -13,11 +14,15 @@ use engine_queues::jobs::JobReceiver;
 use engine_queues::letters::ReplySender;
 use engine_queues::passes::Passes;
 use engine_roles::Kept;
+use engine_visits::Visitor;
 use engine_workers::{Reply, Worker};
 use handles::Folders;
 use ledger::Ledgers;
 use std::alloc::Global;
 use std::sync::Wait;
+use table_halls::Hall;
+use table_histories::Front;
+use table_recorded::{Entry, Opening, Runs};
 
 /// What the starter needs to answer the frame that ended the session.
 #[derive(Drop)]
@@ -28,22 +33,30 @@ pub struct Starter {
     pub replies: ReplySender<Reply>,
 }
 
+/// What the starter has of its own at the queues and at the table.
+#[derive(Drop)]
+pub struct Bid<T: Ledgers, N: Opening> {
+    pub passes: Passes<Job, Reply>,
+    pub front: Front<Entry<T>, Runs<N>>,
+}
+
 /// Puts the reply to the frame that ended the session, as a worker does.
 fn answer_last<H: Wait + Drop, T: Ledgers, N: Opening, C: Calls + Drop, D: Folders>(
     rt: &H,
     hall: &Hall<T, N>,
     starter: Starter,
-    own: Passes<Job, Reply>,
+    own: Bid<T, N>,
     kept: &mut Kept<T>,
     served: &mut Served<C, D>,
     job: &Job,
-) -> Passes<Job, Reply>
-    requires jobs { IsSeatAt (receives_on starter.work) own.job_pass }
-    requires replies { IsSeatAt (sends_on starter.replies) own.reply_pass }
-    requires unused { AreUnused own }
-    ensures seats { IsSeatAt (receives_on starter.work) result.job_pass × IsSeatAt (sends_on starter.replies) result.reply_pass }
-    ensures number { result.number ≡ own.number }
-    ensures answered { AnswersLast (does C.gives D.keeps) starter.settings job.now served.old.calls kept.old.share result }
+) -> Bid<T, N>
+    requires jobs { IsSeatAt (receives_on starter.work) own.passes.job_pass }
+    requires replies { IsSeatAt (sends_on starter.replies) own.passes.reply_pass }
+    requires unused { AreUnused own.passes }
+    requires front { on_table_of own.front ≡ idle own.passes.number }
+    ensures seats { IsSeatAt (receives_on starter.work) result.passes.job_pass × IsSeatAt (sends_on starter.replies) result.passes.reply_pass }
+    ensures number { result.passes.number ≡ own.passes.number }
+    ensures answered { AnswersLast (does C.gives D.keeps) starter.settings job.now served.old.calls kept.old.share result.passes (on_table_of result.front) }
 {
     let Starter {
         alloc,
@@ -51,9 +64,14 @@ fn answer_last<H: Wait + Drop, T: Ledgers, N: Opening, C: Calls + Drop, D: Folde
         work,
         replies,
     } = starter;
-    let mut worker = Worker::new(alloc, settings, work, replies, own);
-    let _settled = worker.answer(rt, hall, &mut kept.share, served, job);
-    worker.into_passes()
+    let Bid { passes, front } = own;
+    let mut worker = Worker::new(alloc, settings, work, replies, passes);
+    let mut visitor = Visitor::new(rt, hall, front);
+    let _settled = worker.answer(&mut visitor, &mut kept.share, served, job);
+    Bid {
+        passes: worker.into_passes(),
+        front: visitor.into_front(),
+    }
 }
 
 /// Answers the frame that ended the session, if one did.
@@ -61,17 +79,18 @@ pub fn bid_farewell<H: Wait + Drop, T: Ledgers, N: Opening, C: Calls + Drop, D: 
     rt: &H,
     hall: &Hall<T, N>,
     starter: Starter,
-    own: Passes<Job, Reply>,
+    own: Bid<T, N>,
     kept: &mut Kept<T>,
     served: &mut Served<C, D>,
     farewell: Option<Job>,
-) -> Passes<Job, Reply>
-    requires jobs { IsSeatAt (receives_on starter.work) own.job_pass }
-    requires replies { IsSeatAt (sends_on starter.replies) own.reply_pass }
-    requires unused { AreUnused own }
-    ensures seats { IsSeatAt (receives_on starter.work) result.job_pass × IsSeatAt (sends_on starter.replies) result.reply_pass }
-    ensures number { result.number ≡ own.number }
-    ensures ends { AnswersFarewell (does C.gives D.keeps) starter.settings farewell served.old.calls kept.old.share result }
+) -> Bid<T, N>
+    requires jobs { IsSeatAt (receives_on starter.work) own.passes.job_pass }
+    requires replies { IsSeatAt (sends_on starter.replies) own.passes.reply_pass }
+    requires unused { AreUnused own.passes }
+    requires front { on_table_of own.front ≡ idle own.passes.number }
+    ensures seats { IsSeatAt (receives_on starter.work) result.passes.job_pass × IsSeatAt (sends_on starter.replies) result.passes.reply_pass }
+    ensures number { result.passes.number ≡ own.passes.number }
+    ensures ends { AnswersFarewell (does C.gives D.keeps) starter.settings farewell served.old.calls kept.old.share result.passes (on_table_of result.front) }
 {
     match farewell {
         Some(job) => answer_last(rt, hall, starter, own, kept, served, &job),

@@ -6,6 +6,7 @@ ghost use Rattle.crossbeam_channel.specs.Claims.{view, IsSeatAt};
 ghost use Rattle.crossbeam_channel.specs.Ends.{sends_on, receives_on};
 ghost use Rattle.ledger.specs.Shares.{nothing};
 ghost use Rattle.engine_queues.specs.Letters.{writer};
+ghost use Rattle.engine_visits.specs.Visits.{idle, on_table_of};
 ghost use Rattle.engine_threads.specs.Worked.{AreUnused, IsHired, IsStaffed};
 
 use crate::working::Staff;
@@ -19,6 +20,8 @@ use engine_roles::{Kept, Shares};
 use engine_workers::{Reply, Worker};
 use ledger::Ledgers;
 use std::alloc::Global;
+use table_histories::Front;
+use table_recorded::{Entry, Opening, Runs};
 
 /// The passes of the next worker.
 pub fn cut_passes(
@@ -108,47 +111,57 @@ fn hire_all(
     Some(workers)
 }
 
-fn staffed<T: Ledgers, N: Opening, C: Calls + Drop>(worker: Worker, kept: Kept<T>, calls: C) -> Staff<T, N, C>
-    ensures { (result.worker ≡ worker) × (result.kept ≡ kept) × (result.calls ≡ calls) }
+fn staffed<T: Ledgers, N: Opening, C: Calls + Drop>(
+    worker: Worker,
+    kept: Kept<T>,
+    front: Front<Entry<T>, Runs<N>>,
+    calls: C,
+) -> Staff<T, N, C>
+    ensures { (result.worker ≡ worker) × (result.kept ≡ kept) × (result.front ≡ front) × (result.calls ≡ calls) }
 {
     Staff {
         worker,
         kept,
+        front,
         calls,
     }
 }
 
-/// A share and a directory for each worker. None where one is missing.
+/// A share, a front and a directory for each worker. None where one is missing.
 fn staff_all<T: Ledgers, N: Opening, C: Calls + Drop>(
     jobs: &JobSender<Job>,
     replies: &ReplySender<Reply>,
     settings: Settings,
     workers: Vec<Worker>,
     shares: &mut Shares<T>,
+    fronts: Vec<Front<Entry<T>, Runs<N>>>,
     trees: Vec<C>,
     staff: Vec<Staff<T, N, C>>,
 ) -> Option<Vec<Staff<T, N, C>>>
     requires hired { All (IsHired (sends_on jobs.now) (sends_on replies.now) settings) workers.items }
     requires shares { All (λ p. p.totals ≡ nothing) shares.old.shares.items }
     requires each { vec_len workers ≡ vec_len trees }
+    requires fronts { map on_table_of fronts.items ≡ map (λ w. idle w.number) workers.items }
     requires room { vec_len workers ≤ vec_capacity staff }
     requires empty { staff.items ≡ [] }
-    ensures staffed { IfSome result (λ v. All (λ s. IsStaffed (sends_on jobs.now) (sends_on replies.now) settings s.worker s.kept.share) v.items) }
+    ensures staffed { IfSome result (λ v. All (λ s. IsStaffed (sends_on jobs.now) (sends_on replies.now) settings s.worker s.kept.share (on_table_of s.front)) v.items) }
     ensures numbers { IfSome result (λ v. map (λ s. s.worker.number) v.items ≡ map (λ w. w.number) workers.items) }
     ensures given { IfSome result (λ v. map (λ s. s.calls) v.items ≡ trees.items) }
     ensures len { IfSome result (λ v. vec_len v ≡ vec_len workers) }
 {
     let mut staff = staff;
     let mut left = trees.into_iter();
+    let mut unseen = fronts.into_iter();
     for worker in workers {
         let kept = shares.take()?;
+        let front = unseen.next()?;
         let calls = left.next()?;
-        staff.push_reserved(staffed(worker, kept, calls));
+        staff.push_reserved(staffed(worker, kept, front, calls));
     }
     Some(staff)
 }
 
-/// A staff for these directories: a worker, a share and a directory each, by their numbers. None where memory or a share is missing.
+/// A staff for these directories: a worker, a share, a front and a directory each, by their numbers. None where memory or a share is missing.
 pub fn hire_staff<T: Ledgers, N: Opening, C: Calls + Drop>(
     alloc: Global,
     settings: Settings,
@@ -157,6 +170,7 @@ pub fn hire_staff<T: Ledgers, N: Opening, C: Calls + Drop>(
     replies: &ReplySender<Reply>,
     read: &mut JobPass<Job>,
     written: &mut ReplyPass<Reply>,
+    fronts: Vec<Front<Entry<T>, Runs<N>>>,
     trees: Vec<C>,
     shares: &mut Shares<T>,
 ) -> Option<Vec<Staff<T, N, C>>>
@@ -168,12 +182,13 @@ pub fn hire_staff<T: Ledgers, N: Opening, C: Calls + Drop>(
     requires written { IsSeatAt (sends_on replies.now) written.old }
     requires writes { view written.old ≡ writer [] 0 [] }
     requires shares { All (λ p. p.totals ≡ nothing) shares.old.shares.items }
+    requires fronts { map on_table_of fronts.items ≡ map idle (range_with_len 0 (vec_len trees)) }
     ensures read { IsSeatAt (sends_on jobs.now) read.new }
     ensures parts { IfSome result (λ v. (view read.new).parts + vec_len trees ≡ 8) }
     ensures reads { ((view read.new).put ≡ (view read.old).put) × (length (view read.new).taken ≡ 0) }
     ensures written { IsSeatAt (sends_on replies.now) written.new }
     ensures writes { IfSome result (λ v. view written.new ≡ writer [] (vec_len trees) []) }
-    ensures staffed { IfSome result (λ v. All (λ s. IsStaffed (sends_on jobs.now) (sends_on replies.now) settings s.worker s.kept.share) v.items) }
+    ensures staffed { IfSome result (λ v. All (λ s. IsStaffed (sends_on jobs.now) (sends_on replies.now) settings s.worker s.kept.share (on_table_of s.front)) v.items) }
     ensures numbers { IfSome result (λ v. map (λ s. s.worker.number) v.items ≡ range_with_len 0 (vec_len trees)) }
     ensures given { IfSome result (λ v. map (λ s. s.calls) v.items ≡ trees.items) }
     ensures len { IfSome result (λ v. vec_len v ≡ vec_len trees) }
@@ -181,5 +196,7 @@ pub fn hire_staff<T: Ledgers, N: Opening, C: Calls + Drop>(
     let count = trees.len() as u64;
     let workers = hire_all(alloc, settings, jobs, work, replies, read, written, count)?;
     let staff = Vec::with_capacity(alloc, 4).ok()?;
-    staff_all(jobs, replies, settings, workers, shares, trees, staff)
+    staff_all(
+        jobs, replies, settings, workers, shares, fronts, trees, staff,
+    )
 }

@@ -1,13 +1,14 @@
 //! What the workers leave, and the starter's reply to the frame that ended the session.
 
-ghost use Rattle.std.specs.Prelude.{◌≡◌, ◌<◌, ◌≤◌, ◌+◌, [], map, vec_len, vec_capacity};
-ghost use Rattle.std.specs.List.{All, range_with_len};
+ghost use Rattle.std.specs.Prelude.{◌≡◌, ◌<◌, ◌≤◌, ◌+◌, ◌++◌, ◌∷◌, [], map, vec_len, vec_capacity};
+ghost use Rattle.std.specs.List.{All};
 ghost use Rattle.crossbeam_channel.specs.Claims.{IsSeatAt};
 ghost use Rattle.crossbeam_channel.specs.Ends.{sends_on, receives_on};
-ghost use Rattle.engine_queues.specs.Gathered.{numbers_of, AreSeated};
-ghost use Rattle.engine_threads.specs.Worked.{does_shared, AreUnused, BidsFarewell, IsOver, WorkedEach};
+ghost use Rattle.table_recorded.specs.Histories.{calls_of};
+ghost use Rattle.engine_visits.specs.Visits.{idle, on_table_of};
+ghost use Rattle.engine_threads.specs.Worked.{did, does_shared, AnswersFarewell, AreUnused};
 
-use crate::farewell::{Starter, bid_farewell};
+use crate::farewell::{Bid, Starter, bid_farewell};
 use crate::working::WorkerEnd;
 use backing::Calls;
 use engine::Served;
@@ -15,57 +16,29 @@ use engine_jobs::Job;
 use engine_queues::jobs::JobSender;
 use engine_queues::letters::ReplySender;
 use engine_queues::passes::Passes;
-use engine_roles::Shares;
+use engine_roles::{Kept, Shares};
 use engine_workers::Reply;
 use handles::Dirs;
 use ledger::Ledgers;
+use std::snapshot::Snapshot;
 use std::sync::Wait;
+use table_halls::{Closed, Hall};
+use table_recorded::Opening;
 
-/// What the workers and the starter leave together: their passes, of which the starter's come last, and a directory.
+/// What the workers and the starter leave, once the frame that ended the session is answered.
 #[derive(Drop)]
-pub struct Left<C: Calls + Drop> {
-    pub passes: Vec<Passes<Job, Reply>>,
+pub struct Leaving<T: Ledgers, N: Opening, C: Calls + Drop> {
+    /// The workers but the last.
+    pub ends: Vec<WorkerEnd<T, N, C>>,
+    /// What the last one left.
+    pub last: Snapshot<WorkerEnd<T, N, C>>,
+    pub worker: Bid<T, N>,
+    pub own: Bid<T, N>,
+    pub kept: Kept<T>,
     pub calls: C,
 }
 
-/// What a worker leaves is taken apart: its share goes back.
-fn part<T: Ledgers, N: Opening, C: Calls + Drop>(
-    end: WorkerEnd<T, N, C>,
-    shares: &mut Shares<T>,
-) -> Passes<Job, Reply>
-    ensures { result ≡ end.passes }
-{
-    let WorkerEnd {
-        given: _,
-        passes,
-        kept,
-        calls: _,
-    } = end;
-    shares.put(kept);
-    passes
-}
-
-/// The same of some workers, in their order.
-fn part_all<T: Ledgers, N: Opening, C: Calls + Drop>(
-    ends: Vec<WorkerEnd<T, N, C>>,
-    passes: Vec<Passes<Job, Reply>>,
-    shares: &mut Shares<T>,
-) -> Vec<Passes<Job, Reply>>
-    requires room { vec_len ends ≤ vec_capacity passes }
-    requires empty { passes.items ≡ [] }
-    ensures passes { result.items ≡ map (λ e. e.passes) ends.items }
-    ensures len { vec_len result ≡ vec_len ends }
-    ensures capacity { vec_capacity result ≡ vec_capacity passes }
-{
-    let mut passes = passes;
-    for end in ends {
-        passes.push_reserved(part(end, shares));
-    }
-    passes
-}
-
-/// Takes apart what the workers leave. With the directory and the share of the last of them the starter answers the frame that ended the
-/// session, if one did.
+/// With the directory and the share of the last worker the starter answers the frame that ended the session, if one did.
 pub fn take_leave<H: Wait + Drop, T: Ledgers, N: Opening, C: Calls + Drop>(
     rt: &H,
     hall: &Hall<T, N>,
@@ -74,44 +47,131 @@ pub fn take_leave<H: Wait + Drop, T: Ledgers, N: Opening, C: Calls + Drop>(
     replies: &ReplySender<Reply>,
     ends: Vec<WorkerEnd<T, N, C>>,
     starter: Starter,
-    own: Passes<Job, Reply>,
-    passes: Vec<Passes<Job, Reply>>,
-    shares: &mut Shares<T>,
+    own: Bid<T, N>,
     farewell: Option<Job>,
-) -> Left<C>
+) -> Leaving<T, N, C>
     requires some { 0 < vec_len ends }
-    requires over { All (λ e. IsOver (sends_on jobs.now) (sends_on replies.now) (does_shared C.gives) starter.settings e.given.value e.passes e.calls e.kept.share) ends.items }
-    requires numbers { map (λ e. e.passes.number) ends.items ≡ range_with_len 0 (vec_len ends) }
     requires work { receives_on starter.work ≡ sends_on jobs.now }
     requires ring { sends_on starter.replies ≡ sends_on replies.now }
-    requires job_seat { IsSeatAt (sends_on jobs.now) own.job_pass }
-    requires reply_seat { IsSeatAt (sends_on replies.now) own.reply_pass }
-    requires unused { AreUnused own }
-    requires number { own.number ≡ vec_len ends }
-    requires room { vec_len ends < vec_capacity passes }
-    requires empty { passes.items ≡ [] }
-    ensures len { vec_len result.passes ≡ vec_len ends + 1 }
-    ensures numbers { numbers_of result.passes.items ≡ range_with_len 0 (vec_len ends + 1) }
-    ensures seats { AreSeated (λ p. IsSeatAt (sends_on jobs.now) p) (λ p. IsSeatAt (sends_on replies.now) p) result.passes.items }
-    ensures worked { WorkedEach (does_shared C.gives) starter.settings (map (λ e. e.given.value) ends.items) result.passes.items }
-    ensures farewell { BidsFarewell (does_shared C.gives) starter.settings (map (λ e. e.given.value) ends.items) farewell result.passes.items }
+    requires job_seat { IsSeatAt (sends_on jobs.now) own.passes.job_pass }
+    requires reply_seat { IsSeatAt (sends_on replies.now) own.passes.reply_pass }
+    requires unused { AreUnused own.passes }
+    requires front { on_table_of own.front ≡ idle own.passes.number }
+    ensures ends { ends.items ≡ result.ends.items ++ result.last.value ∷ [] }
+    ensures len { vec_len result.ends + 1 ≡ vec_len ends }
+    ensures worker { (result.worker.passes ≡ result.last.value.passes) × (result.worker.front ≡ result.last.value.front) }
+    ensures job_seat { IsSeatAt (sends_on jobs.now) result.own.passes.job_pass }
+    ensures reply_seat { IsSeatAt (sends_on replies.now) result.own.passes.reply_pass }
+    ensures number { result.own.passes.number ≡ own.passes.number }
+    ensures farewell { AnswersFarewell (does_shared C.gives) starter.settings farewell result.last.value.calls result.last.value.kept.share result.own.passes (on_table_of result.own.front) }
 {
+    let _queues = (jobs, replies);
     let mut ends = ends;
-    let Some(last) = ends.pop() else {
+    let Some(end) = ends.pop() else {
         unreachable!()
     };
+    let last = Snapshot::of(&end);
     let WorkerEnd {
         given: _,
-        passes: worker,
+        passes,
         mut kept,
+        front,
         calls,
-    } = last;
+    } = end;
     let mut served = Served { calls, dirs };
     let own = bid_farewell(rt, hall, starter, own, &mut kept, &mut served, farewell);
-    shares.put(kept);
-    let mut passes = part_all(ends, passes, shares);
-    passes.push_reserved(worker);
-    passes.push_reserved(own);
     let Served { calls, dirs: _ } = served;
-    Left { passes, calls }
+    Leaving {
+        ends,
+        last,
+        worker: Bid { passes, front },
+        own,
+        kept,
+        calls,
+    }
+}
+
+/// What a thread did is what the history has of it. Its passes are left.
+fn part_bid<T: Ledgers, N: Opening>(closed: &mut Closed<T, N>, bid: Bid<T, N>) -> Passes<Job, Reply>
+    ensures passes { result ≡ bid.passes }
+    ensures did { did closed.old.table.log bid.front.by ≡ calls_of bid.front.mine }
+    ensures same { closed.new.table.log ≡ closed.old.table.log }
+{
+    let Bid { passes, mut front } = bid;
+    closed.look(&mut front);
+    passes
+}
+
+/// The same of a worker, whose share goes back.
+fn part<T: Ledgers, N: Opening, C: Calls + Drop>(
+    closed: &mut Closed<T, N>,
+    end: WorkerEnd<T, N, C>,
+    shares: &mut Shares<T>,
+) -> Passes<Job, Reply>
+    ensures passes { result ≡ end.passes }
+    ensures did { did closed.old.table.log end.front.by ≡ calls_of end.front.mine }
+    ensures same { closed.new.table.log ≡ closed.old.table.log }
+{
+    let WorkerEnd {
+        given: _,
+        passes,
+        kept,
+        front,
+        calls: _,
+    } = end;
+    shares.put(kept);
+    part_bid(closed, Bid { passes, front })
+}
+
+/// The same of some workers, in their order.
+fn part_all<T: Ledgers, N: Opening, C: Calls + Drop>(
+    closed: &mut Closed<T, N>,
+    ends: Vec<WorkerEnd<T, N, C>>,
+    passes: Vec<Passes<Job, Reply>>,
+    shares: &mut Shares<T>,
+) -> Vec<Passes<Job, Reply>>
+    requires room { vec_len ends ≤ vec_capacity passes }
+    requires empty { passes.items ≡ [] }
+    ensures passes { result.items ≡ map (λ e. e.passes) ends.items }
+    ensures did { All (λ e. did closed.old.table.log e.front.by ≡ calls_of e.front.mine) ends.items }
+    ensures same { closed.new.table.log ≡ closed.old.table.log }
+    ensures len { vec_len result ≡ vec_len ends }
+    ensures capacity { vec_capacity result ≡ vec_capacity passes }
+{
+    let mut passes = passes;
+    for end in ends {
+        passes.push_reserved(part(closed, end, shares));
+    }
+    passes
+}
+
+/// Takes apart what all leave: their passes, of which the starter's come last, and a directory.
+pub fn part_with<T: Ledgers, N: Opening, C: Calls + Drop>(
+    closed: &mut Closed<T, N>,
+    leaving: Leaving<T, N, C>,
+    passes: Vec<Passes<Job, Reply>>,
+    shares: &mut Shares<T>,
+) -> (Vec<Passes<Job, Reply>>, C)
+    requires room { vec_len leaving.ends + 1 < vec_capacity passes }
+    requires empty { passes.items ≡ [] }
+    ensures passes { result.0.items ≡ (map (λ e. e.passes) leaving.ends.items ++ leaving.worker.passes ∷ []) ++ leaving.own.passes ∷ [] }
+    ensures len { vec_len result.0 ≡ vec_len leaving.ends + 2 }
+    ensures did { All (λ e. did closed.old.table.log e.front.by ≡ calls_of e.front.mine) leaving.ends.items }
+    ensures worker_did { did closed.old.table.log leaving.worker.front.by ≡ calls_of leaving.worker.front.mine }
+    ensures own_did { did closed.old.table.log leaving.own.front.by ≡ calls_of leaving.own.front.mine }
+    ensures same { closed.new.table.log ≡ closed.old.table.log }
+{
+    let Leaving {
+        ends,
+        last: _,
+        worker,
+        own,
+        kept,
+        calls,
+    } = leaving;
+    shares.put(kept);
+    let mut passes = part_all(closed, ends, passes, shares);
+    passes.push_reserved(part_bid(closed, worker));
+    passes.push_reserved(part_bid(closed, own));
+    (passes, calls)
 }

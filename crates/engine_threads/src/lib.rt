@@ -4,6 +4,7 @@
 mod ended;
 mod ending;
 mod farewell;
+mod fronts;
 mod hiring;
 mod leaving;
 mod places;

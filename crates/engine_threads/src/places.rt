@@ -6,6 +6,8 @@ use handles::Dirs;
 use ledger::Ledgers;
 use std::sync::atomic::{AtomicBool, AtomicU64, Ordering};
 use std::sync::{Arc, Mutex};
+use table_halls::Hall;
+use table_recorded::Opening;
 
 /// What threads tell one another without a lock.
 #[derive(Drop)]

@@ -8,14 +8,16 @@ ghost use Rattle.std.specs.Option.{option_map};
 ghost use Rattle.ledger.specs.Shares.{nothing};
 ghost use Rattle.engine_queues.specs.Gathered.{numbers_of, takings_of};
 ghost use Rattle.engine_queues.specs.Jobs.{hand};
+ghost use Rattle.engine_visits.specs.Visits.{idle, on_table_of};
 ghost use Rattle.engine_reader.specs.Shown.{queued_of, reading, shown};
 ghost use Rattle.engine_roles.specs.Reads.{beginning, HasReadAll};
 ghost use Rattle.engine_roles.specs.Writes.{none_got, HasWrittenAll};
 ghost use Rattle.engine_threads.specs.Ended.{IsShared};
-ghost use Rattle.engine_threads.specs.Worked.{does_shared, AreUnused, BidsFarewell, IsStaffed, WorkedEach};
+ghost use Rattle.engine_threads.specs.Worked.{did, does_shared, made_by, AreUnused, BidsFarewell, IsStaffed, WorkedEach};
 
 use crate::ending::{Over, Room};
-use crate::farewell::Starter;
+use crate::farewell::{Bid, Starter};
+use crate::fronts::Fronts;
 use crate::hiring::{cut_passes, hire_staff};
 use crate::running::{Parts, run};
 use crate::starting::Working;
@@ -37,6 +39,9 @@ use std::alloc::Global;
 use std::marker::Brand;
 use std::sync::Wait;
 use std::thread::Threads;
+use table_halls::Hall;
+use table_histories::Front;
+use table_recorded::{Entry, Opening, Runs};
 
 /// How many jobs wait at most: more than one receive can bring.
 const JOBS: usize = 4_096;
@@ -66,12 +71,12 @@ fn reader_of(alloc: Global, jobs: &JobSender<Job>, read: JobPass<Job>) -> Option
 }
 
 /// What the starter has of its own. None is want of memory.
-fn room_of<T: Ledgers>(
+fn room_of<T: Ledgers, N: Opening>(
     alloc: Global,
     settings: Settings,
     work: JobReceiver<Job>,
     replies: &ReplySender<Reply>,
-    own: Passes<Job, Reply>,
+    own: Bid<T, N>,
     shares: Shares<T>,
 ) -> Option<Room<T, N>>
     ensures own { IfSome result (λ r. r.own ≡ own) }
@@ -123,12 +128,14 @@ fn serve_staffed<
     requires writes { receives_on parts.writer.replies ≡ sends_on replies.now }
     requires unsent { view parts.writer.pass ≡ none_got (vec_len staff + 1) }
     requires whole { parts.writer.is_broken ≡ false }
-    requires staff { All (λ s. IsStaffed (sends_on jobs.now) (sends_on replies.now) room.starter.settings s.worker s.kept.share) staff.items }
+    requires front { on_table_of parts.front ≡ idle (vec_len staff + 1) }
+    requires staff { All (λ s. IsStaffed (sends_on jobs.now) (sends_on replies.now) room.starter.settings s.worker s.kept.share (on_table_of s.front)) staff.items }
     requires numbers { map (λ s. s.worker.number) staff.items ≡ range_with_len 0 (vec_len staff) }
-    requires job_seat { IsSeatAt (sends_on jobs.now) room.own.job_pass }
-    requires reply_seat { IsSeatAt (sends_on replies.now) room.own.reply_pass }
-    requires unused { AreUnused room.own }
-    requires number { room.own.number ≡ vec_len staff }
+    requires job_seat { IsSeatAt (sends_on jobs.now) room.own.passes.job_pass }
+    requires reply_seat { IsSeatAt (sends_on replies.now) room.own.passes.reply_pass }
+    requires unused { AreUnused room.own.passes }
+    requires number { room.own.passes.number ≡ vec_len staff }
+    requires own_front { on_table_of room.own.front ≡ idle room.own.passes.number }
     requires work { receives_on room.starter.work ≡ sends_on jobs.now }
     requires ring { sends_on room.starter.replies ≡ sends_on replies.now }
     requires passes { (5 ≤ vec_capacity room.passes) × (room.passes.items ≡ []) }
@@ -137,10 +144,10 @@ fn serve_staffed<
     ensures counted { IfSome result (λ o. o.taken.items ≡ map (λ js. length js) (takings_of o.passed.passes.value.items)) }
     ensures numbers { IfSome result (λ o. numbers_of o.passed.passes.value.items ≡ range_with_len 0 (vec_len staff + 1)) }
     ensures reads { IfSome result (λ o. ∥ HasReadAll I.receives (Some parts.link_in) o.passed.input (queued_of (view o.passed.read.value).put) (option_map shown o.passed.farewell.value) ∥₁) }
-    ensures writes { IfSome result (λ o. ∥ HasWrittenAll O.sends (Some parts.link_out) (vec_len staff + 1) (view o.passed.written.value) o.passed.is_broken ∥₁) }
+    ensures writes { IfSome result (λ o. ∥ HasWrittenAll O.sends (Some parts.link_out) (vec_len staff + 1) (made_by (did o.closed.table.log) (vec_len staff + 1)) (view o.passed.written.value) o.passed.is_broken ∥₁) }
     ensures shared { IfSome result (λ o. IsShared (view o.passed.read.value) o.passed.passes.value.items (view o.passed.written.value)) }
-    ensures worked { IfSome result (λ o. WorkedEach (does_shared C.gives) room.starter.settings (map (λ s. s.calls) staff.items) o.passed.passes.value.items) }
-    ensures farewell { IfSome result (λ o. BidsFarewell (does_shared C.gives) room.starter.settings (map (λ s. s.calls) staff.items) o.passed.farewell.value o.passed.passes.value.items) }
+    ensures worked { IfSome result (λ o. WorkedEach (does_shared C.gives) room.starter.settings (did o.closed.table.log) (map (λ s. s.calls) staff.items) o.passed.passes.value.items) }
+    ensures farewell { IfSome result (λ o. BidsFarewell (does_shared C.gives) room.starter.settings (did o.closed.table.log) (map (λ s. s.calls) staff.items) o.passed.farewell.value o.passed.passes.value.items) }
 {
     let ended = room_for::<WorkerEnd<T, N, C>>(alloc, 4)?;
     let handles = room_for::<Working<T, N, C>>(alloc, 4)?;
@@ -165,6 +172,7 @@ fn parts_of<H: Drop, T: Ledgers, N: Opening, I: LinkIn + Drop, O: LinkOut + Drop
     read: JobPass<Job>,
     writes: ReplyReceiver<Reply>,
     written: ReplyPass<Reply>,
+    front: Front<Entry<T>, Runs<N>>,
     shares: &mut Shares<T>,
 ) -> Option<Parts<H, T, N, I, O>>
     requires seat { IsSeatAt (sends_on jobs.now) read }
@@ -174,6 +182,7 @@ fn parts_of<H: Drop, T: Ledgers, N: Opening, I: LinkIn + Drop, O: LinkOut + Drop
     requires reply_seat { IsSeatAt (receives_on writes) written }
     requires gets { ((view written).gets ≡ true) × (length (view written).known ≡ 0) }
     ensures links { IfSome result (λ p. (p.link_in ≡ ground.link_in) × (p.link_out ≡ ground.link_out)) }
+    ensures front { IfSome result (λ p. p.front ≡ front) }
     ensures reads { IfSome result (λ p. (sends_on p.reader.to ≡ sends_on jobs.now) × (view p.reader.pass ≡ view read)) }
     ensures unheard { IfSome result (λ p. reading p.link_in p.reader ≡ beginning p.link_in) }
     ensures writes { IfSome result (λ p. (receives_on p.writer.replies ≡ receives_on writes) × (view p.writer.pass ≡ view written) × (p.writer.is_broken ≡ false)) }
@@ -194,6 +203,7 @@ fn parts_of<H: Drop, T: Ledgers, N: Opening, I: LinkIn + Drop, O: LinkOut + Drop
         writer: Writer::new(alloc, writes, written).ok()?,
         link_out,
         kept: shares.take()?,
+        front,
     })
 }
 
@@ -215,6 +225,7 @@ fn serve_hired<
     replies: &ReplySender<Reply>,
     writes: ReplyReceiver<Reply>,
     written: ReplyPass<Reply>,
+    fronts: Fronts<T, N>,
     trees: Vec<C>,
     shares: Shares<T>,
     settings: Settings,
@@ -222,6 +233,9 @@ fn serve_hired<
     requires some { 0 < vec_len trees }
     requires few { vec_len trees ≤ 4 }
     requires shares { All (λ p. p.totals ≡ nothing) shares.shares.items }
+    requires fronts { map on_table_of fronts.workers.items ≡ map idle (range_with_len 0 (vec_len trees)) }
+    requires starter { on_table_of fronts.starter ≡ idle (vec_len trees) }
+    requires writer { on_table_of fronts.writer ≡ idle (vec_len trees + 1) }
     requires work { receives_on work ≡ sends_on jobs.now }
     requires read { IsSeatAt (sends_on jobs.now) read }
     requires unread { view read ≡ hand 8 [] [] }
@@ -232,15 +246,20 @@ fn serve_hired<
     ensures counted { IfSome result (λ o. o.taken.items ≡ map (λ js. length js) (takings_of o.passed.passes.value.items)) }
     ensures numbers { IfSome result (λ o. numbers_of o.passed.passes.value.items ≡ range_with_len 0 (vec_len trees + 1)) }
     ensures reads { IfSome result (λ o. ∥ HasReadAll I.receives (Some ground.link_in) o.passed.input (queued_of (view o.passed.read.value).put) (option_map shown o.passed.farewell.value) ∥₁) }
-    ensures writes { IfSome result (λ o. ∥ HasWrittenAll O.sends (Some ground.link_out) (vec_len trees + 1) (view o.passed.written.value) o.passed.is_broken ∥₁) }
+    ensures writes { IfSome result (λ o. ∥ HasWrittenAll O.sends (Some ground.link_out) (vec_len trees + 1) (made_by (did o.closed.table.log) (vec_len trees + 1)) (view o.passed.written.value) o.passed.is_broken ∥₁) }
     ensures shared { IfSome result (λ o. IsShared (view o.passed.read.value) o.passed.passes.value.items (view o.passed.written.value)) }
-    ensures worked { IfSome result (λ o. WorkedEach (does_shared C.gives) settings trees.items o.passed.passes.value.items) }
-    ensures farewell { IfSome result (λ o. BidsFarewell (does_shared C.gives) settings trees.items o.passed.farewell.value o.passed.passes.value.items) }
+    ensures worked { IfSome result (λ o. WorkedEach (does_shared C.gives) settings (did o.closed.table.log) trees.items o.passed.passes.value.items) }
+    ensures farewell { IfSome result (λ o. BidsFarewell (does_shared C.gives) settings (did o.closed.table.log) trees.items o.passed.farewell.value o.passed.passes.value.items) }
 {
     let count = trees.len() as u64;
     let mut read = read;
     let mut written = written;
     let mut shares = shares;
+    let Fronts {
+        workers,
+        starter,
+        writer,
+    } = fronts;
     let staff = hire_staff(
         alloc,
         settings,
@@ -249,11 +268,24 @@ fn serve_hired<
         replies,
         &mut read,
         &mut written,
+        workers,
         trees,
         &mut shares,
     )?;
-    let own = cut_passes(jobs, replies, &mut read, &mut written, count);
-    let parts = parts_of(alloc, ground, jobs, read, writes, written, &mut shares)?;
+    let own = Bid {
+        passes: cut_passes(jobs, replies, &mut read, &mut written, count),
+        front: starter,
+    };
+    let parts = parts_of(
+        alloc,
+        ground,
+        jobs,
+        read,
+        writes,
+        written,
+        writer,
+        &mut shares,
+    )?;
     let room = room_of(alloc, settings, work, replies, own, shares)?;
     serve_staffed(rt, alloc, jobs, replies, parts, staff, room)
 }
@@ -286,6 +318,7 @@ pub fn serve_queued<
     rt: &H,
     alloc: Global,
     ground: Ground<H, T, N, I, O>,
+    fronts: Fronts<T, N>,
     trees: Vec<C>,
     shares: Shares<T>,
     settings: Settings,
@@ -293,18 +326,21 @@ pub fn serve_queued<
     requires some { 0 < vec_len trees }
     requires few { vec_len trees ≤ 4 }
     requires shares { All (λ p. p.totals ≡ nothing) shares.shares.items }
+    requires fronts { map on_table_of fronts.workers.items ≡ map idle (range_with_len 0 (vec_len trees)) }
+    requires starter { on_table_of fronts.starter ≡ idle (vec_len trees) }
+    requires writer { on_table_of fronts.writer ≡ idle (vec_len trees + 1) }
     ensures taken { IfSome result (λ o. vec_len o.taken ≡ vec_len trees + 1) }
     ensures counted { IfSome result (λ o. o.taken.items ≡ map (λ js. length js) (takings_of o.passed.passes.value.items)) }
     ensures numbers { IfSome result (λ o. numbers_of o.passed.passes.value.items ≡ range_with_len 0 (vec_len trees + 1)) }
     ensures reads { IfSome result (λ o. ∥ HasReadAll I.receives (Some ground.link_in) o.passed.input (queued_of (view o.passed.read.value).put) (option_map shown o.passed.farewell.value) ∥₁) }
-    ensures writes { IfSome result (λ o. ∥ HasWrittenAll O.sends (Some ground.link_out) (vec_len trees + 1) (view o.passed.written.value) o.passed.is_broken ∥₁) }
+    ensures writes { IfSome result (λ o. ∥ HasWrittenAll O.sends (Some ground.link_out) (vec_len trees + 1) (made_by (did o.closed.table.log) (vec_len trees + 1)) (view o.passed.written.value) o.passed.is_broken ∥₁) }
     ensures shared { IfSome result (λ o. IsShared (view o.passed.read.value) o.passed.passes.value.items (view o.passed.written.value)) }
-    ensures worked { IfSome result (λ o. WorkedEach (does_shared C.gives) settings trees.items o.passed.passes.value.items) }
-    ensures farewell { IfSome result (λ o. BidsFarewell (does_shared C.gives) settings trees.items o.passed.farewell.value o.passed.passes.value.items) }
+    ensures worked { IfSome result (λ o. WorkedEach (does_shared C.gives) settings (did o.closed.table.log) trees.items o.passed.passes.value.items) }
+    ensures farewell { IfSome result (λ o. BidsFarewell (does_shared C.gives) settings (did o.closed.table.log) trees.items o.passed.farewell.value o.passed.passes.value.items) }
 {
     let (jobs, work, read) = job_queue(alloc)?;
     let (replies, writes, written) = reply_queue(alloc)?;
     serve_hired(
-        rt, alloc, ground, &jobs, work, read, &replies, writes, written, trees, shares, settings,
+        rt, alloc, ground, &jobs, work, read, &replies, writes, written, fronts, trees, shares, settings,
     )
 }

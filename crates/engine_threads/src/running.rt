@@ -6,11 +6,12 @@ ghost use Rattle.crossbeam_channel.specs.Claims.{view, IsSeatAt};
 ghost use Rattle.crossbeam_channel.specs.Ends.{sends_on, receives_on};
 ghost use Rattle.std.specs.Option.{option_map};
 ghost use Rattle.engine_queues.specs.Gathered.{numbers_of, takings_of};
+ghost use Rattle.engine_visits.specs.Visits.{idle, on_table_of};
 ghost use Rattle.engine_reader.specs.Shown.{queued_of, reading, shown};
 ghost use Rattle.engine_roles.specs.Reads.{beginning, HasReadAll};
 ghost use Rattle.engine_roles.specs.Writes.{none_got, HasWrittenAll};
 ghost use Rattle.engine_threads.specs.Ended.{IsShared};
-ghost use Rattle.engine_threads.specs.Worked.{does_shared, AreUnused, BidsFarewell, IsStaffed, WorkedEach};
+ghost use Rattle.engine_threads.specs.Worked.{did, does_shared, made_by, AreUnused, BidsFarewell, IsStaffed, WorkedEach};
 
 use crate::ending::{Over, Room, end_all};
 use crate::places::{Common, Shared, Signs};
@@ -29,6 +30,9 @@ use ledger::Ledgers;
 use std::alloc::Global;
 use std::sync::{Arc, Mutex, Wait};
 use std::thread::Threads;
+use table_halls::Hall;
+use table_histories::Front;
+use table_recorded::{Entry, Opening, Runs};
 
 /// What the threads of a session will share.
 #[derive(Drop)]
@@ -41,6 +45,8 @@ pub struct Parts<H: Drop, T: Ledgers, N: Opening, I: LinkIn + Drop, O: LinkOut +
     pub writer: Writer,
     pub link_out: O,
     pub kept: Kept<T>,
+    /// The writer's.
+    pub front: Front<Entry<T>, Runs<N>>,
 }
 
 /// Both roles at their beginning. None is want of memory.
@@ -56,6 +62,7 @@ fn share<H: Drop, T: Ledgers, N: Opening, I: LinkIn + Drop, O: LinkOut + Drop, S
     requires to { S.sent_to ≡ Some parts.link_out }
     requires unsent { view parts.writer.pass ≡ none_got S.senders }
     requires whole { parts.writer.is_broken ≡ false }
+    requires front { on_table_of parts.front ≡ idle S.senders }
 {
     let Parts {
         rt,
@@ -66,13 +73,14 @@ fn share<H: Drop, T: Ledgers, N: Opening, I: LinkIn + Drop, O: LinkOut + Drop, S
         writer,
         link_out,
         kept,
+        front,
     } = parts;
     let common = Common {
         rt,
         hall,
         dirs,
         reader: Mutex::new(ReaderRole::new(reader, link_in)),
-        writer: Mutex::new(WriterRole::new(writer, link_out, kept)),
+        writer: Mutex::new(WriterRole::new(writer, link_out, kept, front)),
         sleepers: Sleepers::new(),
         signs: Signs::new(),
     };
@@ -97,7 +105,7 @@ fn start_staff<
     staff: Vec<Staff<T, N, C>>,
     handles: Vec<Working<T, N, C>>,
 ) -> Vec<Working<T, N, C>>
-    requires staffed { All (λ s. IsStaffed (sends_on jobs.now) (sends_on replies.now) settings s.worker s.kept.share) staff.items }
+    requires staffed { All (λ s. IsStaffed (sends_on jobs.now) (sends_on replies.now) settings s.worker s.kept.share (on_table_of s.front)) staff.items }
     requires room { vec_len staff ≤ vec_capacity handles }
     requires empty { handles.items ≡ [] }
     ensures rings { All (λ h. (sends_on h.promise.jobs.value ≡ sends_on jobs.now) × (sends_on h.promise.replies.value ≡ sends_on replies.now) × (h.promise.settings ≡ settings)) result.items }
@@ -150,16 +158,18 @@ pub fn run<
     requires writes { receives_on parts.writer.replies ≡ sends_on replies.now }
     requires unsent { view parts.writer.pass ≡ none_got (vec_len staff + 1) }
     requires whole { parts.writer.is_broken ≡ false }
-    requires staff { All (λ s. IsStaffed (sends_on jobs.now) (sends_on replies.now) room.starter.settings s.worker s.kept.share) staff.items }
+    requires front { on_table_of parts.front ≡ idle (vec_len staff + 1) }
+    requires staff { All (λ s. IsStaffed (sends_on jobs.now) (sends_on replies.now) room.starter.settings s.worker s.kept.share (on_table_of s.front)) staff.items }
     requires numbers { map (λ s. s.worker.number) staff.items ≡ range_with_len 0 (vec_len staff) }
     requires handles { 4 ≤ vec_capacity handles }
     requires none_started { handles.items ≡ [] }
     requires ended { 4 ≤ vec_capacity ended }
     requires none_ended { ended.items ≡ [] }
-    requires job_seat { IsSeatAt (sends_on jobs.now) room.own.job_pass }
-    requires reply_seat { IsSeatAt (sends_on replies.now) room.own.reply_pass }
-    requires unused { AreUnused room.own }
-    requires number { room.own.number ≡ vec_len staff }
+    requires job_seat { IsSeatAt (sends_on jobs.now) room.own.passes.job_pass }
+    requires reply_seat { IsSeatAt (sends_on replies.now) room.own.passes.reply_pass }
+    requires unused { AreUnused room.own.passes }
+    requires number { room.own.passes.number ≡ vec_len staff }
+    requires own_front { on_table_of room.own.front ≡ idle room.own.passes.number }
     requires work { receives_on room.starter.work ≡ sends_on jobs.now }
     requires ring { sends_on room.starter.replies ≡ sends_on replies.now }
     requires passes { 5 ≤ vec_capacity room.passes }
@@ -170,10 +180,10 @@ pub fn run<
     ensures counted { IfSome result (λ o. o.taken.items ≡ map (λ js. length js) (takings_of o.passed.passes.value.items)) }
     ensures numbers { IfSome result (λ o. numbers_of o.passed.passes.value.items ≡ range_with_len 0 (vec_len staff + 1)) }
     ensures reads { IfSome result (λ o. ∥ HasReadAll I.receives (Some parts.link_in) o.passed.input (queued_of (view o.passed.read.value).put) (option_map shown o.passed.farewell.value) ∥₁) }
-    ensures writes { IfSome result (λ o. ∥ HasWrittenAll O.sends (Some parts.link_out) (vec_len staff + 1) (view o.passed.written.value) o.passed.is_broken ∥₁) }
+    ensures writes { IfSome result (λ o. ∥ HasWrittenAll O.sends (Some parts.link_out) (vec_len staff + 1) (made_by (did o.closed.table.log) (vec_len staff + 1)) (view o.passed.written.value) o.passed.is_broken ∥₁) }
     ensures shared { IfSome result (λ o. IsShared (view o.passed.read.value) o.passed.passes.value.items (view o.passed.written.value)) }
-    ensures worked { IfSome result (λ o. WorkedEach (does_shared C.gives) room.starter.settings (map (λ s. s.calls) staff.items) o.passed.passes.value.items) }
-    ensures farewell { IfSome result (λ o. BidsFarewell (does_shared C.gives) room.starter.settings (map (λ s. s.calls) staff.items) o.passed.farewell.value o.passed.passes.value.items) }
+    ensures worked { IfSome result (λ o. WorkedEach (does_shared C.gives) room.starter.settings (did o.closed.table.log) (map (λ s. s.calls) staff.items) o.passed.passes.value.items) }
+    ensures farewell { IfSome result (λ o. BidsFarewell (does_shared C.gives) room.starter.settings (did o.closed.table.log) (map (λ s. s.calls) staff.items) o.passed.farewell.value o.passed.passes.value.items) }
 {
     let count = staff.len();
     let common: Shared<H, T, N, I, O, S> = share(alloc, parts)?;

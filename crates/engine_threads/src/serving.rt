@@ -1,19 +1,24 @@
 //! A whole session on threads.
 
-ghost use Rattle.std.specs.Prelude.{◌≡◌, ◌<◌, ◌≤◌, ◌+◌, ◌⊎◌, length, map, None, Some, IfNone, IfSome, vec_len};
+ghost use Rattle.std.specs.Prelude.{◌≡◌, ◌<◌, ◌≤◌, ◌+◌, ◌⊎◌, List, length, map, None, Some, IfNone, IfSome, vec_len};
 ghost use Rattle.crossbeam_channel.specs.Claims.{view};
 ghost use Rattle.engine.specs.declared.ends.SessionEnd.TheVariants as end;
-ghost use Rattle.std.specs.List.{range_with_len};
+ghost use Rattle.std.specs.List.{All, range_with_len};
 ghost use Rattle.std.specs.Option.{option_map};
 ghost use Rattle.engine_queues.specs.Gathered.{numbers_of, takings_of};
 ghost use Rattle.engine_reader.specs.Shown.{queued_of, shown};
 ghost use Rattle.engine_roles.specs.Reads.{HasReadAll};
-ghost use Rattle.engine_roles.specs.Writes.{HasWrittenAll};
+ghost use Rattle.ledger.specs.Shares.{nothing};
+ghost use Rattle.ledger.specs.Sums.{totals_over};
+ghost use Rattle.table_recorded.specs.Histories.{Made, history_of, last_world};
+ghost use Rattle.table_steps.specs.Kept.{world_of};
+ghost use Rattle.table_steps.specs.World.{opened_world};
 ghost use Rattle.engine_threads.specs.Ended.{EndsAs, IsShared};
-ghost use Rattle.engine_threads.specs.Worked.{does_shared, BidsFarewell, WorkedEach};
+ghost use Rattle.engine_threads.specs.Served.{HasServed};
 
 use crate::ended::{Account, Ended, Sums};
 use crate::ending::Over;
+use crate::fronts::Fronts;
 use crate::queued::{Ground, serve_queued};
 use backing::Calls;
 use engine::{LinkIn, LinkOut, SessionEnd, Settings, remove_leftovers};
@@ -26,6 +31,9 @@ use std::marker::Brand;
 use std::sync::Wait;
 use std::thread::Threads;
 use table::{Limits, Seeds, Table};
+use table_halls::Hall;
+use table_histories::Opened;
+use table_recorded::{Entry, Opening};
 
 /// Both ends of the way to a client.
 #[derive(Drop)]
@@ -35,19 +43,21 @@ struct Links<I: LinkIn + Drop, O: LinkOut + Drop> {
 }
 
 /// Removes the files that are still hidden by the directory that is left, and adds up the shares.
-fn conclude<T: Ledgers, C: Calls + Drop>(over: Over<T, C>) -> Option<Account>
+fn conclude<T: Ledgers, N: Opening, C: Calls + Drop>(over: Over<T, N, C>) -> Option<Account>
     requires taken { 0 < vec_len over.taken }
     requires counted { over.taken.items ≡ map (λ js. length js) (takings_of over.passed.passes.value.items) }
     ensures taken { IfSome result (λ a. vec_len a.taken + 1 ≡ vec_len over.taken) }
     ensures passed { IfSome result (λ a. a.passed ≡ over.passed) }
+    ensures totals { IfSome result (λ a. a.sums.totals ≡ totals_over (last_world (opened_world N.limits) (history_of over.closed.table.log)).postings) }
 {
     let Over {
         passed,
         taken,
-        table,
+        closed,
         shares,
         mut calls,
     } = over;
+    let table = closed.into_table();
     remove_leftovers(&mut calls, &table);
     let sums = Sums::gather(table, shares.into_all())?;
     Some(Account::new(sums, taken, passed))
@@ -79,6 +89,54 @@ fn ended_by(account: Account) -> Ended
     }
 }
 
+/// Serves with a table that was just opened, whose history is named. None where memory or a thread was wanting.
+fn serve_opened<
+    H: Threads + Wait + Clone + Send + Sync + Drop + 'static,
+    T: Ledgers + Send + Sync + 'static,
+    N: Opening + Send + Sync + 'static,
+    I: LinkIn + Send + Drop + 'static,
+    O: LinkOut + Send + Drop + 'static,
+    C: Calls + Send + Drop + 'static,
+>(
+    rt: &H,
+    alloc: Global,
+    opened: Opened<Entry<T>>,
+    table: Table<T>,
+    shares: Shares<T>,
+    links: Links<I, O>,
+    trees: Vec<C>,
+    limits: Limits,
+    settings: Settings,
+) -> Option<Account>
+    requires history { opened.table.shared.table_id ≡ N.history }
+    requires limits { limits ≡ N.limits }
+    requires threads { N.threads ≡ vec_len trees + 2 }
+    requires table { world_of table ≡ opened_world limits }
+    requires shares { All (λ p. p.totals ≡ nothing) shares.shares.items }
+    requires some { 0 < vec_len trees }
+    requires few { vec_len trees ≤ 4 }
+    ensures taken { IfSome result (λ a. vec_len a.taken ≡ vec_len trees) }
+    ensures numbers { IfSome result (λ a. numbers_of a.passed.passes.value.items ≡ range_with_len 0 (vec_len trees + 1)) }
+    ensures reads { IfSome result (λ a. ∥ HasReadAll I.receives (Some links.link_in) a.passed.input (queued_of (view a.passed.read.value).put) (option_map shown a.passed.farewell.value) ∥₁) }
+    ensures shared { IfSome result (λ a. IsShared (view a.passed.read.value) a.passed.passes.value.items (view a.passed.written.value)) }
+    ensures served { IfSome result (λ a. ∥ (history : List Made) × HasServed C.gives O.sends limits settings trees.items links.link_out a.passed a.sums.totals history ∥₁) }
+{
+    let dirs = Dirs::new(alloc).ok()?;
+    let (hall, fronts) = Hall::<T, N>::new(alloc, opened, table, trees.len() + 2).ok()?;
+    let fronts = Fronts::new(fronts)?;
+    let Links { link_in, link_out } = links;
+    let ground = Ground {
+        rt: rt.clone().ok()?,
+        hall,
+        dirs,
+        link_in,
+        link_out,
+    };
+    let over = serve_queued(rt, alloc, ground, fronts, trees, shares, settings)?;
+    over.closed.attest(); // proof: its law
+    conclude(over)
+}
+
 /// Serves with a table whose ledgers are named. None where memory or a thread was wanting.
 fn serve_table<
     H: Threads + Wait + Clone + Send + Sync + Drop + 'static,
@@ -104,25 +162,16 @@ fn serve_table<
     ensures taken { IfSome result (λ a. vec_len a.taken ≡ vec_len trees) }
     ensures numbers { IfSome result (λ a. numbers_of a.passed.passes.value.items ≡ range_with_len 0 (vec_len trees + 1)) }
     ensures reads { IfSome result (λ a. ∥ HasReadAll I.receives (Some links.link_in) a.passed.input (queued_of (view a.passed.read.value).put) (option_map shown a.passed.farewell.value) ∥₁) }
-    ensures writes { IfSome result (λ a. ∥ HasWrittenAll O.sends (Some links.link_out) (vec_len trees + 1) (view a.passed.written.value) a.passed.is_broken ∥₁) }
     ensures shared { IfSome result (λ a. IsShared (view a.passed.read.value) a.passed.passes.value.items (view a.passed.written.value)) }
-    ensures worked { IfSome result (λ a. WorkedEach (does_shared C.gives) settings trees.items a.passed.passes.value.items) }
-    ensures farewell { IfSome result (λ a. BidsFarewell (does_shared C.gives) settings trees.items a.passed.farewell.value a.passed.passes.value.items) }
+    ensures served { IfSome result (λ a. ∥ (history : List Made) × HasServed C.gives O.sends limits settings trees.items links.link_out a.passed a.sums.totals history ∥₁) }
 {
-    let dirs = Dirs::new(alloc).ok()?;
-    let threads = trees.len() + 1;
-    let (table, shares) = Table::<T>::open(alloc, limits, seeds, blanks, threads).ok()?;
+    let shares_wanted = trees.len() + 1;
+    let (table, shares) = Table::<T>::open(alloc, limits, seeds, blanks, shares_wanted).ok()?;
     let shares = Shares::new(shares);
-    let Links { link_in, link_out } = links;
-    let ground = Ground {
-        rt: rt.clone().ok()?,
-        hall: Hall::new(table),
-        dirs,
-        link_in,
-        link_out,
-    };
-    let over = serve_queued(rt, alloc, ground, trees, shares, settings)?;
-    conclude(over)
+    let opened = Opened::new(alloc).ok()?;
+    serve_opened::<H, T, Brand, I, O, C>(
+        rt, alloc, opened, table, shares, links, trees, limits, settings,
+    )
 }
 
 /// Serves a client until its session ends, by one thread for each of 1 to 4 directories. Each takes whatever turn is due: it offers the
@@ -151,10 +200,8 @@ pub fn serve_threads<
     ensures end { IfSome result.account (λ a. EndsAs a.passed.input a.passed.is_broken result.end) }
     ensures numbers { IfSome result.account (λ a. numbers_of a.passed.passes.value.items ≡ range_with_len 0 (vec_len calls + 1)) }
     ensures reads { IfSome result.account (λ a. ∥ HasReadAll I.receives (Some link_in) a.passed.input (queued_of (view a.passed.read.value).put) (option_map shown a.passed.farewell.value) ∥₁) }
-    ensures writes { IfSome result.account (λ a. ∥ HasWrittenAll O.sends (Some link_out) (vec_len calls + 1) (view a.passed.written.value) a.passed.is_broken ∥₁) }
     ensures shared { IfSome result.account (λ a. IsShared (view a.passed.read.value) a.passed.passes.value.items (view a.passed.written.value)) }
-    ensures worked { IfSome result.account (λ a. WorkedEach (does_shared C.gives) settings calls.items a.passed.passes.value.items) }
-    ensures farewell { IfSome result.account (λ a. BidsFarewell (does_shared C.gives) settings calls.items a.passed.farewell.value a.passed.passes.value.items) }
+    ensures served { IfSome result.account (λ a. ∥ (history : List Made) × HasServed C.gives O.sends limits settings calls.items link_out a.passed a.sums.totals history ∥₁) }
 {
     let count = calls.len();
     if count == 0 || count > 4 {

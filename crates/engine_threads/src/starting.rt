@@ -3,6 +3,7 @@
 ghost use Rattle.std.specs.Prelude.{◌≡◌, ◌<◌, ◌≤◌, [], map, IfSome, vec_len, vec_capacity};
 ghost use Rattle.std.specs.List.{All};
 ghost use Rattle.crossbeam_channel.specs.Ends.{sends_on, receives_on};
+ghost use Rattle.engine_visits.specs.Visits.{on_table_of};
 ghost use Rattle.engine_threads.specs.Worked.{does_shared, IsOver, IsStaffed};
 
 use crate::places::Shared;
@@ -19,6 +20,7 @@ use std::snapshot::Snapshot;
 use std::sync::{Arc, Wait};
 use std::thread;
 use std::thread::{Promise, PromisedHandle, Threads};
+use table_recorded::Opening;
 
 /// What a worker's thread keeps.
 #[derive(Drop)]
@@ -34,9 +36,10 @@ pub struct WorkerKeeps<C> {
 impl<T: Ledgers, N: Opening, C: Calls + Drop> Promise<WorkerEnd<T, N, C>> for WorkerKeeps<C> {
     ghost use Rattle.std.specs.Prelude.{◌≡◌};
     ghost use Rattle.crossbeam_channel.specs.Ends.{sends_on};
+    ghost use Rattle.engine_visits.specs.Visits.{on_table_of};
     ghost use Rattle.engine_threads.specs.Worked.{does_shared, IsOver};
 
-    ghost kept_by = { λ p r. (r.passes.number ≡ p.number) × (r.given.value ≡ p.calls.value) × IsOver (sends_on p.jobs.value) (sends_on p.replies.value) (does_shared C.gives) p.settings p.calls.value r.passes r.calls r.kept.share };
+    ghost kept_by = { λ p r. (r.passes.number ≡ p.number) × (r.given.value ≡ p.calls.value) × IsOver (sends_on p.jobs.value) (sends_on p.replies.value) (does_shared C.gives) p.settings p.calls.value r.passes r.calls r.kept.share (on_table_of r.front) };
 }
 
 pub type Working<T, N, C> = PromisedHandle<WorkerEnd<T, N, C>, WorkerKeeps<C>>;
@@ -58,7 +61,7 @@ fn start_one<
     settings: Settings,
     one: Staff<T, N, C>,
 ) -> Option<Working<T, N, C>>
-    requires staffed { IsStaffed (sends_on jobs.now) (sends_on replies.now) settings one.worker one.kept.share }
+    requires staffed { IsStaffed (sends_on jobs.now) (sends_on replies.now) settings one.worker one.kept.share (on_table_of one.front) }
     ensures rings { IfSome result (λ h. (sends_on h.promise.jobs.value ≡ sends_on jobs.now) × (sends_on h.promise.replies.value ≡ sends_on replies.now) × (h.promise.settings ≡ settings)) }
     ensures same { IfSome result (λ h. (h.promise.number ≡ one.worker.number) × (h.promise.calls.value ≡ one.calls)) }
 {
@@ -94,7 +97,7 @@ pub fn start_all<
     staff: Vec<Staff<T, N, C>>,
     handles: Vec<Working<T, N, C>>,
 ) -> Vec<Working<T, N, C>>
-    requires staffed { All (λ s. IsStaffed (sends_on jobs.now) (sends_on replies.now) settings s.worker s.kept.share) staff.items }
+    requires staffed { All (λ s. IsStaffed (sends_on jobs.now) (sends_on replies.now) settings s.worker s.kept.share (on_table_of s.front)) staff.items }
     requires room { vec_len staff ≤ vec_capacity handles }
     requires empty { handles.items ≡ [] }
     ensures rings { All (λ h. (sends_on h.promise.jobs.value ≡ sends_on jobs.now) × (sends_on h.promise.replies.value ≡ sends_on replies.now) × (h.promise.settings ≡ settings)) result.items }
@@ -124,7 +127,7 @@ pub fn join_all<H: Threads, T: Ledgers, N: Opening, C: Calls + Drop>(
     requires rings { All (λ h. (sends_on h.promise.jobs.value ≡ sends_on jobs.now) × (sends_on h.promise.replies.value ≡ sends_on replies.now) × (h.promise.settings ≡ settings)) handles.items }
     requires room { vec_len handles ≤ vec_capacity ended }
     requires empty { ended.items ≡ [] }
-    ensures over { All (λ e. IsOver (sends_on jobs.now) (sends_on replies.now) (does_shared C.gives) settings e.given.value e.passes e.calls e.kept.share) result.items }
+    ensures over { All (λ e. IsOver (sends_on jobs.now) (sends_on replies.now) (does_shared C.gives) settings e.given.value e.passes e.calls e.kept.share (on_table_of e.front)) result.items }
     ensures numbers { map (λ e. e.passes.number) result.items ≡ map (λ h. h.promise.number) handles.items }
     ensures given { map (λ e. e.given.value) result.items ≡ map (λ h. h.promise.calls.value) handles.items }
     ensures len { vec_len result ≡ vec_len handles }

@@ -4,7 +4,8 @@ ghost use Rattle.std.specs.Prelude.{◌≡◌, List, Option};
 ghost use Rattle.crossbeam_channel.specs.Claims.{view};
 ghost use Rattle.crossbeam_channel.specs.Ends.{sends_on, receives_on};
 ghost use Rattle.table_steps.specs.Answers.{Settlement};
-ghost use Rattle.engine_workers.specs.Turns.{standing};
+ghost use Rattle.engine_visits.specs.Visits.{on_table_of};
+ghost use Rattle.engine_workers.specs.Turns.{means, standing};
 ghost use Rattle.engine_workers.specs.Works.{WorkedAll};
 ghost use Rattle.engine_threads.specs.Worked.{does_shared};
 
@@ -12,11 +13,14 @@ use crate::places::Common;
 use backing::Calls;
 use engine::{LinkIn, LinkOut, Served};
 use engine_roles::{Kept, Sink, Source, WriterRole};
+use engine_visits::Visitor;
 use engine_workers::{BATCH, Turn, Worker};
 use handles::Dirs;
 use ledger::Ledgers;
 use std::sync::atomic::Ordering;
 use std::sync::{MutexGuard, Wait};
+use table_halls::Hall;
+use table_recorded::Opening;
 
 /// How many jobs a thread works on before it has to see that none of their replies waits. They go out together then. Four threads leave no
 /// more replies than their queue has places, so nobody waits for a place there: where all threads did, nobody would be left who offers.
@@ -40,7 +44,7 @@ fn writer_of<
 }
 
 /// Offers what is queued, until nothing is left. Whether there was any.
-fn offer_queued<H: Wait, T: Ledgers, N: Opening, O: LinkOut + Drop, S: Sink<O>>(
+pub fn offer_queued<H: Wait, T: Ledgers, N: Opening, O: LinkOut + Drop, S: Sink<O>>(
     rt: &H,
     hall: &Hall<T, N>,
     dirs: &Dirs,
@@ -137,6 +141,7 @@ fn tell_read<H: Drop, T: Ledgers, N: Opening, I: LinkIn + Drop, O: LinkOut + Dro
 /// Offers what is ready, and works on the jobs that are queued, a few at most. Whether there was something to do. On so many jobs this thread
 /// has worked since it had the writer.
 pub fn take_turns<
+    'a,
     H: Wait + Drop,
     T: Ledgers,
     N: Opening,
@@ -147,18 +152,19 @@ pub fn take_turns<
 >(
     common: &Common<H, T, N, I, O, S>,
     worker: &mut Worker,
+    visitor: &mut Visitor<'a, H, T, N>,
     kept: &mut Kept<T>,
     served: &mut Served<C, &Dirs>,
     left: &mut usize,
 ) -> bool
     ensures rings { (receives_on worker.new.jobs ≡ receives_on worker.old.jobs) × (sends_on worker.new.replies ≡ sends_on worker.old.replies) × (worker.new.number ≡ worker.old.number) }
     ensures settings { worker.new.session.settings ≡ worker.old.session.settings }
-    ensures worked { (settled : List (Option Settlement)) × WorkedAll (does_shared C.gives) worker.old.session.settings worker.old.number (standing (view worker.old.job_pass) (view worker.old.reply_pass) served.old kept.old.share) settled
-        (standing (view worker.new.job_pass) (view worker.new.reply_pass) served.new kept.new.share) }
+    ensures worked { (settled : List (Option Settlement)) × WorkedAll (does_shared C.gives) worker.old.session.settings worker.old.number (standing (view worker.old.job_pass) (view worker.old.reply_pass) (means served.old kept.old.share (on_table_of visitor.old.front))) settled
+        (standing (view worker.new.job_pass) (view worker.new.reply_pass) (means served.new kept.new.share (on_table_of visitor.new.front))) }
 {
     let mut is_busy = offer(common, left);
     for _ in *left..JOINED {
-        match worker.turn(&common.rt, &common.hall, &mut kept.share, served) {
+        match worker.turn(visitor, &mut kept.share, served) {
             Turn::Worked(_settled) => {
                 common.signs.tell_worked();
                 *left = left.saturating_add(1);

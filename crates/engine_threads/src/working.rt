@@ -2,6 +2,7 @@
 
 ghost use Rattle.std.specs.Prelude.{◌≡◌};
 ghost use Rattle.crossbeam_channel.specs.Ends.{sends_on, receives_on};
+ghost use Rattle.engine_visits.specs.Visits.{on_table_of};
 ghost use Rattle.engine_threads.specs.Worked.{does_shared, IsOver, IsStaffed};
 
 use crate::places::{Common, Shared};
@@ -11,17 +12,21 @@ use engine::{LinkIn, LinkOut, Served};
 use engine_jobs::Job;
 use engine_queues::passes::Passes;
 use engine_roles::{Kept, Sink, Source};
+use engine_visits::Visitor;
 use engine_workers::{Reply, Worker};
 use ledger::Ledgers;
 use std::snapshot::Snapshot;
 use std::sync::Wait;
 use std::sync::atomic::Ordering;
+use table_histories::Front;
+use table_recorded::{Entry, Opening, Runs};
 
-/// A worker with its share and its directory.
+/// A worker with its share, its front of the table's history, and its directory.
 #[derive(Drop)]
 pub struct Staff<T: Ledgers, N: Opening, C: Calls + Drop> {
     pub worker: Worker,
     pub kept: Kept<T>,
+    pub front: Front<Entry<T>, Runs<N>>,
     pub calls: C,
 }
 
@@ -32,6 +37,7 @@ pub struct WorkerEnd<T: Ledgers, N: Opening, C: Calls + Drop> {
     pub given: Snapshot<C>,
     pub passes: Passes<Job, Reply>,
     pub kept: Kept<T>,
+    pub front: Front<Entry<T>, Runs<N>>,
     pub calls: C,
 }
 
@@ -116,14 +122,15 @@ pub fn work_all<
     C: Calls + Drop,
     S: Source<I> + Sink<O>,
 >(common: Shared<H, T, N, I, O, S>, staff: Staff<T, N, C>) -> WorkerEnd<T, N, C>
-    requires staffed { IsStaffed (receives_on staff.worker.jobs) (sends_on staff.worker.replies) staff.worker.session.settings staff.worker staff.kept.share }
+    requires staffed { IsStaffed (receives_on staff.worker.jobs) (sends_on staff.worker.replies) staff.worker.session.settings staff.worker staff.kept.share (on_table_of staff.front) }
     ensures number { result.passes.number ≡ staff.worker.number }
     ensures given { result.given.value ≡ staff.calls }
-    ensures over { IsOver (receives_on staff.worker.jobs) (sends_on staff.worker.replies) (does_shared C.gives) staff.worker.session.settings staff.calls result.passes result.calls result.kept.share }
+    ensures over { IsOver (receives_on staff.worker.jobs) (sends_on staff.worker.replies) (does_shared C.gives) staff.worker.session.settings staff.calls result.passes result.calls result.kept.share (on_table_of result.front) }
 {
     let Staff {
         mut worker,
         mut kept,
+        front,
         calls,
     } = staff;
     let given = Snapshot::of(&calls);
@@ -132,14 +139,21 @@ pub fn work_all<
         dirs: &common.dirs,
     };
     let number = worker.number as usize;
+    let mut visitor = Visitor::new(&common.rt, &common.hall, front);
     let mut rest = Rest::new(number);
     let mut left = 0;
     for _ in common.rt.forever() {
         // Before the turns: once it is over nothing more comes.
         let is_over = common.signs.is_over();
         rest.look(&common);
-        if take_turns(&common, &mut worker, &mut kept, &mut served, &mut left)
-            || read(&common, number)
+        if take_turns(
+            &common,
+            &mut worker,
+            &mut visitor,
+            &mut kept,
+            &mut served,
+            &mut left,
+        ) || read(&common, number)
         {
             rest.rise(&common);
         } else if is_over {
@@ -149,11 +163,13 @@ pub fn work_all<
         }
     }
     let Served { calls, dirs: _ } = served;
+    let front = visitor.into_front();
     drop(common);
     WorkerEnd {
         given,
         passes: worker.into_passes(),
         kept,
+        front,
         calls,
     }
 }

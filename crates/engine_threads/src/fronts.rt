@@ -1,0 +1,36 @@
+//! What each thread of a session knows of the table's history.
+
+ghost use Rattle.std.specs.Prelude.{◌≡◌, ◌+◌, ℕ, [], map, IfSome};
+ghost use Rattle.std.specs.List.{range_with_len};
+ghost use Rattle.table_histories.specs.Views.{front};
+ghost use Rattle.engine_visits.specs.Visits.{idle, on_table_of};
+
+use ledger::Ledgers;
+use table_histories::Front;
+use table_recorded::{Entry, Opening, Runs};
+
+/// The fronts of the workers by their numbers, of the starter, and of the writer.
+#[derive(Drop)]
+pub struct Fronts<T: Ledgers, N: Opening> {
+    pub workers: Vec<Front<Entry<T>, Runs<N>>>,
+    pub starter: Front<Entry<T>, Runs<N>>,
+    pub writer: Front<Entry<T>, Runs<N>>,
+}
+
+impl<T: Ledgers, N: Opening> Fronts<T, N> {
+    /// All fronts of a hall, which stand by their indices. None where they are not two more than the workers.
+    pub fn new(fronts: Vec<Front<Entry<T>, Runs<N>>>) -> Option<Fronts<T, N>>
+        ensures workers { (count : ℕ) → fronts.items ≡ map (λ index. front index [] []) (range_with_len 0 (count + 2)) → IfSome result (λ f. map on_table_of f.workers.items ≡ map idle (range_with_len 0 count)) }
+        ensures starter { (count : ℕ) → fronts.items ≡ map (λ index. front index [] []) (range_with_len 0 (count + 2)) → IfSome result (λ f. on_table_of f.starter ≡ idle count) }
+        ensures writer { (count : ℕ) → fronts.items ≡ map (λ index. front index [] []) (range_with_len 0 (count + 2)) → IfSome result (λ f. on_table_of f.writer ≡ idle (count + 1)) }
+    {
+        let mut workers = fronts;
+        let writer = workers.pop()?;
+        let starter = workers.pop()?;
+        Some(Fronts {
+            workers,
+            starter,
+            writer,
+        })
+    }
+}
