@@ -63,3 +63,26 @@ none_posted (i ∷ indices) = All-cons (λ (p : Part). p.totals ≡ nothing) (re
 pub ok_of : {A E : Type 0} (P : A → Type 0) (r : Result A E) (x : A) → Some x ≡ result_ok r → IfOk r P → P x
 ok_of P (Ok y) x e h = let same : y ≡ x = cc in subst P same h
 ok_of P (Err y) x e h = absurd (none-some x (sym e))
+
+-- two lists that were made in step
+pub in_step : {X Y V : Type 0} (f : X → V) (h : Y → V) (x : X) (y : Y) (from xs : List X) (from' ys : List Y) → from ≡ x ∷ xs → from' ≡ y ∷ ys → map f from ≡ map h from' → (f x ≡ h y) × (map f xs ≡ map h ys)
+in_step f h x y from xs from' ys s t e =
+    let both : f x ∷ map f xs ≡ h y ∷ map h ys = ap (map f) (sym s) ∙ (e ∙ ap (map h) t) in
+    (cc both, cc both)
+
+pub map_through : {X Y V : Type 0} (f : X → Y) (h : Y → V) (xs : List X) → map (λ (x : X). h (f x)) xs ≡ map h (map f xs)
+map_through f h [] = refl
+map_through f h (x ∷ xs) = ap (λ l. h (f x) ∷ l) (map_through f h xs)
+
+-- the last of a list, and those before it
+pub last_same : {X : Type 0} (xs ys : List X) (x y : X) → xs ++ x ∷ [] ≡ ys ++ y ∷ [] → (xs ≡ ys) × (x ≡ y)
+last_same [] [] x y e = (refl, cc e)
+last_same [] (b ∷ []) x y e = absurd (cc e)
+last_same [] (b ∷ c ∷ ys) x y e = absurd (cc e)
+last_same (a ∷ []) [] x y e = absurd (cc e)
+last_same (a ∷ c ∷ xs) [] x y e = absurd (cc e)
+last_same (a ∷ xs) (b ∷ ys) x y e =
+    let heads : a ≡ b = cc e in
+    let tails : xs ++ x ∷ [] ≡ ys ++ y ∷ [] = cc e in
+    let rest = last_same xs ys x y tails in
+    (ap (λ l. a ∷ l) rest.0 ∙ ap (λ k. k ∷ ys) heads, rest.1)

@@ -1,5 +1,5 @@
 -- What workers leave, and the starter after them.
-use Rattle.std.proofs.Common.{◌≡◌, ℕ, suc, ◌+◌, List, [], ◌∷◌, ◌++◌, length, map, Option, refl, sym, ap, ◌∙◌, append_assoc, arith}
+use Rattle.std.proofs.Common.{◌≡◌, ℕ, suc, ◌+◌, List, [], ◌∷◌, ◌++◌, length, map, Option, refl, sym, ap, subst, ◌∙◌, append_assoc, arith}
 use Rattle.std.specs.List.{All, range_with_len}
 use Rattle.std.proofs.lemmas.List.Elements.{All-cons, All-head, All-nil, All-push, All-same, All-tail, All-pop}
 use Rattle.crossbeam_channel.specs.Claims.{IsSeatAt}
@@ -10,39 +10,59 @@ use Rattle.engine_queues.specs.Gathered.{AreSeated, numbers_of}
 use Rattle.engine_queues.specs.declared.passes.Passes.{Passes}
 use Rattle.engine_roles.specs.Queues.{JobQueue, ReplyQueue}
 use Rattle.engine_workers.specs.declared.replies.Reply.{Reply}
-use Rattle.engine_threads.specs.Worked.{AnswersFarewell, BidsFarewell, IsOver, WorkedEach}
+use Rattle.table_histories.specs.declared.views.View.{View}
+use Rattle.table_recorded.specs.Histories.{calls_of}
+use Rattle.table_recorded.specs.Runs.{Call}
+use Rattle.table_recorded.specs.declared.entries.Entry.{Entry}
+use Rattle.engine_visits.specs.Visits.{OnTable, on_table_of}
+use Rattle.engine_threads.specs.Worked.{AnswersFarewell, BidsFarewell, HasWorkedFrom, IsOver, WorkedEach, made_by}
 use Rattle.engine_threads.specs.declared.working.WorkerEnd.{WorkerEnd}
+use Rattle.engine_threads.proofs.Chains.{index_from, index_last}
 use Rattle.engine_threads.proofs.Lists.{map_last, range_more}
 
 abbrev Seated : JobQueue → ReplyQueue → Passes Job Reply → Type 0
 Seated jobs replies p = IsSeatAt jobs p.job_pass × IsSeatAt replies p.reply_pass
 
-module _ {T C D : Type 0} (jobs : JobQueue) (replies : ReplyQueue) (does : Behaviour C D) (settings : Settings) where
-  abbrev pub Ends : WorkerEnd T C → Type 0
-  Ends e = IsOver jobs replies does settings e.given.value e.passes e.calls e.kept.share
+-- what a thread did, by its front and by the history
+pub made_as : {L : Type 0} (calls_by : ℕ → List Call) (front : View (Entry L)) (number : ℕ) → front.by ≡ number → calls_by front.by ≡ calls_of front.mine → on_table_of front ≡ made_by calls_by number
+made_as calls_by front number n d =
+    let calls : calls_of front.mine ≡ calls_by number = sym d ∙ ap calls_by n in
+    λ i. record { by = n i; calls = calls i }
 
-  abbrev pub given_of : List (WorkerEnd T C) → List C
-  given_of es = map (λ (e : WorkerEnd T C). e.given.value) es
+module _ {T N C D : Type 0} (jobs : JobQueue) (replies : ReplyQueue) (does : Behaviour C D) (settings : Settings) (calls_by : ℕ → List Call) where
+  abbrev pub Ends : WorkerEnd T N C → Type 0
+  Ends e = IsOver jobs replies does settings e.given.value e.passes e.calls e.kept.share (on_table_of e.front)
 
-  abbrev pub passes_of : List (WorkerEnd T C) → List (Passes Job Reply)
-  passes_of es = map (λ (e : WorkerEnd T C). e.passes) es
+  abbrev pub Did : WorkerEnd T N C → Type 0
+  Did e = calls_by e.front.by ≡ calls_of e.front.mine
 
-  pub each_worked : (es : List (WorkerEnd T C)) (own : Passes Job Reply) → All Ends es → WorkedEach does settings (given_of es) (passes_of es ++ own ∷ [])
-  each_worked [] own h = (own, refl)
-  each_worked (e ∷ es) own h = ((e.calls, e.kept.share, (All-head Ends e es h).worked), each_worked es own (All-tail Ends e es h))
+  abbrev pub given_of : List (WorkerEnd T N C) → List C
+  given_of es = map (λ (e : WorkerEnd T N C). e.given.value) es
 
-  are_seated : (es : List (WorkerEnd T C)) → All Ends es → All (Seated jobs replies) (passes_of es)
+  abbrev pub passes_of : List (WorkerEnd T N C) → List (Passes Job Reply)
+  passes_of es = map (λ (e : WorkerEnd T N C). e.passes) es
+
+  worked_so : (e : WorkerEnd T N C) → Ends e → Did e → HasWorkedFrom does settings e.given.value e.passes e.calls e.kept.share (made_by calls_by e.passes.number)
+  worked_so e over d =
+      let index = index_from does settings e.given.value e.passes e.calls e.kept.share (on_table_of e.front) over.worked in
+      subst (λ (o : OnTable). HasWorkedFrom does settings e.given.value e.passes e.calls e.kept.share o) (made_as calls_by e.front e.passes.number index d) over.worked
+
+  pub each_worked : (es : List (WorkerEnd T N C)) (own : Passes Job Reply) → All Ends es → All Did es → WorkedEach does settings calls_by (given_of es) (passes_of es ++ own ∷ [])
+  each_worked [] own h d = (own, refl)
+  each_worked (e ∷ es) own h d = ((e.calls, e.kept.share, worked_so e (All-head Ends e es h) (All-head Did e es d)), each_worked es own (All-tail Ends e es h) (All-tail Did e es d))
+
+  are_seated : (es : List (WorkerEnd T N C)) → All Ends es → All (Seated jobs replies) (passes_of es)
   are_seated [] h = All-nil (Seated jobs replies)
   are_seated (e ∷ es) h = let one = All-head Ends e es h in All-cons (Seated jobs replies) e.passes (passes_of es) (one.job_seat, one.reply_seat) (are_seated es (All-tail Ends e es h))
 
-  pub all_seated : (es : List (WorkerEnd T C)) (own : Passes Job Reply) → All Ends es → IsSeatAt jobs own.job_pass → IsSeatAt replies own.reply_pass → AreSeated (λ p. IsSeatAt jobs p) (λ p. IsSeatAt replies p) (passes_of es ++ own ∷ [])
+  pub all_seated : (es : List (WorkerEnd T N C)) (own : Passes Job Reply) → All Ends es → IsSeatAt jobs own.job_pass → IsSeatAt replies own.reply_pass → AreSeated (λ p. IsSeatAt jobs p) (λ p. IsSeatAt replies p) (passes_of es ++ own ∷ [])
   all_seated es own h j r = All-push (Seated jobs replies) (passes_of es) own (are_seated es h) (j, r)
 
-  numbers_in : (es : List (WorkerEnd T C)) → numbers_of (passes_of es) ≡ map (λ (e : WorkerEnd T C). e.passes.number) es
+  numbers_in : (es : List (WorkerEnd T N C)) → numbers_of (passes_of es) ≡ map (λ (e : WorkerEnd T N C). e.passes.number) es
   numbers_in [] = refl
   numbers_in (e ∷ es) = ap (λ (l : List ℕ). e.passes.number ∷ l) (numbers_in es)
 
-  pub all_numbered : (es : List (WorkerEnd T C)) (own : Passes Job Reply) (n : ℕ) → map (λ (e : WorkerEnd T C). e.passes.number) es ≡ range_with_len 0 n → own.number ≡ n → numbers_of (passes_of es ++ own ∷ []) ≡ range_with_len 0 (n + 1)
+  pub all_numbered : (es : List (WorkerEnd T N C)) (own : Passes Job Reply) (n : ℕ) → map (λ (e : WorkerEnd T N C). e.passes.number) es ≡ range_with_len 0 n → own.number ≡ n → numbers_of (passes_of es ++ own ∷ []) ≡ range_with_len 0 (n + 1)
   all_numbered es own n e is =
       let last : own.number ≡ 0 + n = omega (arith, is) in
       let more : n + 1 ≡ suc n = omega arith in
@@ -50,25 +70,28 @@ module _ {T C D : Type 0} (jobs : JobQueue) (replies : ReplyQueue) (does : Behav
       ∙ (ap (λ (l : List ℕ). l ++ own.number ∷ []) (numbers_in es ∙ e)
       ∙ (ap (λ (k : ℕ). range_with_len 0 n ++ k ∷ []) last ∙ (sym (range_more 0 n) ∙ ap (range_with_len 0) (sym more))))
 
-  -- the last of them is given up first
-  pub passes_in : (es rest : List (WorkerEnd T C)) (last : WorkerEnd T C) → es ≡ rest ++ last ∷ [] → passes_of es ≡ passes_of rest ++ last.passes ∷ []
-  passes_in es rest last e = ap passes_of e ∙ map_last (λ (w : WorkerEnd T C). w.passes) rest last
+  -- the last of them comes before the starter
+  pub passes_in : (es rest : List (WorkerEnd T N C)) (last : WorkerEnd T N C) → es ≡ rest ++ last ∷ [] → passes_of es ≡ passes_of rest ++ last.passes ∷ []
+  passes_in es rest last e = ap passes_of e ∙ map_last (λ (w : WorkerEnd T N C). w.passes) rest last
 
-  pub bids_farewell : (es rest : List (WorkerEnd T C)) (last : WorkerEnd T C) (own : Passes Job Reply) (farewell : Option Job) → es ≡ rest ++ last ∷ [] → All Ends es
-      → AnswersFarewell does settings farewell last.calls last.kept.share own → BidsFarewell does settings (given_of es) farewell (passes_of es ++ own ∷ [])
-  bids_farewell es rest last own farewell e h said = record {
+  pub all_did : (es rest : List (WorkerEnd T N C)) (last : WorkerEnd T N C) → es ≡ rest ++ last ∷ [] → All Did rest → Did last → All Did es
+  all_did es rest last e d one = All-same Did es (rest ++ last ∷ []) e (All-push Did rest last d one)
+
+  pub bids_farewell : (es rest : List (WorkerEnd T N C)) (last : WorkerEnd T N C) (own : Passes Job Reply) (front : View (Entry T)) (farewell : Option Job) → es ≡ rest ++ last ∷ [] → All Ends es → Did last → calls_by front.by ≡ calls_of front.mine
+      → AnswersFarewell does settings farewell last.calls last.kept.share own (on_table_of front) → BidsFarewell does settings calls_by (given_of es) farewell (passes_of es ++ own ∷ [])
+  bids_farewell es rest last own front farewell e h d o said = record {
     others = given_of rest;
     calls = last.given.value;
-    given_are = ap given_of e ∙ map_last (λ (w : WorkerEnd T C). w.given.value) rest last;
+    given_are = ap given_of e ∙ map_last (λ (w : WorkerEnd T N C). w.given.value) rest last;
     workers = passes_of rest;
     worker = last.passes;
     own = own;
     passes_are = ap (λ (ps : List (Passes Job Reply)). ps ++ own ∷ []) (passes_in es rest last e) ∙ append_assoc (passes_of rest) (last.passes ∷ []) (own ∷ []);
     left = last.calls;
     share = last.kept.share;
-    worked = (last_of rest (All-same Ends (rest ++ last ∷ []) es (sym e) h)).worked;
-    ends = said;
+    worked = worked_so last (last_of rest (All-same Ends (rest ++ last ∷ []) es (sym e) h)) d;
+    ends = subst (λ (x : OnTable). AnswersFarewell does settings farewell last.calls last.kept.share own x) (made_as calls_by front own.number (index_last does settings farewell last.calls last.kept.share own (on_table_of front) said) o) said;
   } where
-    last_of : (before : List (WorkerEnd T C)) → All Ends (before ++ last ∷ []) → Ends last
+    last_of : (before : List (WorkerEnd T N C)) → All Ends (before ++ last ∷ []) → Ends last
     last_of [] all = All-head Ends last [] all
     last_of (x ∷ before) all = last_of before (All-tail Ends x (before ++ last ∷ []) all)

@@ -230,6 +230,7 @@ fn enter<T: Ledgers, O: Opening>(
     requires { IsStep (end_of (opened_world O.limits) keeper.old.log) (call_of event) (world_of table.now) }
     ensures makes { Makes (opened_world O.limits) (call_of event) me.old me.new }
     ensures log { keeper.new.log ≡ me.new.seen }
+    ensures given { keeper.new.given ≡ keeper.old.given }
     ensures end { world_of table.now ≡ end_of (opened_world O.limits) keeper.new.log }
 {
     keeper.attest(); // proof: its law
