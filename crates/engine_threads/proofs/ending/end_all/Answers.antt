@@ -1,11 +1,11 @@
-use Rattle.std.proofs.Common.{sym, ap, ◌∙◌}
+use Rattle.std.proofs.Common.{◌≡◌, ◌∙◌, ℕ, List, ◌∷◌, ◌++◌, [], sym, ap, subst}
 use Rattle.std.specs.List.{range_with_len}
 use Rattle.crossbeam_channel.specs.Claims.{view}
 use Rattle.engine_threads.proofs.Sharing.{shared_as}
 use Rattle.engine_threads.proofs.ending.end_all.Goals as goal
 
 pub gather-taken-requires-clause-numbers : goal.gather-taken-requires-clause-numbers
-gather-taken-requires-clause-numbers g c = c.take_leave-passes.ensures.numbers ∙ ap (range_with_len 0) (sym c.take_leave-passes.ensures.len)
+gather-taken-requires-clause-numbers g c = ?numbers
 
 pub returns-clause-shared : goal.returns-clause-shared
 returns-clause-shared g c =

@@ -1,9 +1,12 @@
 use Rattle.std.proofs.Common.{◌≡◌, ◌∙◌, suc, length, map, List, ◌∷◌, ◌++◌, [], sym, ap, append_assoc, arith}
+use Rattle.std.proofs.lemmas.List.Elements.{All-cons, All-same}
 use Rattle.std.specs.Vec.Iter.{into_iter_items}
+use Rattle.table_recorded.specs.Histories.{calls_of}
 use Rattle.engine_jobs.specs.declared.jobs.Job.{Job}
 use Rattle.engine_queues.specs.declared.passes.Passes.{Passes}
 use Rattle.engine_workers.specs.declared.replies.Reply.{Reply}
 use Rattle.engine_threads.specs.declared.working.WorkerEnd.{WorkerEnd}
+use Rattle.engine_threads.specs.Worked.{did}
 use Rattle.engine_threads.proofs.leaving.part_all.Goals as goal
 
 pub loop-end-preserved : goal.loop-end-preserved
@@ -13,12 +16,17 @@ loop-end-preserved g c =
     let from = into_iter_items c.loop-end.end-iterator in
     let rest = into_iter_items c.next.new.self in
     let Pass : Type 0 = Passes Job Reply in
-    let End : Type 0 = WorkerEnd g.row.T.Denot g.row.C.Denot in
+    let End : Type 0 = WorkerEnd g.row.T.Denot g.row.N.Denot g.row.C.Denot in
     let passes : List End → List Pass = λ (es : List End). map (λ (e : End). e.passes) es in
+    let log = c.args.closed.now.table.log in
+    let P : End → Type 0 = λ (e : End). did log e.front.by ≡ calls_of e.front.mine in
+    let this : P c.in-Some.end = ap (λ l. did l c.in-Some.end.front.by) (sym i.same) ∙ c.part.ensures.did in
     record {
+      did = λ others. i.did (All-same P from (c.in-Some.end ∷ rest) s.0 (All-cons P c.in-Some.end rest this others));
+      same = c.part.ensures.same ∙ i.same;
       passes = ap (λ (ps : List Pass). ps ++ passes rest) c.push_reserved.ensures.items
           ∙ (append_assoc c.loop-end.passes.items (c.part.result ∷ []) (passes rest)
-          ∙ (ap (λ (p : Pass). c.loop-end.passes.items ++ p ∷ passes rest) c.part.ensures ∙ (ap (λ (es : List End). c.loop-end.passes.items ++ passes es) (sym s.0) ∙ i.passes)));
+          ∙ (ap (λ (p : Pass). c.loop-end.passes.items ++ p ∷ passes rest) c.part.ensures.passes ∙ (ap (λ (es : List End). c.loop-end.passes.items ++ passes es) (sym s.0) ∙ i.passes)));
       len = (let a = c.push_reserved.ensures.len in let b = s.1 in let d = i.len in omega arith);
       lens = (let n : length from ≡ suc (length rest) = ap length s.0 in let l = s.1 in let d = i.lens in omega arith);
       capacity = c.push_reserved.ensures.capacity ∙ i.capacity;

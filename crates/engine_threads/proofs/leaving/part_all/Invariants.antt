@@ -1,11 +1,16 @@
 use Rattle.std.specs.Prelude.{◌≡◌, ◌+◌, ◌++◌, ◌≤◌, length, map, vec_len, vec_capacity}
+use Rattle.std.specs.List.{All}
 use Rattle.std.specs.Vec.Iter.{into_iter_items, into_iter_len}
+use Rattle.table_recorded.specs.Histories.{calls_of}
+use Rattle.engine_threads.specs.Worked.{did}
 use Rattle.engine_threads.proofs.leaving.part_all.Given as goal
 
 abbrev pub invariant-loop-end : goal.invariant-loop-end
 invariant-loop-end g l =
     let rest = into_iter_items l.end-iterator in
     record {
+      did : All (λ e. did l.fn.closed.table.log e.front.by ≡ calls_of e.front.mine) rest → All (λ e. did l.fn.closed.table.log e.front.by ≡ calls_of e.front.mine) l.fn.ends.items;
+      same : l.closed.table.log ≡ l.fn.closed.table.log;
       passes : l.passes.items ++ map (λ e. e.passes) rest ≡ map (λ e. e.passes) l.fn.ends.items;
       len : vec_len l.passes + into_iter_len l.end-iterator ≡ vec_len l.fn.ends;
       lens : into_iter_len l.end-iterator ≡ length rest;

@@ -5,7 +5,8 @@ use Rattle.crossbeam_channel.specs.Ends.{sends_on}
 use Rattle.ops.specs.declared.replies.Settings.{Settings}
 use Rattle.engine_queues.specs.Gathered.{numbers_of}
 use Rattle.engine_roles.specs.Writes.{HasWrittenAll}
-use Rattle.engine_threads.specs.Worked.{BidsFarewell, IsStaffed, WorkedEach, does_shared}
+use Rattle.engine_visits.specs.Visits.{on_table_of}
+use Rattle.engine_threads.specs.Worked.{BidsFarewell, IsStaffed, WorkedEach, did, does_shared, made_by}
 use Rattle.engine_threads.specs.declared.working.Staff.{Staff}
 use Rattle.engine_threads.proofs.queued.serve_hired.Goals as goal
 
@@ -16,8 +17,8 @@ invariant_of-parts g c =
 
 pub serve_staffed-requires-clause-staff : goal.serve_staffed-requires-clause-staff
 serve_staffed-requires-clause-staff g c κs within =
-    let One : Type 0 = Staff g.row.T.Denot g.row.C.Denot in
-    subst (λ (s : Settings). All (λ (v : One). IsStaffed (sends_on c.args.jobs.now) (sends_on c.args.replies.now) s v.worker v.kept.share) c.in_ok-staff.staff.items) (sym c.in_ok-room.ensures.settings) c.in_ok-staff.ensures.staffed
+    let One : Type 0 = Staff g.row.T.Denot g.row.N.Denot g.row.C.Denot in
+    subst (λ (s : Settings). All (λ (v : One). IsStaffed (sends_on c.args.jobs.now) (sends_on c.args.replies.now) s v.worker v.kept.share (on_table_of v.front)) c.in_ok-staff.staff.items) (sym c.in_ok-room.ensures.settings) c.in_ok-staff.ensures.staffed
 
 pub returns-clause-taken : goal.returns-clause-taken
 returns-clause-taken g c =
@@ -25,7 +26,7 @@ returns-clause-taken g c =
 
 pub returns-clause-writes : goal.returns-clause-writes
 returns-clause-writes g c =
-    subst₂ (λ (link : g.row.O.Denot) (n : ℕ). IfSome c.serve_staffed.result (λ o. ∥ HasWrittenAll g.O.LinkOut.sends (Some link) (n + 1) (view o.passed.written.value) o.passed.is_broken ∥₁))
+    subst₂ (λ (link : g.row.O.Denot) (n : ℕ). IfSome c.serve_staffed.result (λ o. ∥ HasWrittenAll g.O.LinkOut.sends (Some link) (n + 1) (made_by (did o.closed.table.log) (n + 1)) (view o.passed.written.value) o.passed.is_broken ∥₁))
     c.in_ok-parts.ensures.links.1 c.in_ok-staff.ensures.len c.serve_staffed.ensures.writes
 
 pub returns-clause-numbers : goal.returns-clause-numbers
@@ -34,10 +35,10 @@ returns-clause-numbers g c =
 
 pub returns-clause-worked : goal.returns-clause-worked
 returns-clause-worked g c =
-    subst₂ (λ (s : Settings) (calls : List g.row.C.Denot). IfSome c.serve_staffed.result (λ o. WorkedEach (does_shared g.C.Calls.gives) s calls o.passed.passes.value.items))
+    subst₂ (λ (s : Settings) (calls : List g.row.C.Denot). IfSome c.serve_staffed.result (λ o. WorkedEach (does_shared g.C.Calls.gives) s (did o.closed.table.log) calls o.passed.passes.value.items))
     c.in_ok-room.ensures.settings c.in_ok-staff.ensures.given c.serve_staffed.ensures.worked
 
 pub returns-clause-farewell : goal.returns-clause-farewell
 returns-clause-farewell g c =
-    subst₂ (λ (s : Settings) (calls : List g.row.C.Denot). IfSome c.serve_staffed.result (λ o. BidsFarewell (does_shared g.C.Calls.gives) s calls o.passed.farewell.value o.passed.passes.value.items))
+    subst₂ (λ (s : Settings) (calls : List g.row.C.Denot). IfSome c.serve_staffed.result (λ o. BidsFarewell (does_shared g.C.Calls.gives) s (did o.closed.table.log) calls o.passed.farewell.value o.passed.passes.value.items))
     c.in_ok-room.ensures.settings c.in_ok-staff.ensures.given c.serve_staffed.ensures.farewell

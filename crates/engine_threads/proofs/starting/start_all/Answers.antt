@@ -2,6 +2,7 @@ use Rattle.std.proofs.Common.{◌≡◌, suc, length, ap, arith}
 use Rattle.std.specs.Vec.Iter.{into_iter_items}
 use Rattle.std.specs.declared.thread.PromisedHandle.{PromisedHandle}
 use Rattle.crossbeam_channel.specs.Ends.{sends_on}
+use Rattle.engine_visits.specs.Visits.{on_table_of}
 use Rattle.engine_threads.specs.Worked.{IsStaffed}
 use Rattle.engine_threads.specs.declared.starting.WorkerKeeps.{WorkerKeeps}
 use Rattle.engine_threads.specs.declared.working.Staff.{Staff}
@@ -11,8 +12,8 @@ use Rattle.engine_threads.proofs.starting.start_all.Goals as goal
 
 pub start_one-requires-clause-staffed : goal.start_one-requires-clause-staffed
 start_one-requires-clause-staffed g c κs within =
-    let One : Type 0 = Staff g.row.T.Denot g.row.C.Denot in
-    let P : One → Type 0 = λ (v : One). IsStaffed (sends_on c.args.jobs.now) (sends_on c.args.replies.now) c.args.settings v.worker v.kept.share in
+    let One : Type 0 = Staff g.row.T.Denot g.row.N.Denot g.row.C.Denot in
+    let P : One → Type 0 = λ (v : One). IsStaffed (sends_on c.args.jobs.now) (sends_on c.args.replies.now) c.args.settings v.worker v.kept.share (on_table_of v.front) in
     first_of P c.in-Some.one (into_iter_items c.loop-one.one-iterator) (into_iter_items c.next.new.self) c.in-Some.ensures.steps.0 c.loop-one.invariant.staffed
 
 pub loop-one-preserved : goal.loop-one-preserved
@@ -24,9 +25,9 @@ loop-one-preserved g c =
     let e = c.in-Some-start_one.ensures in
     let from = into_iter_items c.loop-one.one-iterator in
     let rest = into_iter_items c.next.new.self in
-    let One : Type 0 = Staff g.row.T.Denot g.row.C.Denot in
-    let P : One → Type 0 = λ (v : One). IsStaffed (sends_on c.args.jobs.now) (sends_on c.args.replies.now) c.args.settings v.worker v.kept.share in
-    let Handle : Type 0 = PromisedHandle (WorkerEnd g.row.T.Denot g.row.C.Denot) (WorkerKeeps g.row.C.Denot) in
+    let One : Type 0 = Staff g.row.T.Denot g.row.N.Denot g.row.C.Denot in
+    let P : One → Type 0 = λ (v : One). IsStaffed (sends_on c.args.jobs.now) (sends_on c.args.replies.now) c.args.settings v.worker v.kept.share (on_table_of v.front) in
+    let Handle : Type 0 = PromisedHandle (WorkerEnd g.row.T.Denot g.row.N.Denot g.row.C.Denot) (WorkerKeeps g.row.C.Denot) in
     let Q : Handle → Type 0 = λ (k : Handle). (sends_on k.promise.jobs.value ≡ sends_on c.args.jobs.now) × (sends_on k.promise.replies.value ≡ sends_on c.args.replies.now) × (k.promise.settings ≡ c.args.settings) in
     record {
       staffed = others_of P one from rest s.0 i.staffed;

@@ -2,6 +2,7 @@ use Rattle.std.specs.Prelude.{◌≡◌, ◌+◌, ◌++◌, ◌≤◌, length, m
 use Rattle.std.specs.List.{All}
 use Rattle.std.specs.Vec.Iter.{into_iter_items, into_iter_len}
 use Rattle.crossbeam_channel.specs.Ends.{sends_on}
+use Rattle.engine_visits.specs.Visits.{on_table_of}
 use Rattle.engine_threads.specs.Worked.{IsStaffed}
 use Rattle.engine_threads.proofs.starting.start_all.Given as goal
 
@@ -9,7 +10,7 @@ abbrev pub invariant-loop-one : goal.invariant-loop-one
 invariant-loop-one g l =
     let rest = into_iter_items l.one-iterator in
     record {
-      staffed : All (λ s. IsStaffed (sends_on l.jobs) (sends_on l.replies) l.settings s.worker s.kept.share) rest;
+      staffed : All (λ s. IsStaffed (sends_on l.jobs) (sends_on l.replies) l.settings s.worker s.kept.share (on_table_of s.front)) rest;
       started : All (λ h. (sends_on h.promise.jobs.value ≡ sends_on l.jobs) × (sends_on h.promise.replies.value ≡ sends_on l.replies) × (h.promise.settings ≡ l.settings)) l.handles.items;
       numbers : map (λ h. h.promise.number) l.handles.items ++ map (λ s. s.worker.number) rest ≡ map (λ s. s.worker.number) l.fn.staff.items;
       given : map (λ h. h.promise.calls.value) l.handles.items ++ map (λ s. s.calls) rest ≡ map (λ s. s.calls) l.fn.staff.items;

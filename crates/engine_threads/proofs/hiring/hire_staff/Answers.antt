@@ -1,0 +1,10 @@
+use Rattle.std.proofs.Common.{map, sym, ap, ◌∙◌}
+use Rattle.engine_visits.specs.Visits.{idle}
+use Rattle.engine_workers.specs.declared.working.Worker.{Worker}
+use Rattle.engine_threads.proofs.Lists.{map_through}
+use Rattle.engine_threads.proofs.hiring.hire_staff.Goals as goal
+
+pub staff_all-requires-clause-fronts : goal.staff_all-requires-clause-fronts
+staff_all-requires-clause-fronts g c κs within =
+    let workers = c.in_ok-workers.workers in
+    c.requires.fronts ∙ (ap (map idle) (sym c.in_ok-workers.ensures.numbers) ∙ sym (map_through (λ (w : Worker). w.number) idle workers.items))

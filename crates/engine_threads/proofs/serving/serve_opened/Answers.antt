@@ -1,0 +1,1 @@
+use Rattle.engine_threads.proofs.serving.serve_opened.Goals as goal
