@@ -95,3 +95,10 @@ module _ {T N C D : Type 0} (jobs : JobQueue) (replies : ReplyQueue) (does : Beh
     last_of : (before : List (WorkerEnd T N C)) → All Ends (before ++ last ∷ []) → Ends last
     last_of [] all = All-head Ends last [] all
     last_of (x ∷ before) all = last_of before (All-tail Ends x (before ++ last ∷ []) all)
+
+  -- all passes, where the last worker's and the starter's came behind the others
+  pub passes_are : (es rest : List (WorkerEnd T N C)) (last : WorkerEnd T N C) (worker own : Passes Job Reply) (ps : List (Passes Job Reply)) → es ≡ rest ++ last ∷ [] → worker ≡ last.passes → ps ≡ (passes_of rest ++ worker ∷ []) ++ own ∷ [] → passes_of es ++ own ∷ [] ≡ ps
+  passes_are es rest last worker own ps e w p = sym (p ∙ ap (λ (l : List (Passes Job Reply)). l ++ own ∷ []) (ap (λ (q : Passes Job Reply). passes_of rest ++ q ∷ []) w ∙ sym (passes_in es rest last e)))
+
+  pub did_last : (last : WorkerEnd T N C) (front : View (Entry T)) → front ≡ last.front → calls_by front.by ≡ calls_of front.mine → Did last
+  did_last last front is d = subst (λ (f : View (Entry T)). calls_by f.by ≡ calls_of f.mine) is d
