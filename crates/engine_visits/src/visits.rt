@@ -53,7 +53,7 @@ impl<'a, H: Wait, T: Ledgers, O: Opening> Visitor<'a, H, T, O> {
 
     /// Its front, once it has ended.
     pub fn into_front(self) -> Front<Entry<T>, Runs<O>>
-        ensures { result ≡ self.front }
+        ensures { result ≡ self.entry.front }
     {
         let Visitor {
             rt: _,

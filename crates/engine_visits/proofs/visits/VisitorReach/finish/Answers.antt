@@ -20,4 +20,4 @@ returns-clause-gains g c =
     let e = c.finish-answered.ensures.entries in
     let free = ap visits.listed c.requires.free in
     let given = ap (λ (a : Answer). entries_in a.given) c.of.ensures in
-    record { entries = omega arith; index = c.finish-answered.ensures.index }
+    record { entries = omega arith; index = c.finish-answered.ensures.index; by_is = c.finish-answered.ensures.makes.index }
