@@ -4,7 +4,8 @@ use Rattle.std.specs.Option.{option_or}
 use Rattle.handles.specs.Calls.{FolderCall}
 use Rattle.ledger.specs.Shares.{Part}
 use Rattle.table_steps.specs.Answers.{Settlement}
-use Rattle.table_recorded.specs.Runs.{Call, settled}
+use Rattle.table_recorded.specs.Runs as made
+use Rattle.table_recorded.specs.Runs.{Call}
 use Rattle.wire.specs.Written.{reply_bytes}
 use Rattle.ops.specs.declared.replies.Settings.{Settings}
 use Rattle.engine.specs.Chain.{Chain}
@@ -85,7 +86,7 @@ ended_as (Some left) taken = Some (settlement_of left.answered taken)
 
 abbrev pub settles_of : Option Left → (taken : Bool) → List Call
 settles_of None taken = []
-settles_of (Some left) taken = settled left.answered taken (settlement_of left.answered taken) ∷ []
+settles_of (Some left) taken = made.settled left.answered taken (settlement_of left.answered taken) ∷ []
 
 -- what is settled where the reply was handed back: what is left, as untaken
 abbrev pub untaken_in : Visited → Option Settlement

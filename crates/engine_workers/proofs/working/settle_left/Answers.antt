@@ -20,8 +20,8 @@ returns-in_default-clause-ends g c = record {
   so = subst (λ (o : Option Left). IsEnded o c.args.taken (ending _ [] [])) (sym c.in_default.is) (record { settled_is = refl; gives_up = none_given_up c.args.taken; settles = refl });
 }
 
-pub returns-in-Some-clause-ends : goal.returns-in-Some-clause-ends
-returns-in-Some-clause-ends g c =
+pub returns-clause-ends : goal.returns-clause-ends
+returns-clause-ends g c =
     let start = opened_world g.O.Opening.limits in
     let parts = c.into_parts-answered in
     let s = c.settle-settled in

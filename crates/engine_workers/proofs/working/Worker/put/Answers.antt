@@ -1,4 +1,4 @@
-use Rattle.std.proofs.Common.{[], false, Option, refl, sym, ap, ◌∙◌, subst}
+use Rattle.std.proofs.Common.{◌≡◌, [], false, Option, refl, sym, ap, ◌∙◌, subst}
 use Rattle.std.specs.Option.{option_or}
 use Rattle.table_steps.specs.Answers.{Settlement}
 use Rattle.engine_queues.proofs.LetterSteps.{posts}
@@ -32,13 +32,13 @@ returns-in-Ok-clause-puts g c =
 pub returns-in-Some-into_inner-clause-puts : goal.returns-in-Some-into_inner-clause-puts
 returns-in-Some-into_inner-clause-puts g c =
     let back = sym c.in-Some-into_inner.is ∙ (c.into_inner.ensures ∙ c.in-Err.ensures.rule.0) in
-    let left : c.into_left.result ≡ left_in (visited_of c.args.come_to) = c.into_left.ensures ∙ (ap left_by back ∙ (c.reply_to.ensures.3 ∙ c.parted-left.ensures.left)) in
-    let up = c.settle_left.ensures.ends in
-    let so = subst (λ (o : Option Left). IsEnded o false (ending c.settle_left.result up.folders up.calls)) left up.so in
+    let left : c.into_left-left.result ≡ left_in (visited_of c.args.come_to) = c.into_left-left.ensures ∙ (ap left_by back ∙ (c.reply_to.ensures.3 ∙ c.parted-left.ensures.left)) in
+    let up = c.settle_left-untaken.ensures.ends in
+    let so = subst (λ (o : Option Left). IsEnded o false (ending c.settle_left-untaken.result up.folders up.calls)) left up.so in
     record {
       folders = up.folders;
       chain = up.chain;
       calls = up.calls;
       on_table = up.on_table;
-      so = handed_back (bytes_of c.in-Some.bytes) (ap bytes_in c.in-Some.is) c.in-Err.ensures.rule.1 (ap (λ (o : Option Settlement). option_or o c.parted-left.result.1) so.settled_is ∙ ap (λ (o : Option Settlement). option_or (ended_as (left_in (visited_of c.args.come_to)) false) o) c.parted-left.ensures.settled) so.gives_up so.settles;
+      so = handed_back (bytes_of c.in-Some.bytes) (ap bytes_in c.in-Some.is) c.in-Err.ensures.rule.1 (c.or.ensures ∙ (ap (λ (o : Option Settlement). option_or o c.parted-left.result.1) so.settled_is ∙ ap (λ (o : Option Settlement). option_or (ended_as (left_in (visited_of c.args.come_to)) false) o) c.parted-left.ensures.settled)) so.gives_up so.settles;
     }
