@@ -49,6 +49,11 @@ use Rattle.engine_roles.specs.contracts.shares.Kept as Kept
 use Rattle.engine_roles.specs.contracts.writing.WriterRole as WriterRole
 use Rattle.engine_roles.specs.declared.origins.Sink as sink
 use Rattle.engine.specs.declared.links.LinkOut as out
+use Rattle.table_histories.proofs.history.Front.TheSendSync as front
+use Rattle.table_histories.specs.contracts.history.Front as Front
+use Rattle.table_recorded.specs.contracts.entries.Entry as Entry
+use Rattle.table_recorded.specs.contracts.entries.Runs as Runs
+use Rattle.table_recorded.specs.contracts.entries.RunsNamingEntry.TheImpl as naming
 use Rattle.table_recorded.specs.declared.entries.Opening as opening
 use Rattle.ledger.specs.declared.ledgers.Ledgers.{Ghosts}
 
@@ -130,9 +135,17 @@ module _ (T : RattleType) (g : Ghosts T.Denot) where
   pub kept_send : IsSend T → IsSync T → IsSend (Kept.the_row T g)
   kept_send s y = search (kept.the_send T g, sendable)
 
+  module _ (N : RattleType) (n : opening.Ghosts N.Denot) where
+    abbrev pub front_row : RattleType
+    front_row = Front.the_row (Entry.the_row T g) (Runs.the_row N) (naming.ghosts T N g naming.no_dict n naming.no_dict)
+
+    pub front_send : IsSend N → IsSend front_row
+    front_send m = search (front.the_send (Entry.the_row T g) (Runs.the_row N) (naming.ghosts T N g naming.no_dict n naming.no_dict), sendable)
+
   module _ (N O S : RattleType) (n : opening.Ghosts N.Denot) (o : out.Ghosts O.Denot) (k : sink.Ghosts S.Denot O.Denot) where
-    pub writer_role_send : IsSend T → IsSync T → IsSend N → IsSend O → IsSend S → IsSend (WriterRole.the_row T N O S o k g n)
+    pub writer_role_send : IsSend T → IsSync T → IsSend N → IsSend O → IsSend S → IsSend (WriterRole.the_row T N O S n o k g)
     writer_role_send s y m c d =
         let a : IsSend (Writer.the_field).row = writer_send in
         let b : IsSend (Kept.the_field T g).row = search (kept.the_field_send T g, sendable) in
+        let f = front_send N n m in
         search sendable depth 20
