@@ -23,7 +23,6 @@ use crate::queued::{Ground, serve_queued};
 use backing::Calls;
 use engine::{LinkIn, LinkOut, SessionEnd, Settings, remove_leftovers};
 use engine_roles::Shares;
-use engine_workers::Hall;
 use handles::Dirs;
 use ledger::{Blanks, Ledgers};
 use std::alloc::Global;
@@ -119,7 +118,7 @@ fn serve_opened<
     ensures numbers { IfSome result (λ a. numbers_of a.passed.passes.value.items ≡ range_with_len 0 (vec_len trees + 1)) }
     ensures reads { IfSome result (λ a. ∥ HasReadAll I.receives (Some links.link_in) a.passed.input (queued_of (view a.passed.read.value).put) (option_map shown a.passed.farewell.value) ∥₁) }
     ensures shared { IfSome result (λ a. IsShared (view a.passed.read.value) a.passed.passes.value.items (view a.passed.written.value)) }
-    ensures served { IfSome result (λ a. ∥ (history : List Made) × HasServed C.gives O.sends limits settings trees.items links.link_out a.passed a.sums.totals history ∥₁) }
+    ensures served { IfSome result (λ a. ∥ ((history : List Made) × HasServed C.gives O.sends limits settings trees.items links.link_out a.passed a.sums.totals history) ∥₁) }
 {
     let dirs = Dirs::new(alloc).ok()?;
     let (hall, fronts) = Hall::<T, N>::new(alloc, opened, table, trees.len() + 2).ok()?;
@@ -163,7 +162,7 @@ fn serve_table<
     ensures numbers { IfSome result (λ a. numbers_of a.passed.passes.value.items ≡ range_with_len 0 (vec_len trees + 1)) }
     ensures reads { IfSome result (λ a. ∥ HasReadAll I.receives (Some links.link_in) a.passed.input (queued_of (view a.passed.read.value).put) (option_map shown a.passed.farewell.value) ∥₁) }
     ensures shared { IfSome result (λ a. IsShared (view a.passed.read.value) a.passed.passes.value.items (view a.passed.written.value)) }
-    ensures served { IfSome result (λ a. ∥ (history : List Made) × HasServed C.gives O.sends limits settings trees.items links.link_out a.passed a.sums.totals history ∥₁) }
+    ensures served { IfSome result (λ a. ∥ ((history : List Made) × HasServed C.gives O.sends limits settings trees.items links.link_out a.passed a.sums.totals history) ∥₁) }
 {
     let shares_wanted = trees.len() + 1;
     let (table, shares) = Table::<T>::open(alloc, limits, seeds, blanks, shares_wanted).ok()?;
@@ -201,7 +200,7 @@ pub fn serve_threads<
     ensures numbers { IfSome result.account (λ a. numbers_of a.passed.passes.value.items ≡ range_with_len 0 (vec_len calls + 1)) }
     ensures reads { IfSome result.account (λ a. ∥ HasReadAll I.receives (Some link_in) a.passed.input (queued_of (view a.passed.read.value).put) (option_map shown a.passed.farewell.value) ∥₁) }
     ensures shared { IfSome result.account (λ a. IsShared (view a.passed.read.value) a.passed.passes.value.items (view a.passed.written.value)) }
-    ensures served { IfSome result.account (λ a. ∥ (history : List Made) × HasServed C.gives O.sends limits settings calls.items link_out a.passed a.sums.totals history ∥₁) }
+    ensures served { IfSome result.account (λ a. ∥ ((history : List Made) × HasServed C.gives O.sends limits settings calls.items link_out a.passed a.sums.totals history) ∥₁) }
 {
     let count = calls.len();
     if count == 0 || count > 4 {

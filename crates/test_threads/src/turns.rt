@@ -3,6 +3,8 @@
 ghost use Rattle.std.specs.Prelude.{◌≡◌, ◌<◌, ◌+◌, length, true};
 ghost use Rattle.crossbeam_channel.specs.Claims.{view, IsSeatAt};
 ghost use Rattle.crossbeam_channel.specs.Ends.{sends_on};
+ghost use Rattle.table_steps.specs.Kept.{world_of};
+ghost use Rattle.table_steps.specs.World.{opened_world};
 
 use crate::client::{Asks, Heard};
 use crate::teller::{Comes, SETTINGS, holds_of, pieces_of};
@@ -14,7 +16,9 @@ use engine_queues::jobs::{Cut, Fair, Hand, JobPass, JobSender};
 use engine_queues::letters::{InOrder, Letter, ReplyLane, ReplyPass, ReplySender, Roles};
 use engine_queues::passes::Passes;
 use engine_reader::Reader;
-use engine_workers::{Hall, Reply, Worker};
+use engine_roles::Kept;
+use engine_visits::Visitor;
+use engine_workers::{Reply, Worker};
 use handles::Dirs;
 use ledger::{Blanks, Ledgers, Posting, Share};
 use std::alloc::{AllocError, Global};
@@ -23,7 +27,10 @@ use std::random::RandomSource;
 use std::sync::{Arc, Mutex, Wait};
 use std::test::Fail;
 use table::{Limits, Seeds, Table};
+use table_halls::Hall;
+use table_histories::{Front, Opened};
 use table_image::Image;
+use table_recorded::{Entry, Opening, Runs};
 use wire::Operation;
 use wire::Operation::Lookup;
 
@@ -87,33 +94,63 @@ fn lone_worker<H: Wait + Clone + Drop>(rt: &H, alloc: Global) -> Result<Worker, 
     Ok(worker)
 }
 
+/// A table in a hall, with the fronts of a worker and of a writer.
+pub fn hall_of<T: Ledgers, N: Opening>(
+    alloc: Global,
+    opened: Opened<Entry<T>>,
+    table: Table<T>,
+) -> Result<(Hall<T, N>, Front<Entry<T>, Runs<N>>, Front<Entry<T>, Runs<N>>), AllocError>
+    requires history { opened.table.shared.table_id ≡ N.history }
+    requires table { world_of table ≡ opened_world N.limits }
+    requires threads { N.threads ≡ 2 }
+{
+    let (hall, mut fronts) = Hall::<T, N>::new(alloc, opened, table, 2)?;
+    let writer = fronts.pop().ok_or(AllocError)?;
+    let worker = fronts.pop().ok_or(AllocError)?;
+    Ok((hall, worker, writer))
+}
+
 /// Both jobs are worked on.
-fn work_both<H: Wait + Drop, T: Ledgers>(
+fn work_both<H: Wait + Drop, T: Ledgers, N: Opening>(
     rt: &H,
-    hall: &Hall<T>,
+    hall: &Hall<T, N>,
+    front: Front<Entry<T>, Runs<N>>,
     share: &mut Share<T>,
     worker: &mut Worker,
     served: &mut Served<Shared<H>, &Dirs>,
 ) {
+    let mut visitor = Visitor::new(rt, hall, front);
     for _ in 0..2 {
-        let _turn = worker.turn(rt, hall, share, served);
+        let _turn = worker.turn(&mut visitor, share, served);
     }
 }
 
 /// The same. What the table is then is the result.
-fn work<H: Wait + Drop, T: Ledgers>(
+fn work<H: Wait + Drop, T: Ledgers, N: Opening>(
     rt: &H,
+    alloc: Global,
+    opened: Opened<Entry<T>>,
     table: Table<T>,
-    mut share: Share<T>,
+    mut kept: Kept<T>,
     mut worker: Worker,
     tree: Shared<H>,
     dirs: &Dirs,
-) -> Result<Image, AllocError> {
-    let hall = Hall::new(table);
+) -> Result<Image, AllocError>
+    requires history { opened.table.shared.table_id ≡ N.history }
+    requires table { world_of table ≡ opened_world N.limits }
+    requires threads { N.threads ≡ 2 }
+{
+    let (hall, front, _writer) = hall_of::<T, N>(alloc, opened, table)?;
     let mut served = Served { calls: tree, dirs };
-    work_both(rt, &hall, &mut share, &mut worker, &mut served);
-    share.leave();
-    hall.into_table().export()
+    work_both(
+        rt,
+        &hall,
+        front,
+        &mut kept.share,
+        &mut worker,
+        &mut served,
+    );
+    hall.close().into_table().export()
 }
 
 /// The same from a new table.
@@ -132,7 +169,9 @@ fn work_anew<H: Wait + Drop, T: Ledgers>(
     let (table, mut shares) = Table::<T>::open(alloc, Limits::default(), seeds, blanks, 1)?;
     let share = shares.pop().unwrap();
     shares.destroy_empty();
-    work(rt, table, share, worker, tree, &dirs)
+    let kept = Kept { share };
+    let opened = Opened::new(alloc)?;
+    work::<H, T, Brand>(rt, alloc, opened, table, kept, worker, tree, &dirs)
 }
 
 /// Its reply is handed back, and the entry that it tells with it.

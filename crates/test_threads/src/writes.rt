@@ -1,10 +1,12 @@
 //! Replies that the writer takes from its queue together.
 
 ghost use Rattle.std.specs.Prelude.{◌≡◌};
+ghost use Rattle.table_steps.specs.Kept.{world_of};
+ghost use Rattle.table_steps.specs.World.{opened_world};
 
 use crate::client::{Asks, Fates, Heard, Hears};
 use crate::teller::{Comes, SETTINGS, holds_of, pieces_of};
-use crate::turns::passes_of;
+use crate::turns::{hall_of, passes_of};
 use backing::Shared;
 use crossbeam_channel::bounded_with;
 use engine::{Sent, Served};
@@ -12,7 +14,9 @@ use engine_jobs::Job;
 use engine_queues::jobs::{Fair, Hand};
 use engine_queues::letters::{InOrder, Letter, ReplyLane};
 use engine_reader::Reader;
-use engine_workers::{Hall, Reply, Worker, Writer};
+use engine_roles::Kept;
+use engine_visits::Visitor;
+use engine_workers::{Reply, Worker, Writer};
 use handles::Dirs;
 use ledger::{Blanks, Ledgers, Posting, Share};
 use std::alloc::{AllocError, Global};
@@ -21,7 +25,10 @@ use std::random::RandomSource;
 use std::sync::{Arc, Mutex, Wait};
 use std::test::Fail;
 use table::{Limits, Seeds, Settled, Table};
+use table_halls::Hall;
+use table_histories::{Front, Opened};
 use table_image::Image;
+use table_recorded::{Entry, Opening, Runs};
 use wire::Operation;
 use wire::Operation::Lookup;
 
@@ -57,45 +64,55 @@ fn both<H: Wait + Drop>(
 }
 
 /// All jobs are worked on. Then their replies are written together.
-fn work_and_write<H: Wait + Drop, T: Ledgers>(
+fn work_and_write<H: Wait + Drop, T: Ledgers, N: Opening>(
     rt: &H,
-    hall: &Hall<T>,
+    hall: &Hall<T, N>,
+    front: Front<Entry<T>, Runs<N>>,
+    own: &mut Front<Entry<T>, Runs<N>>,
     share: &mut Share<T>,
     worker: &mut Worker,
     writer: &mut Writer,
     served: &mut Served<Shared<H>, &Dirs>,
     hears: &mut Hears<H>,
 ) {
+    let mut visitor = Visitor::new(rt, hall, front);
     for _ in 0..4 {
-        let _turn = worker.turn(rt, hall, share, served);
+        let _turn = worker.turn(&mut visitor, share, served);
     }
-    let _count = writer.turns(rt, hears, hall, share, &mut served.dirs);
+    let _count = writer.turns(rt, hears, hall, own, share, &mut served.dirs);
 }
 
 /// The same. What the table is then is the result.
-fn write<H: Wait + Drop, T: Ledgers>(
+fn write<H: Wait + Drop, T: Ledgers, N: Opening>(
     rt: &H,
+    alloc: Global,
+    opened: Opened<Entry<T>>,
     table: Table<T>,
-    mut share: Share<T>,
+    mut kept: Kept<T>,
     mut worker: Worker,
     writer: &mut Writer,
     tree: Shared<H>,
     dirs: &Dirs,
     hears: &mut Hears<H>,
-) -> Result<Image, AllocError> {
-    let hall = Hall::new(table);
+) -> Result<Image, AllocError>
+    requires history { opened.table.shared.table_id ≡ N.history }
+    requires table { world_of table ≡ opened_world N.limits }
+    requires threads { N.threads ≡ 2 }
+{
+    let (hall, front, mut own) = hall_of::<T, N>(alloc, opened, table)?;
     let mut served = Served { calls: tree, dirs };
     work_and_write(
         rt,
         &hall,
-        &mut share,
+        front,
+        &mut own,
+        &mut kept.share,
         &mut worker,
         writer,
         &mut served,
         hears,
     );
-    share.leave();
-    hall.into_table().export()
+    hall.close().into_table().export()
 }
 
 /// The same from a new table.
@@ -116,7 +133,11 @@ fn write_anew<H: Wait + Drop, T: Ledgers>(
     let (table, mut shares) = Table::<T>::open(alloc, Limits::default(), seeds, blanks, 1)?;
     let share = shares.pop().unwrap();
     shares.destroy_empty();
-    write(rt, table, share, worker, writer, tree, &dirs, hears)
+    let kept = Kept { share };
+    let opened = Opened::new(alloc)?;
+    write::<H, T, Brand>(
+        rt, alloc, opened, table, kept, worker, writer, tree, &dirs, hears,
+    )
 }
 
 /// Whether each reply of the batch counts as taken.
