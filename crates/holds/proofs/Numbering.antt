@@ -126,6 +126,10 @@ module _ (f g : Names → Option Holders) (key : Names) (o : Option Holders) (wr
     | inr miss ↦ old p h (sym (at_other p miss) ∙ there)
   ]
 
+-- a path that is put is as good as its copy
+pub put_at : (f g : Names → Option Holders) (o : Option Holders) {key copy : Names} → copy ≡ key → ((q : Names) → g q ≡ (if is_same_path copy q then o else f q)) → (q : Names) → g q ≡ (if is_same_path key q then o else f q)
+put_at f g o is written = subst (λ (k : Names). (q : Names) → g q ≡ (if is_same_path k q then o else f q)) is written
+
 -- where no path has numbers
 pub none_found : {S : Type 0} → (m : IndexMap Names (Option Holders) S) → live m ≡ 0 → (p : Names) → found is_same_path m p ≡ None
 none_found m none p = none_living (is_same_path p) m.entries none
@@ -161,13 +165,6 @@ pub weight_one : (o : Option Holders) → 0 < (unwrap_or o no_holders).shared + 
 weight_one None h = absurd (omega (arith, h))
 weight_one (Some x) h = refl
 
-pub counted_last : (ps : List Names) (key : Names) (n : ℕ) → counted_in (ps ++ key ∷ []) key n ≡ n
-counted_last ps key n = counted_yes (ps ++ key ∷ []) key n (among_push ps key key ∙ or_true (is_among ps key) (is_same_path key key) (same_path_yes key key refl))
-
--- the last path is counted among all of them, so its numbers have not risen yet
-pub still_few : (now old one most : ℕ) (all ps rest : List Names) (key : Names) → ps ≡ rest ++ key ∷ [] → now + counted_in ps key one ≡ old + counted_in all key one → old + one < most → now + one < most
-still_few now old one most all ps rest key is step few =
-    let last = counted_last rest key one in
-    let here : counted_in ps key one ≡ one = ap (λ (qs : List Names). counted_in qs key one) is ∙ last in
-    let more = counted_most all key one in
-    omega (arith, here, more, step, few)
+-- both numbers are the same
+pub same_holders : (a b : Holders) → a.shared ≡ b.shared → a.exclusive ≡ b.exclusive → a ≡ b
+same_holders a b shared exclusive = ap (λ (n : ℕ). record a { shared = n }) shared ∙ ap (λ (n : ℕ). record b { exclusive = n }) exclusive

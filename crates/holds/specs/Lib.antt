@@ -1,3 +1,4 @@
 pub mod Conflicts
+pub mod Few
 pub mod Numbers
 pub mod Under

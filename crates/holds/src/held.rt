@@ -1,9 +1,11 @@
 //! What a request holds while it is worked on.
 
-ghost use Rattle.std.specs.Prelude.{◌≡◌, ◌↔◌, ℕ, List, IsTrue, Contains};
+ghost use Rattle.std.specs.Prelude.{◌≡◌, ◌↔◌, ◌++◌, ◌∷◌, [], ℕ, List, IsTrue, Contains, OnOk};
 
+use crate::few::Few;
 use crate::finding::contains;
 use paths::Path;
+use std::alloc::{AllocError, Global};
 use std::marker::Model;
 
 /// A node that a request names, with its path when the request began.
@@ -16,24 +18,52 @@ pub struct GivenPath {
 /// The nodes that a request names. Contracts see a list.
 #[derive(Drop)]
 pub struct GivenPaths {
-    leads: Vec<GivenPath>,
+    leads: Few<GivenPath>,
 }
 
 impl Model for GivenPaths {
     ghost use Rattle.std.specs.Prelude.{List};
     ghost use Rattle.holds.specs.declared.held.GivenPath.{GivenPath};
+    ghost use Rattle.holds.specs.Few.{items_of};
 
     ghost Value = { List GivenPath };
 
-    ghost view = { λ l. l.leads.items };
+    ghost view = { λ l. items_of l.leads };
 }
 
 impl GivenPaths {
+    /// None.
+    pub fn new() -> GivenPaths
+        ensures { result ≡ [] }
+    {
+        GivenPaths {
+            leads: Few::Nothing,
+        }
+    }
+
+    /// That node alone.
+    pub fn one(lead: GivenPath) -> GivenPaths
+        ensures { result ≡ lead ∷ [] }
+    {
+        GivenPaths {
+            leads: Few::One(lead),
+        }
+    }
+
     /// Those nodes.
     pub fn from_vec(leads: Vec<GivenPath>) -> GivenPaths
         ensures { result ≡ leads.items }
     {
-        GivenPaths { leads }
+        GivenPaths {
+            leads: Few::Many(leads),
+        }
+    }
+
+    /// Puts the node behind the others. The first one takes no memory.
+    pub fn push(&mut self, alloc: Global, lead: GivenPath) -> Result<(), AllocError>
+        ensures { OnOk result (self.new ≡ self.old ++ lead ∷ []) }
+    {
+        self.leads.push(alloc, lead)
     }
 
     pub fn as_slice(&self) -> &[GivenPath]
@@ -46,23 +76,46 @@ impl GivenPaths {
 /// Some paths. Contracts see a list.
 #[derive(Drop)]
 pub struct Paths {
-    paths: Vec<Path>,
+    paths: Few<Path>,
 }
 
 impl Model for Paths {
+    ghost use Rattle.std.specs.Prelude.{ℕ, List};
+    ghost use Rattle.holds.specs.Few.{items_of};
+
     ghost Value = { List (List (List ℕ)) };
 
-    ghost view = { λ p. p.paths.items };
+    ghost view = { λ p. items_of p.paths };
 }
 
 impl Paths {
     ghost use Rattle.holds.specs.Conflicts.{Overlaps, is_among};
 
+    /// None.
+    pub fn new() -> Paths
+        ensures { result ≡ [] }
+    {
+        Paths {
+            paths: Few::Nothing,
+        }
+    }
+
+    /// That path alone.
+    pub fn one(path: Path) -> Paths
+        ensures { result ≡ path ∷ [] }
+    {
+        Paths {
+            paths: Few::One(path),
+        }
+    }
+
     /// Those paths.
     pub fn from_vec(paths: Vec<Path>) -> Paths
         ensures { result ≡ paths.items }
     {
-        Paths { paths }
+        Paths {
+            paths: Few::Many(paths),
+        }
     }
 
     pub fn as_slice(&self) -> &[Path]
@@ -71,11 +124,18 @@ impl Paths {
         self.paths.as_slice()
     }
 
-    pub fn into_vec(self) -> Vec<Path>
-        ensures { result.items ≡ self }
+    /// Puts the path behind the others. The first one takes no memory.
+    pub fn push(&mut self, alloc: Global, path: Path) -> Result<(), AllocError>
+        ensures { OnOk result (self.new ≡ self.old ++ path ∷ []) }
     {
-        let Self { paths } = self;
-        paths
+        self.paths.push(alloc, path)
+    }
+
+    /// Makes room for so many paths more behind none or many.
+    pub(crate) fn reserve(&mut self, alloc: Global, more: usize) -> Result<(), AllocError>
+        ensures { self.new ≡ self.old }
+    {
+        self.paths.reserve(alloc, more)
     }
 
     /// Whether the path is one of them.

@@ -1,6 +1,7 @@
 //! What requests in flight hold, so that those that touch the same names wait for one another.
 #![tactic(auto)]
 
+mod few;
 mod finding;
 mod held;
 mod names_under;

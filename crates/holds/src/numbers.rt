@@ -3,7 +3,7 @@
 //! A path counts once for each request, however often it is listed there. What is asked about a path is one look-up,
 //! however many requests are in flight. Room is made as a request is added, so that its end takes no memory.
 
-ghost use Rattle.std.specs.Prelude.{◌≡◌, ◌<◌, ◌≤◌, ◌+◌, ◌*◌, ◌^◌, ◌↔◌, ◌++◌, ◌∷◌, [], true, false, if◌then◌else◌, Any, IfOk, IsTrue, OnErr, OnOk, length, vec_len};
+ghost use Rattle.std.specs.Prelude.{◌≡◌, ◌<◌, ◌≤◌, ◌+◌, ◌*◌, ◌^◌, ◌↔◌, ◌++◌, ◌∷◌, [], true, false, if◌then◌else◌, Any, IfOk, IsTrue, OnErr, OnOk, length};
 ghost use Rattle.paths.specs.Prefixes.{Names};
 ghost use Rattle.steady_map.specs.Living.{live, places};
 ghost use Rattle.holds.specs.Conflicts.{is_among};
@@ -128,13 +128,16 @@ impl HoldNumbers {
         ensures same { OnErr result ((path : Names) → holders_on self.new path ≡ holders_on self.old path) }
         ensures law { AreNumbers self.new }
     {
-        let alloc = *self.by_path.allocator();
-        let shared = copies_of(alloc, held.shared.as_slice())?;
-        let exclusive = copies_of(alloc, held.exclusive.as_slice())?;
+        let (shared, exclusive) = (held.shared.as_slice(), held.exclusive.as_slice());
         self.reserve(shared.len() + exclusive.len())?;
-        raise_all(self, shared, SHARER);
-        raise_all(self, exclusive, OWNER);
-        Ok(())
+        raise_all(self, shared, SHARER)?;
+        match raise_all(self, exclusive, OWNER) {
+            Ok(()) => Ok(()),
+            Err(error) => {
+                lower_all(self, shared, SHARER);
+                Err(error)
+            }
+        }
     }
 
     /// Makes room for so many paths more.
@@ -162,43 +165,35 @@ impl HoldNumbers {
     }
 }
 
-/// The same paths, once more.
-fn copies_of(alloc: Global, paths: &[Path]) -> Result<Vec<Path>, AllocError>
-    ensures { IfOk result (λ copies. copies.items ≡ paths.now) }
-{
-    let mut copies = Vec::with_capacity(alloc, paths.len())?;
-    for path in paths {
-        copies.push(path.copy()?)?;
-    }
-    Ok(copies)
-}
-
-/// One holder more of the path, for which there is room. It takes no memory.
-fn raise(numbers: &mut HoldNumbers, path: Path, one: Holders)
+/// One holder more of the path, for which there is room. The error is that no further copy of the path can be counted: then nothing changes.
+fn raise(numbers: &mut HoldNumbers, path: &Path, one: Holders) -> Result<(), AllocError>
     requires law { AreNumbers numbers.old }
     requires some { 0 < one.shared + one.exclusive }
     requires room { HasPlaces numbers.old 1 }
-    requires shared { (holders_on numbers.old path).shared + one.shared < 2 ^ 64 }
-    requires exclusive { (holders_on numbers.old path).exclusive + one.exclusive < 2 ^ 64 }
-    ensures shared { (p : Names) → (holders_on numbers.new p).shared ≡ (holders_on numbers.old p).shared + (if is_same_path path p then one.shared else 0) }
-    ensures exclusive { (p : Names) → (holders_on numbers.new p).exclusive ≡ (holders_on numbers.old p).exclusive + (if is_same_path path p then one.exclusive else 0) }
+    requires shared { (holders_on numbers.old path.now).shared + one.shared < 2 ^ 64 }
+    requires exclusive { (holders_on numbers.old path.now).exclusive + one.exclusive < 2 ^ 64 }
+    ensures shared { OnOk result ((p : Names) → (holders_on numbers.new p).shared ≡ (holders_on numbers.old p).shared + (if is_same_path path.now p then one.shared else 0)) }
+    ensures exclusive { OnOk result ((p : Names) → (holders_on numbers.new p).exclusive ≡ (holders_on numbers.old p).exclusive + (if is_same_path path.now p then one.exclusive else 0)) }
+    ensures same { OnErr result (numbers.new ≡ numbers.old) }
     ensures live { live numbers.new.by_path ≤ live numbers.old.by_path + 1 }
     ensures places { places numbers.old.by_path ≤ places numbers.new.by_path }
     ensures law { AreNumbers numbers.new }
 {
-    match value_of(&numbers.by_path, &path) {
+    match value_of(&numbers.by_path, path) {
         Some(holders) => {
             let more = Holders {
                 shared: holders.shared + one.shared,
                 exclusive: holders.exclusive + one.exclusive,
             };
-            set(&mut numbers.by_path, &path, more);
+            set(&mut numbers.by_path, path, more);
         }
         None => {
-            put(&mut numbers.by_path, path, one);
+            let copy = path.copy()?;
+            put(&mut numbers.by_path, copy, one);
             numbers.paths += 1;
         }
     }
+    Ok(())
 }
 
 /// One holder less of the path. It takes no memory.
@@ -224,40 +219,53 @@ fn lower(numbers: &mut HoldNumbers, path: &Path, one: Holders)
     }
 }
 
-/// One holder more of each of the paths, for which there is room. It takes no memory.
-fn raise_all(numbers: &mut HoldNumbers, paths: Vec<Path>, one: Holders)
+/// One holder more of each of the paths, for which there is room. The error is that no further copy of one can be counted: then all numbers are as they were.
+fn raise_all(numbers: &mut HoldNumbers, paths: &[Path], one: Holders) -> Result<(), AllocError>
     requires law { AreNumbers numbers.old }
     requires some { 0 < one.shared + one.exclusive }
-    requires room { HasPlaces numbers.old (vec_len paths) }
+    requires room { HasPlaces numbers.old (length paths.now) }
     requires few { (path : Names) → ((holders_on numbers.old path).shared + one.shared < 2 ^ 64) × ((holders_on numbers.old path).exclusive + one.exclusive < 2 ^ 64) }
-    ensures raises { Raises numbers.old paths.items one numbers.new }
-    ensures live { live numbers.new.by_path ≤ live numbers.old.by_path + vec_len paths }
-    ensures places { places numbers.old.by_path ≤ places numbers.new.by_path }
+    ensures raises { OnOk result (Raises numbers.old paths.now one numbers.new) }
+    ensures same { OnErr result ((path : Names) → holders_on numbers.new path ≡ holders_on numbers.old path) }
+    ensures live { OnOk result (live numbers.new.by_path ≤ live numbers.old.by_path + length paths.now) }
+    ensures places { OnOk result (places numbers.old.by_path ≤ places numbers.new.by_path) }
     ensures law { AreNumbers numbers.new }
 {
-    let mut rest = paths;
-    while let Some(path) = rest.pop() {
-        raise_once(numbers, rest.as_slice(), path, one);
+    for (i, path) in paths.iter().enumerate() {
+        match raise_once(numbers, &paths[..i], path, one) {
+            Ok(()) => {}
+            Err(error) => {
+                lower_all(numbers, &paths[..i], one);
+                return Err(error);
+            }
+        }
     }
+    Ok(())
 }
 
-/// One holder more of the path, for which there is room, unless it is among those before it. It takes no memory.
-fn raise_once(numbers: &mut HoldNumbers, before: &[Path], path: Path, one: Holders)
+/// One holder more of the path, for which there is room, unless it is among those before it. The error is that of `raise`.
+fn raise_once(
+    numbers: &mut HoldNumbers,
+    before: &[Path],
+    path: &Path,
+    one: Holders,
+) -> Result<(), AllocError>
     requires law { AreNumbers numbers.old }
     requires some { 0 < one.shared + one.exclusive }
     requires room { HasPlaces numbers.old 1 }
-    requires shared { is_among before.now path ≡ false → (holders_on numbers.old path).shared + one.shared < 2 ^ 64 }
-    requires exclusive { is_among before.now path ≡ false → (holders_on numbers.old path).exclusive + one.exclusive < 2 ^ 64 }
-    ensures shared { (p : Names) → (holders_on numbers.new p).shared + counted_in before.now p one.shared ≡ (holders_on numbers.old p).shared + counted_in (before.now ++ path ∷ []) p one.shared }
-    ensures exclusive { (p : Names) → (holders_on numbers.new p).exclusive + counted_in before.now p one.exclusive ≡ (holders_on numbers.old p).exclusive + counted_in (before.now ++ path ∷ []) p one.exclusive }
+    requires shared { is_among before.now path.now ≡ false → (holders_on numbers.old path.now).shared + one.shared < 2 ^ 64 }
+    requires exclusive { is_among before.now path.now ≡ false → (holders_on numbers.old path.now).exclusive + one.exclusive < 2 ^ 64 }
+    ensures shared { OnOk result ((p : Names) → (holders_on numbers.new p).shared + counted_in before.now p one.shared ≡ (holders_on numbers.old p).shared + counted_in (before.now ++ path.now ∷ []) p one.shared) }
+    ensures exclusive { OnOk result ((p : Names) → (holders_on numbers.new p).exclusive + counted_in before.now p one.exclusive ≡ (holders_on numbers.old p).exclusive + counted_in (before.now ++ path.now ∷ []) p one.exclusive) }
+    ensures same { OnErr result (numbers.new ≡ numbers.old) }
     ensures live { live numbers.new.by_path ≤ live numbers.old.by_path + 1 }
     ensures places { places numbers.old.by_path ≤ places numbers.new.by_path }
     ensures law { AreNumbers numbers.new }
 {
-    if contains(before, &path) {
-        return;
+    if contains(before, path) {
+        return Ok(());
     }
-    raise(numbers, path, one);
+    raise(numbers, path, one)
 }
 
 /// One holder less of each of the paths. It takes no memory.

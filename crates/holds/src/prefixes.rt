@@ -13,18 +13,18 @@ pub fn prefixes_of(alloc: Global, path: &Path) -> Result<Paths, AllocError>
     ensures whole { IfOk result (λ ps. ps ≡ prefixes_in path.now) }
     ensures set { IfOk result (λ ps. ArePrefixes ps path.now) }
 {
-    let mut prefixes = Vec::new(alloc);
-    push_prefixes(&mut prefixes, path)?;
-    Ok(Paths::from_vec(prefixes))
+    let mut prefixes = Paths::new();
+    push_prefixes(alloc, &mut prefixes, path)?;
+    Ok(prefixes)
 }
 
 /// Puts every prefix of the path but the empty one behind the others, the path itself last.
-pub fn push_prefixes(paths: &mut Vec<Path>, path: &Path) -> Result<(), AllocError>
-    ensures { OnOk result (paths.new.items ≡ paths.old.items ++ prefixes_in path.now) }
+pub fn push_prefixes(alloc: Global, paths: &mut Paths, path: &Path) -> Result<(), AllocError>
+    ensures { OnOk result (paths.new ≡ paths.old ++ prefixes_in path.now) }
 {
-    paths.reserve(path.len())?;
+    paths.reserve(alloc, path.len())?;
     for i in 0..path.len() {
-        paths.push(path.prefix(i + 1)?)?;
+        paths.push(alloc, path.prefix(i + 1)?)?;
     }
     Ok(())
 }

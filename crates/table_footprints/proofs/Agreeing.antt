@@ -158,7 +158,7 @@ module _ (at : Lookup) (tree : IsTree at) where
   -- ---- holds, pins and paths
 
   module _ (ls : List Location) (x : Gathering) where
-    shared_for : (hold : Hold) → AreNames (exclusive_in hold ls) → (enters : Bool) (change : told_change.Change) (c : Case) → IsGathering at hold ls x → (p : Names) → Contains x.shared.items p ↔ IsShared at (footprint_by ls hold enters change c) p
+    shared_for : (hold : Hold) → AreNames (exclusive_in hold ls) → (enters : Bool) (change : told_change.Change) (c : Case) → IsGathering at hold ls x → (p : Names) → Contains x.shared p ↔ IsShared at (footprint_by ls hold enters change c) p
     shared_for Shared names enters change c is p = (
       λ h. inl ((is.shared p).0 h),
       λ h. elim h [ inl any ↦ (is.shared p).1 any | inr none ↦ absurd (any_none (IsAboveAt at p) none) ],
@@ -168,14 +168,14 @@ module _ (at : Lookup) (tree : IsTree at) where
       λ h. elim h [ inl none ↦ absurd (any_none (IsPrefixAt at p) none) | inr any ↦ (is.shared p).1 (aboves_back p ls names any) ],
     )
 
-    own_for : (hold : Hold) → (enters : Bool) (change : told_change.Change) (c : Case) → IsGathering at hold ls x → (p : Names) → Contains x.exclusive.items p ↔ IsExclusive at (footprint_by ls hold enters change c) p
+    own_for : (hold : Hold) → (enters : Bool) (change : told_change.Change) (c : Case) → IsGathering at hold ls x → (p : Names) → Contains x.exclusive p ↔ IsExclusive at (footprint_by ls hold enters change c) p
     own_for Shared enters change c is p = (
       λ h. absurd (in_any (IsOwnAt at Shared p) ls ((is.exclusive p).0 h)).2,
       λ h. absurd (any_none (λ l. HasPath at l p) h),
     )
     own_for Exclusive enters change c is p = is.exclusive p
 
-    pub holds_for : (hold : Hold) → AreNames (exclusive_in hold ls) → (enters : Bool) (change : told_change.Change) (c : Case) → IsGathering at hold ls x → Holds at (footprint_by ls hold enters change c) (record { given = x.given.items; shared = x.shared.items; exclusive = x.exclusive.items })
+    pub holds_for : (hold : Hold) → AreNames (exclusive_in hold ls) → (enters : Bool) (change : told_change.Change) (c : Case) → IsGathering at hold ls x → Holds at (footprint_by ls hold enters change c) (record { given = x.given; shared = x.shared; exclusive = x.exclusive })
     holds_for hold names enters change c is = record {
       numbers = is.numbers;
       leads = is.leads;
@@ -248,7 +248,7 @@ enough_more Exchanges m n more h = omega (arith, more, h)
 pub enough_paths : (change : told_change.Change) (m n : ℕ) → m ≡ n → AreEnough change m → AreEnough change n
 enough_paths change m n e h = subst (λ k. AreEnough change k) e h
 
-pub agreed : (at : Lookup) → IsTree at → (footprint : UniformFootprint) (x : Gathering) (births entries : ℕ) (t : Reservation) → IsFit footprint → AreRooted at (locations_of footprint) → IsGathering at footprint.hold (locations_of footprint) x → MayChange footprint.change x.paths.items
+pub agreed : (at : Lookup) → IsTree at → (footprint : UniformFootprint) (x : Gathering) (births entries : ℕ) (t : Reservation) → IsFit footprint → AreRooted at (locations_of footprint) → IsGathering at footprint.hold (locations_of footprint) x → MayChange footprint.change x.paths
     → entries ≡ entries_of footprint → births ≡ births_in (entered_case x.absent footprint.enters) → entries_of footprint ≤ x.pins.room → IsReserved x (entered_case x.absent footprint.enters) births entries t → IsAgreed at footprint t
 agreed at tree footprint x births entries t fit rooted is may e b room drawn =
     let ls = locations_of footprint in
@@ -260,10 +260,10 @@ agreed at tree footprint x births entries t fit rooted is may e b room drawn =
     record {
       fits = subst (λ k. IsCaseOf at footprint.enters ls k) (sym drawn.case_is) (case_for at tree footprint.enters x.absent ls is.next_free is.taken);
       reservation = record {
-        sound = sound at tree ls footprint.hold footprint.enters footprint.change c x.paths.items rooted is.paths may;
+        sound = sound at tree ls footprint.hold footprint.enters footprint.change c x.paths rooted is.paths may;
         holds = subst (λ (held : Held). Holds at (footprint_by ls footprint.hold footprint.enters footprint.change c) held) (sym drawn.held) (holds_for at tree ls x footprint.hold fit.names footprint.enters footprint.change c is);
         pins = subst (λ (p : Pinned). (n : ℕ) → Contains p.numbers n ↔ IsPin at (footprint_by ls footprint.hold footprint.enters footprint.change c) n) (sym drawn.pins) (pins_for at tree ls x footprint.hold footprint.enters footprint.change c is);
-        paths = subst (λ (ps : List Names). ArePaths at ls ps) (sym drawn.paths) (paths_for at tree ls x.paths.items is.paths);
+        paths = subst (λ (ps : List Names). ArePaths at ls ps) (sym drawn.paths) (paths_for at tree ls x.paths is.paths);
         promise = subst (λ k. t.promise ≡ promise_of (footprint_by ls footprint.hold footprint.enters footprint.change k)) (sym drawn.case_is) (promised ∙ promise_for footprint.enters x.absent ls footprint.hold footprint.change fit.entry);
         pin_room = subst (λ (p : Pinned). length (if footprint.enters then key_in ls else []) ≤ p.room) (sym drawn.pins) (subst (λ n. n ≤ x.pins.room) (sym few) room);
         answer_room = subst (λ (g : Listed). length (if footprint.enters then key_in ls else []) ≤ g.room) (sym drawn.answer) (omega (arith, few, e));

@@ -1,14 +1,13 @@
 -- A gathering with one location more.
 use Rattle.std.proofs.Common.{ℕ, ◌+◌, ◌<◌, ◌≡◌, ◌↔◌, ◌||◌, Bool, true, false, List, [], ◌∷◌, ◌++◌, Option, Some, None, All, Contains, length, get_or, take, refl, sym, ap, ◌∙◌, subst, ◌⊎◌, inl, inr, arith}
 use Rattle.std.specs.Prelude.{Any, is_none, map}
-use Rattle.std.proofs.lemmas.Bool.{and_parts, false≢true, true≢false}
+use Rattle.std.proofs.lemmas.Bool.{false≢true, true≢false}
 use Rattle.std.proofs.lemmas.List.{map-append, take_more}
 use Rattle.std.proofs.lemmas.List.Elements.{All-push, Contains-append_cases, Contains-append_left, Contains-append_right}
 use Rattle.std.proofs.lemmas.Option.{none-some}
-use Rattle.paths.specs.Prefixes.{Name, Names, prefixes, is_prefix, is_name}
-use Rattle.paths.proofs.PrefixLemmas.{is_name-same, is_name-true}
+use Rattle.paths.specs.Prefixes.{Names, prefixes}
 use Rattle.holds.specs.declared.held.GivenPath.{GivenPath}
-use Rattle.holds.specs.Conflicts.{ArePrefixes, IsSomePrefix}
+use Rattle.holds.specs.Conflicts.{IsSomePrefix}
 use Rattle.holds.proofs.Among.{contains_read}
 use Rattle.holds.proofs.Prefixing.{prefixes_are}
 use Rattle.tree.specs.Places.{Lookup, IsPathOf, IsTree}
@@ -24,7 +23,7 @@ use Rattle.table_footprints.specs.Gatherings.{Adds, IsBadPath, IsBadFootprint, I
 use Rattle.table_footprints.specs.Laws.{base_of}
 use Rattle.table_footprints.specs.Footprints.{Location, AtNode}
 use Rattle.table_footprints.proofs.Finding.{location_once}
-use Rattle.table_footprints.proofs.Members.{any_in, any_none, any_push, cases_in, contains_push, first_in, in_map, later_in, map_in, none_in, only_in, zip_push}
+use Rattle.table_footprints.proofs.Members.{any_in, any_none, any_push, contains_push, first_in, map_in, none_in, only_in, zip_push}
 
 -- ---- lists
 
@@ -111,15 +110,15 @@ module _ (at : Lookup) (tree : IsTree at) (l : Location) (f : Found) (found : Is
     pub draft_more : (old new : Gathering) → IsGathering at hold ls old → Adds old (base_of l) f hold new → IsGathering at hold (ls ++ l ∷ []) new
     draft_more old new is adds = record {
       numbers = ap (λ (leads : List GivenPath). map (λ (lead : GivenPath). lead.number) leads) adds.given
-          ∙ (map-append (λ (lead : GivenPath). lead.number) old.given.items (record { number = base_of l; path = f.above } ∷ [])
+          ∙ (map-append (λ (lead : GivenPath). lead.number) old.given (record { number = base_of l; path = f.above } ∷ [])
           ∙ (ap (λ (ns : List ℕ). ns ++ base_of l ∷ []) is.numbers ∙ sym (map-append (λ x. base_of x) ls (l ∷ []))));
       leads = subst (λ (leads : List GivenPath). All (λ (lead : GivenPath). IsPathOf at lead.number lead.path) leads) (sym adds.given)
-          (All-push (λ (lead : GivenPath). IsPathOf at lead.number lead.path) old.given.items (record { number = base_of l; path = f.above }) is.leads found.above);
+          (All-push (λ (lead : GivenPath). IsPathOf at lead.number lead.path) old.given (record { number = base_of l; path = f.above }) is.leads found.above);
       shared = λ p. subst (λ (ps : List Names). Contains ps p ↔ Any (IsSharedAt at hold p) (ls ++ l ∷ [])) (sym adds.shared)
-          (along (joined old.shared.items (prefixes (shared_path hold f)) p (is.shared p) (shared_here hold p)) (any_push (IsSharedAt at hold p) ls l));
+          (along (joined old.shared (prefixes (shared_path hold f)) p (is.shared p) (shared_here hold p)) (any_push (IsSharedAt at hold p) ls l));
       exclusive = λ p. subst (λ (ps : List Names). Contains ps p ↔ Any (IsOwnAt at hold p) (ls ++ l ∷ [])) (sym adds.exclusive)
-          (along (joined old.exclusive.items (own_paths hold f) p (is.exclusive p) (own_here hold p)) (any_push (IsOwnAt at hold p) ls l));
-      paths = rw adds.paths (zip_push (IsShortPath at) ls old.paths.items l f.path is.paths (found.path, found.short));
+          (along (joined old.exclusive (own_paths hold f) p (is.exclusive p) (own_here hold p)) (any_push (IsOwnAt at hold p) ls l));
+      paths = rw adds.paths (zip_push (IsShortPath at) ls old.paths l f.path is.paths (found.path, found.short));
       pins = λ n. (
         λ h. (any_push (IsPinAt at n) ls l).1 (elim ((adds.pins n).0 h) [
           | inl before ↦ inl ((is.pins n).0 before)

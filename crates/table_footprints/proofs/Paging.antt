@@ -67,7 +67,7 @@ module _ (at : Lookup) (tree : IsTree at) (folder : ℕ) where
     leads = rw adds.given is.leads;
     shared = rw adds.shared is.shared;
     exclusive = adds.exclusive ∙ is.exclusive;
-    paths = rw adds.paths (zip_push (IsShortPath at) (AtNode folder ∷ ls) old.paths.items l f.path is.paths (found.path, found.short));
+    paths = rw adds.paths (zip_push (IsShortPath at) (AtNode folder ∷ ls) old.paths l f.path is.paths (found.path, found.short));
     pins = λ n.
         let push = any_push (λ m. IsThere at m n) (AtNode folder ∷ ls) l in (
           λ h. elim ((adds.pins n).0 h) [
@@ -111,7 +111,7 @@ module _ (at : Lookup) (tree : IsTree at) (folder : ℕ) where
     many : length (page_keys folder names) ≡ length names
     many = length-map names (λ (name : Name). let key : Key = record { parent = folder; name = name } in key)
 
-    page_holds : (x : Gathering) → IsPage at folder (page_names folder names) x → Holds at (page_footprint folder names) (record { given = x.given.items; shared = x.shared.items; exclusive = x.exclusive.items })
+    page_holds : (x : Gathering) → IsPage at folder (page_names folder names) x → Holds at (page_footprint folder names) (record { given = x.given; shared = x.shared; exclusive = x.exclusive })
     page_holds x is = record {
       numbers = is.numbers;
       leads = is.leads;
@@ -133,10 +133,10 @@ module _ (at : Lookup) (tree : IsTree at) (folder : ℕ) where
 
     pub page_agreed : (x : Gathering) (t : Reservation) → Leads at folder → IsPage at folder (page_names folder names) x → length names ≤ x.pins.room → IsReserved x cases.Plain (length names) (length names) t → IsReservation at (page_footprint folder names) t
     page_agreed x t leads is room drawn = record {
-      sound = record { not_stale = page_rooted leads; not_long = page_short x.paths.items is.paths; not_misplaced = λ e bad. bad };
+      sound = record { not_stale = page_rooted leads; not_long = page_short x.paths is.paths; not_misplaced = λ e bad. bad };
       holds = subst (λ (held : Held). Holds at (page_footprint folder names) held) (sym drawn.held) (page_holds x is);
       pins = subst (λ (p : Pinned). (n : ℕ) → Contains p.numbers n ↔ IsPin at (page_footprint folder names) n) (sym drawn.pins) (page_pins x is);
-      paths = subst (λ (ps : List Names). ArePaths at (AtNode folder ∷ page_names folder names) ps) (sym drawn.paths) (paths_for at tree (AtNode folder ∷ page_names folder names) x.paths.items is.paths);
+      paths = subst (λ (ps : List Names). ArePaths at (AtNode folder ∷ page_names folder names) ps) (sym drawn.paths) (paths_for at tree (AtNode folder ∷ page_names folder names) x.paths is.paths);
       promise = drawn.promise ∙ ap (λ (n : ℕ). let p : Promise = record { nodes = length names; postings = 3 * n; files = 0 } in p) (sym many);
       pin_room = subst (λ (p : Pinned). length (page_keys folder names) ≤ p.room) (sym drawn.pins) (subst (λ n. n ≤ x.pins.room) (sym many) room);
       answer_room = subst (λ (g : Listed). length (page_keys folder names) ≤ g.room) (sym drawn.answer) (omega (arith, many));

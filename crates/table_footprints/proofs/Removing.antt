@@ -122,7 +122,7 @@ gathered_more at tree ls all l f old new is found adds = record {
   shared = rw adds.shared is.shared;
   exclusive = λ p.
       let push = any_push (λ m. HasPath at m p) all l in
-      let own = contains_push old.exclusive.items f.path p in (
+      let own = contains_push old.exclusive f.path p in (
         λ h. push.1 (elim (own.0 (subst (λ (ps : List Names). Contains ps p) adds.exclusive h)) [
           | inl before ↦ inl ((is.exclusive p).0 before)
           | inr e ↦ inr (subst (λ (q : Names). HasPath at l q) e found.path)
@@ -132,7 +132,7 @@ gathered_more at tree ls all l f old new is found adds = record {
           | inr here ↦ inr (location_once at tree l f.path p found.path here)
         ])),
       );
-  paths = rw adds.paths (zip_push (IsShortPath at) all old.paths.items l f.path is.paths (found.path, found.short));
+  paths = rw adds.paths (zip_push (IsShortPath at) all old.paths l f.path is.paths (found.path, found.short));
   pins = λ n.
       let push = any_push (λ m. IsThere at m n) all l in (
         λ h. elim ((adds.pins n).0 h) [
@@ -199,7 +199,7 @@ module _ (at : Lookup) (tree : IsTree at) (ls : List Location) (change : told_ch
             any_in (IsSharedAt at Exclusive p) ls l.0 l.1 (subst (λ n. IsPrefixAt at p (AtNode n)) (sym l.2) above)
       ]
 
-  going_holds : Contains (map (λ l. base_of l) ls) folder → AreNames ls → (x : Gathering) → IsGathered at ls all x → Holds at d (record { given = x.given.items; shared = x.shared.items; exclusive = x.exclusive.items })
+  going_holds : Contains (map (λ l. base_of l) ls) folder → AreNames ls → (x : Gathering) → IsGathered at ls all x → Holds at d (record { given = x.given; shared = x.shared; exclusive = x.exclusive })
   going_holds under names x is = record {
     numbers = is.numbers;
     leads = is.leads;
@@ -210,12 +210,12 @@ module _ (at : Lookup) (tree : IsTree at) (ls : List Location) (change : told_ch
     exclusive = is.exclusive;
   }
 
-  pub going_agreed : (x : Gathering) (case : Case) (t : Reservation) → AreRooted at ls → Contains (map (λ l. base_of l) ls) folder → AreNames ls → IsGathered at ls all x → MayChange change x.paths.items → IsReserved x case 0 0 t → IsReservation at d t
+  pub going_agreed : (x : Gathering) (case : Case) (t : Reservation) → AreRooted at ls → Contains (map (λ l. base_of l) ls) folder → AreNames ls → IsGathered at ls all x → MayChange change x.paths → IsReserved x case 0 0 t → IsReservation at d t
   going_agreed x case t rooted under names is may drawn = record {
-    sound = record { not_stale = going_rooted rooted; not_long = going_short x.paths.items is.paths; not_misplaced = not_misplaced at tree change all x.paths.items is.paths may };
+    sound = record { not_stale = going_rooted rooted; not_long = going_short x.paths is.paths; not_misplaced = not_misplaced at tree change all x.paths is.paths may };
     holds = subst (λ (held : Held). Holds at d held) (sym drawn.held) (going_holds under names x is);
     pins = subst (λ (p : Pinned). (n : ℕ) → Contains p.numbers n ↔ IsPin at d n) (sym drawn.pins) is.pins;
-    paths = subst (λ (ps : List Names). ArePaths at all ps) (sym drawn.paths) (paths_for at tree all x.paths.items is.paths);
+    paths = subst (λ (ps : List Names). ArePaths at all ps) (sym drawn.paths) (paths_for at tree all x.paths is.paths);
     promise = drawn.promise;
     pin_room = omega arith;
     answer_room = omega arith;

@@ -26,7 +26,7 @@ use Rattle.table_footprints.specs.declared.data.NewRequest.{NewRequest}
 use Rattle.table_footprints.specs.declared.gatherings.Reservation.{Reservation}
 use Rattle.table_footprints.specs.Gatherings.{IsEntryAt, IsTaken, IsRecord, IsReservation, HasNoNode, IsWanted}
 use Rattle.table_footprints.specs.NewRequests.{IsNewRequest, IsRefusedRequest, copied, copied_page}
-use Rattle.table_footprints.specs.Footprints.{Footprint, AtName, AtNode, Opening, Used, are_same, exchange_footprint, hidden_in, move_footprint, name_footprint, node_footprint, page_footprint, removal_footprint, footprint_of, used_on}
+use Rattle.table_footprints.specs.Footprints.{Footprint, AtName, AtNode, Opening, Used, are_same, exchange_footprint, hidden_in, move_footprint, name_footprint, node_footprint, removal_footprint, footprint_of, used_on}
 use Rattle.table_footprints.proofs.Members.{all_in, any_only, cases_in, first_in, later_in, none_in}
 
 -- ---- whether a node stands at a name

@@ -215,10 +215,10 @@ own_paths Exclusive f = f.path ∷ []
 
 -- one location more
 pub record Adds (old : Gathering) (number : ℕ) (f : Found) (hold : Hold) (new : Gathering) : Type 0 where
-  pub given : new.given.items ≡ old.given.items ++ record { number = number; path = f.above } ∷ []
-  pub shared : new.shared.items ≡ old.shared.items ++ prefixes (shared_path hold f)
-  pub exclusive : new.exclusive.items ≡ old.exclusive.items ++ own_paths hold f
-  pub paths : new.paths.items ≡ old.paths.items ++ f.path ∷ []
+  pub given : new.given ≡ old.given ++ record { number = number; path = f.above } ∷ []
+  pub shared : new.shared ≡ old.shared ++ prefixes (shared_path hold f)
+  pub exclusive : new.exclusive ≡ old.exclusive ++ own_paths hold f
+  pub paths : new.paths ≡ old.paths ++ f.path ∷ []
   pub pins : (n : ℕ) → Contains new.pins.numbers n ↔ (Contains old.pins.numbers n ⊎ ((number ≡ n) ⊎ (f.node ≡ Some n)))
   pub room : old.pins.room ≤ new.pins.room + 2
   pub absent : new.absent ≡ (old.absent || is_none f.node)
@@ -246,20 +246,20 @@ IsTaken at l = (n : ℕ) × IsThere at l n
 
 -- all that was found at these locations
 pub record IsGathering (at : Lookup) (hold : Hold) (ls : List Location) (x : Gathering) : Type 0 where
-  pub numbers : map (λ (lead : GivenPath). lead.number) x.given.items ≡ map (λ l. base_of l) ls
-  pub leads : All (λ (lead : GivenPath). IsPathOf at lead.number lead.path) x.given.items
-  pub shared : (p : Names) → Contains x.shared.items p ↔ Any (IsSharedAt at hold p) ls
-  pub exclusive : (p : Names) → Contains x.exclusive.items p ↔ Any (IsOwnAt at hold p) ls
-  pub paths : AllZip (IsShortPath at) ls x.paths.items
+  pub numbers : map (λ (lead : GivenPath). lead.number) x.given ≡ map (λ l. base_of l) ls
+  pub leads : All (λ (lead : GivenPath). IsPathOf at lead.number lead.path) x.given
+  pub shared : (p : Names) → Contains x.shared p ↔ Any (IsSharedAt at hold p) ls
+  pub exclusive : (p : Names) → Contains x.exclusive p ↔ Any (IsOwnAt at hold p) ls
+  pub paths : AllZip (IsShortPath at) ls x.paths
   pub pins : (n : ℕ) → Contains x.pins.numbers n ↔ Any (IsPinAt at n) ls
   pub next_free : x.absent ≡ true → Any (HasNoNode at) ls
   pub taken : x.absent ≡ false → All (IsTaken at) ls
 
 pub record IsNoGathering (room : ℕ) (x : Gathering) : Type 0 where
-  pub given : x.given.items ≡ []
-  pub shared : x.shared.items ≡ []
-  pub exclusive : x.exclusive.items ≡ []
-  pub paths : x.paths.items ≡ []
+  pub given : x.given ≡ []
+  pub shared : x.shared ≡ []
+  pub exclusive : x.exclusive ≡ []
+  pub paths : x.paths ≡ []
   pub pins : x.pins ≡ record { numbers = []; room = room }
   pub absent : x.absent ≡ false
 
@@ -267,11 +267,11 @@ pub record IsNoGathering (room : ℕ) (x : Gathering) : Type 0 where
 
 pub record IsReserved (x : Gathering) (case : Case) (births entries : ℕ) (t : Reservation) : Type 0 where
   pub case_is : t.case ≡ case
-  pub held : t.held ≡ record { given = x.given.items; shared = x.shared.items; exclusive = x.exclusive.items }
+  pub held : t.held ≡ record { given = x.given; shared = x.shared; exclusive = x.exclusive }
   pub promise : t.promise ≡ record { nodes = births; postings = 3 * entries; files = 0 }
   pub answer : t.answer ≡ record { items = []; room = entries }
   pub pins : t.pins ≡ x.pins
-  pub paths : t.paths ≡ x.paths.items
+  pub paths : t.paths ≡ x.paths
 
 -- what the footprint asks for
 pub record IsReservation (at : Lookup) (d : Footprint) (t : Reservation) : Type 0 where

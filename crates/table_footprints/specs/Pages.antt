@@ -12,18 +12,18 @@ use Rattle.table_footprints.specs.Footprints.{Location, AtNode}
 
 -- one name more, of which nothing is held
 pub record AddsName (old : Gathering) (f : Found) (new : Gathering) : Type 0 where
-  pub given : new.given.items ≡ old.given.items
-  pub shared : new.shared.items ≡ old.shared.items
-  pub exclusive : new.exclusive.items ≡ old.exclusive.items
-  pub paths : new.paths.items ≡ old.paths.items ++ f.path ∷ []
+  pub given : new.given ≡ old.given
+  pub shared : new.shared ≡ old.shared
+  pub exclusive : new.exclusive ≡ old.exclusive
+  pub paths : new.paths ≡ old.paths ++ f.path ∷ []
   pub pins : (n : ℕ) → Contains new.pins.numbers n ↔ (Contains old.pins.numbers n ⊎ (f.node ≡ Some n))
   pub room : old.pins.room ≤ new.pins.room + 1
 
 -- all that was found at the folder and at these names
 pub record IsPage (at : Lookup) (folder : ℕ) (ls : List Location) (x : Gathering) : Type 0 where
-  pub numbers : map (λ (lead : GivenPath). lead.number) x.given.items ≡ folder ∷ []
-  pub leads : All (λ (lead : GivenPath). IsPathOf at lead.number lead.path) x.given.items
-  pub shared : (p : Names) → Contains x.shared.items p ↔ Any (IsPrefixAt at p) (AtNode folder ∷ [])
-  pub exclusive : x.exclusive.items ≡ []
-  pub paths : AllZip (IsShortPath at) (AtNode folder ∷ ls) x.paths.items
+  pub numbers : map (λ (lead : GivenPath). lead.number) x.given ≡ folder ∷ []
+  pub leads : All (λ (lead : GivenPath). IsPathOf at lead.number lead.path) x.given
+  pub shared : (p : Names) → Contains x.shared p ↔ Any (IsPrefixAt at p) (AtNode folder ∷ [])
+  pub exclusive : x.exclusive ≡ []
+  pub paths : AllZip (IsShortPath at) (AtNode folder ∷ ls) x.paths
   pub pins : (n : ℕ) → Contains x.pins.numbers n ↔ ((folder ≡ n) ⊎ Any (λ l. IsThere at l n) (AtNode folder ∷ ls))

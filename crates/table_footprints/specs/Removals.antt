@@ -39,20 +39,20 @@ going_footprint footprint gone c = going_in (locations_of footprint) footprint.c
 
 -- one name more that is held exclusively, beside those of the footprint
 pub record AddsBeside (old : Gathering) (f : Found) (new : Gathering) : Type 0 where
-  pub given : new.given.items ≡ old.given.items
-  pub shared : new.shared.items ≡ old.shared.items
-  pub exclusive : new.exclusive.items ≡ old.exclusive.items ++ f.path ∷ []
-  pub paths : new.paths.items ≡ old.paths.items ++ f.path ∷ []
+  pub given : new.given ≡ old.given
+  pub shared : new.shared ≡ old.shared
+  pub exclusive : new.exclusive ≡ old.exclusive ++ f.path ∷ []
+  pub paths : new.paths ≡ old.paths ++ f.path ∷ []
   pub pins : (n : ℕ) → Contains new.pins.numbers n ↔ (Contains old.pins.numbers n ⊎ (f.node ≡ Some n))
   pub room : old.pins.room ≤ new.pins.room + 1
 
 -- all that was found at these locations, of which the first give their nodes
 pub record IsGathered (at : Lookup) (firsts all : List Location) (x : Gathering) : Type 0 where
-  pub numbers : map (λ (lead : GivenPath). lead.number) x.given.items ≡ map (λ l. base_of l) firsts
-  pub leads : All (λ (lead : GivenPath). IsPathOf at lead.number lead.path) x.given.items
-  pub shared : (p : Names) → Contains x.shared.items p ↔ Any (IsSharedAt at Exclusive p) firsts
-  pub exclusive : (p : Names) → Contains x.exclusive.items p ↔ Any (λ l. HasPath at l p) all
-  pub paths : AllZip (IsShortPath at) all x.paths.items
+  pub numbers : map (λ (lead : GivenPath). lead.number) x.given ≡ map (λ l. base_of l) firsts
+  pub leads : All (λ (lead : GivenPath). IsPathOf at lead.number lead.path) x.given
+  pub shared : (p : Names) → Contains x.shared p ↔ Any (IsSharedAt at Exclusive p) firsts
+  pub exclusive : (p : Names) → Contains x.exclusive p ↔ Any (λ l. HasPath at l p) all
+  pub paths : AllZip (IsShortPath at) all x.paths
   pub pins : (n : ℕ) → Contains x.pins.numbers n ↔ (Contains (map (λ l. base_of l) firsts) n ⊎ Any (λ l. IsThere at l n) all)
 
 -- what the footprint asks for, in the case of the name that goes

@@ -54,24 +54,6 @@ fn is_last(tree: &Tree, files: &Files, number: u64) -> bool
     }
 }
 
-/// That path alone.
-fn one_path(alloc: Global, path: Path) -> Result<Paths, AllocError>
-    ensures { IfOk result (λ paths. paths ≡ path ∷ []) }
-{
-    let mut paths = Vec::new(alloc);
-    paths.push(path)?;
-    Ok(Paths::from_vec(paths))
-}
-
-/// The path of the node is given for it.
-fn one_given(alloc: Global, number: u64, path: Path) -> Result<GivenPaths, AllocError>
-    ensures { IfOk result (λ given. given ≡ record { number = number; path = path } ∷ []) }
-{
-    let mut given = Vec::new(alloc);
-    given.push(GivenPath { number, path })?;
-    Ok(GivenPaths::from_vec(given))
-}
-
 /// The path of a node is held exclusively, and each nonempty prefix of its parent's is shared.
 fn held_alone(alloc: Global, _tree: &Tree, number: u64, path: &Path) -> Result<Held, AllocError>
     requires tree { IsTree (at_in _tree.now) }
@@ -80,10 +62,14 @@ fn held_alone(alloc: Global, _tree: &Tree, number: u64, path: &Path) -> Result<H
     ensures { IfOk result (IsHeldExclusively (at_in _tree.now) number path.now) }
 {
     let above = above(path)?;
+    let lead = GivenPath {
+        number,
+        path: path.copy()?,
+    };
     Ok(Held {
-        given: one_given(alloc, number, path.copy()?)?,
+        given: GivenPaths::one(lead),
         shared: prefixes_of(alloc, &above)?,
-        exclusive: one_path(alloc, path.copy()?)?,
+        exclusive: Paths::one(path.copy()?),
     })
 }
 
@@ -107,7 +93,7 @@ fn last_reservation(alloc: Global, tree: &Tree, number: u64) -> Result<Reservati
         },
         answer: Givens::new(alloc),
         pins,
-        paths: one_path(alloc, path)?,
+        paths: Paths::one(path),
     })
 }
 

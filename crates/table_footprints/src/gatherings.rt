@@ -11,7 +11,6 @@ use crate::footprints::{Hold, UniformFootprint};
 use crate::found::{Found, expect_change, expect_rooted, find};
 use crate::refusal::Refusal;
 use holds::{GivenPath, GivenPaths, Held, Paths, push_prefixes};
-use paths::Path;
 use std::alloc::{AllocError, Global};
 use table_requests::{Case, Givens, Pins, Promise};
 use tree::Tree;
@@ -33,11 +32,11 @@ pub(crate) struct Reservation {
 /// What was gathered so far.
 #[derive(Drop)]
 pub(crate) struct Gathering {
-    given: Vec<GivenPath>,
-    shared: Vec<Path>,
-    pub(crate) exclusive: Vec<Path>,
+    given: GivenPaths,
+    shared: Paths,
+    pub(crate) exclusive: Paths,
     pub(crate) pins: Pins,
-    pub(crate) paths: Vec<Path>,
+    pub(crate) paths: Paths,
     /// Whether no node stands at one of the locations.
     absent: bool,
 }
@@ -87,51 +86,58 @@ impl Gathering {
     {
         let pins = Pins::with_capacity(alloc, pins)?;
         Ok(Gathering {
-            given: Vec::new(alloc),
-            shared: Vec::new(alloc),
-            exclusive: Vec::new(alloc),
+            given: GivenPaths::new(),
+            shared: Paths::new(),
+            exclusive: Paths::new(),
             pins,
-            paths: Vec::new(alloc),
+            paths: Paths::new(),
             absent: false,
         })
     }
 
     /// Holds the path of what was found.
-    fn hold(&mut self, found: &Found, hold: Hold) -> Result<(), AllocError>
-        ensures shared { OnOk result (self.new.shared.items ≡ self.old.shared.items ++ prefixes (shared_path hold found.now)) }
-        ensures exclusive { OnOk result (self.new.exclusive.items ≡ self.old.exclusive.items ++ own_paths hold found.now) }
+    fn hold(&mut self, alloc: Global, found: &Found, hold: Hold) -> Result<(), AllocError>
+        ensures shared { OnOk result (self.new.shared ≡ self.old.shared ++ prefixes (shared_path hold found.now)) }
+        ensures exclusive { OnOk result (self.new.exclusive ≡ self.old.exclusive ++ own_paths hold found.now) }
         ensures given { self.new.given ≡ self.old.given }
         ensures pins { self.new.pins ≡ self.old.pins }
         ensures paths { self.new.paths ≡ self.old.paths }
         ensures absent { self.new.absent ≡ self.old.absent }
     {
         match hold {
-            Hold::Shared => push_prefixes(&mut self.shared, &found.path),
+            Hold::Shared => push_prefixes(alloc, &mut self.shared, &found.path),
             Hold::Exclusive => {
-                self.exclusive.push(found.path.copy()?)?;
-                push_prefixes(&mut self.shared, &found.above)
+                self.exclusive.push(alloc, found.path.copy()?)?;
+                push_prefixes(alloc, &mut self.shared, &found.above)
             }
         }
     }
 
     /// Adds what was found at a location of that node.
-    pub(crate) fn add(&mut self, number: u64, found: Found, hold: Hold) -> Result<(), AllocError>
+    pub(crate) fn add(
+        &mut self,
+        alloc: Global,
+        number: u64,
+        found: Found,
+        hold: Hold,
+    ) -> Result<(), AllocError>
         requires { 2 ≤ self.old.pins.room }
         ensures { OnOk result (Adds self.old number found hold self.new) }
     {
         pin(&mut self.pins, number, found.node);
         self.absent = self.absent || found.node.is_none();
-        self.hold(&found, hold)?;
+        self.hold(alloc, &found, hold)?;
         let Found {
             above,
             path,
             node: _,
         } = found;
-        self.given.push(GivenPath {
+        let lead = GivenPath {
             number,
             path: above,
-        })?;
-        self.paths.push(path)?;
+        };
+        self.given.push(alloc, lead)?;
+        self.paths.push(alloc, path)?;
         Ok(())
     }
 
@@ -161,9 +167,9 @@ impl Gathering {
             absent: _,
         } = self;
         let held = Held {
-            given: GivenPaths::from_vec(given),
-            shared: Paths::from_vec(shared),
-            exclusive: Paths::from_vec(exclusive),
+            given,
+            shared,
+            exclusive,
         };
         Ok(Reservation {
             case,
@@ -171,7 +177,7 @@ impl Gathering {
             promise,
             answer,
             pins,
-            paths: Paths::from_vec(paths),
+            paths,
         })
     }
 }
@@ -220,7 +226,7 @@ pub(crate) fn gathering_of(
     let mut gathering = Gathering::new(alloc, 2 * footprint.locations.len() + entries + more)?;
     for location in footprint.locations {
         let found = find(alloc, tree, location)?;
-        gathering.add(location.base(), found, footprint.hold)?;
+        gathering.add(alloc, location.base(), found, footprint.hold)?;
     }
     Ok(gathering)
 }

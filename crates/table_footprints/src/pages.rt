@@ -29,7 +29,7 @@ pub(crate) fn pin_found(pins: &mut Pins, found: Option<u64>)
 }
 
 /// Adds what was found at a name of which nothing is held.
-fn add_name(gathering: &mut Gathering, found: Found) -> Result<(), AllocError>
+fn add_name(alloc: Global, gathering: &mut Gathering, found: Found) -> Result<(), AllocError>
     requires { 1 ≤ gathering.old.pins.room }
     ensures { OnOk result (AddsName gathering.old found gathering.new) }
 {
@@ -39,7 +39,7 @@ fn add_name(gathering: &mut Gathering, found: Found) -> Result<(), AllocError>
         node,
     } = found;
     pin_found(&mut gathering.pins, node);
-    gathering.paths.push(path)?;
+    gathering.paths.push(alloc, path)?;
     Ok(())
 }
 
@@ -54,7 +54,7 @@ fn folder_draft(alloc: Global, tree: &Tree, folder: u64, names: usize) -> Result
 {
     let mut gathering = Gathering::new(alloc, 2 * names + 2)?;
     let found = find(alloc, tree, &Location::AtNode(folder))?;
-    gathering.add(folder, found, Hold::Shared)?;
+    gathering.add(alloc, folder, found, Hold::Shared)?;
     Ok(gathering)
 }
 
@@ -69,7 +69,7 @@ fn page_draft(alloc: Global, tree: &Tree, folder: u64, names: &[Name]) -> Result
     let mut gathering = folder_draft(alloc, tree, folder, names.len())?;
     for name in names {
         let found = find(alloc, tree, &Location::AtName(folder, name))?;
-        add_name(&mut gathering, found)?;
+        add_name(alloc, &mut gathering, found)?;
     }
     Ok(gathering)
 }

@@ -82,7 +82,7 @@ pub(crate) fn candidates(alloc: Global, case: Case) -> Result<Names, AllocError>
 }
 
 /// Adds what was found at a name beside the one that goes.
-fn add_beside(gathering: &mut Gathering, found: Found) -> Result<(), AllocError>
+fn add_beside(alloc: Global, gathering: &mut Gathering, found: Found) -> Result<(), AllocError>
     requires { 1 ≤ gathering.old.pins.room }
     ensures { OnOk result (AddsBeside gathering.old found gathering.new) }
 {
@@ -92,8 +92,8 @@ fn add_beside(gathering: &mut Gathering, found: Found) -> Result<(), AllocError>
         node,
     } = found;
     pin_found(&mut gathering.pins, node);
-    gathering.exclusive.push(path.copy()?)?;
-    gathering.paths.push(path)?;
+    gathering.exclusive.push(alloc, path.copy()?)?;
+    gathering.paths.push(alloc, path)?;
     Ok(())
 }
 
@@ -116,7 +116,7 @@ fn gathered(
     let mut gathering = gathering_of(alloc, tree, footprint, beside.len())?;
     for other in beside {
         let found = find(alloc, tree, &Location::AtName(folder, other))?;
-        add_beside(&mut gathering, found)?;
+        add_beside(alloc, &mut gathering, found)?;
     }
     Ok(gathering)
 }

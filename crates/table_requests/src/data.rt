@@ -6,6 +6,7 @@ ghost use Rattle.std.specs.List.{list_any};
 use crate::names::Names;
 use holds::Held;
 use paths::Name;
+use smallvec::SmallVec;
 use std::alloc::{AllocError, Global};
 use std::marker::Model;
 use table_files::{Access, Need};
@@ -123,19 +124,23 @@ pub struct Given {
     pub generation: u64,
 }
 
-/// For each name of a request the node that was given for it, with room for more.
+/// For each name of a request the node that was given for it, with room for more. All requests but pages have one name at most.
 #[derive(Drop)]
 pub struct Givens {
-    given: Vec<Option<Given>>,
+    given: SmallVec<Option<Given>, 1>,
+    /// So many more take no memory.
+    room: usize,
 }
 
 impl Model for Givens {
-    ghost use Rattle.std.specs.Prelude.{◌-◌, vec_len, vec_capacity};
+    ghost use Rattle.smallvec.specs.SmallVec.{HasRoomFor};
     ghost use Rattle.table_requests.specs.Roomy.{Listed};
 
     ghost Value = { Listed };
 
-    ghost view = { λ g. record { items = g.given.items; room = vec_capacity g.given - vec_len g.given } };
+    ghost view = { λ g. record { items = g.given.items; room = g.room } };
+
+    ghost invariant = { λ g. HasRoomFor g.given g.room };
 }
 
 impl Givens {
@@ -144,7 +149,8 @@ impl Givens {
         ensures { result.items ≡ [] }
     {
         Givens {
-            given: Vec::new(alloc),
+            given: SmallVec::new(alloc),
+            room: 0,
         }
     }
 
@@ -152,8 +158,11 @@ impl Givens {
     pub fn with_capacity(alloc: Global, capacity: usize) -> Result<Givens, AllocError>
         ensures { IfOk result (λ g. g ≡ record { items = []; room = capacity }) }
     {
-        let given = Vec::with_capacity(alloc, capacity)?;
-        Ok(Givens { given })
+        let given = SmallVec::with_capacity(alloc, capacity)?;
+        Ok(Givens {
+            given,
+            room: capacity,
+        })
     }
 
     /// Adds what is given for the next name, for which there is room.
@@ -162,6 +171,7 @@ impl Givens {
         ensures { self.new ≡ record { items = self.old.items ++ given ∷ []; room = self.old.room - 1 } }
     {
         self.given.push_reserved(given);
+        self.room -= 1;
     }
 
     /// What is given for each name.
@@ -175,23 +185,27 @@ impl Givens {
     pub fn entries(&self) -> u64
         ensures { result ≡ count_by (λ g. is_some g) self.now.items }
     {
-        self.given.iter().filter(|g| g.is_some()).count() as u64
+        self.as_slice().iter().filter(|g| g.is_some()).count() as u64
     }
 }
 
-/// Numbers of nodes that a request pins, with room for more.
+/// Numbers of nodes that a request pins, with room for more. Pages and requests that may hide a file alone pin more than four.
 #[derive(Drop)]
 pub struct Pins {
-    numbers: Vec<u64>,
+    numbers: SmallVec<u64, 4>,
+    /// So many more take no memory.
+    room: usize,
 }
 
 impl Model for Pins {
-    ghost use Rattle.std.specs.Prelude.{◌-◌, vec_len, vec_capacity};
+    ghost use Rattle.smallvec.specs.SmallVec.{HasRoomFor};
     ghost use Rattle.table_requests.specs.Roomy.{Pinned};
 
     ghost Value = { Pinned };
 
-    ghost view = { λ p. record { numbers = p.numbers.items; room = vec_capacity p.numbers - vec_len p.numbers } };
+    ghost view = { λ p. record { numbers = p.numbers.items; room = p.room } };
+
+    ghost invariant = { λ p. HasRoomFor p.numbers p.room };
 }
 
 impl Pins {
@@ -199,8 +213,11 @@ impl Pins {
     pub fn with_capacity(alloc: Global, capacity: usize) -> Result<Pins, AllocError>
         ensures { IfOk result (λ p. p ≡ record { numbers = []; room = capacity }) }
     {
-        let numbers = Vec::with_capacity(alloc, capacity)?;
-        Ok(Pins { numbers })
+        let numbers = SmallVec::with_capacity(alloc, capacity)?;
+        Ok(Pins {
+            numbers,
+            room: capacity,
+        })
     }
 
     /// Adds a number, for which there is room.
@@ -209,6 +226,7 @@ impl Pins {
         ensures { self.new ≡ record { numbers = self.old.numbers ++ number ∷ []; room = self.old.room - 1 } }
     {
         self.numbers.push_reserved(number);
+        self.room -= 1;
     }
 
     /// The numbers, in the order in which they were added.
@@ -222,7 +240,7 @@ impl Pins {
     pub fn contains(&self, number: u64) -> bool
         ensures { result ≡ list_any (λ m. m == number) self.now.numbers }
     {
-        self.numbers.iter().any(|m| *m == number)
+        self.as_slice().iter().any(|m| *m == number)
     }
 }
 

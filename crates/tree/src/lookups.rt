@@ -21,6 +21,9 @@ use tree_children::{Linked, value_in};
 /// No path has more bytes.
 const PATH_BYTES: usize = 4096;
 
+/// No path of names that are not empty has more of them.
+const PATH_NAMES: usize = PATH_BYTES / 2;
+
 /// The node of that number.
 pub(crate) fn node_in(nodes: &Slab<Linked<Node>>, number: u64) -> Option<&Node>
     ensures { option_copied result ≡ slot_at nodes.now number }
@@ -86,6 +89,37 @@ pub(crate) fn expect_path(nodes: &Slab<Linked<Node>>, number: u64) -> Result<(),
         Place::Root => Ok(()),
         Place::Named(_) => Ok(()),
         Place::Cut => Err(TreeFault::Cut),
+    }
+}
+
+/// How many names lead from the root down to the node, but no more than a path has.
+fn depth_of(nodes: &Slab<Linked<Node>>, number: u64) -> usize
+    ensures { result ≤ 2048 }
+{
+    let mut current = number;
+    for depth in 0..PATH_NAMES {
+        match parent_of(nodes, current) {
+            Some(parent) => current = parent,
+            None => return depth,
+        }
+    }
+    PATH_NAMES
+}
+
+/// No names yet, with room for those that lead to the node and so many more: a path is gathered in one allocation.
+pub(crate) fn room_for_path(
+    alloc: Global,
+    nodes: &Slab<Linked<Node>>,
+    number: u64,
+    more: usize,
+) -> Result<Vec<Name>, TreeFault>
+    requires { more ≤ 4096 }
+    ensures ok { IfOk result (λ names. names.items ≡ []) }
+    ensures err { IfErr result (λ fault. fault ≡ TreeFault.Memory) }
+{
+    match Vec::with_capacity(alloc, depth_of(nodes, number) + more) {
+        Ok(names) => Ok(names),
+        Err(_) => Err(TreeFault::Memory),
     }
 }
 

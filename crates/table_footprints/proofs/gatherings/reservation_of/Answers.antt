@@ -29,15 +29,15 @@ pub expect_change-requires : goal.expect_change-requires
 expect_change-requires c =
     let footprint = c.args.footprint.now in
     enough_paths footprint.change (length footprint.locations.now) (length c.as_slice.result.now)
-    (sym (length-map footprint.locations.now (λ l. location_of l)) ∙ (zip_length (IsShortPath (at_in c.args.tree.now)) (locations_of footprint) c.in_ok-gathering.gathering.paths.items c.in_ok-gathering.ensures.ok.paths ∙ ap (λ (ps : List Names). length ps) (sym c.as_slice.ensures.value)))
+    (sym (length-map footprint.locations.now (λ l. location_of l)) ∙ (zip_length (IsShortPath (at_in c.args.tree.now)) (locations_of footprint) c.in_ok-gathering.gathering.paths c.in_ok-gathering.ensures.ok.paths ∙ ap (λ (ps : List Names). length ps) (sym c.as_slice.ensures)))
     c.requires.enough
 
 pub returns-in_err-expect_change-clause-err : goal.returns-in_err-expect_change-clause-err
 returns-in_err-expect_change-clause-err c =
     let p = err_from_is_err_and c.from_residual-in_err-expect_change.result c.from_residual-in_err-expect_change.ensures.1 in
     let footprint = c.args.footprint.now in
-    let wrong = rw c.as_slice.ensures.value at c.in_err-expect_change.ensures.err in
-    rw (p.1, p.2) (λ k. change_refused (at_in c.args.tree.now) c.expect_rooted.ensures.tree (locations_of footprint) footprint.hold footprint.enters footprint.change k c.in_ok-gathering.gathering.paths.items c.in_ok-expect_rooted.ensures.ok c.in_ok-gathering.ensures.ok.paths (refusal_errno c.in_err-expect_change.field-0.0) wrong)
+    let wrong = rw c.as_slice.ensures at c.in_err-expect_change.ensures.err in
+    rw (p.1, p.2) (λ k. change_refused (at_in c.args.tree.now) c.expect_rooted.ensures.tree (locations_of footprint) footprint.hold footprint.enters footprint.change k c.in_ok-gathering.gathering.paths c.in_ok-expect_rooted.ensures.ok c.in_ok-gathering.ensures.ok.paths (refusal_errno c.in_err-expect_change.field-0.0) wrong)
 
 pub returns-in_err-reservation-clause-err : goal.returns-in_err-reservation-clause-err
 returns-in_err-reservation-clause-err c =
@@ -54,4 +54,4 @@ returns-clause-ok c =
     let drawn : IsReserved x (entered_case x.absent footprint.enters) c.births_in.result c.from.result c.in_ok-reservation.reservation
     = subst (λ k. IsReserved x k c.births_in.result c.from.result c.in_ok-reservation.reservation) case c.in_ok-reservation.ensures in
     agreed (at_in c.args.tree.now) c.expect_rooted.ensures.tree footprint x c.births_in.result c.from.result c.in_ok-reservation.reservation c.requires c.in_ok-expect_rooted.ensures.ok c.in_ok-gathering.ensures.ok
-    (rw c.as_slice.ensures.value at c.in_ok-expect_change.ensures.ok) (search rules) births (omega (arith, c.in_ok-gathering.ensures.room)) drawn
+    (rw c.as_slice.ensures at c.in_ok-expect_change.ensures.ok) (search rules) births (omega (arith, c.in_ok-gathering.ensures.room)) drawn

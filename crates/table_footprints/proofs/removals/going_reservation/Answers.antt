@@ -69,7 +69,7 @@ expect_change-requires c =
     let footprint = c.args.footprint.now in
     let ls = locations_of footprint in
     let hidden : c.as_slice.result.now ≡ hidden_in c.hiding_case-case.result = c.as_slice.ensures ∙ c.in_ok-beside.ensures in
-    rw c.as_slice-2.ensures.value (going_enough (at_in c.args.tree.now) c.expect_rooted.ensures.tree ls footprint.change c.args.gone.now.parent c.as_slice.result.now c.in_ok-gathering.gathering.paths.items (length footprint.locations.now)
+    rw c.as_slice-2.ensures (going_enough (at_in c.args.tree.now) c.expect_rooted.ensures.tree ls footprint.change c.args.gone.now.parent c.as_slice.result.now c.in_ok-gathering.gathering.paths (length footprint.locations.now)
     (sym (length-map footprint.locations.now (λ l. location_of l))) c.in_ok-gathering.ensures.ok.paths c.requires.fit.enough)
 
 pub returns-in_err-expect_change-clause-err : goal.returns-in_err-expect_change-clause-err
@@ -84,12 +84,12 @@ returns-in_err-expect_change-clause-err c =
     let case = c.hiding_case-case.result in
     let fits = c.hiding_case-case.ensures at gone.parent gone.name.now r.tree c.in_ok-found.ensures in
     let hidden : c.as_slice.result.now ≡ hidden_in case = c.as_slice.ensures ∙ c.in_ok-beside.ensures in
-    let zip = subst (λ (ns : List Name). AllZip (IsShortPath at) (ls ++ names_under gone.parent ns) x.paths.items) hidden c.in_ok-gathering.ensures.ok.paths in
-    let wrong = rw c.as_slice-2.ensures.value at c.in_err-expect_change.ensures.err in
+    let zip = subst (λ (ns : List Name). AllZip (IsShortPath at) (ls ++ names_under gone.parent ns) x.paths) hidden c.in_ok-gathering.ensures.ok.paths in
+    let wrong = rw c.as_slice-2.ensures at c.in_err-expect_change.ensures.err in
     rw (p.1, p.2) (record {
       case = case;
       fits = fits;
-      unsound = going_wrong at r.tree ls footprint.change gone.parent (hidden_in case) x.paths.items c.in_ok-expect_rooted.ensures.ok zip (refusal_errno c.in_err-expect_change.field-0.0) wrong;
+      unsound = going_wrong at r.tree ls footprint.change gone.parent (hidden_in case) x.paths c.in_ok-expect_rooted.ensures.ok zip (refusal_errno c.in_err-expect_change.field-0.0) wrong;
     })
 
 pub returns-in_err-reservation-clause-err : goal.returns-in_err-reservation-clause-err
@@ -116,7 +116,7 @@ returns-clause-ok c =
     let fits = c.hiding_case-case.ensures at gone.parent gone.name.now r.tree c.in_ok-found.ensures in
     let hidden : c.as_slice.result.now ≡ hidden_in case = c.as_slice.ensures ∙ c.in_ok-beside.ensures in
     let is : IsGathered at ls (ls ++ names_under gone.parent (hidden_in case)) x = subst (λ (ns : List Name). IsGathered at ls (ls ++ names_under gone.parent ns) x) hidden c.in_ok-gathering.ensures.ok in
-    let may = rw c.as_slice-2.ensures.value at c.in_ok-expect_change.ensures.ok in
+    let may = rw c.as_slice-2.ensures at c.in_ok-expect_change.ensures.ok in
     let names = subst (λ (hold : Hold). AreNames (exclusive_in hold ls)) c.requires.exclusive c.requires.fit.names in
     let same = c.in_ok-reservation.ensures.case_is in
     let t = c.in_ok-reservation.reservation in
