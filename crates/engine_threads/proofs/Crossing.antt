@@ -35,19 +35,19 @@ use Rattle.ledger.specs.declared.ledgers.Ledgers.{Ghosts}
 
 module _ (T N C : RattleType) (n : opening.Ghosts N.Denot) (g : Ghosts T.Denot) where
   -- what a worker leaves has a snapshot, so Rattle makes no such lemma of its own
-  pub worker_end_send : IsSend T → IsSync T → IsSend N → IsSend C → IsSend (WorkerEnd.the_row T N C n g)
+  pub worker_end_send : IsSend T → IsSync T → IsSend N → IsSend C → IsSend (WorkerEnd.the_row T N C g n)
   worker_end_send s y m c =
       let a : IsSend (Kept.the_field T g).row = search (kept.the_field_send T g, sendable) in
       let b : IsSend (Passes.the_field Job.the_row Reply.the_row).row = search (passes.the_field_send Job.the_row Reply.the_row, sendable) in
       let f = front_send T g N n m in
       search (heap.crosses, sendable) depth 20
 
-  pub staff_send : IsSend T → IsSync T → IsSend N → IsSend C → IsSend (Staff.the_row T N C n g)
+  pub staff_send : IsSend T → IsSync T → IsSend N → IsSend C → IsSend (Staff.the_row T N C g n)
   staff_send s y m c = let a : IsSend (Kept.the_field T g).row = search (kept.the_field_send T g, sendable) in let b = worker_send in let f = front_send T g N n m in search sendable depth 20
 
 -- what all threads share: each part of it may be sent, and looked at by several at once
-module _ (H T N I O S : RattleType) (i : ins.Ghosts I.Denot) (n : opening.Ghosts N.Denot) (o : out.Ghosts O.Denot) (j : source.Ghosts S.Denot I.Denot) (k : sink.Ghosts S.Denot O.Denot) (g : Ghosts T.Denot) where
-  common_send : IsSend H → IsSend T → IsSync T → IsSend N → IsSend I → IsSend O → IsSend S → IsSend (Common.the_row H T N I O S i n o j k g)
+module _ (H T N I O S : RattleType) (n : opening.Ghosts N.Denot) (i : ins.Ghosts I.Denot) (o : out.Ghosts O.Denot) (j : source.Ghosts S.Denot I.Denot) (k : sink.Ghosts S.Denot O.Denot) (g : Ghosts T.Denot) where
+  common_send : IsSend H → IsSend T → IsSync T → IsSend N → IsSend I → IsSend O → IsSend S → IsSend (Common.the_row H T N I O S n i o j k g)
   common_send h s y m d e f =
       let a : IsSend (Hall.the_field T N n g).row = search (hall.the_field_send T N n g, sendable) in
       let b : IsSend Dirs.the_row = dirs.the_send in
@@ -57,7 +57,7 @@ module _ (H T N I O S : RattleType) (i : ins.Ghosts I.Denot) (n : opening.Ghosts
       let q : IsSend (Signs.the_field).row = signs.the_field_send in
       search (heap.crosses, sendable) depth 20
 
-  common_sync : IsSync H → IsSend T → IsSync T → IsSend N → IsSend I → IsSend O → IsSend S → IsSync (Common.the_row H T N I O S i n o j k g)
+  common_sync : IsSync H → IsSend T → IsSync T → IsSend N → IsSend I → IsSend O → IsSend S → IsSync (Common.the_row H T N I O S n i o j k g)
   common_sync h s y m d e f =
       let a : IsSync (Hall.the_field T N n g).row = search (hall.the_field_sync T N n g, sendable) in
       let b : IsSync Dirs.the_row = dirs.the_sync in
@@ -67,5 +67,5 @@ module _ (H T N I O S : RattleType) (i : ins.Ghosts I.Denot) (n : opening.Ghosts
       let q : IsSync (Signs.the_field).row = signs.the_field_sync in
       search (heap.crosses, sendable) depth 20
 
-  pub shared_send : IsSend H → IsSync H → IsSend T → IsSync T → IsSend N → IsSend I → IsSend O → IsSend S → IsSend (Arc.the_row (Common.the_row H T N I O S i n o j k g) Global.the_row ghosts)
-  shared_send h l s y m d e f = heap.Arc-send (Common.the_row H T N I O S i n o j k g) (common_send h s y m d e f) (common_sync l s y m d e f)
+  pub shared_send : IsSend H → IsSync H → IsSend T → IsSync T → IsSend N → IsSend I → IsSend O → IsSend S → IsSend (Arc.the_row (Common.the_row H T N I O S n i o j k g) Global.the_row ghosts)
+  shared_send h l s y m d e f = heap.Arc-send (Common.the_row H T N I O S n i o j k g) (common_send h s y m d e f) (common_sync l s y m d e f)

@@ -4,3 +4,4 @@ pub mod Ends
 pub mod Lists
 pub mod Parting
 pub mod Sharing
+pub mod Served

@@ -86,3 +86,14 @@ last_same (a ∷ xs) (b ∷ ys) x y e =
     let tails : xs ++ x ∷ [] ≡ ys ++ y ∷ [] = cc e in
     let rest = last_same xs ys x y tails in
     (ap (λ l. a ∷ l) rest.0 ∙ ap (λ k. k ∷ ys) heads, rest.1)
+
+-- the last two of a list that was made of the numbers from 0 on
+pub last_two : {V : Type 0} (f : ℕ → V) (n : ℕ) (all most rest : List V) (one last : V) → all ≡ map f (range_with_len 0 (n + 2)) → all ≡ most ++ last ∷ [] → most ≡ rest ++ one ∷ [] → (rest ≡ map f (range_with_len 0 n)) × (one ≡ f n) × (last ≡ f (n + 1))
+last_two f n all most rest one last made cut again =
+    let more : n + 2 ≡ suc (suc n) = omega arith in
+    let next : 0 + suc n ≡ n + 1 = omega arith in
+    let this : 0 + n ≡ n = omega arith in
+    let whole = made ∙ (ap (λ k. map f (range_with_len 0 k)) more ∙ (ap (map f) (range_more 0 (suc n)) ∙ map_last f (range_with_len 0 (suc n)) (0 + suc n))) in
+    let first = last_same most (map f (range_with_len 0 (suc n))) last (f (0 + suc n)) (sym cut ∙ whole) in
+    let second = last_same rest (map f (range_with_len 0 n)) one (f (0 + n)) (sym again ∙ (first.0 ∙ (ap (map f) (range_more 0 n) ∙ map_last f (range_with_len 0 n) (0 + n)))) in
+    (second.0, second.1 ∙ ap f this, first.1 ∙ ap f next)

@@ -65,7 +65,8 @@ pub fn take_leave<H: Wait + Drop, T: Ledgers, N: Opening, C: Calls + Drop>(
     ensures number { result.own.passes.number ≡ own.passes.number }
     ensures farewell { AnswersFarewell (does_shared C.gives) starter.settings farewell result.last.value.calls result.last.value.kept.share result.own.passes (on_table_of result.own.front) }
 {
-    let _queues = (jobs, replies);
+    let _jobs = jobs;
+    let _replies = replies;
     let mut ends = ends;
     let Some(end) = ends.pop() else {
         unreachable!()

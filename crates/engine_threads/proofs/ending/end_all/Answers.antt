@@ -1,27 +1,68 @@
-use Rattle.std.proofs.Common.{◌≡◌, ◌∙◌, ℕ, List, ◌∷◌, ◌++◌, [], map, sym, ap, subst, vec_len, arith}
+use Rattle.std.proofs.Common.{◌≡◌, ◌+◌, ◌∙◌, List, Option, map, sym, ap, subst, vec_len, arith}
 use Rattle.std.specs.List.{All, range_with_len}
-use Rattle.crossbeam_channel.specs.Claims.{view}
-use Rattle.crossbeam_channel.specs.Claims.{IsSeatAt}
+use Rattle.crossbeam_channel.specs.Claims.{view, IsSeatAt}
 use Rattle.crossbeam_channel.specs.Ends.{sends_on}
 use Rattle.table_recorded.specs.Histories.{calls_of}
 use Rattle.table_recorded.specs.Runs.{Log}
 use Rattle.engine_jobs.specs.declared.jobs.Job.{Job}
 use Rattle.engine_queues.specs.Gathered.{AreSeated, numbers_of}
 use Rattle.engine_queues.specs.declared.passes.Passes.{Passes}
-use Rattle.engine_roles.specs.Writes.{HasWrittenAll}
-use Rattle.engine_visits.specs.Visits.{OnTable, on_table_of}
 use Rattle.engine_workers.specs.declared.replies.Reply.{Reply}
-use Rattle.engine_threads.specs.Worked.{BidsFarewell, WorkedEach, did, does_shared, made_by}
+use Rattle.engine_threads.specs.Worked.{BidsFarewell, WorkedEach, did, does_shared}
 use Rattle.engine_threads.specs.declared.working.WorkerEnd.{WorkerEnd}
-use Rattle.engine_threads.proofs.Parting.{all_did, all_numbered, all_seated, bids_farewell, did_last, each_worked, given_of, made_as, passes_are}
+use Rattle.engine_threads.proofs.Parting.{all_did, all_numbered, all_seated, bids_farewell, did_last, each_worked, given_of, passes_are}
 use Rattle.engine_threads.proofs.Sharing.{shared_as}
 use Rattle.engine_threads.proofs.ending.end_all.Goals as goal
 
-pub gather-taken-requires-clause-numbers : goal.gather-taken-requires-clause-numbers
-gather-taken-requires-clause-numbers g c = ?numbers
-
 pub gather-taken-requires-clause-seats : goal.gather-taken-requires-clause-seats
-gather-taken-requires-clause-seats g c = ?seats
+gather-taken-requires-clause-seats g c =
+    let Pass : Type 0 = Passes Job Reply in
+    let End : Type 0 = WorkerEnd g.row.T.Denot g.row.N.Denot g.row.C.Denot in
+    let jobs = sends_on c.args.jobs.now in
+    let replies = sends_on c.args.replies.now in
+    let does = does_shared g.C.Calls.gives in
+    let settings = c.args.room.starter.settings in
+    let ends = c.args.ends.items in
+    let t = c.take_leave-leaving in
+    let l = t.result in
+    let p = c.part_with-passes in
+    let log = p.new.closed.table.log in
+    let whole = passes_are jobs replies does settings (did log) ends l.ends.items l.last.value l.worker.passes l.own.passes p.result.0.items t.ensures.ends t.ensures.worker.0 p.ensures.passes in
+    subst (λ (ps : List Pass). AreSeated (λ q. IsSeatAt jobs q) (λ q. IsSeatAt replies q) ps) whole (all_seated jobs replies does settings (did log) ends l.own.passes c.requires.over t.ensures.job_seat t.ensures.reply_seat)
+
+pub gather-taken-requires-clause-numbers : goal.gather-taken-requires-clause-numbers
+gather-taken-requires-clause-numbers g c =
+    let Pass : Type 0 = Passes Job Reply in
+    let End : Type 0 = WorkerEnd g.row.T.Denot g.row.N.Denot g.row.C.Denot in
+    let jobs = sends_on c.args.jobs.now in
+    let replies = sends_on c.args.replies.now in
+    let does = does_shared g.C.Calls.gives in
+    let settings = c.args.room.starter.settings in
+    let ends = c.args.ends.items in
+    let t = c.take_leave-leaving in
+    let l = t.result in
+    let p = c.part_with-passes in
+    let log = p.new.closed.table.log in
+    let whole = passes_are jobs replies does settings (did log) ends l.ends.items l.last.value l.worker.passes l.own.passes p.result.0.items t.ensures.ends t.ensures.worker.0 p.ensures.passes in
+    let count : vec_len c.args.ends + 1 ≡ vec_len p.result.0 = (let a = t.ensures.len in let b = p.ensures.len in omega arith) in
+    subst (λ (ps : List Pass). numbers_of ps ≡ range_with_len 0 (vec_len c.args.ends + 1)) whole (all_numbered jobs replies does settings (did log) ends l.own.passes (vec_len c.args.ends) c.requires.numbers (t.ensures.number ∙ c.requires.number)) ∙ ap (range_with_len 0) count
+
+pub returns-clause-numbers : goal.returns-clause-numbers
+returns-clause-numbers g c =
+    let Pass : Type 0 = Passes Job Reply in
+    let End : Type 0 = WorkerEnd g.row.T.Denot g.row.N.Denot g.row.C.Denot in
+    let jobs = sends_on c.args.jobs.now in
+    let replies = sends_on c.args.replies.now in
+    let does = does_shared g.C.Calls.gives in
+    let settings = c.args.room.starter.settings in
+    let ends = c.args.ends.items in
+    let t = c.take_leave-leaving in
+    let l = t.result in
+    let p = c.part_with-passes in
+    let log = p.new.closed.table.log in
+    let whole = passes_are jobs replies does settings (did log) ends l.ends.items l.last.value l.worker.passes l.own.passes p.result.0.items t.ensures.ends t.ensures.worker.0 p.ensures.passes in
+    subst (λ (ps : List Pass). numbers_of ps ≡ range_with_len 0 (vec_len c.args.ends + 1)) (whole ∙ sym (ap (λ v. v.items) c.of-3.ensures))
+    (all_numbered jobs replies does settings (did log) ends l.own.passes (vec_len c.args.ends) c.requires.numbers (t.ensures.number ∙ c.requires.number))
 
 pub returns-clause-shared : goal.returns-clause-shared
 returns-clause-shared g c =
@@ -30,10 +71,42 @@ returns-clause-shared g c =
     shared_as _ _ _ _ _ _ (ap view c.of.ensures) (ap (λ v. v.items) c.of-3.ensures) (ap view c.of-2.ensures) j.0 j.1 r.0 r.1
 
 pub returns-clause-worked : goal.returns-clause-worked
-returns-clause-worked g c = ?worked
+returns-clause-worked g c =
+    let Pass : Type 0 = Passes Job Reply in
+    let End : Type 0 = WorkerEnd g.row.T.Denot g.row.N.Denot g.row.C.Denot in
+    let jobs = sends_on c.args.jobs.now in
+    let replies = sends_on c.args.replies.now in
+    let does = does_shared g.C.Calls.gives in
+    let settings = c.args.room.starter.settings in
+    let ends = c.args.ends.items in
+    let t = c.take_leave-leaving in
+    let l = t.result in
+    let p = c.part_with-passes in
+    let log = p.new.closed.table.log in
+    let whole = passes_are jobs replies does settings (did log) ends l.ends.items l.last.value l.worker.passes l.own.passes p.result.0.items t.ensures.ends t.ensures.worker.0 p.ensures.passes in
+    let others = subst (λ (k : Log g.row.T.Denot). All (λ (e : End). did k e.front.by ≡ calls_of e.front.mine) l.ends.items) (sym p.ensures.same) p.ensures.did in
+    let last = did_last jobs replies does settings (did log) l.last.value l.worker.front t.ensures.worker.1 (subst (λ (k : Log g.row.T.Denot). did k l.worker.front.by ≡ calls_of l.worker.front.mine) (sym p.ensures.same) p.ensures.worker_did) in
+    subst (λ (ps : List Pass). WorkedEach does settings (did log) (given_of jobs replies does settings (did log) ends) ps) (whole ∙ sym (ap (λ v. v.items) c.of-3.ensures))
+    (each_worked jobs replies does settings (did log) ends l.own.passes c.requires.over (all_did jobs replies does settings (did log) ends l.ends.items l.last.value t.ensures.ends others last))
 
 pub returns-clause-farewell : goal.returns-clause-farewell
-returns-clause-farewell g c = ?farewell
-
-pub returns-clause-writes : goal.returns-clause-writes
-returns-clause-writes g c = ?writes
+returns-clause-farewell g c =
+    let Pass : Type 0 = Passes Job Reply in
+    let End : Type 0 = WorkerEnd g.row.T.Denot g.row.N.Denot g.row.C.Denot in
+    let jobs = sends_on c.args.jobs.now in
+    let replies = sends_on c.args.replies.now in
+    let does = does_shared g.C.Calls.gives in
+    let settings = c.args.room.starter.settings in
+    let ends = c.args.ends.items in
+    let t = c.take_leave-leaving in
+    let l = t.result in
+    let p = c.part_with-passes in
+    let log = p.new.closed.table.log in
+    let whole = passes_are jobs replies does settings (did log) ends l.ends.items l.last.value l.worker.passes l.own.passes p.result.0.items t.ensures.ends t.ensures.worker.0 p.ensures.passes in
+    let others = subst (λ (k : Log g.row.T.Denot). All (λ (e : End). did k e.front.by ≡ calls_of e.front.mine) l.ends.items) (sym p.ensures.same) p.ensures.did in
+    let last = did_last jobs replies does settings (did log) l.last.value l.worker.front t.ensures.worker.1 (subst (λ (k : Log g.row.T.Denot). did k l.worker.front.by ≡ calls_of l.worker.front.mine) (sym p.ensures.same) p.ensures.worker_did) in
+    let own = subst (λ (k : Log g.row.T.Denot). did k l.own.front.by ≡ calls_of l.own.front.mine) (sym p.ensures.same) p.ensures.own_did in
+    let farewell = c.into_end-pass.result.farewell in
+    subst (λ (o : Option Job). BidsFarewell does settings (did log) (given_of jobs replies does settings (did log) ends) o c.of-3.result.value.items) (sym c.of-last.ensures)
+    (subst (λ (ps : List Pass). BidsFarewell does settings (did log) (given_of jobs replies does settings (did log) ends) farewell ps) (whole ∙ sym (ap (λ v. v.items) c.of-3.ensures))
+    (bids_farewell jobs replies does settings (did log) ends l.ends.items l.last.value l.own.passes l.own.front farewell t.ensures.ends c.requires.over last own t.ensures.farewell))

@@ -5,6 +5,6 @@ use Rattle.engine_threads.proofs.Lists.{map_through}
 use Rattle.engine_threads.proofs.hiring.hire_staff.Goals as goal
 
 pub staff_all-requires-clause-fronts : goal.staff_all-requires-clause-fronts
-staff_all-requires-clause-fronts g c κs within =
+staff_all-requires-clause-fronts g c =
     let workers = c.in_ok-workers.workers in
     c.requires.fronts ∙ (ap (map idle) (sym c.in_ok-workers.ensures.numbers) ∙ sym (map_through (λ (w : Worker). w.number) idle workers.items))

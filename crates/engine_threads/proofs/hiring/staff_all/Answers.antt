@@ -19,14 +19,14 @@ loop-worker-preserved g c =
     let same = c.staffed.ensures in
     let from = into_iter_items c.loop-worker.worker-iterator in
     let rest = into_iter_items c.next.new.self in
-    let left = c.next-in-loop-worker.new.self in
+    let left = c.next-in-loop-worker-2.new.self in
     let One : Type 0 = Staff g.row.T.Denot g.row.N.Denot g.row.C.Denot in
     let P : Worker → Type 0 = IsHired (sends_on c.args.jobs.now) (sends_on c.args.replies.now) c.args.settings in
     let Q : One → Type 0 = λ (v : One). IsStaffed (sends_on c.args.jobs.now) (sends_on c.args.replies.now) c.args.settings v.worker v.kept.share (on_table_of v.front) in
     let S : Part → Type 0 = λ (p : Part). p.totals ≡ nothing in
     let taken = All-pop S c.loop-worker.shares.shares.items c.take.new.self.shares.items (Some c.in_ok-kept.kept.share) c.in_ok-kept.ensures i.shares in
     let steps = c.in_ok-calls.ensures.items in
-    let fronts = in_step on_table_of (λ (v : Worker). idle v.number) c.in_ok-front.front w (into_iter_items c.loop-worker.unseen) (into_iter_items c.next-front.new.self) from rest c.in_ok-front.ensures.items s.0 i.fronts in
+    let fronts = in_step on_table_of (λ (v : Worker). idle v.number) c.in_ok-front.front w (into_iter_items c.loop-worker.unseen) (into_iter_items c.next-in-loop-worker.new.self) from rest c.in_ok-front.ensures.items s.0 i.fronts in
     record {
       hired = others_of P w from rest s.0 i.hired;
       shares = taken.0;

@@ -22,7 +22,7 @@ spawn_with-requires-send-F g c κs within =
     let e : IsSend O = search sendable in
     let f : IsSend C = search sendable in
     let m : IsSend S = search sendable in
-    let shared = shared_send H T N I O S g.I.LinkIn g.N.Opening g.O.LinkOut g.S.Source g.S.Sink g.T.Ledgers h k s y n d e m in
+    let shared = shared_send H T N I O S g.N.Opening g.I.LinkIn g.O.LinkOut g.S.Source g.S.Sink g.T.Ledgers h k s y n d e m in
     let staff = staff_send T N C g.N.Opening g.T.Ledgers s y n f in
     search sendable depth 20
 

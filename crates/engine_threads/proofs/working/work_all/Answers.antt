@@ -53,5 +53,5 @@ returns-clause-over g c =
           (ap (λ v. on_table_of v.front) b.visitor-is)
           (stands_on does (receives_on w.jobs) (sends_on w.replies) w.session.settings w.number c.args.staff.calls l.worker t.new.worker (means l.served l.kept.share (on_table_of l.visitor.front)) (means t.new.served t.new.kept.share (on_table_of t.new.visitor.front)) l.invariant r.0 r.1 r.2 t.ensures.settings t.ensures.worked))
     ] in
-    subst (λ (o : OnTable). IsOver (receives_on w.jobs) (sends_on w.replies) does w.session.settings c.args.staff.calls e.result m.served.calls m.kept.share o) (ap on_table_of (sym c.into_front.ensures))
+    subst (λ (o : OnTable). IsOver (receives_on w.jobs) (sends_on w.replies) does w.session.settings c.args.staff.calls e.result m.served.calls m.kept.share o) (ap on_table_of (sym c.into_front-front.ensures))
     (is_over does (receives_on w.jobs) (sends_on w.replies) w.session.settings w.number c.args.staff.calls m.worker m.served m.kept.share (on_table_of m.visitor.front) e.result at e.ensures.number e.ensures.seats.0 e.ensures.seats.1 e.ensures.passes.0 e.ensures.passes.1)
