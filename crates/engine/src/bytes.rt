@@ -2,11 +2,16 @@
 
 ghost use Rattle.std.specs.Prelude.{◌≡◌};
 
-/// The bytes of a reply. A header alone takes no memory.
+use smallvec::SmallVec;
+
+/// No reply without data is longer: that to a CREATE is the longest.
+pub const SHORT_REPLY: usize = 160;
+
+/// The bytes of a reply. A header alone takes no memory, and neither does another one without data.
 #[derive(Drop)]
 pub enum Bytes {
     Header([u8; 16]),
-    Whole(Vec<u8>),
+    Whole(SmallVec<u8, SHORT_REPLY>),
 }
 
 impl Bytes {

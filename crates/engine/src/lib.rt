@@ -17,7 +17,7 @@ mod served;
 mod serving;
 mod using;
 
-pub use bytes::Bytes;
+pub use bytes::{Bytes, SHORT_REPLY};
 pub use classes::{Class, class_of};
 pub use concluding::give_up;
 pub use ends::SessionEnd;

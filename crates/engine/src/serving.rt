@@ -49,7 +49,7 @@ fn work_off_frames<H: Wait, T: Ledgers, L: Link, C: Calls, D: Folders>(
         match cutter.next() {
             Ok(None) => return None,
             Ok(Some(frame)) => {
-                match session.handle_frame(rt, link, served, table, share, &frame) {
+                match session.handle_frame(rt, link, served, table, share, frame.as_slice()) {
                     None => {}
                     Some(end) => return Some(end),
                 }

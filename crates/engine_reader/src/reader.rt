@@ -12,7 +12,7 @@ use engine_jobs::Job;
 use engine_queues::jobs::{JobPass, JobSender, Puts};
 use std::alloc::{AllocError, Global};
 use std::sync::Wait;
-use wire::{CutFault, Cutter};
+use wire::{CutFault, Cutter, Frame};
 
 /// How many bytes are asked of a link at a time: more than the longest frame has.
 const ROOM: usize = 131_072;
@@ -35,7 +35,7 @@ pub struct Reader {
     ghost numbered: { map (λ j. j.ordinal) (view pass).put ≡ numbers 0 (length (view pass).put) },
 }
 
-fn job_of(ordinal: u64, agreed: bool, frame: Vec<u8>) -> Job
+fn job_of(ordinal: u64, agreed: bool, frame: Frame) -> Job
     requires { IsFramed frame.items }
     ensures { (result.ordinal ≡ ordinal) × (result.agreed ≡ agreed) × (result.frame ≡ frame) }
 {
@@ -74,7 +74,7 @@ impl Reader {
     }
 
     /// Queues a job for a frame. False where the queue hands it back.
-    fn queue<H: Wait>(&mut self, rt: &H, frame: Vec<u8>) -> bool
+    fn queue<H: Wait>(&mut self, rt: &H, frame: Frame) -> bool
         requires { IsFramed frame.items }
         ensures yes { IsTrue result → (queued_of (view self.new.pass).put ≡ queued_of (view self.old.pass).put ++ record { agreed = self.old.agreed; frame = frame.items } ∷ []) × IsVerdict self.old.agreed frame.items self.new.agreed }
         ensures no { IsFalse result → (queued_of (view self.new.pass).put ≡ queued_of (view self.old.pass).put) × (self.new.agreed ≡ self.old.agreed) }

@@ -3,9 +3,23 @@
 ghost use Rattle.std.specs.Prelude.{◌≡◌, None, Some};
 ghost use Rattle.engine.specs.declared.links.Sent.TheVariants.{Taken};
 
-use engine::{Bytes, Outlet, Sent};
+use engine::{Bytes, Outlet, SHORT_REPLY, Sent};
+use smallvec::SmallVec;
 use std::alloc::Global;
 use std::mem;
+
+/// The bytes of the buffer. It keeps its memory for the next reply where they are short, and hands it over where they are not.
+fn taken(alloc: Global, frame: &mut Vec<u8>) -> SmallVec<u8, SHORT_REPLY>
+    ensures { result.items ≡ frame.old.items }
+{
+    if frame.len() > SHORT_REPLY {
+        return SmallVec::from_vec(mem::replace(frame, Vec::new(alloc)));
+    }
+    match SmallVec::from_slice(alloc, frame.as_slice()) {
+        Ok(bytes) => bytes,
+        Err(_) => unreachable!(),
+    }
+}
 
 /// Room for the reply to one job.
 #[derive(Drop)]
@@ -41,7 +55,7 @@ impl Outlet for Slip {
     }
 
     fn buffered(&mut self, frame: &mut Vec<u8>) -> Sent {
-        let bytes = mem::replace(frame, Vec::new(self.alloc));
+        let bytes = taken(self.alloc, frame);
         self.said = Some(Bytes::Whole(bytes));
         Sent::Taken
     }

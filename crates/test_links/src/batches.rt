@@ -4,6 +4,7 @@ use crate::narrow::Narrow;
 use engine::Sent::{Broken, Taken};
 use engine::{Bytes, LinkOut, Sent};
 use engine_streams::StreamLink;
+use smallvec::SmallVec;
 use std::alloc::{AllocError, Global};
 use std::io;
 use std::test::Fail;
@@ -15,7 +16,7 @@ fn reply(alloc: Global, place: u8, len: usize) -> Result<Bytes, AllocError> {
     }
     let mut bytes = Vec::new(alloc);
     bytes.resize(len, place)?;
-    Ok(Bytes::Whole(bytes))
+    Ok(Bytes::Whole(SmallVec::from_vec(bytes)))
 }
 
 /// Replies of these lengths. The first is of ones.

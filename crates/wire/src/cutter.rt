@@ -6,8 +6,12 @@ ghost use Rattle.wire.specs.Stream.{HandsOut, BeginsBadly, IsPartial, Splits};
 ghost use Rattle.wire.specs.declared.cutter.CutFault.TheVariants.{Memory};
 
 use crate::standing::{NextFrame, standing_in};
+use smallvec::SmallVec;
 use std::alloc::{AllocError, Global};
 use std::marker::Model;
+
+/// A whole frame. A short one takes no memory, as a LOOKUP of a name of up to 87 bytes.
+pub type Frame = SmallVec<u8, 128>;
 
 /// Why no frame can be handed out, or no bytes taken.
 #[derive(Clone, Copy, Debug, PartialEq, Eq)]
@@ -98,7 +102,7 @@ impl Cutter {
     }
 
     /// The next whole frame, if it is there.
-    pub fn next(&mut self) -> Result<Option<Vec<u8>>, CutFault>
+    pub fn next(&mut self) -> Result<Option<Frame>, CutFault>
         ensures frame { IfOk result (λ o. IfSome o (λ f. HandsOut self.old f.items self.new)) }
         ensures none { IfOk result (λ o. IfNone o (IsPartial self.old.kept × (self.new ≡ self.old))) }
         ensures bad { (len : ℕ) → (result ≡ Err (CutFault.BadLength len)) ↔ BeginsBadly self.old.kept len }
@@ -119,7 +123,7 @@ impl Cutter {
             }
             NextFrame::Whole(len) => {
                 let end = self.start + len;
-                let frame = Vec::from_slice(self.alloc, &self.buffer[self.start..end])?;
+                let frame = SmallVec::from_slice(self.alloc, &self.buffer[self.start..end])?;
                 self.start = end;
                 Ok(Some(frame))
             }

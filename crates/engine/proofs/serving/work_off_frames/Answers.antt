@@ -26,14 +26,31 @@ returns-in-Some-clause-drains g c =
       walks = frame_on worlds c.args.session.now.settings (traffic g.L.LinkIn.receives g.L.LinkOut.sends) (does g.C.Calls.gives g.D.Folders.keeps)
           (side (around c.args.link.now c.args.served.now (stand (world_of c.args.table.now) c.args.session.now.agreed)) c.args.cutter.now.kept)
           (around c.loop-frame.link c.loop-frame.served (stand (world_of c.loop-frame.table) c.loop-frame.session.agreed)) (around c.handle_frame.new.link c.handle_frame.new.served (stand (world_of c.handle_frame.new.table) c.handle_frame.new.self.agreed))
-          c.loop-frame.cutter.kept c.in-Ok-Some.frame.items c.deref.result.now c.next.new.self.kept c.handle_frame.result (Some c.in-Some.end)
-          c.loop-frame.session.settings inv.settings inv.walks frame.front frame.framed (sym c.deref.ensures.value) c.handle_frame.ensures.idle c.handle_frame.ensures.handled c.in-Some.is;
+          c.loop-frame.cutter.kept c.in-Ok-Some.frame.items c.as_slice.result.now c.next.new.self.kept c.handle_frame.result (Some c.in-Some.end)
+          c.loop-frame.session.settings inv.settings inv.walks frame.front frame.framed (sym c.as_slice.ensures) c.handle_frame.ensures.idle c.handle_frame.ensures.handled c.in-Some.is;
       stops = refl;
     }
 
 pub returns-in-Some-clause-gains : goal.returns-in-Some-clause-gains
 returns-in-Some-clause-gains g c = in_all_on (world_of c.args.table.now) (world_of c.loop-frame.table) (world_of c.handle_frame.new.table) c.args.share.now c.loop-frame.share c.handle_frame.new.share c.loop-frame.invariant.gains c.handle_frame.ensures.gains
 
+pub loop-frame-preserved-in-None : goal.loop-frame-preserved-in-None
+loop-frame-preserved-in-None g c =
+    let inv = c.loop-frame.invariant in
+    let frame = rw c.in-Ok-Some.field-0-is at c.in-Ok-Some.ensures.frame in
+    record {
+      stopped = frame.stopped ∙ inv.stopped;
+      settings = c.handle_frame.ensures.settings ∙ inv.settings;
+      idle = c.handle_frame.ensures.idle;
+      gains = in_all_on (world_of c.args.table.now) (world_of c.loop-frame.table) (world_of c.handle_frame.new.table) c.args.share.now c.loop-frame.share c.handle_frame.new.share inv.gains c.handle_frame.ensures.gains;
+      walks = frame_on worlds c.args.session.now.settings (traffic g.L.LinkIn.receives g.L.LinkOut.sends) (does g.C.Calls.gives g.D.Folders.keeps)
+          (side (around c.args.link.now c.args.served.now (stand (world_of c.args.table.now) c.args.session.now.agreed)) c.args.cutter.now.kept)
+          (around c.loop-frame.link c.loop-frame.served (stand (world_of c.loop-frame.table) c.loop-frame.session.agreed)) (around c.handle_frame.new.link c.handle_frame.new.served (stand (world_of c.handle_frame.new.table) c.handle_frame.new.self.agreed))
+          c.loop-frame.cutter.kept c.in-Ok-Some.frame.items c.as_slice.result.now c.next.new.self.kept c.handle_frame.result None
+          c.loop-frame.session.settings inv.settings inv.walks frame.front frame.framed (sym c.as_slice.ensures) c.handle_frame.ensures.idle c.handle_frame.ensures.handled c.in-None.is;
+    }
+
+-- a frame that lies in its value and one with memory of its own are two cases, since either is dropped here
 pub loop-frame-preserved : goal.loop-frame-preserved
 loop-frame-preserved g c =
     let inv = c.loop-frame.invariant in
@@ -46,8 +63,8 @@ loop-frame-preserved g c =
       walks = frame_on worlds c.args.session.now.settings (traffic g.L.LinkIn.receives g.L.LinkOut.sends) (does g.C.Calls.gives g.D.Folders.keeps)
           (side (around c.args.link.now c.args.served.now (stand (world_of c.args.table.now) c.args.session.now.agreed)) c.args.cutter.now.kept)
           (around c.loop-frame.link c.loop-frame.served (stand (world_of c.loop-frame.table) c.loop-frame.session.agreed)) (around c.handle_frame.new.link c.handle_frame.new.served (stand (world_of c.handle_frame.new.table) c.handle_frame.new.self.agreed))
-          c.loop-frame.cutter.kept c.in-Ok-Some.frame.items c.deref.result.now c.next.new.self.kept c.handle_frame.result None
-          c.loop-frame.session.settings inv.settings inv.walks frame.front frame.framed (sym c.deref.ensures.value) c.handle_frame.ensures.idle c.handle_frame.ensures.handled c.in-None.is;
+          c.loop-frame.cutter.kept c.in-Ok-Some.frame.items c.as_slice.result.now c.next.new.self.kept c.handle_frame.result None
+          c.loop-frame.session.settings inv.settings inv.walks frame.front frame.framed (sym c.as_slice.ensures) c.handle_frame.ensures.idle c.handle_frame.ensures.handled c.in-None.is;
     }
 
 pub returns-in-Err-BadLength-clause-drains : goal.returns-in-Err-BadLength-clause-drains

@@ -11,7 +11,7 @@ returns-in_ok-frame-in-Whole-clause-frame c =
     let len = c.in-Whole.len in
     let whole : IsWhole (drop start items) len = rw (c.deref.ensures.value, take_rest) at c.in-Whole.ensures in
     let n : start + len - start ≡ len = omega arith in
-    let front : c.in_ok-frame-in-Whole.frame.items ≡ take len (drop start items) = rw (n, c.deref-in-Whole.ensures.value) at c.in_ok-frame-in-Whole.ensures.items in
+    let front : c.in_ok-frame-in-Whole.frame.items ≡ take len (drop start items) = rw (n, c.deref-in-Whole.ensures.value) at c.in_ok-frame-in-Whole.ensures.ok in
     let both = handed (drop start items) c.in_ok-frame-in-Whole.frame.items len whole front in
     record {
       front = ap (λ k. k.kept) (sym c.self.view_is) ∙ both.0 ∙ ap (λ r. c.in_ok-frame-in-Whole.frame.items ++ r) (drop-drop len start items);
