@@ -24,7 +24,7 @@ returns-then-is_farewell-clause-all g c =
     all_queued (progress c.args.self.now) (progress l) _ (Some ends.Destroyed) c.loop-frame.invariant.so_far refl refl (
       c.in-Ok-Some.frame.items,
       frame.front,
-      subst (λ (f : List ℕ). IsFarewell l.agreed f) c.as_slice.ensures.value (c.is_farewell.ensures.yes c.if-is_farewell.true),
+      subst (λ (f : List ℕ). IsFarewell l.agreed f) c.as_slice.ensures (c.is_farewell.ensures.yes c.if-is_farewell.true),
       ap (λ (q : Queued). Some q) (shown_as c.job_of.result l.agreed c.in-Ok-Some.frame.items job.1 (ap (λ v. v.items) job.2)),
     ) where
       shown_as : (job : Job) (agreed : Bool) (frame : List ℕ) → job.agreed ≡ agreed → job.frame.items ≡ frame → shown job ≡ record { agreed = agreed; frame = frame }
@@ -45,7 +45,7 @@ loop-frame-preserved g c =
     record {
       so_far = one_queued (progress c.args.self.now) (progress l) (progress n) c.in-Ok-Some.frame.items c.loop-frame.invariant.so_far
           (frame.front ∙ ap (λ (k : Cutting). c.in-Ok-Some.frame.items ++ k.kept) (sym c.queue.ensures.cutter)) frame.framed
-          (λ f. c.is_farewell.ensures.no c.if-is_farewell.false (subst (λ (b : List ℕ). IsFarewell l.agreed b) (sym c.as_slice.ensures.value) f)) yes.1 yes.0
+          (λ f. c.is_farewell.ensures.no c.if-is_farewell.false (subst (λ (b : List ℕ). IsFarewell l.agreed b) (sym c.as_slice.ensures) f)) yes.1 yes.0
           (ap (λ (j : Option Job). option_map shown j) c.queue.ensures.farewell);
       ring = c.queue.ensures.ring ∙ c.loop-frame.invariant.ring;
       parts = c.queue.ensures.parts ∙ c.loop-frame.invariant.parts;
