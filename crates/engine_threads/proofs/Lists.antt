@@ -102,3 +102,7 @@ last_two f n all most rest one last made cut again =
 pub some_same : {A : Type 0} (R Q : A → Type 0) (x : A) (o : Option A) → IfSome o (λ a. (a ≡ x) × R a) → Q x → IfSome o Q
 some_same R Q x None h q = tt
 some_same R Q x (Some a) h q = subst Q (sym h.0) q
+
+pub some_so : {A : Type 0} (P Q : A → Type 0) (o : Option A) → ((a : A) → P a → Q a) → IfSome o P → IfSome o Q
+some_so P Q None f h = tt
+some_so P Q (Some a) f h = f a h
