@@ -49,7 +49,7 @@ module _ (T N C : RattleType) (n : opening.Ghosts N.Denot) (g : Ghosts T.Denot) 
 module _ (H T N I O S : RattleType) (n : opening.Ghosts N.Denot) (i : ins.Ghosts I.Denot) (o : out.Ghosts O.Denot) (j : source.Ghosts S.Denot I.Denot) (k : sink.Ghosts S.Denot O.Denot) (g : Ghosts T.Denot) where
   common_send : IsSend H → IsSend T → IsSync T → IsSend N → IsSend I → IsSend O → IsSend S → IsSend (Common.the_row H T N I O S n i o j k g)
   common_send h s y m d e f =
-      let a : IsSend (Hall.the_field T N n g).row = search (hall.the_field_send T N n g, sendable) in
+      let a : IsSend (Hall.the_field T N g n).row = search (hall.the_field_send T N g n, sendable) in
       let b : IsSend Dirs.the_row = dirs.the_send in
       let c : IsSend (ReaderRole.the_row I S i j) = search (reader.the_send I S i j, sendable) in
       let w : IsSend (WriterRole.the_row T N O S n o k g) = writer_role_send T g N O S n o k s y m e f in
@@ -59,7 +59,7 @@ module _ (H T N I O S : RattleType) (n : opening.Ghosts N.Denot) (i : ins.Ghosts
 
   common_sync : IsSync H → IsSend T → IsSync T → IsSend N → IsSend I → IsSend O → IsSend S → IsSync (Common.the_row H T N I O S n i o j k g)
   common_sync h s y m d e f =
-      let a : IsSync (Hall.the_field T N n g).row = search (hall.the_field_sync T N n g, sendable) in
+      let a : IsSync (Hall.the_field T N g n).row = search (hall.the_field_sync T N g n, sendable) in
       let b : IsSync Dirs.the_row = dirs.the_sync in
       let c : IsSend (ReaderRole.the_row I S i j) = search (reader.the_send I S i j, sendable) in
       let w : IsSend (WriterRole.the_row T N O S n o k g) = writer_role_send T g N O S n o k s y m e f in

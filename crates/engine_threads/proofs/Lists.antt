@@ -97,3 +97,12 @@ last_two f n all most rest one last made cut again =
     let first = last_same most (map f (range_with_len 0 (suc n))) last (f (0 + suc n)) (sym cut ∙ whole) in
     let second = last_same rest (map f (range_with_len 0 n)) one (f (0 + n)) (sym again ∙ (first.0 ∙ (ap (map f) (range_more 0 n) ∙ map_last f (range_with_len 0 n) (0 + n)))) in
     (second.0, second.1 ∙ ap f this, first.1 ∙ ap f next)
+
+-- what holds of a value holds of what is there, where that is this value
+pub some_same : {A : Type 0} (R Q : A → Type 0) (x : A) (o : Option A) → IfSome o (λ a. (a ≡ x) × R a) → Q x → IfSome o Q
+some_same R Q x None h q = tt
+some_same R Q x (Some a) h q = subst Q (sym h.0) q
+
+pub some_so : {A : Type 0} (P Q : A → Type 0) (o : Option A) → ((a : A) → P a → Q a) → IfSome o P → IfSome o Q
+some_so P Q None f h = tt
+some_so P Q (Some a) f h = f a h

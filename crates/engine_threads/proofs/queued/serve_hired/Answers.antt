@@ -4,6 +4,9 @@ use Rattle.crossbeam_channel.specs.Claims.{view}
 use Rattle.crossbeam_channel.specs.Ends.{sends_on}
 use Rattle.ops.specs.declared.replies.Settings.{Settings}
 use Rattle.engine_queues.specs.Gathered.{numbers_of}
+use Rattle.std.specs.Option.{option_map}
+use Rattle.engine_reader.specs.Shown.{queued_of, shown}
+use Rattle.engine_roles.specs.Reads.{HasReadAll}
 use Rattle.engine_roles.specs.Writes.{HasWrittenAll}
 use Rattle.engine_visits.specs.Visits.{on_table_of}
 use Rattle.engine_threads.specs.Worked.{BidsFarewell, IsStaffed, WorkedEach, did, does_shared, made_by}
@@ -28,6 +31,10 @@ pub returns-clause-writes : goal.returns-clause-writes
 returns-clause-writes g c =
     subst₂ (λ (link : g.row.O.Denot) (n : ℕ). IfSome c.serve_staffed.result (λ o. ∥ HasWrittenAll g.O.LinkOut.sends (Some link) (n + 1) (made_by (did o.closed.table.log) (n + 1)) (view o.passed.written.value) o.passed.is_broken ∥₁))
     c.in_ok-parts.ensures.links.1 c.in_ok-staff.ensures.len c.serve_staffed.ensures.writes
+
+pub returns-clause-reads : goal.returns-clause-reads
+returns-clause-reads g c =
+    subst (λ (link : g.row.I.Denot). IfSome c.serve_staffed.result (λ o. ∥ HasReadAll g.I.LinkIn.receives (Some link) o.passed.input (queued_of (view o.passed.read.value).put) (option_map shown o.passed.farewell.value) ∥₁)) c.in_ok-parts.ensures.links.0 c.serve_staffed.ensures.reads
 
 pub returns-clause-numbers : goal.returns-clause-numbers
 returns-clause-numbers g c =

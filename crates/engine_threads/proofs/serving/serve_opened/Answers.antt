@@ -1,7 +1,57 @@
-use Rattle.std.proofs.Common.{◌≡◌, ◌+◌, ◌≤◌, ℕ, [], subst, arith}
+use Rattle.std.proofs.Common.{◌≡◌, ◌+◌, ◌≤◌, ◌∙◌, ℕ, List, [], length, map, Some, sym, ap, subst, vec_len, arith}
+use Rattle.std.specs.List.{range_with_len}
+use Rattle.std.specs.Option.{option_map}
+use Rattle.crossbeam_channel.specs.Claims.{view}
+use Rattle.table_histories.specs.Views.{front}
+use Rattle.engine_queues.specs.Gathered.{numbers_of}
+use Rattle.engine_reader.specs.Shown.{queued_of, shown}
+use Rattle.engine_roles.specs.Reads.{HasReadAll}
+use Rattle.engine_threads.specs.Ended.{IsShared}
 use Rattle.engine_threads.specs.Worked.{did}
+use Rattle.engine_threads.specs.declared.ended.Account.{Account}
+use Rattle.engine_threads.specs.declared.ended.Passed.{Passed}
+use Rattle.engine_threads.proofs.Lists.{ok_of, some_by, some_so}
 use Rattle.engine_threads.proofs.Served.{has_served}
 use Rattle.engine_threads.proofs.serving.serve_opened.Goals as goal
+
+pub serve_queued-requires-clause-fronts : goal.serve_queued-requires-clause-fronts
+serve_queued-requires-clause-fronts g c κs within =
+    let made = ok_of _ c.new-2.result (c.in_ok-hall.hall, c.in_ok-hall.fronts) c.in_ok-hall.ensures.value c.new-2.ensures in
+    let count : c.len.result + 2 ≡ vec_len c.args.trees + 2 = (let a = c.len.ensures in omega arith) in
+    let fronts = made ∙ ap (λ (k : ℕ). map (λ index. front index [] []) (range_with_len 0 k)) count in
+    c.in_ok-fronts.ensures.workers (vec_len c.args.trees) fronts
+
+pub serve_queued-requires-clause-starter : goal.serve_queued-requires-clause-starter
+serve_queued-requires-clause-starter g c κs within =
+    let made = ok_of _ c.new-2.result (c.in_ok-hall.hall, c.in_ok-hall.fronts) c.in_ok-hall.ensures.value c.new-2.ensures in
+    let count : c.len.result + 2 ≡ vec_len c.args.trees + 2 = (let a = c.len.ensures in omega arith) in
+    let fronts = made ∙ ap (λ (k : ℕ). map (λ index. front index [] []) (range_with_len 0 k)) count in
+    c.in_ok-fronts.ensures.starter (vec_len c.args.trees) fronts
+
+pub serve_queued-requires-clause-writer : goal.serve_queued-requires-clause-writer
+serve_queued-requires-clause-writer g c κs within =
+    let made = ok_of _ c.new-2.result (c.in_ok-hall.hall, c.in_ok-hall.fronts) c.in_ok-hall.ensures.value c.new-2.ensures in
+    let count : c.len.result + 2 ≡ vec_len c.args.trees + 2 = (let a = c.len.ensures in omega arith) in
+    let fronts = made ∙ ap (λ (k : ℕ). map (λ index. front index [] []) (range_with_len 0 k)) count in
+    c.in_ok-fronts.ensures.writer (vec_len c.args.trees) fronts
+
+pub returns-clause-taken : goal.returns-clause-taken
+returns-clause-taken g c =
+    let over = c.in_ok-over.over in
+    some_so (λ (a : Account). vec_len a.taken + 1 ≡ vec_len over.taken) (λ (a : Account). vec_len a.taken ≡ vec_len c.args.trees) c.conclude.result (λ a one. let all = c.in_ok-over.ensures.taken in omega arith) c.conclude.ensures.taken
+
+pub returns-clause-numbers : goal.returns-clause-numbers
+returns-clause-numbers g c =
+    some_by (λ (p : Passed). numbers_of p.passes.value.items ≡ range_with_len 0 (vec_len c.args.trees + 1)) (λ (a : Account). a.passed) c.in_ok-over.over.passed c.conclude.result c.conclude.ensures.passed c.in_ok-over.ensures.numbers
+
+pub returns-clause-reads : goal.returns-clause-reads
+returns-clause-reads g c =
+    some_by (λ (p : Passed). ∥ HasReadAll g.I.LinkIn.receives (Some c.args.links.link_in) p.input (queued_of (view p.read.value).put) (option_map shown p.farewell.value) ∥₁) (λ (a : Account). a.passed) c.in_ok-over.over.passed c.conclude.result c.conclude.ensures.passed
+    c.in_ok-over.ensures.reads
+
+pub returns-clause-shared : goal.returns-clause-shared
+returns-clause-shared g c =
+    some_by (λ (p : Passed). IsShared (view p.read.value) p.passes.value.items (view p.written.value)) (λ (a : Account). a.passed) c.in_ok-over.over.passed c.conclude.result c.conclude.ensures.passed c.in_ok-over.ensures.shared
 
 pub returns-clause-served : goal.returns-clause-served
 returns-clause-served g c =
@@ -9,6 +59,6 @@ returns-clause-served g c =
     let e = c.in_ok-over.ensures in
     let log = over.closed.table.log in
     let a = c.attest.ensures in
-    let nobody : (index : ℕ) → c.args.trees.len + 2 ≤ index → did log index ≡ [] = λ index le. a.nobody index (subst (λ (k : ℕ). k ≤ index) ?threads le) in
+    let nobody : (index : ℕ) → c.args.trees.len + 2 ≤ index → did log index ≡ [] = λ index le. a.nobody index (subst (λ (k : ℕ). k ≤ index) (sym c.requires.threads) le) in
     has_served g.C.Calls.gives g.O.LinkOut.sends c.args.settings c.args.trees.items c.args.links.link_out c.args.limits g.N.Opening.limits c.args.trees.len log over.passed c.conclude.result c.requires.limits c.args.trees.ok.0 a.history nobody
-    e.worked e.farewell ?writes c.conclude.ensures.passed c.conclude.ensures.totals
+    e.worked e.farewell e.writes c.conclude.ensures.passed c.conclude.ensures.totals
