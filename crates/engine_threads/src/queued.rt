@@ -341,6 +341,7 @@ pub fn serve_queued<
     let (jobs, work, read) = job_queue(alloc)?;
     let (replies, writes, written) = reply_queue(alloc)?;
     serve_hired(
-        rt, alloc, ground, &jobs, work, read, &replies, writes, written, fronts, trees, shares, settings,
+        rt, alloc, ground, &jobs, work, read, &replies, writes, written, fronts, trees, shares,
+        settings,
     )
 }

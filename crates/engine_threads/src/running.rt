@@ -50,10 +50,14 @@ pub struct Parts<H: Drop, T: Ledgers, N: Opening, I: LinkIn + Drop, O: LinkOut +
 }
 
 /// Both roles at their beginning. None is want of memory.
-fn share<H: Drop, T: Ledgers, N: Opening, I: LinkIn + Drop, O: LinkOut + Drop, S: Source<I> + Sink<O>>(
-    alloc: Global,
-    parts: Parts<H, T, N, I, O>,
-) -> Option<Shared<H, T, N, I, O, S>>
+fn share<
+    H: Drop,
+    T: Ledgers,
+    N: Opening,
+    I: LinkIn + Drop,
+    O: LinkOut + Drop,
+    S: Source<I> + Sink<O>,
+>(alloc: Global, parts: Parts<H, T, N, I, O>) -> Option<Shared<H, T, N, I, O, S>>
     requires jobs { S.jobs ≡ Some (sends_on parts.reader.to) }
     requires parts { (view parts.reader.pass).parts + S.parted ≡ 8 }
     requires from { S.heard_from ≡ Some parts.link_in }

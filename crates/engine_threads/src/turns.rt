@@ -35,7 +35,10 @@ fn writer_of<
     I: LinkIn + Drop,
     O: LinkOut + Drop,
     S: Source<I> + Sink<O>,
->(common: &'a Common<H, T, N, I, O, S>, has_to: bool) -> Option<MutexGuard<'a, WriterRole<T, N, O, S>>> {
+>(
+    common: &'a Common<H, T, N, I, O, S>,
+    has_to: bool,
+) -> Option<MutexGuard<'a, WriterRole<T, N, O, S>>> {
     if has_to {
         Some(common.writer.lock(&common.rt))
     } else {
@@ -64,10 +67,14 @@ pub fn offer_queued<H: Wait, T: Ledgers, N: Opening, O: LinkOut + Drop, S: Sink<
 
 /// Offers the replies that are ready, unless another thread does; a thread that left as many as it may waits for that one. Whether it took
 /// any. Once it had the writer, none that it left before waits.
-fn offer<H: Wait + Drop, T: Ledgers, N: Opening, I: LinkIn + Drop, O: LinkOut + Drop, S: Source<I> + Sink<O>>(
-    common: &Common<H, T, N, I, O, S>,
-    left: &mut usize,
-) -> bool {
+fn offer<
+    H: Wait + Drop,
+    T: Ledgers,
+    N: Opening,
+    I: LinkIn + Drop,
+    O: LinkOut + Drop,
+    S: Source<I> + Sink<O>,
+>(common: &Common<H, T, N, I, O, S>, left: &mut usize) -> bool {
     let signs = &common.signs;
     let has_to = *left >= JOINED;
     if !has_to && !signs.is_ready.load(Ordering::SeqCst) {
@@ -120,11 +127,14 @@ pub fn read<
 /// Wakes those who may have something to do after a receive: all, where the session has ended; one for each job, where jobs take long; and
 /// else one where something came and nobody would look by itself. Jobs that are short are worked off by the one who read them, without a
 /// wake-up, and for the first that takes long who watches comes within a millisecond.
-fn tell_read<H: Drop, T: Ledgers, N: Opening, I: LinkIn + Drop, O: LinkOut + Drop, S: Source<I> + Sink<O>>(
-    common: &Common<H, T, N, I, O, S>,
-    queued: u64,
-    has_ended: bool,
-) {
+fn tell_read<
+    H: Drop,
+    T: Ledgers,
+    N: Opening,
+    I: LinkIn + Drop,
+    O: LinkOut + Drop,
+    S: Source<I> + Sink<O>,
+>(common: &Common<H, T, N, I, O, S>, queued: u64, has_ended: bool) {
     if has_ended {
         common.signs.tell_over();
         common.sleepers.wake(u64::MAX);

@@ -64,10 +64,14 @@ impl Rest {
     }
 
     /// It looks again. Where it comes out of its sleep and there are jobs, another is to watch before it takes one, for that may take long.
-    fn look<H: Drop, T: Ledgers, N: Opening, I: LinkIn + Drop, O: LinkOut + Drop, S: Source<I> + Sink<O>>(
-        &mut self,
-        common: &Common<H, T, N, I, O, S>,
-    ) {
+    fn look<
+        H: Drop,
+        T: Ledgers,
+        N: Opening,
+        I: LinkIn + Drop,
+        O: LinkOut + Drop,
+        S: Source<I> + Sink<O>,
+    >(&mut self, common: &Common<H, T, N, I, O, S>) {
         if self.has_slept && common.signs.is_busy() {
             common.sleepers.call_watch();
         }
@@ -75,10 +79,14 @@ impl Rest {
     }
 
     /// It found something to do.
-    fn rise<H: Drop, T: Ledgers, N: Opening, I: LinkIn + Drop, O: LinkOut + Drop, S: Source<I> + Sink<O>>(
-        &mut self,
-        common: &Common<H, T, N, I, O, S>,
-    ) {
+    fn rise<
+        H: Drop,
+        T: Ledgers,
+        N: Opening,
+        I: LinkIn + Drop,
+        O: LinkOut + Drop,
+        S: Source<I> + Sink<O>,
+    >(&mut self, common: &Common<H, T, N, I, O, S>) {
         if self.is_lying {
             common.sleepers.get_up(self.number);
             self.is_lying = false;

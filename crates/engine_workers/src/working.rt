@@ -230,7 +230,15 @@ impl Worker {
                     let Letter { from: _, reply } = letter;
                     let left = reply.into_left();
                     let (rt, hall) = (visitor.rt, visitor.hall);
-                    let untaken = settle_left(rt, hall, &mut visitor.front, share, dirs, left, false);
+                    let untaken = settle_left(
+                        rt,
+                        hall,
+                        &mut visitor.front,
+                        share,
+                        dirs,
+                        left,
+                        false,
+                    );
                     untaken.or(settled)
                 }
                 None => unreachable!(),
@@ -271,7 +279,10 @@ impl Worker {
         let Some(after) = self.count.checked_add(1) else {
             return Turn::Nothing;
         };
-        match self.jobs.try_recv_as::<Takes, H>(visitor.rt, &mut self.job_pass) {
+        match self
+            .jobs
+            .try_recv_as::<Takes, H>(visitor.rt, &mut self.job_pass)
+        {
             Ok(Some(job)) => {
                 self.count = after;
                 Turn::Worked(self.answer(visitor, share, served, &job))

@@ -99,7 +99,14 @@ pub fn hall_of<T: Ledgers, N: Opening>(
     alloc: Global,
     opened: Opened<Entry<T>>,
     table: Table<T>,
-) -> Result<(Hall<T, N>, Front<Entry<T>, Runs<N>>, Front<Entry<T>, Runs<N>>), AllocError>
+) -> Result<
+    (
+        Hall<T, N>,
+        Front<Entry<T>, Runs<N>>,
+        Front<Entry<T>, Runs<N>>,
+    ),
+    AllocError,
+>
     requires history { opened.table.shared.table_id ≡ N.history }
     requires table { world_of table ≡ opened_world N.limits }
     requires threads { N.threads ≡ 2 }
@@ -142,14 +149,7 @@ fn work<H: Wait + Drop, T: Ledgers, N: Opening>(
 {
     let (hall, front, _writer) = hall_of::<T, N>(alloc, opened, table)?;
     let mut served = Served { calls: tree, dirs };
-    work_both(
-        rt,
-        &hall,
-        front,
-        &mut kept.share,
-        &mut worker,
-        &mut served,
-    );
+    work_both(rt, &hall, front, &mut kept.share, &mut worker, &mut served);
     hall.close().into_table().export()
 }
 

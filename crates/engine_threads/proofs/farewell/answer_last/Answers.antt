@@ -19,9 +19,9 @@ returns-clause-answered g c =
     let by_session = does g.C.Calls.gives g.D.Folders.keeps in
     let number = e.ensures.number ∙ (a.ensures.rings.2 ∙ w.ensures.rings.2) in
     let answers = answers_as by_session w.result.session.settings c.args.starter.settings w.result.number e.result.number c.args.job.now (view w.result.job_pass) (view w.result.reply_pass) served.calls served.dirs c.args.kept.now.share (on_table_of v.result.front) a.result
-        (view a.new.self.job_pass) (view e.result.job_pass) (view a.new.self.reply_pass) (view e.result.reply_pass) (means a.new.served a.new.share (on_table_of a.new.visitor.front))
-        w.ensures.settings (w.ensures.rings.2 ∙ sym number) (w.ensures.passes.0 ∙ u.takes_none) (w.ensures.passes.1 ∙ (u.puts_none ∙ ap (λ (k : ℕ). sender k []) (sym number)))
-        (ap on_table_of v.ensures ∙ (c.requires.front ∙ ap idle (sym number))) e.ensures.passes.0 e.ensures.passes.1 a.ensures.answers in
+    (view a.new.self.job_pass) (view e.result.job_pass) (view a.new.self.reply_pass) (view e.result.reply_pass) (means a.new.served a.new.share (on_table_of a.new.visitor.front))
+    w.ensures.settings (w.ensures.rings.2 ∙ sym number) (w.ensures.passes.0 ∙ u.takes_none) (w.ensures.passes.1 ∙ (u.puts_none ∙ ap (λ (k : ℕ). sender k []) (sym number)))
+    (ap on_table_of v.ensures ∙ (c.requires.front ∙ ap idle (sym number))) e.ensures.passes.0 e.ensures.passes.1 a.ensures.answers in
     record {
       dirs = served.dirs;
       settled = a.result;
