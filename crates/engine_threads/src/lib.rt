@@ -5,6 +5,7 @@ mod ended;
 mod ending;
 mod farewell;
 mod fronts;
+mod grounds;
 mod hiring;
 mod leaving;
 mod places;

@@ -1,6 +1,6 @@
 //! The queues of a session, and all that its threads need.
 
-ghost use Rattle.std.specs.Prelude.{◌≡◌, ◌<◌, ◌≤◌, ◌+◌, [], true, false, length, map, None, Some, IfSome, vec_len, vec_capacity};
+ghost use Rattle.std.specs.Prelude.{◌≡◌, ◌<◌, ◌≤◌, ◌+◌, [], false, length, map, Some, IfSome, vec_len, vec_capacity};
 ghost use Rattle.std.specs.List.{All, range_with_len};
 ghost use Rattle.crossbeam_channel.specs.Claims.{view, IsSeatAt};
 ghost use Rattle.crossbeam_channel.specs.Ends.{sends_on, receives_on};
@@ -16,8 +16,9 @@ ghost use Rattle.engine_threads.specs.Ended.{IsShared};
 ghost use Rattle.engine_threads.specs.Worked.{did, does_shared, made_by, AreUnused, BidsFarewell, IsStaffed, WorkedEach};
 
 use crate::ending::{Over, Room};
-use crate::farewell::{Bid, Starter};
+use crate::farewell::Bid;
 use crate::fronts::Fronts;
+use crate::grounds::{Ground, parts_of, room_for, room_of};
 use crate::hiring::{cut_passes, hire_staff};
 use crate::running::{Parts, run};
 use crate::starting::Working;
@@ -29,79 +30,20 @@ use engine::{LinkIn, LinkOut, Settings};
 use engine_jobs::Job;
 use engine_queues::jobs::{Fair, Hand, JobPass, JobReceiver, JobSender};
 use engine_queues::letters::{InOrder, Letter, ReplyLane, ReplyPass, ReplyReceiver, ReplySender};
-use engine_queues::passes::Passes;
-use engine_reader::Reader;
 use engine_roles::Shares;
-use engine_workers::{Reply, Writer};
-use handles::Dirs;
+use engine_workers::Reply;
 use ledger::Ledgers;
 use std::alloc::Global;
 use std::marker::Brand;
 use std::sync::Wait;
 use std::thread::Threads;
-use table_halls::Hall;
-use table_histories::Front;
-use table_recorded::{Entry, Opening, Runs};
+use table_recorded::Opening;
 
 /// How many jobs wait at most: more than one receive can bring.
 const JOBS: usize = 4_096;
 
 /// How many replies wait to be offered at most: as many as four threads may leave, so that nobody waits for a place.
 const REPLIES: usize = 4 * JOINED;
-
-/// An empty vector with room for so many. None is want of memory.
-fn room_for<X: Drop>(alloc: Global, count: usize) -> Option<Vec<X>>
-    ensures { IfSome result (λ v. (count ≤ vec_capacity v) × (v.items ≡ [])) }
-{
-    Vec::with_capacity(alloc, count).ok()
-}
-
-/// A reader with a sender of its own. None is want of memory.
-fn reader_of(alloc: Global, jobs: &JobSender<Job>, read: JobPass<Job>) -> Option<Reader>
-    requires seat { IsSeatAt (sends_on jobs.now) read }
-    requires parts { 0 < (view read).parts }
-    requires takes_none { length (view read).taken ≡ 0 }
-    requires puts_none { (view read).put ≡ [] }
-    ensures ring { IfSome result (λ r. sends_on r.to ≡ sends_on jobs.now) }
-    ensures pass { IfSome result (λ r. view r.pass ≡ view read) }
-    ensures unheard { IfSome result (λ r. (r.cutter.kept ≡ []) × (r.agreed ≡ false) × (r.farewell ≡ None)) }
-{
-    let jobs = jobs.try_clone().ok()?;
-    Reader::new(alloc, jobs, read).ok()
-}
-
-/// What the starter has of its own. None is want of memory.
-fn room_of<T: Ledgers, N: Opening>(
-    alloc: Global,
-    settings: Settings,
-    work: JobReceiver<Job>,
-    replies: &ReplySender<Reply>,
-    own: Bid<T, N>,
-    shares: Shares<T>,
-) -> Option<Room<T, N>>
-    ensures own { IfSome result (λ r. r.own ≡ own) }
-    ensures settings { IfSome result (λ r. r.starter.settings ≡ settings) }
-    ensures work { IfSome result (λ r. receives_on r.starter.work ≡ receives_on work) }
-    ensures ring { IfSome result (λ r. sends_on r.starter.replies ≡ sends_on replies.now) }
-    ensures passes { IfSome result (λ r. (5 ≤ vec_capacity r.passes) × (r.passes.items ≡ [])) }
-    ensures taken { IfSome result (λ r. (5 ≤ vec_capacity r.taken) × (r.taken.items ≡ [])) }
-{
-    let replies = replies.try_clone().ok()?;
-    let passes = room_for::<Passes<Job, Reply>>(alloc, 5)?;
-    let taken = room_for::<u64>(alloc, 5)?;
-    Some(Room {
-        own,
-        starter: Starter {
-            alloc,
-            settings,
-            work,
-            replies,
-        },
-        passes,
-        taken,
-        shares,
-    })
-}
 
 /// Runs a session by this staff. None where memory or a thread was wanting.
 fn serve_staffed<
@@ -152,59 +94,6 @@ fn serve_staffed<
     let ended = room_for::<WorkerEnd<T, N, C>>(alloc, 4)?;
     let handles = room_for::<Working<T, N, C>>(alloc, 4)?;
     run::<H, T, N, I, O, C, Brand>(rt, alloc, jobs, replies, parts, staff, handles, ended, room)
-}
-
-/// What a session has before its queues.
-#[derive(Drop)]
-pub struct Ground<H: Drop, T: Ledgers, N: Opening, I: LinkIn + Drop, O: LinkOut + Drop> {
-    pub rt: H,
-    pub hall: Hall<T, N>,
-    pub dirs: Dirs,
-    pub link_in: I,
-    pub link_out: O,
-}
-
-/// What the threads will share. None is want of memory, or a share that is missing.
-fn parts_of<H: Drop, T: Ledgers, N: Opening, I: LinkIn + Drop, O: LinkOut + Drop>(
-    alloc: Global,
-    ground: Ground<H, T, N, I, O>,
-    jobs: &JobSender<Job>,
-    read: JobPass<Job>,
-    writes: ReplyReceiver<Reply>,
-    written: ReplyPass<Reply>,
-    front: Front<Entry<T>, Runs<N>>,
-    shares: &mut Shares<T>,
-) -> Option<Parts<H, T, N, I, O>>
-    requires seat { IsSeatAt (sends_on jobs.now) read }
-    requires parts { 0 < (view read).parts }
-    requires takes_none { length (view read).taken ≡ 0 }
-    requires puts_none { (view read).put ≡ [] }
-    requires reply_seat { IsSeatAt (receives_on writes) written }
-    requires gets { ((view written).gets ≡ true) × (length (view written).known ≡ 0) }
-    ensures links { IfSome result (λ p. (p.link_in ≡ ground.link_in) × (p.link_out ≡ ground.link_out)) }
-    ensures front { IfSome result (λ p. p.front ≡ front) }
-    ensures reads { IfSome result (λ p. (sends_on p.reader.to ≡ sends_on jobs.now) × (view p.reader.pass ≡ view read)) }
-    ensures unheard { IfSome result (λ p. reading p.link_in p.reader ≡ beginning p.link_in) }
-    ensures writes { IfSome result (λ p. (receives_on p.writer.replies ≡ receives_on writes) × (view p.writer.pass ≡ view written) × (p.writer.is_broken ≡ false)) }
-{
-    let Ground {
-        rt,
-        hall,
-        dirs,
-        link_in,
-        link_out,
-    } = ground;
-    Some(Parts {
-        rt,
-        hall,
-        dirs,
-        reader: reader_of(alloc, jobs, read)?,
-        link_in,
-        writer: Writer::new(alloc, writes, written).ok()?,
-        link_out,
-        kept: shares.take()?,
-        front,
-    })
 }
 
 /// Hires a staff for the queues, and runs a session by it. None where memory or a thread was wanting.
