@@ -70,21 +70,21 @@ after_work old new call (Ok own) errno told ends is = failed_after old new call 
 after_work old new call (Err (Errno refused)) errno told ends is = failed_after old new call errno told (Fault refused) (works_refused old new call refused ends) is
 after_work old new call (Err Memory) errno told ends is = starved old new (After errno) call told tt ends.0 ends.1 is
 
-pub puts_dir : (old new : Tree) (p : Names) (ended : Result Answer Refusal) → Ends old (AskMakeDir p) ended new → PutsDir old p (settled ended) new
+pub puts_dir : (old new : Tree) (p : Names) (ended : Result Answer Refusal) → Ends old (AskMakeDir p None) ended new → PutsDir old p (settled ended) new
 puts_dir old new p (Ok answer) ends = inl (ends.0, (refl, ends.1.1))
-puts_dir old new p (Err (Errno errno)) ends = inl (works_refused old new (AskMakeDir p) errno ends)
+puts_dir old new p (Err (Errno errno)) ends = inl (works_refused old new (AskMakeDir p None) errno ends)
 puts_dir old new p (Err Memory) ends = inr (ends.0, refl, ends.1)
 
-pub puts_no_file : (old new : Tree) (p : Names) (bytes : List ℕ) (made : Result Answer Refusal) (errno : ℤ) → Ends old (AskMake p) made new → settled made ≡ Err errno → PutsFile old p bytes (Err errno) new
+pub puts_no_file : (old new : Tree) (p : Names) (bytes : List ℕ) (made : Result Answer Refusal) (errno : ℤ) → Ends old (AskMake p None) made new → settled made ≡ Err errno → PutsFile old p bytes (Err errno) new
 puts_no_file old new p bytes (Ok answer) errno ends is = cc
 puts_no_file old new p bytes (Err (Errno refused)) errno ends is =
     let e : refused ≡ errno = cc in
-    inl (inl (subst (λ (n : ℤ). Works old (AskMake p) (Fault n) new) e (works_refused old new (AskMake p) refused ends)))
+    inl (inl (subst (λ (n : ℤ). Works old (AskMake p None) (Fault n) new) e (works_refused old new (AskMake p None) refused ends)))
 puts_no_file old new p bytes (Err Memory) errno ends is =
     let e : ENOMEM ≡ errno = cc in
     inl (inr (ends.0, sym e, ends.1))
 
-works_made : (old mid : Tree) (p : Names) (made : Result Answer Refusal) (done : Unit {0}) → Ends old (AskMake p) made mid → settled made ≡ Ok done → Works old (AskMake p) Done mid
+works_made : (old mid : Tree) (p : Names) (made : Result Answer Refusal) (done : Unit {0}) → Ends old (AskMake p None) made mid → settled made ≡ Ok done → Works old (AskMake p None) Done mid
 works_made old mid p (Ok answer) done ends is = inl (ends.0, (refl, ends.1.1))
 works_made old mid p (Err refusal) done ends is = cc
 
@@ -92,7 +92,7 @@ does_wrote : (old new : Tree) (p : Names) (bytes : List ℕ) (answer : Answer) �
 does_wrote old new p [] answer does = (0, (refl, does.1))
 does_wrote old new p (byte ∷ bytes) answer does = (length (byte ∷ bytes), (refl, does.1))
 
-pub puts_file : (old mid new : Tree) (p : Names) (bytes : List ℕ) (made ended : Result Answer Refusal) (done : Unit {0}) → Ends old (AskMake p) made mid → settled made ≡ Ok done → Ends mid (AskWrite p 0 bytes) ended new → PutsFile old p bytes (settled ended) new
+pub puts_file : (old mid new : Tree) (p : Names) (bytes : List ℕ) (made ended : Result Answer Refusal) (done : Unit {0}) → Ends old (AskMake p None) made mid → settled made ≡ Ok done → Ends mid (AskWrite p 0 bytes) ended new → PutsFile old p bytes (settled ended) new
 puts_file old mid new p bytes made (Ok answer) done makes is ends =
     let wrote = does_wrote mid new p bytes answer ends.1 in
     (mid, works_made old mid p made done makes is, (wrote.0, inl (ends.0, wrote.1)))

@@ -4,6 +4,8 @@ use Rattle.std.specs.Option.{option_map}
 use Rattle.paths.specs.Prefixes.{Name, Names, is_name, is_prefix}
 use Rattle.backing.specs.declared.call.Kind.{Kind}
 use Rattle.backing.specs.declared.call.Child.{Child}
+use Rattle.backing.specs.declared.call.Details.{Details}
+use Rattle.backing.specs.declared.call.NewTime.{NewTime}
 use Rattle.backing.specs.declared.call.Call.{Call}
 use Rattle.backing.specs.declared.call.Call.TheVariants as calls
 use Rattle.backing.specs.declared.call.Answer.{Answer}
@@ -19,8 +21,8 @@ use Rattle.backing.specs.Tree.{Tree, IsFile, IsFolder, Resolves, Stops, HasNames
 pub data Asked : Type 0 where
   AskStat : (p : Names) → Asked
   AskList : (p : Names) → Asked
-  AskMake : (p : Names) → Asked
-  AskMakeDir : (p : Names) → Asked
+  AskMake : (p : Names) → (permissions : Option ℕ) → Asked
+  AskMakeDir : (p : Names) → (permissions : Option ℕ) → Asked
   AskRemove : (p : Names) → Asked
   AskRemoveDir : (p : Names) → Asked
   AskRename : (s t : Names) → Asked
@@ -30,12 +32,15 @@ pub data Asked : Type 0 where
   AskWrite : (p : Names) → (offset : ℕ) → (piece : List ℕ) → Asked
   AskSetLen : (p : Names) → (size : ℕ) → Asked
   AskSync : (p : Names) → Asked
+  AskSetPermissions : (p : Names) → (permissions : ℕ) → Asked
+  AskSetOwner : (p : Names) → (uid gid : Option ℕ) → Asked
+  AskSetTimes : (p : Names) → (accessed modified : Option NewTime) → Asked
 
 abbrev pub asked : Call → Asked
 asked (calls.Stat p) = AskStat p.now
 asked (calls.List p) = AskList p.now
-asked (calls.Make p) = AskMake p.now
-asked (calls.MakeDir p) = AskMakeDir p.now
+asked (calls.Make p permissions) = AskMake p.now permissions
+asked (calls.MakeDir p permissions) = AskMakeDir p.now permissions
 asked (calls.Remove p) = AskRemove p.now
 asked (calls.RemoveDir p) = AskRemoveDir p.now
 asked (calls.Rename s t) = AskRename s.now t.now
@@ -45,6 +50,9 @@ asked (calls.Read p offset size) = AskRead p.now offset size
 asked (calls.Write p offset piece) = AskWrite p.now offset piece.now
 asked (calls.SetLen p size) = AskSetLen p.now size
 asked (calls.Sync p) = AskSync p.now
+asked (calls.SetPermissions p permissions) = AskSetPermissions p.now permissions
+asked (calls.SetOwner p uid gid) = AskSetOwner p.now uid gid
+asked (calls.SetTimes p accessed modified) = AskSetTimes p.now accessed modified
 
 -- What a call needs of the tree. Each test has one way to fail, but for the way down to a path.
 pub data Test : Type 0 where
@@ -116,8 +124,8 @@ end_of offset (byte ∷ piece) = offset + length (byte ∷ piece)
 abbrev pub tests_of : Asked → List Test
 tests_of (AskStat p) = Reached p ∷ Present p ∷ []
 tests_of (AskList p) = Reached p ∷ Present p ∷ NoFile p ∷ []
-tests_of (AskMake p) = Reached p ∷ Free p ∷ []
-tests_of (AskMakeDir p) = Reached p ∷ Free p ∷ []
+tests_of (AskMake p permissions) = Reached p ∷ Free p ∷ []
+tests_of (AskMakeDir p permissions) = Reached p ∷ Free p ∷ []
 tests_of (AskRemove p) = Reached p ∷ Present p ∷ NoFolder p ∷ []
 tests_of (AskRemoveDir p) = BelowRoot p ∷ Reached p ∷ Present p ∷ NoFile p ∷ Bare p ∷ []
 tests_of (AskRename s t) = BelowRoot s ∷ BelowRoot t ∷ Reached s ∷ Present s ∷ unless (is_path s t) (NotInto s t ∷ NotOver s t ∷ Reached t ∷ NoFileOnFolder s t ∷ NoFolderOnFile s t ∷ Bare t ∷ [])
@@ -127,6 +135,9 @@ tests_of (AskRead p offset size) = Reached p ∷ Present p ∷ NoFolder p ∷ []
 tests_of (AskWrite p offset piece) = Reached p ∷ Present p ∷ NoFolder p ∷ Fits (end_of offset piece) ∷ []
 tests_of (AskSetLen p size) = Reached p ∷ Present p ∷ NoFolder p ∷ Fits size ∷ []
 tests_of (AskSync p) = Reached p ∷ Present p ∷ []
+tests_of (AskSetPermissions p permissions) = Reached p ∷ Present p ∷ []
+tests_of (AskSetOwner p uid gid) = Reached p ∷ Present p ∷ []
+tests_of (AskSetTimes p accessed modified) = Reached p ∷ Present p ∷ []
 
 -- the kind that a name has in a listing
 abbrev pub kind_in : List Child → Name → Option Kind
@@ -143,12 +154,13 @@ pub record Lists (at : Tree) (p : Names) (children : List Child) : Type 0 where
   pub stands : (name : Name) → kind_in children name ≡ option_map kind_of (at (p ++ name ∷ []))
   pub once : EachOnce children
 
--- the answer of a call whose tests pass, and the tree then
+-- The answer of a call whose tests pass, and the tree then. A tree is of kinds and bytes: it knows no details, so a STAT may
+-- tell any, and what sets them leaves the tree as it is.
 abbrev pub Does : Tree → Asked → Answer → Tree → Type 0
-Does old (AskStat p) answer new = ((item : Item) × (old p ≡ Some item) × (answer ≡ Stat (kind_of item) (size_of item))) × (new ≡ old)
+Does old (AskStat p) answer new = ((item : Item) × (old p ≡ Some item) × ((details : Details) × (answer ≡ Stat (kind_of item) (size_of item) details))) × (new ≡ old)
 Does old (AskList p) answer new = ((children : List Child) × Lists old p children × (answer ≡ NamesAre children)) × (new ≡ old)
-Does old (AskMake p) answer new = (answer ≡ Done) × (new ≡ with_item old p (File []))
-Does old (AskMakeDir p) answer new = (answer ≡ Done) × (new ≡ with_item old p Folder)
+Does old (AskMake p permissions) answer new = (answer ≡ Done) × (new ≡ with_item old p (File []))
+Does old (AskMakeDir p permissions) answer new = (answer ≡ Done) × (new ≡ with_item old p Folder)
 Does old (AskRemove p) answer new = (answer ≡ Done) × (new ≡ without old p)
 Does old (AskRemoveDir p) answer new = (answer ≡ Done) × (new ≡ without old p)
 Does old (AskRename s t) answer new = (answer ≡ Done) × (new ≡ (if is_path s t then old else moved old s t))
@@ -159,6 +171,9 @@ Does old (AskWrite p offset []) answer new = (answer ≡ Wrote 0) × (new ≡ ol
 Does old (AskWrite p offset (byte ∷ piece)) answer new = (answer ≡ Wrote (length (byte ∷ piece))) × ((bytes : List ℕ) × (old p ≡ Some (File bytes)) × (new ≡ with_item old p (File (written bytes offset (byte ∷ piece)))))
 Does old (AskSetLen p size) answer new = (answer ≡ Done) × ((bytes : List ℕ) × (old p ≡ Some (File bytes)) × (new ≡ with_item old p (File (resized size bytes))))
 Does old (AskSync p) answer new = (answer ≡ Done) × (new ≡ old)
+Does old (AskSetPermissions p permissions) answer new = (answer ≡ Done) × (new ≡ old)
+Does old (AskSetOwner p uid gid) answer new = (answer ≡ Done) × (new ≡ old)
+Does old (AskSetTimes p accessed modified) answer new = (answer ≡ Done) × (new ≡ old)
 
 -- The tree's own answer and effect: the call's work where all of its tests pass, else the error of the first that fails
 -- and no change.
@@ -169,8 +184,8 @@ Works old call answer new = (PassesAll old (tests_of call) × Does old call answ
 abbrev pub TakesMemory : Asked → Type 0
 TakesMemory (AskStat p) = ⊥
 TakesMemory (AskList p) = Unit {0}
-TakesMemory (AskMake p) = Unit {0}
-TakesMemory (AskMakeDir p) = Unit {0}
+TakesMemory (AskMake p permissions) = Unit {0}
+TakesMemory (AskMakeDir p permissions) = Unit {0}
 TakesMemory (AskRemove p) = ⊥
 TakesMemory (AskRemoveDir p) = ⊥
 TakesMemory (AskRename s t) = Unit {0}
@@ -180,6 +195,9 @@ TakesMemory (AskRead p offset size) = Unit {0}
 TakesMemory (AskWrite p offset piece) = Unit {0}
 TakesMemory (AskSetLen p size) = Unit {0}
 TakesMemory (AskSync p) = ⊥
+TakesMemory (AskSetPermissions p permissions) = ⊥
+TakesMemory (AskSetOwner p uid gid) = ⊥
+TakesMemory (AskSetTimes p accessed modified) = ⊥
 
 -- Nothing but want of memory keeps the tree from doing the call's work.
 abbrev pub Starves : Tree → Asked → Type 0

@@ -82,10 +82,10 @@ pub record SameBut (old new : Memory) : Type 0 where
 
 -- what a folder that is put there is, and why it is not
 abbrev pub PutsDir : Tree → Names → Result (Unit {0}) ℤ → Tree → Type 0
-PutsDir old p (Ok done) new = Works old (AskMakeDir p) Done new
-PutsDir old p (Err errno) new = Works old (AskMakeDir p) (Fault errno) new ⊎ (Starves old (AskMakeDir p) × (errno ≡ ENOMEM) × (new ≡ old))
+PutsDir old p (Ok done) new = Works old (AskMakeDir p None) Done new
+PutsDir old p (Err errno) new = Works old (AskMakeDir p None) (Fault errno) new ⊎ (Starves old (AskMakeDir p None) × (errno ≡ ENOMEM) × (new ≡ old))
 
 -- a file is made and then written; where the write fails, the empty file stays
 abbrev pub PutsFile : Tree → Names → List ℕ → Result (Unit {0}) ℤ → Tree → Type 0
-PutsFile old p bytes (Ok done) new = (mid : Tree) × Works old (AskMake p) Done mid × ((n : ℕ) × Works mid (AskWrite p 0 bytes) (Wrote n) new)
-PutsFile old p bytes (Err errno) new = (Works old (AskMake p) (Fault errno) new ⊎ (Starves old (AskMake p) × (errno ≡ ENOMEM) × (new ≡ old))) ⊎ ((mid : Tree) × Works old (AskMake p) Done mid × (Works mid (AskWrite p 0 bytes) (Fault errno) new ⊎ (Starves mid (AskWrite p 0 bytes) × (errno ≡ ENOMEM) × (new ≡ mid))))
+PutsFile old p bytes (Ok done) new = (mid : Tree) × Works old (AskMake p None) Done mid × ((n : ℕ) × Works mid (AskWrite p 0 bytes) (Wrote n) new)
+PutsFile old p bytes (Err errno) new = (Works old (AskMake p None) (Fault errno) new ⊎ (Starves old (AskMake p None) × (errno ≡ ENOMEM) × (new ≡ old))) ⊎ ((mid : Tree) × Works old (AskMake p None) Done mid × (Works mid (AskWrite p 0 bytes) (Fault errno) new ⊎ (Starves mid (AskWrite p 0 bytes) × (errno ≡ ENOMEM) × (new ≡ mid))))

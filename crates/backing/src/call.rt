@@ -16,6 +16,44 @@ pub enum Kind {
     File,
 }
 
+/// A point in time.
+#[derive(Clone, Copy, Debug, PartialEq, Eq)]
+pub struct Time {
+    /// Since the beginning of 1970; 64 bits in two's complement.
+    pub seconds: u64,
+    /// After these seconds; what a directory tells is less than 1,000,000,000.
+    pub nanos: u32,
+}
+
+/// What a time is set to.
+#[derive(Clone, Copy, Debug, PartialEq, Eq)]
+pub enum NewTime {
+    /// When the call is made.
+    Now,
+    At(Time),
+}
+
+/// What a directory tells of what stands at a path, beside its kind and its size.
+#[derive(Clone, Copy, Debug, PartialEq, Eq)]
+pub struct Details {
+    /// The inode number.
+    pub ino: u64,
+    /// Permission bits: the lowest twelve of a mode.
+    pub permissions: u32,
+    /// How many names it has, as the directory counts them; `u32::MAX` where they are more.
+    pub links: u32,
+    /// Whose it is.
+    pub uid: u32,
+    /// Which group's.
+    pub gid: u32,
+    /// When it was last read.
+    pub accessed: Time,
+    /// When its bytes, or the names in it, last changed.
+    pub modified: Time,
+    /// When its bytes or its details last changed.
+    pub changed: Time,
+}
+
 /// A name in a folder, and what stands there.
 #[derive(Drop)]
 pub struct Child {
@@ -69,10 +107,16 @@ pub enum Call<'a> {
     Stat(&'a Path),
     /// The names in the folder.
     List(&'a Path),
-    /// Makes an empty file.
-    Make(&'a Path),
-    /// Makes an empty folder.
-    MakeDir(&'a Path),
+    /// Makes an empty file, with these permission bits (the lowest twelve count), or else by the default of the process.
+    Make {
+        path: &'a Path,
+        permissions: Option<u32>,
+    },
+    /// Makes an empty folder, with permission bits as `Make`.
+    MakeDir {
+        path: &'a Path,
+        permissions: Option<u32>,
+    },
     /// Removes the file.
     Remove(&'a Path),
     /// Removes the folder, which has no names.
@@ -111,6 +155,23 @@ pub enum Call<'a> {
     },
     /// Brings what stands at the path to the disk.
     Sync(&'a Path),
+    /// Sets the permission bits of what stands at the path: the lowest twelve count.
+    SetPermissions {
+        path: &'a Path,
+        permissions: u32,
+    },
+    /// Sets whose it is. What is `None` stays.
+    SetOwner {
+        path: &'a Path,
+        uid: Option<u32>,
+        gid: Option<u32>,
+    },
+    /// Sets when it was last read and when it was last changed. What is `None` stays.
+    SetTimes {
+        path: &'a Path,
+        accessed: Option<NewTime>,
+        modified: Option<NewTime>,
+    },
 }
 
 /// What a directory answers.
@@ -118,7 +179,7 @@ pub enum Call<'a> {
 pub enum Answer {
     Done,
     /// `size` is in bytes, and 0 for a folder.
-    Stat { kind: Kind, size: u64 },
+    Stat { kind: Kind, size: u64, details: Details },
     Names(Children),
     Bytes(Bytes),
     /// How many bytes were written.

@@ -5,6 +5,7 @@ mod bytes;
 mod call;
 mod calls;
 mod checks;
+mod details;
 mod entries;
 mod exchanging;
 mod lookups;
@@ -21,7 +22,7 @@ mod told;
 mod writing;
 
 pub use bytes::Bytes;
-pub use call::{Answer, Call, Child, Children, Kind, MAX_FILE_LEN};
+pub use call::{Answer, Call, Child, Children, Details, Kind, MAX_FILE_LEN, NewTime, Time};
 pub use calls::{Calls, KnownTree};
 pub use memory::MemTree;
 pub use plans::Fault;

@@ -1,6 +1,6 @@
 //! Calls that make an item.
 
-ghost use Rattle.std.specs.Prelude.{◌≡◌, OnOk, OnErr, IfErr};
+ghost use Rattle.std.specs.Prelude.{◌≡◌, ℕ, Option, OnOk, OnErr, IfErr};
 ghost use Rattle.backing.specs.Tree.{with_item};
 ghost use Rattle.backing.specs.Calls.{AskMake, AskMakeDir, PassesAll};
 ghost use Rattle.backing.specs.Checks.{free_tests};
@@ -15,20 +15,20 @@ use crate::refusal::Refusal;
 use paths::Path;
 use std::alloc::Global;
 
-/// Makes an empty file.
+/// Makes an empty file, whatever its permission bits are to be.
 pub fn make(alloc: Global, entries: &mut Vec<Entry>, path: &Path) -> Result<Answer, Refusal>
     requires { IsEntryTree entries.old.items }
-    ensures ends { Ends (tree_of entries.old.items) (AskMake path.now) result (tree_of entries.new.items) }
+    ensures ends { (permissions : Option ℕ) → Ends (tree_of entries.old.items) (AskMake path.now permissions) result (tree_of entries.new.items) }
     ensures lawful { IsEntryTree entries.new.items }
 {
     put(entries, path, Item::File(Bytes::new(alloc)))?;
     Ok(Answer::Done)
 }
 
-/// Makes an empty folder.
+/// Makes an empty folder, whatever its permission bits are to be.
 pub fn make_dir(entries: &mut Vec<Entry>, path: &Path) -> Result<Answer, Refusal>
     requires { IsEntryTree entries.old.items }
-    ensures ends { Ends (tree_of entries.old.items) (AskMakeDir path.now) result (tree_of entries.new.items) }
+    ensures ends { (permissions : Option ℕ) → Ends (tree_of entries.old.items) (AskMakeDir path.now permissions) result (tree_of entries.new.items) }
     ensures lawful { IsEntryTree entries.new.items }
 {
     put(entries, path, Item::Folder)?;

@@ -8,6 +8,7 @@ ghost use Rattle.backing.specs.Device.{Sound, After};
 ghost use Rattle.backing.specs.Memory.{Treated, PutsDir, PutsFile, device_of, treated_as};
 
 use crate::call::{Answer, Call};
+use crate::details::set_details;
 use crate::entries::Entry;
 use crate::exchanging::exchange;
 use crate::making::{make, make_dir};
@@ -31,8 +32,8 @@ pub fn perform(alloc: Global, entries: &mut Vec<Entry>, call: Call<'_>) -> Resul
     match call {
         Call::Stat(path) => stat(entries, path),
         Call::List(path) => list(alloc, entries, path),
-        Call::Make(path) => make(alloc, entries, path),
-        Call::MakeDir(path) => make_dir(entries, path),
+        Call::Make { path, .. } => make(alloc, entries, path),
+        Call::MakeDir { path, .. } => make_dir(entries, path),
         Call::Remove(path) => remove(entries, path),
         Call::RemoveDir(path) => remove_dir(entries, path),
         Call::Rename { from, to } => rename(alloc, entries, from, to),
@@ -42,6 +43,9 @@ pub fn perform(alloc: Global, entries: &mut Vec<Entry>, call: Call<'_>) -> Resul
         Call::Write { path, offset, data } => write(entries, path, offset, data),
         Call::SetLen { path, size } => set_len(entries, path, size),
         Call::Sync(path) => sync(entries, path),
+        Call::SetPermissions { path, .. } => set_details(entries, path),
+        Call::SetOwner { path, .. } => set_details(entries, path),
+        Call::SetTimes { path, .. } => set_details(entries, path),
     }
 }
 

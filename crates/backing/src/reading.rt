@@ -8,6 +8,7 @@ ghost use Rattle.backing.specs.Refusals.{Ends};
 
 use crate::call::{Answer, Child, Children, Kind};
 use crate::checks::{expect_file, expect_folder, expect_present};
+use crate::details::details_of;
 use crate::entries::{Entry, Item};
 use crate::lookups::{child_of, index_of};
 use crate::refusal::Refusal;
@@ -22,10 +23,12 @@ pub fn stat(entries: &[Entry], path: &Path) -> Result<Answer, Refusal>
         Kind::Folder => Ok(Answer::Stat {
             kind: Kind::Folder,
             size: 0,
+            details: details_of(Kind::Folder),
         }),
         Kind::File => Ok(Answer::Stat {
             kind: Kind::File,
             size: size_at(entries, path) as u64,
+            details: details_of(Kind::File),
         }),
     }
 }

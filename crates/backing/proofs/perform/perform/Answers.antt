@@ -6,10 +6,10 @@ use Rattle.backing.specs.Refusals.{Ends}
 use Rattle.backing.proofs.perform.perform.Goals as goal
 
 pub returns-in-Make-clause-ends : goal.returns-in-Make-clause-ends
-returns-in-Make-clause-ends c = subst (λ (call : Call). Ends (tree_of c.args.entries.now.items) (asked call) c.make.result (tree_of c.make.new.entries.items)) (sym c.in-Make.is) c.make.ensures.ends
+returns-in-Make-clause-ends c = subst (λ (call : Call). Ends (tree_of c.args.entries.now.items) (asked call) c.make.result (tree_of c.make.new.entries.items)) (sym c.in-Make.is) c.make.ensures.ends c.in-Make.permissions
 
 pub returns-in-MakeDir-clause-ends : goal.returns-in-MakeDir-clause-ends
-returns-in-MakeDir-clause-ends c = subst (λ (call : Call). Ends (tree_of c.args.entries.now.items) (asked call) c.make_dir.result (tree_of c.make_dir.new.entries.items)) (sym c.in-MakeDir.is) c.make_dir.ensures.ends
+returns-in-MakeDir-clause-ends c = subst (λ (call : Call). Ends (tree_of c.args.entries.now.items) (asked call) c.make_dir.result (tree_of c.make_dir.new.entries.items)) (sym c.in-MakeDir.is) c.make_dir.ensures.ends c.in-MakeDir.permissions
 
 pub returns-in-Remove-clause-ends : goal.returns-in-Remove-clause-ends
 returns-in-Remove-clause-ends c = subst (λ (call : Call). Ends (tree_of c.args.entries.now.items) (asked call) c.remove.result (tree_of c.remove.new.entries.items)) (sym c.in-Remove.is) c.remove.ensures.ends

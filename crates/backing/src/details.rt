@@ -1,0 +1,48 @@
+//! What stands at a path beside its kind and its size. A memory tree tells it and keeps none of it.
+
+ghost use Rattle.std.specs.Prelude.{ℕ, Option};
+ghost use Rattle.backing.specs.declared.call.NewTime.{NewTime};
+ghost use Rattle.backing.specs.Calls.{AskSetPermissions, AskSetOwner, AskSetTimes};
+ghost use Rattle.backing.specs.Entries.{tree_of};
+ghost use Rattle.backing.specs.Refusals.{Ends};
+
+use crate::call::{Answer, Details, Kind, Time};
+use crate::checks::expect_present;
+use crate::entries::Entry;
+use crate::refusal::Refusal;
+use paths::Path;
+
+/// The beginning of 1970.
+const BEGINNING: Time = Time {
+    seconds: 0,
+    nanos: 0,
+};
+
+/// The details of all files, or of all folders: its owner may write it, everyone may read a file and enter a folder, and
+/// all other numbers are 0. What is set does not change them.
+pub fn details_of(kind: Kind) -> Details {
+    let (permissions, links) = match kind {
+        Kind::Folder => (0o755, 2),
+        Kind::File => (0o644, 1),
+    };
+    Details {
+        ino: 0,
+        permissions,
+        links,
+        uid: 0,
+        gid: 0,
+        accessed: BEGINNING,
+        modified: BEGINNING,
+        changed: BEGINNING,
+    }
+}
+
+/// Sets nothing: something stands there, and there is no more to do.
+pub fn set_details(entries: &[Entry], path: &Path) -> Result<Answer, Refusal>
+    ensures permissions { (permissions : ℕ) → Ends (tree_of entries.now) (AskSetPermissions path.now permissions) result (tree_of entries.now) }
+    ensures owner { (uid gid : Option ℕ) → Ends (tree_of entries.now) (AskSetOwner path.now uid gid) result (tree_of entries.now) }
+    ensures times { (accessed modified : Option NewTime) → Ends (tree_of entries.now) (AskSetTimes path.now accessed modified) result (tree_of entries.now) }
+{
+    expect_present(entries, path)?;
+    Ok(Answer::Done)
+}
