@@ -10,6 +10,8 @@ use Rattle.ops.specs.declared.findings.Found.{Found}
 use Rattle.ops.specs.declared.findings.ScriptResult.{ScriptResult}
 use Rattle.ops.specs.declared.findings.ScriptResult.TheVariants.{Error, Nothing, NewEntry, NewFile, Attributes, Opening, Bytes, Written, Listed, Looked, Hid, Replaced, Unmoved, Kept}
 use Rattle.ops.specs.declared.hiding.Hiding.{Hiding}
+use Rattle.ops.specs.declared.parts.Parts.{Parts}
+use Rattle.ops.specs.declared.setting.Setting.{Setting}
 use Rattle.ops.specs.declared.script.LastCall.{LastCall}
 use Rattle.ops.specs.declared.script.LastCall.TheVariants as ending
 use Rattle.ops.specs.declared.script.Script.{Script}
@@ -18,7 +20,7 @@ use Rattle.ops.specs.declared.telling.ReplyKind.TheVariants as telling
 use Rattle.wire.specs.declared.request.Operation.{Operation}
 use Rattle.wire.specs.declared.request.Operation.TheVariants as ops
 use Rattle.ops.specs.Looking.{plan_looking}
-use Rattle.ops.specs.Scripts.{Plan, Over, End, failed, hide, list, listed_end, make, move_after, look, open_end, over, read, remove_closed, replace, write}
+use Rattle.ops.specs.Scripts.{Plan, Over, End, failed, hide, list, listed_end, make, move_after, look, open_end, over, read, remove_closed, replace, set_parts, write}
 
 abbrev pub outcome_of : ScriptResult → Outcome
 outcome_of (Error errno) = Failed
@@ -68,6 +70,9 @@ after_hide p (Some s) i = move_after s p i
 abbrev pub plan_hiding : Hiding → Plan
 plan_hiding h = hide h.path.now h.left.now (after_hide h.path.now (option_map (λ s. s.now) h.source))
 
+abbrev pub plan_setting : Setting → Plan
+plan_setting s = set_parts s.path.now s.parts
+
 abbrev pub plan_ending : LastCall → Plan
 plan_ending (ending.Look p tells) = look p.now (λ found. Over (told_of tells found))
 plan_ending (ending.List p) = list p.now
@@ -76,6 +81,7 @@ plan_ending (ending.Write p offset piece) = write p.now offset piece.now
 plan_ending (ending.Each looks) = plan_looking looks
 plan_ending (ending.Replace s t left) = replace s.now t.now left.now
 plan_ending (ending.Hide hiding) = plan_hiding hiding
+plan_ending (ending.Set setting) = plan_setting setting
 plan_ending (ending.MoveAfter s t candidate) = move_after s.now t.now candidate
 plan_ending (ending.Remove p) = remove_closed p.now
 plan_ending (ending.Over finding) = Over (end_of finding)
@@ -107,6 +113,20 @@ calls_hiding (c ∷ cs) after = length cs + 2 + after
 abbrev pub calls_in : Hiding → ℕ
 calls_in h = calls_hiding h.left.now (calls_after (option_map (λ s. s.now) h.source))
 
+-- one for a part that is set, and one for two that are set together
+abbrev pub calls_part : {X : Type 0} → Option X → ℕ
+calls_part None = 0
+calls_part (Some x) = 1
+
+abbrev pub calls_pair : {X Y : Type 0} → Option X → Option Y → ℕ
+calls_pair None None = 0
+calls_pair (Some x) y = 1
+calls_pair None (Some y) = 1
+
+-- and a look at the end
+abbrev pub calls_set : Parts → ℕ
+calls_set parts = calls_part parts.permissions + calls_pair parts.uid parts.gid + calls_part parts.size + calls_pair parts.accessed parts.modified + 1
+
 abbrev pub calls_ending : LastCall → ℕ
 calls_ending (ending.Look p tells) = 1
 calls_ending (ending.List p) = 1
@@ -115,6 +135,7 @@ calls_ending (ending.Write p offset piece) = 1
 calls_ending (ending.Each looks) = length looks.left
 calls_ending (ending.Replace s t left) = calls_hiding left.now 1 + 1
 calls_ending (ending.Hide hiding) = calls_in hiding
+calls_ending (ending.Set setting) = calls_set setting.parts
 calls_ending (ending.MoveAfter s t candidate) = 1
 calls_ending (ending.Remove p) = 1
 calls_ending (ending.Over finding) = 0

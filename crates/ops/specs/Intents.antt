@@ -1,5 +1,5 @@
 -- What a request needs before its script.
-use Rattle.std.specs.Prelude.{ℕ, ℤ, ◌+◌, ◌*◌, ◌^◌, ◌%◌, ◌==◌, Bool, true, false, if◌then◌else◌, List, [], ◌∷◌, Option, Some, None}
+use Rattle.std.specs.Prelude.{ℕ, ℤ, ◌+◌, ◌*◌, ◌^◌, ◌%◌, ◌==◌, nat_le, Bool, true, false, if◌then◌else◌, List, [], ◌∷◌, Option, Some, None}
 use Rattle.std.specs.Int.{bit_at}
 use Rattle.std.specs.List.{list_any}
 use Rattle.errno.specs.declared.TheConstants.{EPERM, ENOENT, EINVAL}
@@ -21,6 +21,8 @@ use Rattle.ops.specs.declared.intents.FolderUse.{FolderUse}
 use Rattle.ops.specs.declared.intents.FolderUse.TheVariants as uses
 use Rattle.ops.specs.declared.intents.Intent.{Intent as Coded}
 use Rattle.ops.specs.declared.intents.Intent.TheVariants as coded
+use Rattle.ops.specs.declared.attributes.Settings.{Settings}
+use Rattle.ops.specs.declared.attributes.Settings.TheVariants.{Fixed, Host}
 use Rattle.ops.specs.declared.wanted.Wanted.{Wanted}
 use Rattle.ops.specs.declared.wanted.Wanted.TheVariants as wanted
 
@@ -40,11 +42,11 @@ refused errno = Reply (Failed errno)
 -- the names of an operation, and the error where one of them is reserved
 abbrev pub names_of : Operation → List (List ℕ)
 names_of (ops.Lookup name) = name.now ∷ []
-names_of (ops.MakeDir name) = name.now ∷ []
+names_of (ops.MakeDir name mode umask) = name.now ∷ []
 names_of (ops.Unlink name) = name.now ∷ []
 names_of (ops.RemoveDir name) = name.now ∷ []
 names_of (ops.Rename name new_parent new_name) = name.now ∷ new_name.now ∷ []
-names_of (ops.Create name flags) = name.now ∷ []
+names_of (ops.Create name flags mode umask) = name.now ∷ []
 names_of (ops.Rename2 name new_parent flags new_name) = name.now ∷ new_name.now ∷ []
 names_of operation = []
 
@@ -62,8 +64,18 @@ abbrev pub has_handle : ℕ → Bool
 has_handle valid = bit_at valid 6 == 1
 
 -- a bit that is none of these
-abbrev pub sets_other : ℕ → Bool
-sets_other valid = if valid == 2 ^ 3 * bit_at valid 3 + 2 ^ 6 * bit_at valid 6 + 2 ^ 9 * bit_at valid 9 then false else true
+abbrev pub sets_details : ℕ → Bool
+sets_details valid = if valid == 2 ^ 3 * bit_at valid 3 + 2 ^ 6 * bit_at valid 6 + 2 ^ 9 * bit_at valid 9 then false else true
+
+-- A bit for a field that is not set: with attributes of the host, bits from 11 on. Bit 10, the time of change, is passed over there.
+abbrev pub sets_other : Settings → ℕ → Bool
+sets_other (Fixed uid gid) valid = sets_details valid
+sets_other Host valid = nat_le (2 ^ 11) valid
+
+-- what a handle must be open for: with attributes of the host, for writing only where the size is set
+abbrev pub needed_to_set : Settings → ℕ → Need
+needed_to_set (Fixed uid gid) valid = need.Writing
+needed_to_set Host valid = if sets_size valid then need.Writing else need.Any
 
 -- ---- open files
 
@@ -93,44 +105,44 @@ rename_intent parent name new_parent flags new_name =
 abbrev pub by_handle : ℕ → ℕ → Need → Intent
 by_handle node fh needed = Begin (wants.Node node (Some (record { fh = fh; need = needed })))
 
-abbrev pub set_intent : ℕ → ℕ → ℕ → Intent
-set_intent node valid fh =
-    if sets_other valid then refused EPERM else
-    if has_handle valid then by_handle node fh need.Writing else Begin (wants.Node node None)
+abbrev pub set_intent : Settings → ℕ → ℕ → ℕ → Intent
+set_intent s node valid fh =
+    if sets_other s valid then refused EPERM else
+    if has_handle valid then by_handle node fh (needed_to_set s valid) else Begin (wants.Node node None)
 
 -- ---- the table of intents, reserved names aside
 
-abbrev pub intended : ℕ → Operation → Intent
-intended node (ops.Lookup name) = Begin (wants.Name node name.now)
-intended node (ops.Forget n) = Forget (record { node = node; nlookup = n } ∷ [])
-intended node ops.GetAttr = Begin (wants.Node node None)
-intended node (ops.SetAttr valid fh size) = set_intent node valid fh
-intended node (ops.MakeDir name) = Begin (wants.Name node name.now)
-intended node (ops.Unlink name) = Begin (wants.Remove node name.now true)
-intended node (ops.RemoveDir name) = Begin (wants.Remove node name.now false)
-intended node (ops.Rename name new_parent new_name) = Begin (wants.Move node name.now new_parent new_name.now false)
-intended node ops.StatFs = Reply StatFs
-intended node (ops.Init major minor max_readahead flags) = Nothing
-intended node (ops.Open flags) = open_intent node (access_of flags)
-intended node (ops.Read fh offset size) = by_handle node fh need.Reading
-intended node (ops.Write fh offset written) = by_handle node fh need.Writing
-intended node (ops.Release fh) = Begin (wants.Release node fh)
-intended node (ops.Sync fh) = by_handle node fh need.Any
-intended node (ops.Flush fh) = File fh
-intended node (ops.Create name flags) = create_intent node name.now (access_of flags)
-intended node ops.OpenDir = Begin (wants.Node node None)
-intended node (ops.ReadDir fh offset size) = Folder fh (uses.ReadNames offset size)
-intended node (ops.ReleaseDir fh) = Folder fh uses.GiveUp
-intended node (ops.SyncDir fh) = Folder fh uses.Sync
-intended node ops.Interrupt = Nothing
-intended node ops.Destroy = Nothing
-intended node (ops.BatchForget pairs) = Forget (pairs_in pairs.now)
-intended node (ops.ReadDirPlus fh offset size) = Folder fh (uses.ReadEntries offset size)
-intended node (ops.Rename2 name new_parent flags new_name) = rename_intent node name.now new_parent flags new_name.now
+abbrev pub intended : Settings → ℕ → Operation → Intent
+intended s node (ops.Lookup name) = Begin (wants.Name node name.now)
+intended s node (ops.Forget n) = Forget (record { node = node; nlookup = n } ∷ [])
+intended s node ops.GetAttr = Begin (wants.Node node None)
+intended s node (ops.SetAttr valid fh size attributes) = set_intent s node valid fh
+intended s node (ops.MakeDir name mode umask) = Begin (wants.Name node name.now)
+intended s node (ops.Unlink name) = Begin (wants.Remove node name.now true)
+intended s node (ops.RemoveDir name) = Begin (wants.Remove node name.now false)
+intended s node (ops.Rename name new_parent new_name) = Begin (wants.Move node name.now new_parent new_name.now false)
+intended s node ops.StatFs = Reply StatFs
+intended s node (ops.Init major minor max_readahead flags) = Nothing
+intended s node (ops.Open flags) = open_intent node (access_of flags)
+intended s node (ops.Read fh offset size) = by_handle node fh need.Reading
+intended s node (ops.Write fh offset written) = by_handle node fh need.Writing
+intended s node (ops.Release fh) = Begin (wants.Release node fh)
+intended s node (ops.Sync fh) = by_handle node fh need.Any
+intended s node (ops.Flush fh) = File fh
+intended s node (ops.Create name flags mode umask) = create_intent node name.now (access_of flags)
+intended s node ops.OpenDir = Begin (wants.Node node None)
+intended s node (ops.ReadDir fh offset size) = Folder fh (uses.ReadNames offset size)
+intended s node (ops.ReleaseDir fh) = Folder fh uses.GiveUp
+intended s node (ops.SyncDir fh) = Folder fh uses.Sync
+intended s node ops.Interrupt = Nothing
+intended s node ops.Destroy = Nothing
+intended s node (ops.BatchForget pairs) = Forget (pairs_in pairs.now)
+intended s node (ops.ReadDirPlus fh offset size) = Folder fh (uses.ReadEntries offset size)
+intended s node (ops.Rename2 name new_parent flags new_name) = rename_intent node name.now new_parent flags new_name.now
 
 -- Names are sound by the time a request was read; reserved ones are refused before all else.
-abbrev pub intent : Request → Intent
-intent q = if list_any (λ name. is_reserved name) (names_of q.operation) then refused (reserved_errno q.operation) else intended q.node q.operation
+abbrev pub intent : Settings → Request → Intent
+intent s q = if list_any (λ name. is_reserved name) (names_of q.operation) then refused (reserved_errno q.operation) else intended s q.node q.operation
 
 -- ---- an intent in its code, wherever the names lie in memory
 

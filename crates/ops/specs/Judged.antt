@@ -5,7 +5,7 @@ use Rattle.backing.specs.declared.call.Kind.{Kind}
 use Rattle.backing.specs.declared.call.Kind.TheVariants.{Folder, File}
 use Rattle.backing.specs.declared.call.Answer.{Answer}
 use Rattle.backing.specs.declared.call.Answer.TheVariants.{Done, Stat, Names, Bytes, Wrote, Fault}
-use Rattle.backing.specs.Calls.{Asked, AskStat, AskList, AskMake, AskMakeDir, AskRemove, AskRemoveDir, AskRename, AskRenameNew, AskExchange, AskRead, AskWrite, AskSetLen, AskSync}
+use Rattle.backing.specs.Calls.{Asked, AskStat, AskList, AskMake, AskMakeDir, AskRemove, AskRemoveDir, AskRename, AskRenameNew, AskExchange, AskRead, AskWrite, AskSetLen, AskSetPermissions, AskSetOwner, AskSetTimes, AskSync}
 
 -- an error number is 1 to 4,095
 abbrev pub is_errno : ℤ → Bool
@@ -27,10 +27,10 @@ is_written piece count = nat_le count (length piece) && nat_lt count (2 ^ 32)
 
 -- the answer is of its call's kind and shape, and no more than was asked
 abbrev pub fits : Asked → Answer → Bool
-fits (AskStat p) (Stat kind size) = is_sized kind size
+fits (AskStat p) (Stat kind size details) = is_sized kind size
 fits (AskList p) (Names children) = true
-fits (AskMake p) Done = true
-fits (AskMakeDir p) Done = true
+fits (AskMake p permissions) Done = true
+fits (AskMakeDir p permissions) Done = true
 fits (AskRemove p) Done = true
 fits (AskRemoveDir p) Done = true
 fits (AskRename s t) Done = true
@@ -39,6 +39,9 @@ fits (AskExchange s t) Done = true
 fits (AskRead p offset size) (Bytes bytes) = nat_le (length bytes) size
 fits (AskWrite p offset piece) (Wrote count) = is_written piece count
 fits (AskSetLen p size) Done = true
+fits (AskSetPermissions p permissions) Done = true
+fits (AskSetOwner p uid gid) Done = true
+fits (AskSetTimes p accessed modified) Done = true
 fits (AskSync p) Done = true
 fits call answer = false
 

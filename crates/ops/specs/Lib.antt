@@ -4,5 +4,6 @@ pub mod Intents
 pub mod Judged
 pub mod Looking
 pub mod Pages
+pub mod Parts
 pub mod Replies
 pub mod Scripts

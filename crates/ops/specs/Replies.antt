@@ -3,6 +3,8 @@ use Rattle.std.specs.Prelude.{ℕ, ℤ, ◌+◌, ◌==◌, if◌then◌else◌, 
 use Rattle.std.specs.List.{flat_map}
 use Rattle.errno.specs.declared.TheConstants.{EBADF, EIO, ENFILE}
 use Rattle.backing.specs.declared.call.Child.{Child}
+use Rattle.backing.specs.declared.call.Details.{Details as Seen}
+use Rattle.backing.specs.declared.call.Time.{Time as SeenTime}
 use Rattle.backing.specs.declared.call.Kind.{Kind as Told}
 use Rattle.backing.specs.declared.call.Kind.TheVariants as kinds
 use Rattle.table_files.specs.declared.data.OpenFile.{OpenFile}
@@ -11,6 +13,8 @@ use Rattle.handles.specs.Names.{is_dot}
 use Rattle.table_steps.specs.Answers.{Answer}
 use Rattle.wire.specs.Dirents.{PlusDirent, plus_bytes}
 use Rattle.wire.specs.declared.reply.Attributes.{Attributes}
+use Rattle.wire.specs.declared.reply.Details.{Details}
+use Rattle.wire.specs.declared.request.Time.{Time}
 use Rattle.wire.specs.declared.reply.Entry.{Entry}
 use Rattle.wire.specs.declared.reply.Kind.{Kind}
 use Rattle.wire.specs.declared.reply.Kind.TheVariants.{File, Folder}
@@ -19,18 +23,53 @@ use Rattle.wire.specs.declared.reply.ReplyBody.TheVariants as body
 use Rattle.ops.specs.declared.findings.Found.{Found}
 use Rattle.ops.specs.declared.findings.ScriptResult.{ScriptResult}
 use Rattle.ops.specs.declared.findings.ScriptResult.TheVariants as findings
-use Rattle.ops.specs.declared.replies.Settings.{Settings}
+use Rattle.ops.specs.declared.attributes.Settings.{Settings}
+use Rattle.ops.specs.declared.attributes.Settings.TheVariants.{Fixed, Host}
 use Rattle.ops.specs.Pages.{Paged}
 
 abbrev pub kind_of : Told → Kind
 kind_of kinds.Folder = Folder
 kind_of kinds.File = File
 
-abbrev pub attributes_of : Settings → Found → Attributes
-attributes_of s found = record { kind = kind_of found.kind; size = found.size; uid = s.uid; gid = s.gid }
+-- ---- attributes: a table of two rows
+
+abbrev pub time_of : SeenTime → Time
+time_of t = record { seconds = t.seconds; nanos = t.nanos }
+
+-- the beginning of 1970
+abbrev pub epoch : Time
+epoch = record { seconds = 0; nanos = 0 }
+
+-- a folder is entered by all, and changed by its owner alone
+abbrev pub fixed_permissions : Told → ℕ
+fixed_permissions kinds.Folder = 493  -- 0o755
+fixed_permissions kinds.File = 420  -- 0o644
+
+-- a folder has a name, and is `.` in itself
+abbrev pub fixed_links : Told → ℕ
+fixed_links kinds.Folder = 2
+fixed_links kinds.File = 1
+
+abbrev pub fixed_details : (uid gid : ℕ) → Told → Details
+fixed_details uid gid kind = record { permissions = fixed_permissions kind; links = fixed_links kind; uid = uid; gid = gid; accessed = epoch; modified = epoch; changed = epoch }
+
+abbrev pub host_details : Seen → Details
+host_details d = record { permissions = d.permissions; links = d.links; uid = d.uid; gid = d.gid; accessed = time_of d.accessed; modified = time_of d.modified; changed = time_of d.changed }
+
+-- the inode number, and what is told beside the kind and the size
+abbrev pub ino_of : Settings → (node : ℕ) → Found → ℕ
+ino_of (Fixed uid gid) node found = node
+ino_of Host node found = found.details.ino
+
+abbrev pub details_of : Settings → Found → Details
+details_of (Fixed uid gid) found = fixed_details uid gid found.kind
+details_of Host found = host_details found.details
+
+abbrev pub attributes_of : Settings → (node : ℕ) → Found → Attributes
+attributes_of s node found = record { ino = ino_of s node found; kind = kind_of found.kind; size = found.size; details = details_of s found }
 
 abbrev pub entry_of : Settings → Found → Given → Entry
-entry_of s found given = record { node = given.number; generation = given.generation; attributes = attributes_of s found }
+entry_of s found given = record { node = given.number; generation = given.generation; attributes = attributes_of s given.number found }
 
 -- what stands first in a list of which each may be missing
 abbrev pub first : {X : Type 0} → List (Option X) → Option X
@@ -83,7 +122,7 @@ reply_to s node page (findings.Error errno) put answer = body.Failed errno
 reply_to s node page findings.Nothing put answer = body.Done
 reply_to s node page (findings.NewEntry found) put answer = entry_reply s found (first answer.given)
 reply_to s node page (findings.NewFile found) put answer = created_reply s found (first answer.given) answer.opened
-reply_to s node page (findings.Attributes found) put answer = body.Attributes node (attributes_of s found)
+reply_to s node page (findings.Attributes found) put answer = body.Attributes (attributes_of s node found)
 reply_to s node page findings.Opening put answer = handle_reply EIO answer.opened
 reply_to s node page (findings.Bytes bytes) put answer = body.Data bytes
 reply_to s node page (findings.Written size) put answer = body.Wrote size

@@ -9,8 +9,9 @@ use Rattle.backing.specs.declared.call.Answer.{Answer}
 use Rattle.backing.specs.declared.call.Answer.TheVariants as told
 use Rattle.backing.specs.declared.call.Call.{Call}
 use Rattle.backing.specs.declared.call.Child.{Child}
+use Rattle.backing.specs.declared.call.NewTime.{NewTime}
 use Rattle.handles.specs.Listings.{are_lawful}
-use Rattle.backing.specs.Calls.{Asked, asked, AskStat, AskList, AskMake, AskMakeDir, AskRemove, AskRemoveDir, AskRename, AskRenameNew, AskExchange, AskRead, AskWrite, AskSetLen, AskSync}
+use Rattle.backing.specs.Calls.{Asked, asked, AskStat, AskList, AskMake, AskMakeDir, AskRemove, AskRemoveDir, AskRename, AskRenameNew, AskExchange, AskRead, AskWrite, AskSetLen, AskSetPermissions, AskSetOwner, AskSetTimes, AskSync}
 use Rattle.table_steps.specs.Answers.{Claim}
 use Rattle.table_steps.specs.declared.data.Outcome.{Outcome}
 use Rattle.table_steps.specs.declared.data.Outcome.TheVariants.{Failed, Done, Entry, Entries, Hidden, HiddenMove}
@@ -19,7 +20,9 @@ use Rattle.wire.specs.declared.request.Operation.TheVariants as ops
 use Rattle.ops.specs.declared.findings.Found.{Found}
 use Rattle.ops.specs.declared.findings.ScriptResult.{ScriptResult}
 use Rattle.ops.specs.declared.findings.ScriptResult.TheVariants.{Error, Nothing, NewEntry, NewFile, Attributes, Opening, Bytes, Written, Listed, Looked, Hid, Replaced, Unmoved, Kept}
-use Rattle.ops.specs.Intents.{sets_size}
+use Rattle.ops.specs.declared.attributes.Settings.{Settings}
+use Rattle.ops.specs.declared.parts.Parts.{Parts}
+use Rattle.ops.specs.Parts.{made_with, parts_of}
 use Rattle.ops.specs.Judged.{errno_in, judged}
 
 -- ---- what a script comes to
@@ -50,7 +53,7 @@ abbrev pub make : Asked → Plan → Plan
 make call rest = Ask call (λ answer. if_done rest answer)
 
 abbrev pub if_found : (Found → Plan) → Answer → Plan
-if_found rest (told.Stat kind size) = rest (record { kind = kind; size = size })
+if_found rest (told.Stat kind size details) = rest (record { kind = kind; size = size; details = details })
 if_found rest answer = failed (errno_in answer)
 
 abbrev pub look : Names → (Found → Plan) → Plan
@@ -120,15 +123,36 @@ open_file p = look p (λ found. Over (open_end found.kind))
 abbrev pub done : Plan
 done = over Done Nothing
 
--- ---- requests whose footprints have several forms
+-- ---- SETATTR: each part that is asked for is one call, permission bits first, then the owner, the size, and the times
 
-abbrev pub set_size : Bool → Names → ℕ → Plan → Plan
-set_size true p size rest = make (AskSetLen p size) rest
-set_size false p size rest = rest
+abbrev pub set_permissions : Option ℕ → Names → Plan → Plan
+set_permissions None p rest = rest
+set_permissions (Some permissions) p rest = make (AskSetPermissions p permissions) rest
+
+abbrev pub set_owner : (uid gid : Option ℕ) → Names → Plan → Plan
+set_owner None None p rest = rest
+set_owner (Some uid) gid p rest = make (AskSetOwner p (Some uid) gid) rest
+set_owner None (Some gid) p rest = make (AskSetOwner p None (Some gid)) rest
+
+abbrev pub set_size : Option ℕ → Names → Plan → Plan
+set_size None p rest = rest
+set_size (Some size) p rest = make (AskSetLen p size) rest
+
+abbrev pub set_times : (accessed modified : Option NewTime) → Names → Plan → Plan
+set_times None None p rest = rest
+set_times (Some accessed) modified p rest = make (AskSetTimes p (Some accessed) modified) rest
+set_times None (Some modified) p rest = make (AskSetTimes p None (Some modified)) rest
+
+-- what is told of the node then
+abbrev pub set_parts : Names → Parts → Plan
+set_parts p parts =
+    set_permissions parts.permissions p (set_owner parts.uid parts.gid p (set_size parts.size p (set_times parts.accessed parts.modified p (tell_attributes p))))
+
+-- ---- requests whose footprints have several forms
 
 -- A look at a name that may be free: nothing stands there, something does, or the script ends with another error.
 abbrev pub if_free : (free taken : Plan) → Answer → Plan
-if_free free taken (told.Stat kind size) = taken
+if_free free taken (told.Stat kind size details) = taken
 if_free free taken answer = if int_eq (errno_in answer) ENOENT then free else failed (errno_in answer)
 
 -- A file that is open is moved to the first of its candidates where nothing stands, and what comes after is told the index of that. There
@@ -197,7 +221,7 @@ release false paths = done
 -- ---- what stands at each of some paths: a fault is nothing, and does not end the script
 
 abbrev pub found_in : Answer → Option Found
-found_in (told.Stat kind size) = Some (record { kind = kind; size = size })
+found_in (told.Stat kind size details) = Some (record { kind = kind; size = size; details = details })
 found_in answer = None
 
 abbrev pub look_at_each : List Names → (List (Option Found) → Plan) → Plan
@@ -215,34 +239,34 @@ at_names (folder ∷ ps) = look_at_each ps give_found
 
 -- ---- the table of scripts
 
-abbrev pub plan_of : Operation → Claim → Plan
-plan_of (ops.Lookup name) ticket = at_path ticket.paths (λ p. give_entry p)
-plan_of ops.GetAttr ticket = at_path ticket.paths (λ p. tell_attributes p)
-plan_of (ops.SetAttr valid fh size) ticket = at_path ticket.paths (λ p. set_size (sets_size valid) p size (tell_attributes p))
-plan_of (ops.MakeDir name) ticket = at_path ticket.paths (λ p. make (AskMakeDir p) (give_entry p))
-plan_of (ops.Unlink name) ticket = at_candidates ticket.paths (λ p candidates. unlink ticket.hide p candidates)
-plan_of (ops.RemoveDir name) ticket = at_path ticket.paths (λ p. make (AskRemoveDir p) done)
-plan_of (ops.Rename name new_parent new_name) ticket = at_paths ticket.paths (λ s t candidates. rename ticket.same ticket.hide s t candidates)
-plan_of (ops.Open flags) ticket = at_path ticket.paths (λ p. open_file p)
-plan_of (ops.Read fh offset size) ticket = at_path ticket.paths (λ p. read p offset size)
-plan_of (ops.Write fh offset piece) ticket = at_path ticket.paths (λ p. write p offset piece.now)
-plan_of (ops.Release fh) ticket = release ticket.last ticket.paths
-plan_of (ops.Sync fh) ticket = at_path ticket.paths (λ p. make (AskSync p) done)
-plan_of (ops.Create name flags) ticket = at_path ticket.paths (λ p. make (AskMake p) (give_file p))
-plan_of ops.OpenDir ticket = at_path ticket.paths (λ p. list p)
-plan_of (ops.ReadDirPlus fh offset size) ticket = at_names ticket.paths
-plan_of (ops.Rename2 name new_parent flags new_name) ticket = at_paths ticket.paths (λ s t candidates. rename_by flags ticket.same ticket.hide s t candidates)
+abbrev pub plan_of : Settings → Operation → Claim → Plan
+plan_of settings (ops.Lookup name) ticket = at_path ticket.paths (λ p. give_entry p)
+plan_of settings ops.GetAttr ticket = at_path ticket.paths (λ p. tell_attributes p)
+plan_of settings (ops.SetAttr valid fh size attributes) ticket = at_path ticket.paths (λ p. set_parts p (parts_of valid size attributes))
+plan_of settings (ops.MakeDir name mode umask) ticket = at_path ticket.paths (λ p. make (AskMakeDir p (made_with settings mode umask)) (give_entry p))
+plan_of settings (ops.Unlink name) ticket = at_candidates ticket.paths (λ p candidates. unlink ticket.hide p candidates)
+plan_of settings (ops.RemoveDir name) ticket = at_path ticket.paths (λ p. make (AskRemoveDir p) done)
+plan_of settings (ops.Rename name new_parent new_name) ticket = at_paths ticket.paths (λ s t candidates. rename ticket.same ticket.hide s t candidates)
+plan_of settings (ops.Open flags) ticket = at_path ticket.paths (λ p. open_file p)
+plan_of settings (ops.Read fh offset size) ticket = at_path ticket.paths (λ p. read p offset size)
+plan_of settings (ops.Write fh offset piece) ticket = at_path ticket.paths (λ p. write p offset piece.now)
+plan_of settings (ops.Release fh) ticket = release ticket.last ticket.paths
+plan_of settings (ops.Sync fh) ticket = at_path ticket.paths (λ p. make (AskSync p) done)
+plan_of settings (ops.Create name flags mode umask) ticket = at_path ticket.paths (λ p. make (AskMake p (made_with settings mode umask)) (give_file p))
+plan_of settings ops.OpenDir ticket = at_path ticket.paths (λ p. list p)
+plan_of settings (ops.ReadDirPlus fh offset size) ticket = at_names ticket.paths
+plan_of settings (ops.Rename2 name new_parent flags new_name) ticket = at_paths ticket.paths (λ s t candidates. rename_by flags ticket.same ticket.hide s t candidates)
 -- The others make no call.
-plan_of (ops.Forget n) ticket = failed EIO
-plan_of ops.StatFs ticket = failed EIO
-plan_of (ops.Init major minor max_readahead flags) ticket = failed EIO
-plan_of (ops.Flush fh) ticket = failed EIO
-plan_of (ops.ReadDir fh offset size) ticket = failed EIO
-plan_of (ops.ReleaseDir fh) ticket = failed EIO
-plan_of (ops.SyncDir fh) ticket = failed EIO
-plan_of ops.Interrupt ticket = failed EIO
-plan_of ops.Destroy ticket = failed EIO
-plan_of (ops.BatchForget pairs) ticket = failed EIO
+plan_of settings (ops.Forget n) ticket = failed EIO
+plan_of settings ops.StatFs ticket = failed EIO
+plan_of settings (ops.Init major minor max_readahead flags) ticket = failed EIO
+plan_of settings (ops.Flush fh) ticket = failed EIO
+plan_of settings (ops.ReadDir fh offset size) ticket = failed EIO
+plan_of settings (ops.ReleaseDir fh) ticket = failed EIO
+plan_of settings (ops.SyncDir fh) ticket = failed EIO
+plan_of settings ops.Interrupt ticket = failed EIO
+plan_of settings ops.Destroy ticket = failed EIO
+plan_of settings (ops.BatchForget pairs) ticket = failed EIO
 
 -- ---- what is made of a plan
 

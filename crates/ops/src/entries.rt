@@ -10,7 +10,8 @@ ghost use Rattle.wire.specs.Dirents.{plus_bytes};
 ghost use Rattle.wire.specs.declared.reply.ReplyBody.TheVariants.{Data as Told};
 
 use crate::findings::Found;
-use crate::replies::{Settings, entry_of, kind_of};
+use crate::attributes::{Settings, kind_of};
+use crate::replies::entry_of;
 use backing::Child;
 use handles::Page;
 use paths::Name;

@@ -4,7 +4,7 @@ ghost use Rattle.std.specs.Prelude.{◌≡◌};
 ghost use Rattle.ops.specs.Ahead.{outcome_of, IsOfNoPage};
 
 use crate::looks::Looked;
-use backing::{Bytes, Children, Kind};
+use backing::{Bytes, Children, Details, Kind};
 use table::Outcome;
 
 /// What stands at a path.
@@ -13,6 +13,7 @@ pub struct Found {
     pub kind: Kind,
     /// In bytes; 0 for a folder.
     pub size: u64,
+    pub details: Details,
 }
 
 /// What a script has found, for the reply.

@@ -4,7 +4,7 @@ ghost use Rattle.std.specs.Prelude.{◌≡◌, ◌+◌, ◌^◌, ◌<◌, ◌++�
 ghost use Rattle.backing.specs.declared.call.Child.{Child};
 ghost use Rattle.ops.specs.Folders.{CarriesAtMost, IsPaged, names_bytes, names_reply};
 
-use crate::replies::kind_of;
+use crate::attributes::kind_of;
 use backing::Child;
 use errno::EINVAL;
 use handles::{Listing, PageFault};

@@ -3,8 +3,9 @@
 ghost use Rattle.std.specs.Prelude.{◌≡◌};
 ghost use Rattle.std.specs.List.{list_any};
 ghost use Rattle.hidden_names.specs.Hidden.{is_reserved};
-ghost use Rattle.ops.specs.Intents.{intent_in, has_handle, intended, intent, names_of, refused, reserved_errno, rename_intent, set_intent, sets_other, sets_size};
+ghost use Rattle.ops.specs.Intents.{intent_in, has_handle, intended, intent, names_of, needed_to_set, refused, reserved_errno, rename_intent, set_intent, sets_details, sets_other, sets_size};
 
+use crate::attributes::Settings;
 use crate::opening::{by_handle, create_intent, open_intent};
 use crate::wanted::Wanted;
 use errno::{EINVAL, ENOENT, EPERM};
@@ -53,6 +54,9 @@ const HANDLE: u32 = 1 << 6;
 /// The bit that says that the owner of a lock counts (`FATTR_LOCKOWNER`). It is let through and not looked at.
 const LOCK_OWNER: u32 = 1 << 9;
 
+/// The lowest bit above that of the time of change (`FATTR_CTIME`): it stands for nothing that is served.
+const UNKNOWN: u32 = 1 << 11;
+
 /// The flag of RENAME2 by which nothing is replaced (`RENAME_NOREPLACE` of `linux/fs.h`).
 pub(crate) const NO_REPLACE: u32 = 1;
 
@@ -65,7 +69,7 @@ fn names_reserved(operation: &Operation<'_>) -> bool
 {
     match operation {
         Operation::Lookup { name }
-        | Operation::MakeDir { name }
+        | Operation::MakeDir { name, .. }
         | Operation::Unlink { name }
         | Operation::RemoveDir { name }
         | Operation::Create { name, .. } => is_reserved(name),
@@ -105,7 +109,7 @@ fn reserved_errno(operation: &Operation<'_>) -> i32
 }
 
 /// Whether SETATTR asks for a size.
-pub fn sets_size(valid: u32) -> bool
+fn sets_size(valid: u32) -> bool
     ensures { result ≡ sets_size valid }
 {
     valid & SIZE != 0
@@ -119,10 +123,31 @@ fn has_handle(valid: u32) -> bool
 }
 
 /// Whether SETATTR asks for more than a size, a handle and the owner of a lock.
-fn sets_other(valid: u32) -> bool
-    ensures { result ≡ sets_other valid }
+fn sets_details(valid: u32) -> bool
+    ensures { result ≡ sets_details valid }
 {
     valid & !(SIZE | HANDLE | LOCK_OWNER) != 0
+}
+
+/// Whether SETATTR asks for a field that is not set. Of the host's attributes all are but the time of change (`FATTR_CTIME`), which is passed over: the
+/// system sets it.
+fn sets_other(settings: Settings, valid: u32) -> bool
+    ensures { result ≡ sets_other settings valid }
+{
+    match settings {
+        Settings::Fixed { .. } => sets_details(valid),
+        Settings::Host => valid >= UNKNOWN,
+    }
+}
+
+/// What a handle must be open for by which SETATTR is asked for.
+fn needed_to_set(settings: Settings, valid: u32) -> Need
+    ensures { result ≡ needed_to_set settings valid }
+{
+    match settings {
+        Settings::Host if !sets_size(valid) => Need::Any,
+        Settings::Fixed { .. } | Settings::Host => Need::Writing,
+    }
 }
 
 /// It is refused at once.
@@ -132,15 +157,15 @@ pub(crate) fn refused<'a>(errno: i32) -> Intent<'a>
     Intent::Reply(ReplyBody::Failed { errno })
 }
 
-/// SETATTR changes a size alone: any other field is EPERM (own). With a handle the file must be open for writing.
-fn set_intent<'a>(node: u64, valid: u32, fh: u64) -> Intent<'a>
-    ensures { intent_in result ≡ set_intent node valid fh }
+/// SETATTR of a field that is not set is EPERM (own). With a handle that must be open for what is set.
+fn set_intent<'a>(settings: Settings, node: u64, valid: u32, fh: u64) -> Intent<'a>
+    ensures { intent_in result ≡ set_intent settings node valid fh }
 {
-    if sets_other(valid) {
+    if sets_other(settings, valid) {
         return refused(EPERM);
     }
     if has_handle(valid) {
-        return by_handle(node, fh, Need::Writing);
+        return by_handle(node, fh, needed_to_set(settings, valid));
     }
     Intent::Want(Wanted::Node {
         number: node,
@@ -178,12 +203,12 @@ fn rename_intent<'a>(
 }
 
 /// What the operation needs, reserved names aside.
-fn intended<'a>(node: u64, operation: Operation<'a>) -> Intent<'a>
-    ensures { intent_in result ≡ intended node operation.entry }
+fn intended<'a>(settings: Settings, node: u64, operation: Operation<'a>) -> Intent<'a>
+    ensures { intent_in result ≡ intended settings node operation.entry }
 {
     let parent = node;
     match operation {
-        Operation::Lookup { name } | Operation::MakeDir { name } => {
+        Operation::Lookup { name } | Operation::MakeDir { name, .. } => {
             Intent::Want(Wanted::Name { parent, name })
         }
         Operation::Forget { nlookup } => Intent::Forget(Forgotten { node, nlookup }),
@@ -192,9 +217,9 @@ fn intended<'a>(node: u64, operation: Operation<'a>) -> Intent<'a>
             number: node,
             handle: None,
         }),
-        Operation::SetAttr { valid, fh, .. } => set_intent(node, valid, fh),
+        Operation::SetAttr { valid, fh, .. } => set_intent(settings, node, valid, fh),
         Operation::Open { flags } => open_intent(node, flags),
-        Operation::Create { name, flags } => create_intent(parent, name, flags),
+        Operation::Create { name, flags, .. } => create_intent(parent, name, flags),
         Operation::Read { fh, .. } => by_handle(node, fh, Need::Reading),
         Operation::Write { fh, .. } => by_handle(node, fh, Need::Writing),
         Operation::Sync { fh } => by_handle(node, fh, Need::Any),
@@ -244,14 +269,14 @@ fn intended<'a>(node: u64, operation: Operation<'a>) -> Intent<'a>
 
 /// What the request needs. It takes no memory: names stay in the request's frame.
 ///
-/// Refused at once are: a reserved name, before all else, by ENOENT for LOOKUP and EPERM for any other (own); SETATTR of any field but the
-/// size, a handle and the owner of a lock, by EPERM (own); OPEN and CREATE whose flags name no access, by EINVAL; and RENAME2 whose flags are
+/// Refused at once are: a reserved name, before all else, by ENOENT for LOOKUP and EPERM for any other (own); SETATTR of a field that is not set
+/// by these settings, by EPERM (own); OPEN and CREATE whose flags name no access, by EINVAL; and RENAME2 whose flags are
 /// not 0, 1 or 2, by EINVAL (own).
-pub fn intent_of<'a>(request: &Request<'a>) -> Intent<'a>
-    ensures { intent_in result ≡ intent request.now }
+pub fn intent_of<'a>(settings: Settings, request: &Request<'a>) -> Intent<'a>
+    ensures { intent_in result ≡ intent settings request.now }
 {
     if names_reserved(&request.operation) {
         return refused(reserved_errno(&request.operation));
     }
-    intended(request.node, request.operation)
+    intended(settings, request.node, request.operation)
 }

@@ -19,18 +19,21 @@ fn fits(call: Call<'_>, answer: &Answer) -> bool
     ensures { result ≡ fits (asked call.entry) answer.now }
 {
     match (call, answer) {
-        (Call::Stat(_), Answer::Stat { kind, size }) => *kind == Kind::File || *size == 0,
+        (Call::Stat(_), Answer::Stat { kind, size, .. }) => *kind == Kind::File || *size == 0,
         (Call::Read { size, .. }, Answer::Bytes(bytes)) => bytes.len() <= size as usize,
         (Call::Write { data, .. }, Answer::Wrote(count)) => is_written(data, *count),
         (
-            Call::Make(_)
-            | Call::MakeDir(_)
+            Call::Make { .. }
+            | Call::MakeDir { .. }
             | Call::Remove(_)
             | Call::RemoveDir(_)
             | Call::Rename { .. }
             | Call::RenameNew { .. }
             | Call::Exchange { .. }
             | Call::SetLen { .. }
+            | Call::SetPermissions { .. }
+            | Call::SetOwner { .. }
+            | Call::SetTimes { .. }
             | Call::Sync(_),
             Answer::Done,
         )

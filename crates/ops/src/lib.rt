@@ -4,6 +4,7 @@
 //! the calls of the directory in turn, which end with an outcome for the table and with what the reply tells.
 #![tactic(auto)]
 
+mod attributes;
 mod entries;
 mod findings;
 mod folders;
@@ -13,16 +14,19 @@ mod judging;
 mod looks;
 mod moving;
 mod opening;
+mod parts;
 mod replies;
 mod script;
+mod setting;
 mod telling;
 mod wanted;
 
+pub use attributes::Settings;
 pub use entries::{Paged, entries_reply};
 pub use findings::{Found, ScriptResult};
 pub use folders::names_reply;
 pub use intents::{FolderUse, Intent, intent_of};
 pub use looks::Looked;
-pub use replies::{Settings, file_reply, opened_reply, reply_to};
+pub use replies::{file_reply, opened_reply, reply_to};
 pub use script::Script;
 pub use wanted::Wanted;

@@ -70,9 +70,14 @@ fn found_in(answer: &Answer) -> Option<Found>
     ensures { result ≡ found_in answer.now }
 {
     match answer {
-        Answer::Stat { kind, size } => Some(Found {
+        Answer::Stat {
+            kind,
+            size,
+            details,
+        } => Some(Found {
             kind: *kind,
             size: *size,
+            details: *details,
         }),
         _ => None,
     }

@@ -3,43 +3,15 @@
 ghost use Rattle.std.specs.Prelude.{◌≡◌};
 ghost use Rattle.ops.specs.Ahead.{IsOfNoPage};
 ghost use Rattle.ops.specs.Pages.{Paged};
-ghost use Rattle.ops.specs.Replies.{attributes_of, created_reply, entry_of, entry_reply, file_reply, first, handle_reply, kind_of, opened_reply, reply_to};
+ghost use Rattle.ops.specs.Replies.{created_reply, entry_of, entry_reply, file_reply, first, handle_reply, opened_reply, reply_to};
 
+use crate::attributes::{Settings, attributes_of};
 use crate::findings::{Found, ScriptResult};
 use errno::{EBADF, EIO, ENFILE};
 use table::Answered;
 use table_files::OpenFile;
 use table_requests::Given;
-use wire::{Attributes, Data, Entry, Kind, ReplyBody};
-
-/// Who owns what is mirrored.
-#[derive(Clone, Copy, Debug, PartialEq, Eq)]
-pub struct Settings {
-    pub uid: u32,
-    pub gid: u32,
-}
-
-/// The kind as a reply tells it.
-pub(crate) fn kind_of(kind: backing::Kind) -> Kind
-    ensures { result ≡ kind_of kind }
-{
-    match kind {
-        backing::Kind::Folder => Kind::Folder,
-        backing::Kind::File => Kind::File,
-    }
-}
-
-/// The attributes of what was found.
-fn attributes_of(settings: Settings, found: Found) -> Attributes
-    ensures { result ≡ attributes_of settings found }
-{
-    Attributes {
-        kind: kind_of(found.kind),
-        size: found.size,
-        uid: settings.uid,
-        gid: settings.gid,
-    }
-}
+use wire::{Data, Entry, ReplyBody};
 
 /// What was given for the first name of a request, if anything.
 fn first_given(answered: &Answered) -> Option<Given>
@@ -58,7 +30,7 @@ pub(crate) fn entry_of(settings: Settings, found: Found, given: Given) -> Entry
     Entry {
         node: given.number,
         generation: given.generation,
-        attributes: attributes_of(settings, found),
+        attributes: attributes_of(settings, given.number, found),
     }
 }
 
@@ -143,10 +115,9 @@ pub fn reply_to(
         ScriptResult::NewFile(found) => {
             created_reply(settings, found, first_given(answered), answered.opened())
         }
-        ScriptResult::Attributes(found) => ReplyBody::Attributes {
-            node,
-            attributes: attributes_of(settings, found),
-        },
+        ScriptResult::Attributes(found) => {
+            ReplyBody::Attributes(attributes_of(settings, node, found))
+        }
         ScriptResult::Opening => handle_reply(answered.opened(), EIO),
         ScriptResult::Bytes(bytes) => ReplyBody::Data(Data::new(bytes.into_vec())),
         ScriptResult::Written { size } => ReplyBody::Wrote { size },

@@ -2,16 +2,18 @@
 //! of a page. A move that hides changes two names, one after the other.
 
 ghost use Rattle.std.specs.Prelude.{◌≡◌, ◌<◌, [], IfOk, OnErr};
-ghost use Rattle.ops.specs.Ahead.{calls_left, end_of, plan_ahead, plan_ending, plan_from, told_of, unless, LooksAtEach};
-ghost use Rattle.ops.specs.Intents.{sets_size};
-ghost use Rattle.ops.specs.Scripts.{after, at_names, if_done, look, next_of, plan_of, release, set_size, AsksNext, End, Over, Plan};
+ghost use Rattle.ops.specs.Ahead.{calls_left, end_of, plan_ahead, plan_ending, told_of, unless, LooksAtEach};
+ghost use Rattle.ops.specs.Scripts.{after, at_names, if_done, look, next_of, plan_of, release, AsksNext, End, Over, Plan};
+ghost use Rattle.ops.specs.declared.attributes.Settings.{Settings as Whose};
 
+use crate::attributes::Settings;
 use crate::findings::ScriptResult;
 use crate::hiding::{Hiding, start_unlink, unhidden};
-use crate::intents::sets_size;
 use crate::judging::{errno_in, judge};
 use crate::looks::Looks;
+use crate::parts::{made_with, parts_of};
 use crate::moving::{moved, replace_on, start_rename, start_rename_by};
+use crate::setting::Setting;
 use crate::telling::{ReplyKind, listed, looked, read, removed, written};
 use backing::{Answer, Call};
 use errno::EIO;
@@ -55,6 +57,8 @@ pub enum LastCall<'a> {
     },
     /// It looks for the first candidate where nothing stands, moves a file there, and then another to its place, if there is one.
     Hide(Hiding<'a>),
+    /// It sets one part of the attributes after another, and tells them all.
+    Set(Setting<'a>),
     /// It moves the source to the target, the file of which was moved to the candidate of that index before.
     MoveAfter {
         from: &'a Path,
@@ -84,7 +88,7 @@ pub(crate) const DONE: LastCall<'static> = LastCall::Over(ScriptResult::Nothing)
 pub(crate) const UNFIT: LastCall<'static> = LastCall::Over(ScriptResult::Error { errno: EIO });
 
 /// The error with which a script ends after the answer to its change, if it does.
-fn refused(answer: &Answer) -> Option<i32>
+pub(crate) fn refused(answer: &Answer) -> Option<i32>
     ensures { (rest : Plan) → if_done rest answer.now ≡ unless result rest }
 {
     match answer {
@@ -98,17 +102,6 @@ fn look(path: &Path, tells: ReplyKind) -> LastCall<'_>
     ensures { plan_ending result ≡ look path.now (λ found. Over (told_of tells found)) }
 {
     LastCall::Look { path, tells }
-}
-
-/// What a SETATTR changes: the size, if it asks for one.
-fn size_change(valid: u32, path: &Path, size: u64) -> Option<Call<'_>>
-    ensures { (rest : Plan) → plan_from result rest ≡ set_size (sets_size valid) path.now size rest }
-{
-    if sets_size(valid) {
-        Some(Call::SetLen { path, size })
-    } else {
-        None
-    }
 }
 
 /// The script of a RELEASE, which removes a hidden file with its last handle.
@@ -139,7 +132,7 @@ fn end_with_looks(alloc: Global, ticket: &Ticket) -> Result<LastCall<'_>, AllocE
 /// The script of a request whose ticket has no path.
 fn without_path<'a>(operation: Operation<'_>, ticket: &'a Ticket) -> Script<'a>
     requires { ticket.now.paths ≡ [] }
-    ensures { plan_ahead result ≡ plan_of operation.entry ticket.now }
+    ensures { (settings : Whose) → plan_ahead result ≡ plan_of settings operation.entry ticket.now }
 {
     match operation {
         Operation::Release { .. } => start_release(ticket),
@@ -156,10 +149,11 @@ impl<'a> Script<'a> {
     /// A ticket that has not the paths of its request, and a request that has no script, has one that is over with EIO (own).
     pub fn start(
         alloc: Global,
+        settings: Settings,
         operation: Operation<'a>,
         ticket: &'a Ticket,
     ) -> Result<Script<'a>, AllocError>
-        ensures ok { IfOk result (λ script. plan_ahead script ≡ plan_of operation.entry ticket.now) }
+        ensures ok { IfOk result (λ script. plan_ahead script ≡ plan_of settings operation.entry ticket.now) }
         ensures err { OnErr result (LooksAtEach operation.entry) }
     {
         let Some(path) = ticket.paths().first() else {
@@ -168,12 +162,25 @@ impl<'a> Script<'a> {
         let (change, ending) = match operation {
             Operation::Lookup { .. } => (None, look(path, ReplyKind::Entry)),
             Operation::GetAttr => (None, look(path, ReplyKind::Attributes)),
-            Operation::SetAttr { valid, size, .. } => (
-                size_change(valid, path, size),
-                look(path, ReplyKind::Attributes),
-            ),
-            Operation::MakeDir { .. } => (Some(Call::MakeDir(path)), look(path, ReplyKind::Entry)),
-            Operation::Create { .. } => (Some(Call::Make(path)), look(path, ReplyKind::NewFile)),
+            Operation::SetAttr {
+                valid,
+                size,
+                attributes,
+                ..
+            } => {
+                let parts = parts_of(valid, size, attributes);
+                (None, LastCall::Set(Setting { path, parts }))
+            }
+            Operation::MakeDir { mode, umask, .. } => {
+                let permissions = made_with(settings, mode, umask);
+                let make = Call::MakeDir { path, permissions };
+                (Some(make), look(path, ReplyKind::Entry))
+            }
+            Operation::Create { mode, umask, .. } => {
+                let permissions = made_with(settings, mode, umask);
+                let make = Call::Make { path, permissions };
+                (Some(make), look(path, ReplyKind::NewFile))
+            }
             Operation::Open { .. } => (None, look(path, ReplyKind::Opening)),
             Operation::Read { offset, size, .. } => (None, LastCall::Read { path, offset, size }),
             Operation::Write { offset, data, .. } => (None, LastCall::Write { path, offset, data }),
@@ -220,6 +227,7 @@ impl<'a> Script<'a> {
             (None, LastCall::Each(looks)) => looks.next(),
             (None, LastCall::Replace { from, .. }) => Some(Call::Stat(from)),
             (None, LastCall::Hide(hiding)) => hiding.left.first().map(Call::Stat),
+            (None, LastCall::Set(setting)) => Some(setting.next()),
             (None, LastCall::MoveAfter { from, to, .. }) => Some(Call::Rename { from, to }),
             (None, LastCall::Remove { path }) => Some(Call::Remove(path)),
             (None, LastCall::Over(_)) => None,
@@ -256,6 +264,10 @@ impl<'a> Script<'a> {
                 *self = hiding.on(answer);
                 return;
             }
+            LastCall::Set(setting) => {
+                self.ending = setting.on(answer);
+                return;
+            }
             LastCall::MoveAfter {
                 from,
                 to,
@@ -281,6 +293,7 @@ impl<'a> Script<'a> {
             | LastCall::Read { .. }
             | LastCall::Write { .. }
             | LastCall::Replace { .. }
+            | LastCall::Set(_)
             | LastCall::MoveAfter { .. }
             | LastCall::Remove { .. } => ScriptResult::Error { errno: EIO },
         }

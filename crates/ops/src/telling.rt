@@ -57,9 +57,14 @@ pub(crate) fn looked(tells: ReplyKind, answer: &Answer) -> ScriptResult
     ensures { Over (end_of result) ≡ if_found (λ found. Over (told_of tells found)) answer.now }
 {
     match answer {
-        Answer::Stat { kind, size } => tells.of(Found {
+        Answer::Stat {
+            kind,
+            size,
+            details,
+        } => tells.of(Found {
             kind: *kind,
             size: *size,
+            details: *details,
         }),
         other => ScriptResult::Error {
             errno: errno_in(other),

@@ -1,5 +1,5 @@
 use Rattle.ops.proofs.Bits.{is_other_set}
-use Rattle.ops.proofs.intents.sets_other.Goals as goal
+use Rattle.ops.proofs.intents.sets_details.Goals as goal
 
 pub returns : goal.returns
 returns c = is_other_set c.args.valid c.ranges.valid.fits

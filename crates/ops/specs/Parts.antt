@@ -1,0 +1,45 @@
+-- What a SETATTR sets, and what a file or a folder is made with.
+use Rattle.std.specs.Prelude.{ℕ, ◌-◌, ◌^◌, ◌==◌, bit_and, if◌then◌else◌, Option, Some, None, option_map}
+use Rattle.std.specs.Int.{bit_at}
+use Rattle.backing.specs.declared.call.NewTime.{NewTime}
+use Rattle.backing.specs.declared.call.NewTime.TheVariants.{Now, At}
+use Rattle.backing.specs.declared.call.Time.{Time}
+use Rattle.wire.specs.declared.request.NewAttributes.{NewAttributes}
+use Rattle.wire.specs.declared.request.Time.{Time as Told}
+use Rattle.ops.specs.declared.parts.Parts.{Parts}
+use Rattle.ops.specs.declared.attributes.Settings.{Settings}
+use Rattle.ops.specs.declared.attributes.Settings.TheVariants.{Fixed, Host}
+
+-- a value counts where its bit of `valid` is set
+abbrev pub counted : (valid bit value : ℕ) → Option ℕ
+counted valid bit value = if bit_at valid bit == 1 then Some value else None
+
+abbrev pub time_at : Told → Time
+time_at t = record { seconds = t.seconds; nanos = t.nanos }
+
+-- the present, where its bit is set, else the time, where its own is
+abbrev pub new_time : (valid bit now_bit : ℕ) → Told → Option NewTime
+new_time valid bit now_bit t = if bit_at valid now_bit == 1 then Some Now else if bit_at valid bit == 1 then Some (At (time_at t)) else None
+
+-- the lowest twelve bits of a mode
+abbrev pub permissions_of : ℕ → ℕ
+permissions_of mode = bit_and mode (2 ^ 12 - 1)
+
+-- by the bits of `valid`, as `fuse.h` numbers them
+abbrev pub parts_of : (valid size : ℕ) → NewAttributes → Parts
+parts_of valid size new = record
+  { permissions = option_map permissions_of (counted valid 0 new.mode)
+  ; uid = counted valid 1 new.uid
+  ; gid = counted valid 2 new.gid
+  ; size = counted valid 3 size
+  ; accessed = new_time valid 4 7 new.accessed
+  ; modified = new_time valid 5 8 new.modified }
+
+-- ---- what a file or a folder is made with: with attributes of the host, the permission bits of the request's mode that are not in its umask
+
+abbrev pub unmasked : (mode umask : ℕ) → ℕ
+unmasked mode umask = bit_and (permissions_of mode) (2 ^ 32 - 1 - umask)
+
+abbrev pub made_with : Settings → (mode umask : ℕ) → Option ℕ
+made_with (Fixed uid gid) mode umask = None
+made_with Host mode umask = Some (unmasked mode umask)

@@ -1,0 +1,109 @@
+//! Which attributes replies tell: a table of two rows.
+
+ghost use Rattle.std.specs.Prelude.{◌≡◌};
+ghost use Rattle.ops.specs.Replies.{attributes_of, details_of, epoch, fixed_details, fixed_links, fixed_permissions, host_details, ino_of, kind_of, time_of};
+
+use crate::findings::Found;
+use backing::Kind;
+use wire::{Attributes, Details, Time};
+
+/// Whose attributes a session tells.
+#[derive(Clone, Copy, Debug, PartialEq, Eq)]
+pub enum Settings {
+    /// All is of this owner, with fixed permission bits, at the beginning of 1970, and the inode number is the node's. A SETATTR may set a size alone.
+    Fixed { uid: u32, gid: u32 },
+    /// Those that the directory tells, and a SETATTR may set them.
+    Host,
+}
+
+/// The beginning of 1970.
+const EPOCH: Time = Time {
+    seconds: 0,
+    nanos: 0,
+};
+
+/// The kind as a reply tells it.
+pub(crate) fn kind_of(kind: Kind) -> wire::Kind
+    ensures { result ≡ kind_of kind }
+{
+    match kind {
+        Kind::Folder => wire::Kind::Folder,
+        Kind::File => wire::Kind::File,
+    }
+}
+
+/// A time as a reply tells it.
+fn time_of(time: backing::Time) -> Time
+    ensures { result ≡ time_of time }
+{
+    Time {
+        seconds: time.seconds,
+        nanos: time.nanos,
+    }
+}
+
+/// Whoever owns it may change it, and anybody may read it and enter it.
+fn fixed_permissions(kind: Kind) -> u32
+    ensures { result ≡ fixed_permissions kind }
+{
+    match kind {
+        Kind::Folder => 0o755,
+        Kind::File => 0o644,
+    }
+}
+
+/// A folder has its name, and `.` in itself.
+fn fixed_links(kind: Kind) -> u32
+    ensures { result ≡ fixed_links kind }
+{
+    match kind {
+        Kind::Folder => 2,
+        Kind::File => 1,
+    }
+}
+
+/// What is told of everything of a kind.
+fn fixed_details(uid: u32, gid: u32, kind: Kind) -> Details
+    ensures { result ≡ fixed_details uid gid kind }
+{
+    Details {
+        permissions: fixed_permissions(kind),
+        links: fixed_links(kind),
+        uid,
+        gid,
+        accessed: EPOCH,
+        modified: EPOCH,
+        changed: EPOCH,
+    }
+}
+
+/// What the directory tells.
+fn host_details(details: backing::Details) -> Details
+    ensures { result ≡ host_details details }
+{
+    Details {
+        permissions: details.permissions,
+        links: details.links,
+        uid: details.uid,
+        gid: details.gid,
+        accessed: time_of(details.accessed),
+        modified: time_of(details.modified),
+        changed: time_of(details.changed),
+    }
+}
+
+/// The attributes of what was found, as those of that node.
+pub(crate) fn attributes_of(settings: Settings, node: u64, found: Found) -> Attributes
+    ensures { result ≡ attributes_of settings node found }
+{
+    let (ino, details) = match settings {
+        Settings::Fixed { uid, gid } => (node, fixed_details(uid, gid, found.kind)),
+        Settings::Host => (found.details.ino, host_details(found.details)),
+    };
+    Attributes {
+        ino,
+        kind: kind_of(found.kind),
+        size: found.size,
+        details,
+    }
+}

@@ -1,0 +1,105 @@
+//! What a SETATTR sets, and what a file or a folder is made with.
+
+ghost use Rattle.std.specs.Prelude.{◌≡◌, ◌<◌, ◌==◌};
+ghost use Rattle.std.specs.Int.{bit_at};
+ghost use Rattle.ops.specs.Parts.{counted, made_with, new_time, parts_of, permissions_of, time_at};
+
+use crate::attributes::Settings;
+use backing::{NewTime, Time};
+use wire::NewAttributes;
+
+/// What is set of a node, each part if it is asked for.
+#[derive(Clone, Copy, Debug, PartialEq, Eq)]
+pub struct Parts {
+    /// The lowest twelve bits of a mode.
+    pub permissions: Option<u32>,
+    pub uid: Option<u32>,
+    pub gid: Option<u32>,
+    /// In bytes.
+    pub size: Option<u64>,
+    pub accessed: Option<NewTime>,
+    pub modified: Option<NewTime>,
+}
+
+/// The bits of SETATTR's `valid`, counted from 0 (`FATTR_MODE`, `FATTR_UID` .. of `fuse.h`).
+const MODE: u32 = 0;
+const UID: u32 = 1;
+const GID: u32 = 2;
+const SIZE: u32 = 3;
+const ACCESSED: u32 = 4;
+const MODIFIED: u32 = 5;
+const ACCESSED_NOW: u32 = 7;
+const MODIFIED_NOW: u32 = 8;
+
+/// The bits of a mode that are permissions, with those of `setuid`, `setgid` and the sticky bit.
+const PERMISSIONS: u32 = 0o7777;
+
+/// Whether the bit is set.
+fn is_set(valid: u32, bit: u32) -> bool
+    requires { bit < 32 }
+    ensures { result ≡ (bit_at valid bit == 1) }
+{
+    valid & (1 << bit) != 0
+}
+
+/// The value, where its bit is set.
+fn counted<T: Copy>(valid: u32, bit: u32, value: T) -> Option<T>
+    requires { bit < 32 }
+    ensures { result ≡ counted valid bit value }
+{
+    if is_set(valid, bit) { Some(value) } else { None }
+}
+
+/// The present, where its bit is set, else the time, where its own is.
+fn new_time(valid: u32, bit: u32, now_bit: u32, time: wire::Time) -> Option<NewTime>
+    requires bit { bit < 32 }
+    requires now_bit { now_bit < 32 }
+    ensures { result ≡ new_time valid bit now_bit time }
+{
+    if is_set(valid, now_bit) {
+        return Some(NewTime::Now);
+    }
+    counted(valid, bit, NewTime::At(time_at(time)))
+}
+
+/// A time of a request, as a directory is told it.
+fn time_at(time: wire::Time) -> Time
+    ensures { result ≡ time_at time }
+{
+    Time {
+        seconds: time.seconds,
+        nanos: time.nanos,
+    }
+}
+
+/// The permission bits of a mode.
+fn permissions_of(mode: u32) -> u32
+    ensures { result ≡ permissions_of mode }
+{
+    mode & PERMISSIONS
+}
+
+/// What a SETATTR sets, by its `valid`.
+pub(crate) fn parts_of(valid: u32, size: u64, new: NewAttributes) -> Parts
+    ensures { result ≡ parts_of valid size new }
+{
+    Parts {
+        permissions: counted(valid, MODE, new.mode).map(permissions_of),
+        uid: counted(valid, UID, new.uid),
+        gid: counted(valid, GID, new.gid),
+        size: counted(valid, SIZE, size),
+        accessed: new_time(valid, ACCESSED, ACCESSED_NOW, new.accessed),
+        modified: new_time(valid, MODIFIED, MODIFIED_NOW, new.modified),
+    }
+}
+
+/// What a file or a folder is made with that a request asks for: where attributes are the host's, the permission bits of the mode that are not in
+/// the umask. Else the folder that is served decides.
+pub(crate) fn made_with(settings: Settings, mode: u32, umask: u32) -> Option<u32>
+    ensures { result ≡ made_with settings mode umask }
+{
+    match settings {
+        Settings::Fixed { .. } => None,
+        Settings::Host => Some(permissions_of(mode) & !umask),
+    }
+}
