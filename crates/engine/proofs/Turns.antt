@@ -96,7 +96,7 @@ module _ {W L C D : Type 0} (rules : Rules W L) (does : Behaviour C D) where
   }
 
   -- a request that is answered at once
-  pub said_at_once : (frame : List ℕ) (q : Request) (meant : ReplyBody) (old : Environment W L C D) (link : L) (sent : Sent) → IsRequest frame q → intents.Reply meant ≡ intent q
+  pub said_at_once : (frame : List ℕ) (q : Request) (meant : ReplyBody) (old : Environment W L C D) (link : L) (sent : Sent) → IsRequest frame q → intents.Reply meant ≡ intent rules.settings q
       → IsAnswered rules.sends (record { unique = q.unique; body = meant }) old.link sent link
       → WorkedOff rules does frame old (Some sent) (around link old.served old.at)
   said_at_once frame q meant old link sent is i a =
@@ -112,7 +112,7 @@ module _ {W L C D : Type 0} (rules : Rules W L) (does : Behaviour C D) where
       }
 
   -- a request that asks whether a file is open
-  pub asked_of_file : (frame : List ℕ) (q : Request) (fh : ℕ) (file : Option OpenFile) (meant : ReplyBody) (old : Environment W L C D) (at : W) (link : L) (sent : Sent) → IsRequest frame q → intents.File fh ≡ intent q → rules.table.finds old.at fh file at → meant ≡ file_reply q.node file
+  pub asked_of_file : (frame : List ℕ) (q : Request) (fh : ℕ) (file : Option OpenFile) (meant : ReplyBody) (old : Environment W L C D) (at : W) (link : L) (sent : Sent) → IsRequest frame q → intents.File fh ≡ intent rules.settings q → rules.table.finds old.at fh file at → meant ≡ file_reply q.node file
       → IsAnswered rules.sends (record { unique = q.unique; body = meant }) old.link sent link
       → WorkedOff rules does frame old (Some sent) (around link old.served at)
   asked_of_file frame q fh file meant old at link sent is i found e a =
@@ -128,7 +128,7 @@ module _ {W L C D : Type 0} (rules : Rules W L) (does : Behaviour C D) where
       }
 
   -- lookups are given back
-  pub forgot : (frame : List ℕ) (q : Request) (lookups : List Forgotten) (old : Environment W L C D) (at : W) → IsRequest frame q → intents.Forget lookups ≡ intent q → ForgetsAll rules.table old.at lookups at
+  pub forgot : (frame : List ℕ) (q : Request) (lookups : List Forgotten) (old : Environment W L C D) (at : W) → IsRequest frame q → intents.Forget lookups ≡ intent rules.settings q → ForgetsAll rules.table old.at lookups at
       → WorkedOff rules does frame old None (around old.link old.served at)
   forgot frame q lookups old at is i f = record {
     turn = silent frame;
@@ -141,7 +141,7 @@ module _ {W L C D : Type 0} (rules : Rules W L) (does : Behaviour C D) where
   }
 
   -- entries of an open folder are told by a request that begins
-  begun_with : (frame : List ℕ) (q : Request) (fh : ℕ) (usage : FolderUse) (old new : Environment W L C D) (sent : Sent) → IsRequest frame q → intents.Folder fh usage ≡ intent q
+  begun_with : (frame : List ℕ) (q : Request) (fh : ℕ) (usage : FolderUse) (old new : Environment W L C D) (sent : Sent) → IsRequest frame q → intents.Folder fh usage ≡ intent rules.settings q
       → TellsOut rules does q fh usage old sent new
       → WorkedOff rules does frame old (Some sent) new
   begun_with frame q fh (uses.ReadNames offset size) old new sent is i t = absurd t
@@ -161,7 +161,7 @@ module _ {W L C D : Type 0} (rules : Rules W L) (does : Behaviour C D) where
       }
 
   -- a request that uses an open folder
-  pub used : (frame : List ℕ) (q : Request) (by : HandleUse) (old new : Environment W L C D) (sent : Sent) → IsRequest frame q → intents.Folder by.fh by.usage ≡ intent q
+  pub used : (frame : List ℕ) (q : Request) (by : HandleUse) (old new : Environment W L C D) (sent : Sent) → IsRequest frame q → intents.Folder by.fh by.usage ≡ intent rules.settings q
       → UsesOut rules does q by old sent new
       → WorkedOff rules does frame old (Some sent) new
   used frame q by old new sent is i (inr t) = begun_with frame q by.fh by.usage old new sent is i t
@@ -191,7 +191,7 @@ module _ {W L C D : Type 0} (rules : Rules W L) (does : Behaviour C D) where
       }
 
   -- a request that is passed over
-  pub passed_over : (frame : List ℕ) (q : Request) (old : Environment W L C D) → IsRequest frame q → intents.Nothing ≡ intent q → WorkedOff rules does frame old None old
+  pub passed_over : (frame : List ℕ) (q : Request) (old : Environment W L C D) → IsRequest frame q → intents.Nothing ≡ intent rules.settings q → WorkedOff rules does frame old None old
   passed_over frame q old is i = record {
     turn = silent frame;
     frame_is = refl;
@@ -203,7 +203,7 @@ module _ {W L C D : Type 0} (rules : Rules W L) (does : Behaviour C D) where
   }
 
   -- a request that is begun
-  pub carried : (frame : List ℕ) (q : Request) (want : Want) (old new : Environment W L C D) (sent : Sent) → IsRequest frame q → intents.Begin want ≡ intent q
+  pub carried : (frame : List ℕ) (q : Request) (want : Want) (old new : Environment W L C D) (sent : Sent) → IsRequest frame q → intents.Begin want ≡ intent rules.settings q
       → RunsOut rules does (attempt q want [] no_page) old sent new
       → WorkedOff rules does frame old (Some sent) new
   carried frame q want old new sent is i a =

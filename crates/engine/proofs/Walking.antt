@@ -5,7 +5,7 @@ use Rattle.wire.specs.NextFrame.{IsWhole}
 use Rattle.wire.specs.Stream.{BeginsBadly, IsPartial}
 use Rattle.engine.specs.declared.ends.SessionEnd.{SessionEnd}
 use Rattle.engine.specs.declared.ends.SessionEnd.TheVariants as ends
-use Rattle.ops.specs.declared.replies.Settings.{Settings}
+use Rattle.ops.specs.declared.attributes.Settings.{Settings}
 use Rattle.engine.specs.Links.{Piece}
 use Rattle.engine.specs.Serving.{Behaviour, Environment, Hears, Traffic, Works, around}
 use Rattle.engine.specs.Tables.{Table}

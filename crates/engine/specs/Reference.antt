@@ -26,7 +26,7 @@ use Rattle.engine.specs.declared.classes.Class.{Class}
 use Rattle.engine.specs.declared.classes.Class.TheVariants.{Ignored, Unexpected, InitFrame, DestroyFrame, Asking}
 use Rattle.engine.specs.declared.links.Sent.{Sent}
 use Rattle.engine.specs.declared.links.Sent.TheVariants.{Taken, Untaken, Broken}
-use Rattle.ops.specs.declared.replies.Settings.{Settings}
+use Rattle.ops.specs.declared.attributes.Settings.{Settings}
 use Rattle.engine.specs.declared.ends.SessionEnd.{SessionEnd}
 use Rattle.engine.specs.declared.ends.SessionEnd.TheVariants as ends
 use Rattle.engine.specs.Chain.{Chain}
@@ -160,9 +160,9 @@ HasNames (wants.Release number fh) = ⊥
 HasNames want = Unit {0}
 
 -- The calls of a request that has begun, and what they come to. Without memory for its script it makes none, and fails.
-abbrev pub Plays : Option Place → Operation → Claim → List Made → End → Type 0
-Plays (Some AtScript) operation ticket made end = LooksAtEach operation × (made ≡ []) × (end ≡ record { outcome = outcomes.Failed; findings = findings.Error ENOMEM })
-Plays refused operation ticket made end = Follows (plan_of operation ticket) made end
+abbrev pub Plays : Settings → Option Place → Operation → Claim → List Made → End → Type 0
+Plays settings (Some AtScript) operation ticket made end = LooksAtEach operation × (made ≡ []) × (end ≡ record { outcome = outcomes.Failed; findings = findings.Error ENOMEM })
+Plays settings refused operation ticket made end = Follows (plan_of settings operation ticket) made end
 
 -- ---- where a session stands: the table, whether a version is agreed on, and how it has ended if it has
 
@@ -228,7 +228,7 @@ module _ {W : Type 0} (table : Table W) (settings : Settings) where
     pub begun : W
     pub begins : table.begins old turn.kept a.q.unique a.want (Go ticket) begun
     pub end : End
-    pub script : Plays turn.refused a.q.operation ticket turn.made end
+    pub script : Plays settings turn.refused a.q.operation ticket turn.made end
     pub answer : Answer
     pub finished : W
     pub finishes : table.finishes begun ticket.id end.outcome answer finished
@@ -283,7 +283,7 @@ module _ {W : Type 0} (table : Table W) (settings : Settings) where
 
   abbrev pub Asks : W → Turn → W → Type 0
   Asks old turn new =
-      ((q : Request) × IsRequest turn.frame q × Serves q (intent q) old turn new)
+      ((q : Request) × IsRequest turn.frame q × Serves q (intent settings q) old turn new)
       ⊎ ((fault : WireFault) × IsFirstFault turn.frame fault × Faults (is_unanswered (opcode_in turn.frame)) fault old turn new)
 
   -- a frame of each class, and whether a version was agreed on before it and is now

@@ -21,7 +21,7 @@ use Rattle.wire.specs.declared.request.Request.{Request}
 use Rattle.engine.specs.declared.ends.SessionEnd.{SessionEnd}
 use Rattle.engine.specs.declared.ends.SessionEnd.TheVariants as ends
 use Rattle.engine.specs.declared.links.Sent.{Sent}
-use Rattle.ops.specs.declared.replies.Settings.{Settings}
+use Rattle.ops.specs.declared.attributes.Settings.{Settings}
 use Rattle.engine.specs.Chain.{Chain}
 use Rattle.engine.specs.Classes.{class}
 use Rattle.handles.specs.Calls.{FolderCall}
@@ -201,7 +201,7 @@ with_table link world = record { link = link; world = world }
 -- a request whose script has made these calls and come to an end is finished, answered and settled, with these calls of the open folders
 pub record Concludes {W L : Type 0} (rules : Rules W L) (b : Begun) (made : List Made) (end : End) (folders : List FolderCall) (old : LinkAndTable L W) (sent : Sent) (new : LinkAndTable L W) : Type 0 where
   pub refused : Option Place
-  pub script : Plays refused b.q.operation b.ticket made end
+  pub script : Plays rules.settings refused b.q.operation b.ticket made end
   pub answer : Given
   pub finished : W
   pub finishes : rules.table.finishes old.world b.ticket.id end.outcome answer finished

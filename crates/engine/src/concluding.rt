@@ -81,7 +81,7 @@ impl Session {
     ) -> Sent
         requires free { R.steps.is_free (R.world table.old) }
         requires plain { IsPlain found }
-        ensures concludes { (page : Paged) (made : List Made) → Follows (plan_of request.entry.operation ticket) made (end_of found) → Concludes (by_rules R.steps self.old.settings L.sends) (begun request.entry page ticket) made (end_of found) []
+        ensures concludes { (page : Paged) (made : List Made) → Follows (plan_of self.old.settings request.entry.operation ticket) made (end_of found) → Concludes (by_rules R.steps self.old.settings L.sends) (begun request.entry page ticket) made (end_of found) []
             (with_table link.old (R.world table.old)) result (with_table link.new (R.world table.new)) }
         ensures gains { R.steps.gains (R.world table.old) share.old (R.world table.new) share.new }
         ensures settings { self.new.settings ≡ self.old.settings }
@@ -107,7 +107,7 @@ impl Session {
     ) -> Sent
         requires free { R.steps.is_free (R.world table.old) }
         ensures concludes { ByCalls D.keeps dirs.old dirs.new (λ folders. (page : Paged) (made : List Made) (children : List Child) → IsMade request.entry.node children (Ok listing)
-            → Follows (plan_of request.entry.operation ticket) made (listing_found children) → Concludes (by_rules R.steps self.old.settings L.sends) (begun request.entry page ticket) made (listing_found children) folders
+            → Follows (plan_of self.old.settings request.entry.operation ticket) made (listing_found children) → Concludes (by_rules R.steps self.old.settings L.sends) (begun request.entry page ticket) made (listing_found children) folders
             (with_table link.old (R.world table.old)) result (with_table link.new (R.world table.new))) }
         ensures gains { R.steps.gains (R.world table.old) share.old (R.world table.new) share.new }
         ensures settings { self.new.settings ≡ self.old.settings }
@@ -134,7 +134,7 @@ impl Session {
         ticket: Ticket,
     ) -> Sent
         requires free { R.steps.is_free (R.world table.old) }
-        ensures concludes { (page : Paged) (made : List Made) (children : List Child) → IsMade request.entry.node children (Err Memory) → Follows (plan_of request.entry.operation ticket) made (listing_found children)
+        ensures concludes { (page : Paged) (made : List Made) (children : List Child) → IsMade request.entry.node children (Err Memory) → Follows (plan_of self.old.settings request.entry.operation ticket) made (listing_found children)
             → Concludes (by_rules R.steps self.old.settings L.sends) (begun request.entry page ticket) made (listing_found children) []
             (with_table link.old (R.world table.old)) result (with_table link.new (R.world table.new)) }
         ensures gains { R.steps.gains (R.world table.old) share.old (R.world table.new) share.new }
@@ -158,7 +158,7 @@ impl Session {
         children: Children,
     ) -> Sent
         requires free { R.steps.is_free (R.world table.old) }
-        ensures concludes { ByCalls D.keeps dirs.old dirs.new (λ folders. (page : Paged) (made : List Made) → Follows (plan_of request.entry.operation ticket) made (listed_end children)
+        ensures concludes { ByCalls D.keeps dirs.old dirs.new (λ folders. (page : Paged) (made : List Made) → Follows (plan_of self.old.settings request.entry.operation ticket) made (listed_end children)
             → Concludes (by_rules R.steps self.old.settings L.sends) (begun request.entry page ticket) made (listed_end children) folders
             (with_table link.old (R.world table.old)) result (with_table link.new (R.world table.new))) }
         ensures gains { R.steps.gains (R.world table.old) share.old (R.world table.new) share.new }

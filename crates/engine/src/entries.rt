@@ -81,7 +81,7 @@ impl Session {
         looked: Looked,
     ) -> Sent
         requires free { R.steps.is_free (R.world table.old) }
-        ensures concludes { (made : List Made) → Follows (plan_of request.entry.operation ticket) made (entries_found looked) → Concludes (by_rules R.steps self.old.settings L.sends) (begun request.entry page.now ticket) made (entries_found looked) []
+        ensures concludes { (made : List Made) → Follows (plan_of self.old.settings request.entry.operation ticket) made (entries_found looked) → Concludes (by_rules R.steps self.old.settings L.sends) (begun request.entry page.now ticket) made (entries_found looked) []
             (with_table link.old (R.world table.old)) result (with_table link.new (R.world table.new)) }
         ensures gains { R.steps.gains (R.world table.old) share.old (R.world table.new) share.new }
         ensures settings { self.new.settings ≡ self.old.settings }

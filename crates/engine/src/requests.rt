@@ -150,7 +150,7 @@ impl Session {
         ensures settings { self.new.settings ≡ self.old.settings }
         ensures agreed { self.new.agreed ≡ self.old.agreed }
     {
-        let script = match Script::start(self.alloc, request.operation, &ticket) {
+        let script = match Script::start(self.alloc, self.settings, request.operation, &ticket) {
             Ok(script) => script,
             Err(_) => return self.end_without_script(link, table, share, request, ticket),
         };
@@ -268,7 +268,7 @@ impl Session {
             Ok(request) => request,
             Err(fault) => return refuse_frame(link, frame, fault),
         };
-        match intent_of(&request) {
+        match intent_of(self.settings, &request) {
             Intent::Reply(body) => {
                 let unique = request.unique;
                 Some(self.answer(link, Reply { unique, body }))

@@ -3,7 +3,7 @@ use Rattle.std.proofs.Common.{◌≡◌, ℕ, suc, ◌+◌, List, [], ◌∷◌,
 use Rattle.std.specs.List.{All, range_with_len}
 use Rattle.std.proofs.lemmas.List.Elements.{All-cons, All-head, All-nil, All-push, All-same, All-tail, All-pop}
 use Rattle.crossbeam_channel.specs.Claims.{IsSeatAt}
-use Rattle.ops.specs.declared.replies.Settings.{Settings}
+use Rattle.ops.specs.declared.attributes.Settings.{Settings}
 use Rattle.engine.specs.Serving.{Behaviour}
 use Rattle.engine_jobs.specs.declared.jobs.Job.{Job}
 use Rattle.engine_queues.specs.Gathered.{AreSeated, numbers_of}

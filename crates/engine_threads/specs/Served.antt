@@ -3,7 +3,7 @@ use Rattle.std.specs.Prelude.{◌≡◌, ◌≤◌, ◌+◌, ℕ, List, [], leng
 use Rattle.crossbeam_channel.specs.Claims.{view}
 use Rattle.ledger.specs.Sums.{totals_over}
 use Rattle.ledger.specs.declared.shares.Totals.{Totals}
-use Rattle.ops.specs.declared.replies.Settings.{Settings}
+use Rattle.ops.specs.declared.attributes.Settings.{Settings}
 use Rattle.backing.specs.Calls.{Asked}
 use Rattle.backing.specs.declared.call.Answer.{Answer}
 use Rattle.table_steps.specs.World.{opened_world}

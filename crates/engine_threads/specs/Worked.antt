@@ -5,7 +5,7 @@ use Rattle.crossbeam_channel.specs.Claims.{view, IsSeatAt}
 use Rattle.crossbeam_channel.specs.Ends.{sends_on, receives_on}
 use Rattle.ledger.specs.Shares.{Part, nothing}
 use Rattle.table_steps.specs.Answers.{Settlement}
-use Rattle.ops.specs.declared.replies.Settings.{Settings}
+use Rattle.ops.specs.declared.attributes.Settings.{Settings}
 use Rattle.backing.specs.Calls.{Asked}
 use Rattle.backing.specs.declared.call.Answer.{Answer}
 use Rattle.handles.specs.Calls.{Shares}

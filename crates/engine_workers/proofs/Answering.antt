@@ -2,7 +2,7 @@
 use Rattle.std.proofs.Common.{◌≡◌, ℕ, false, List, [], ◌++◌, Option, Some, None, refl, sym, ap, ◌∙◌, append-nil, append_assoc, arith}
 use Rattle.std.proofs.lemmas.Option.{none-some}
 use Rattle.ledger.specs.Shares.{Part}
-use Rattle.ops.specs.declared.replies.Settings.{Settings}
+use Rattle.ops.specs.declared.attributes.Settings.{Settings}
 use Rattle.engine.specs.Reference.{Offer}
 use Rattle.engine.specs.Serving.{Behaviour}
 use Rattle.engine.specs.declared.served.Served.{Served}

@@ -2,7 +2,7 @@
 use Rattle.std.specs.Prelude.{ℕ, ◌≡◌, Bool, List, Option, Some}
 use Rattle.wire.specs.Requests.{opcode_in}
 use Rattle.wire.specs.Written.{reply_bytes}
-use Rattle.ops.specs.declared.replies.Settings.{Settings}
+use Rattle.ops.specs.declared.attributes.Settings.{Settings}
 use Rattle.engine.specs.Classes.{class}
 use Rattle.engine.specs.Reference.{HandlesFrame, Offer, Turn}
 use Rattle.engine.specs.declared.links.Sent.TheVariants.{Taken}

@@ -7,7 +7,7 @@ use Rattle.table_steps.specs.Answers.{Settlement}
 use Rattle.table_recorded.specs.Runs as made
 use Rattle.table_recorded.specs.Runs.{Call}
 use Rattle.wire.specs.Written.{reply_bytes}
-use Rattle.ops.specs.declared.replies.Settings.{Settings}
+use Rattle.ops.specs.declared.attributes.Settings.{Settings}
 use Rattle.engine.specs.Chain.{Chain}
 use Rattle.engine.specs.Folders.{GivesUp}
 use Rattle.engine.specs.Reference.{Offer, Turn, is_broken, is_taken}

@@ -2,7 +2,7 @@
 use Rattle.std.specs.Prelude.{ℕ, ◌≡◌, List, [], Option}
 use Rattle.ledger.specs.Shares.{Part, nothing}
 use Rattle.table_steps.specs.Answers.{Settlement}
-use Rattle.ops.specs.declared.replies.Settings.{Settings}
+use Rattle.ops.specs.declared.attributes.Settings.{Settings}
 use Rattle.engine.specs.Chain.{Chain}
 use Rattle.engine.specs.Serving.{Behaviour}
 use Rattle.engine_queues.specs.Jobs.{hand}

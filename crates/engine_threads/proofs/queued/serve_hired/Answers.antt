@@ -2,7 +2,7 @@ use Rattle.std.proofs.Common.{◌≡◌, ◌+◌, ℕ, List, Some, IfSome, sym, 
 use Rattle.std.specs.List.{All, range_with_len}
 use Rattle.crossbeam_channel.specs.Claims.{view}
 use Rattle.crossbeam_channel.specs.Ends.{sends_on}
-use Rattle.ops.specs.declared.replies.Settings.{Settings}
+use Rattle.ops.specs.declared.attributes.Settings.{Settings}
 use Rattle.engine_queues.specs.Gathered.{numbers_of}
 use Rattle.std.specs.Option.{option_map}
 use Rattle.engine_reader.specs.Shown.{queued_of, shown}

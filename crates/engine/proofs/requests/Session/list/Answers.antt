@@ -15,7 +15,7 @@ returns-in-Err-Lawless-clause-concludes g c =
       chain = refl;
       so = λ page made follows.
           subst (λ (e : End). Concludes (by_rules g.R.Reach.steps c.args.self.now.settings g.L.Outlet.sends) (begun c.args.request page c.args.ticket) made e [] (with_table c.args.link.now (g.R.Reach.world c.args.table.now)) c.tell.result (with_table c.tell.new.link (g.R.Reach.world c.tell.new.table))) end
-          (c.tell.ensures.concludes page made (subst (λ (e : End). Follows (plan_of c.args.request.operation c.args.ticket) made e) (sym end) follows));
+          (c.tell.ensures.concludes page made (subst (λ (e : End). Follows (plan_of c.args.self.now.settings c.args.request.operation c.args.ticket) made e) (sym end) follows));
     }
 
 pub returns-in-Err-Memory-clause-concludes : goal.returns-in-Err-Memory-clause-concludes
@@ -28,5 +28,5 @@ returns-in-Err-Memory-clause-concludes g c =
       chain = refl;
       so = λ page made follows.
           subst (λ (e : End). Concludes (by_rules g.R.Reach.steps c.args.self.now.settings g.L.Outlet.sends) (begun c.args.request page c.args.ticket) made e [] (with_table c.args.link.now (g.R.Reach.world c.args.table.now)) c.end_without_memory.result (with_table c.end_without_memory.new.link (g.R.Reach.world c.end_without_memory.new.table))) end
-          (c.end_without_memory.ensures.concludes page made c.args.children made_is (subst (λ (e : End). Follows (plan_of c.args.request.operation c.args.ticket) made e) (sym end) follows));
+          (c.end_without_memory.ensures.concludes page made c.args.children made_is (subst (λ (e : End). Follows (plan_of c.args.self.now.settings c.args.request.operation c.args.ticket) made e) (sym end) follows));
     }

@@ -16,7 +16,7 @@ returns-in-Err-clause-runs g c = record {
 pub returns-in-Listed-clause-runs : goal.returns-in-Listed-clause-runs
 returns-in-Listed-clause-runs g c =
     let played = c.play.ensures in
-    let plan = plan_of c.args.request.operation c.args.ticket in
+    let plan = plan_of c.args.self.now.settings c.args.request.operation c.args.ticket in
     let follows = subst (λ (p : Plan). Follows p played.made (end_of c.play.result)) c.in-Ok.ensures.ok played.follows in
     let listed = subst (λ (f : ScriptResult). Follows plan played.made (end_of f)) c.in-Listed.is follows in
     record {

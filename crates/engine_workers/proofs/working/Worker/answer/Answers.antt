@@ -1,5 +1,5 @@
 use Rattle.std.proofs.Common.{sym, subst}
-use Rattle.ops.specs.declared.replies.Settings.{Settings}
+use Rattle.ops.specs.declared.attributes.Settings.{Settings}
 use Rattle.crossbeam_channel.specs.Claims.{view}
 use Rattle.engine.specs.Serving.{does}
 use Rattle.engine_visits.specs.Visits.{left_in, on_table_of, visited_of}
