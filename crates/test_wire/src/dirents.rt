@@ -1,6 +1,7 @@
 //! Names of a folder as READDIR and READDIRPLUS tell them, and the lookups that a BATCH_FORGET gives back.
 
 use crate::bytes::{SIXTEEN, bytes_of};
+use crate::replies::OF_A_FILE;
 use std::alloc::Global;
 use std::test::Fail;
 use wire::{
@@ -69,10 +70,10 @@ const PLUS: &[PlusRow] = &[
             node: 2,
             generation: 1,
             attributes: Attributes {
+                ino: 2,
                 kind: Kind::File,
                 size: 3,
-                uid: 0,
-                gid: 0,
+                details: OF_A_FILE,
             },
         }),
         &[

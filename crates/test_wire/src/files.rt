@@ -106,12 +106,14 @@ const WRITTEN: &[Row] = &[
         Create {
             name: "n",
             flags: 2,
+            mode: 0,
+            umask: 0,
         },
     ),
 ];
 
-/// Frames in which bytes that are not read are something else: flags of READ, WRITE, RELEASE and FSYNC, owners of locks, the mode and the
-/// umask of CREATE, and what is unused.
+/// Frames in which bytes that are not read are something else: flags of READ, WRITE, RELEASE and FSYNC, owners of locks, and what is
+/// unused.
 const READ: &[Row] = &[
     Row(
         &[
@@ -190,13 +192,15 @@ const READ: &[Row] = &[
         &[
             "3a000000 23000000 0300000000000000 0100000000000000",
             ONES,
-            "03000000 ffffffff ffffffff ffffffff 6e00",
+            "03000000 a4810000 12000000 ffffffff 6e00",
         ],
         3,
         1,
         Create {
             name: "n",
             flags: 3,
+            mode: 0o100644,
+            umask: 0o022,
         },
     ),
 ];

@@ -3,7 +3,7 @@
 use crate::bytes::bytes_of;
 use std::alloc::Global;
 use std::test::Fail;
-use wire::{Operation, Request, decode, encode_request};
+use wire::{NewAttributes, Operation, Request, Time, decode, encode_request};
 
 /// A frame in digits, and the request that it is: its number, its node and its operation.
 #[derive(Clone, Copy)]
@@ -15,6 +15,21 @@ enum Otherwise<'a> {
     Read(Request<'a>),
     Written(Request<'a>),
 }
+
+/// All numbers zero.
+pub const NOTHING_NEW: NewAttributes = NewAttributes {
+    mode: 0,
+    uid: 0,
+    gid: 0,
+    accessed: Time {
+        seconds: 0,
+        nanos: 0,
+    },
+    modified: Time {
+        seconds: 0,
+        nanos: 0,
+    },
+};
 
 /// What is not read.
 pub const ONES: &str = "ffffffff ffffffff ffffffff ffffffff";

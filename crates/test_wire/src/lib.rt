@@ -3,6 +3,8 @@
 #![tactic(auto)]
 
 #[cfg(test)]
+mod attributes;
+#[cfg(test)]
 mod bytes;
 #[cfg(test)]
 mod cutting;
@@ -14,6 +16,8 @@ mod faults;
 mod files;
 #[cfg(test)]
 mod frames;
+#[cfg(test)]
+mod greeting;
 #[cfg(test)]
 mod replies;
 #[cfg(test)]

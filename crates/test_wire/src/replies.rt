@@ -1,25 +1,25 @@
 //! Replies, written.
 
 use crate::bytes::{SIXTEEN, bytes_of};
+use crate::greeting::{AGREED, OFFERED};
 use Says::{Attr, Created, Done, Failed, Given, Init, Opened, Sizes, Wrote};
 use std::alloc::Global;
 use std::test::Fail;
 use wire::{
-    Attributes, Entry, InitOut, Kind, Negotiated, Reply, ReplyBody, encode_reply, error_frame,
-    negotiate,
+    Attributes, Details, Entry, InitOut, Kind, Reply, ReplyBody, Time, encode_reply, error_frame,
 };
 
 /// The number of the request that is answered, what the reply says, and its bytes in digits.
 #[derive(Clone, Copy)]
-struct Row<'a>(u64, Says, &'a [&'a str]);
+pub struct Row<'a>(pub u64, pub Says, pub &'a [&'a str]);
 
 /// What a reply says, as a value of a constant.
 #[derive(Clone, Copy)]
-enum Says {
+pub enum Says {
     Failed(i32),
     Done,
     Given(Entry),
-    Attr(u64, Attributes),
+    Attr(Attributes),
     Opened(u64),
     Created(Entry, u64),
     Wrote(u32),
@@ -32,7 +32,7 @@ fn body_of(says: Says) -> ReplyBody {
         Failed(errno) => ReplyBody::Failed { errno },
         Done => ReplyBody::Done,
         Given(entry) => ReplyBody::Entry(entry),
-        Attr(node, attributes) => ReplyBody::Attributes { node, attributes },
+        Attr(attributes) => ReplyBody::Attributes(attributes),
         Opened(fh) => ReplyBody::Opened { fh },
         Created(entry, fh) => ReplyBody::Created { entry, fh },
         Wrote(size) => ReplyBody::Wrote { size },
@@ -41,98 +41,58 @@ fn body_of(says: Says) -> ReplyBody {
     }
 }
 
-const FILE: Attributes = Attributes {
-    kind: Kind::File,
-    size: 3,
+/// The beginning of 1970.
+const NEVER: Time = Time {
+    seconds: 0,
+    nanos: 0,
+};
+
+/// Of a file that anybody may read, and root may write.
+pub const OF_A_FILE: Details = Details {
+    permissions: 0o644,
+    links: 1,
     uid: 0,
     gid: 0,
+    accessed: NEVER,
+    modified: NEVER,
+    changed: NEVER,
+};
+
+const OF_A_FOLDER: Details = Details {
+    permissions: 0o755,
+    links: 2,
+    ..OF_A_FILE
+};
+
+const FILE: Attributes = Attributes {
+    ino: 2,
+    kind: Kind::File,
+    size: 3,
+    details: OF_A_FILE,
 };
 
 const EMPTY_FILE: Attributes = Attributes { size: 0, ..FILE };
 
 /// 600 bytes stand in two blocks.
 const LONG_FILE: Attributes = Attributes {
+    ino: 2,
     kind: Kind::File,
     size: 600,
-    uid: 1000,
-    gid: 100,
+    details: Details {
+        uid: 1000,
+        gid: 100,
+        ..OF_A_FILE
+    },
 };
 
 const FOLDER: Attributes = Attributes {
+    ino: 3,
     kind: Kind::Folder,
     size: 0,
-    uid: 0,
-    gid: 0,
+    details: OF_A_FOLDER,
 };
 
-/// What is agreed on with 7.31, more than 65,536 bytes read ahead, and no flags.
-const AGREED: InitOut = InitOut {
-    major: 7,
-    minor: 31,
-    max_readahead: 65536,
-    flags: 0,
-    max_background: 12,
-    congestion_threshold: 9,
-    max_write: 65536,
-    time_gran: 1,
-    max_pages: 0,
-};
-
-/// What a client of a higher major version is told.
-const OFFERED: InitOut = InitOut {
-    max_readahead: 0,
-    max_background: 0,
-    congestion_threshold: 0,
-    max_write: 0,
-    time_gran: 0,
-    ..AGREED
-};
-
-/// An offer's major and minor version, bytes read ahead and flags, and what comes of it.
-#[derive(Clone, Copy)]
-struct Negotiation(u32, u32, u32, u32, Negotiated);
-
-const GREETINGS: &[Negotiation] = &[
-    Negotiation(7, 31, 131072, 0, Negotiated::Use(AGREED)),
-    Negotiation(8, 0, 131072, 0xffffffff, Negotiated::Again(OFFERED)),
-    Negotiation(0xffffffff, 31, 0, 0, Negotiated::Again(OFFERED)),
-    Negotiation(6, 31, 131072, 0, Negotiated::Refuse),
-    Negotiation(7, 22, 131072, 0, Negotiated::Refuse),
-    Negotiation(
-        7,
-        23,
-        65535,
-        0xffbbdfde,
-        Negotiated::Use(InitOut {
-            minor: 23,
-            max_readahead: 65535,
-            ..AGREED
-        }),
-    ),
-    Negotiation(
-        7,
-        40,
-        131072,
-        0x00442020,
-        Negotiated::Use(InitOut {
-            flags: 0x00442020,
-            max_pages: 16,
-            ..AGREED
-        }),
-    ),
-    Negotiation(
-        7,
-        31,
-        0,
-        0xffffffff,
-        Negotiated::Use(InitOut {
-            max_readahead: 0,
-            flags: 0x00442021,
-            max_pages: 16,
-            ..AGREED
-        }),
-    ),
-];
+const ROOT: Attributes = Attributes { ino: 1, ..FOLDER };
 
 /// Eight bytes of zero.
 const EIGHT: &str = "0000000000000000";
@@ -176,7 +136,7 @@ const REPLIES: &[Row] = &[
     ),
     Row(
         9,
-        Attr(2, LONG_FILE),
+        Attr(LONG_FILE),
         &[
             "78000000 00000000 0900000000000000 0100000000000000 00000000 00000000",
             "0200000000000000 5802000000000000 0200000000000000",
@@ -186,7 +146,7 @@ const REPLIES: &[Row] = &[
     ),
     Row(
         3,
-        Attr(1, FOLDER),
+        Attr(ROOT),
         &[
             "78000000 00000000 0300000000000000 0100000000000000 00000000 00000000",
             "0100000000000000 0000000000000000 0000000000000000",
@@ -271,14 +231,14 @@ fn is_framed(reply: &Reply, bytes: &[u8]) -> bool {
     }
 }
 
-#[test]
-fn bytes_of_replies(rt: HostRuntime) -> Result<(), Fail> {
-    for row in REPLIES {
+/// Each reply is written as its bytes.
+pub fn are_told(alloc: Global, rows: &[Row]) -> Result<(), Fail> {
+    for row in rows {
         let Row(unique, says, bytes) = *row;
         let body = body_of(says);
         let reply = Reply { unique, body };
-        let bytes = bytes_of(rt.alloc(), bytes)?;
-        let mut out = Vec::new(rt.alloc());
+        let bytes = bytes_of(alloc, bytes)?;
+        let mut out = Vec::new(alloc);
         encode_reply(&reply, &mut out)?;
         if out.as_slice() != bytes.as_slice() || !is_framed(&reply, &bytes) {
             return Err(Fail::from(("the reply to", unique)));
@@ -288,10 +248,6 @@ fn bytes_of_replies(rt: HostRuntime) -> Result<(), Fail> {
 }
 
 #[test]
-fn versions_that_are_agreed_on(rt: HostRuntime) -> Result<(), Fail> {
-    for greeting in GREETINGS {
-        let Negotiation(major, minor, max_readahead, flags, answer) = *greeting;
-        assert_eq!(rt; negotiate(major, minor, max_readahead, flags), answer);
-    }
-    Ok(())
+fn bytes_of_replies(rt: HostRuntime) -> Result<(), Fail> {
+    are_told(rt.alloc(), REPLIES)
 }

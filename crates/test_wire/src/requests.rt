@@ -1,7 +1,7 @@
 //! Frames of requests, read and written.
 
 use crate::bytes::SIXTEEN;
-use crate::frames::{Row, are_read, are_written};
+use crate::frames::{NOTHING_NEW, Row, are_read, are_written};
 use crate::unread::READ;
 use std::test::Fail;
 use wire::Operation::{
@@ -57,6 +57,7 @@ const WRITTEN: &[Row] = &[
             valid: 72,
             fh: 5,
             size: 600,
+            attributes: NOTHING_NEW,
         },
     ),
     Row(
@@ -67,7 +68,11 @@ const WRITTEN: &[Row] = &[
         ],
         4,
         1,
-        MakeDir { name: "m" },
+        MakeDir {
+            name: "m",
+            mode: 0,
+            umask: 0,
+        },
     ),
     Row(
         &[

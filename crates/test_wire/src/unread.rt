@@ -2,12 +2,13 @@
 
 use crate::frames::{ONES, Row};
 use wire::Operation::{
-    BatchForget, GetAttr, Init, Interrupt, MakeDir, OpenDir, ReadDir, Rename2, SetAttr, SyncDir,
+    BatchForget, GetAttr, Init, Interrupt, OpenDir, ReadDir, Rename2, SetAttr, SyncDir,
 };
+use wire::{NewAttributes, Time};
 
 /// Frames in which bytes that are not read are something else: uid, gid, pid and padding; of GETATTR the flags and the
-/// handle, of SETATTR its padding and what follows its size, of MKDIR the mode and the umask, of INIT what follows its
-/// flags, of INTERRUPT all, of RENAME2 its padding, and of the requests about open folders flags and owners of locks.
+/// handle, of SETATTR its padding, the owner of locks, the time of the last change and what is unused, of INIT what follows
+/// its flags, of INTERRUPT all, of RENAME2 its padding, and of the requests about open folders flags and owners of locks.
 pub const READ: &[Row] = &[
     Row(
         &[
@@ -24,10 +25,8 @@ pub const READ: &[Row] = &[
             "80000000 04000000 0900000000000000 0200000000000000",
             ONES,
             "01000000 ffffffff 0500000000000000 5802000000000000",
-            ONES,
-            ONES,
-            ONES,
-            ONES,
+            "ffffffffffffffff 0100000000000000 0200000000000000 ffffffffffffffff",
+            "03000000 04000000 ffffffff ff0f0000 ffffffff 05000000 06000000 ffffffff",
         ],
         9,
         2,
@@ -35,17 +34,20 @@ pub const READ: &[Row] = &[
             valid: 1,
             fh: 5,
             size: 600,
+            attributes: NewAttributes {
+                mode: 0o7777,
+                uid: 5,
+                gid: 6,
+                accessed: Time {
+                    seconds: 1,
+                    nanos: 3,
+                },
+                modified: Time {
+                    seconds: 2,
+                    nanos: 4,
+                },
+            },
         },
-    ),
-    Row(
-        &[
-            "32000000 09000000 0400000000000000 0100000000000000",
-            ONES,
-            "ed410000 12000000 6d00",
-        ],
-        4,
-        1,
-        MakeDir { name: "m" },
     ),
     Row(
         &[

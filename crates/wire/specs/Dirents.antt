@@ -53,7 +53,7 @@ pub record PlusDirent : Type 0 where
   pub name : List ℕ
 
 abbrev pub ino_of : Option Entry → ℕ
-ino_of (Some e) = e.node
+ino_of (Some e) = e.attributes.ino
 ino_of None = NO_INO
 
 abbrev pub dirent_in : PlusDirent → Dirent

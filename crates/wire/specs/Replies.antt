@@ -16,13 +16,14 @@ use Rattle.wire.specs.Fields.{Field, raw, u16, u32, u64, Value, num, bytes, Spel
 
 -- ---- attributes and entries
 
-abbrev pub mode_of : Kind → ℕ
-mode_of Folder = 0o40755
-mode_of File = 0o100644
+-- the type in a mode: a directory, or a regular file
+abbrev pub type_bits : Kind → ℕ
+type_bits Folder = 0o40000
+type_bits File = 0o100000
 
-abbrev pub links_of : Kind → ℕ
-links_of Folder = 2
-links_of File = 1
+-- the type, and the lowest twelve bits of the permissions
+abbrev pub mode_of : Kind → ℕ → ℕ
+mode_of kind permissions = type_bits kind + permissions % 4096
 
 -- how many blocks of 512 bytes hold so many bytes
 abbrev pub blocks_of : ℕ → ℕ
@@ -33,24 +34,26 @@ abbrev pub attributes_layout : List Field
 attributes_layout =
     u64 ∷ u64 ∷ u64 ∷ u64 ∷ u64 ∷ u64 ∷ u32 ∷ u32 ∷ u32 ∷ u32 ∷ u32 ∷ u32 ∷ u32 ∷ u32 ∷ u32 ∷ u32 ∷ []
 
-abbrev pub attributes_values : ℕ → GivenAttributes → List Value
-attributes_values node a =
-    num node ∷ num a.size ∷ num (blocks_of a.size) ∷ num 0 ∷ num 0 ∷ num 0
-    ∷ num 0 ∷ num 0 ∷ num 0 ∷ num (mode_of a.kind) ∷ num (links_of a.kind) ∷ num a.uid ∷ num a.gid ∷ num 0 ∷ num 4096 ∷ num 0 ∷ []
+abbrev pub attributes_values : GivenAttributes → List Value
+attributes_values a =
+    num a.ino ∷ num a.size ∷ num (blocks_of a.size)
+    ∷ num a.details.accessed.seconds ∷ num a.details.modified.seconds ∷ num a.details.changed.seconds
+    ∷ num a.details.accessed.nanos ∷ num a.details.modified.nanos ∷ num a.details.changed.nanos
+    ∷ num (mode_of a.kind a.details.permissions) ∷ num a.details.links ∷ num a.details.uid ∷ num a.details.gid ∷ num 0 ∷ num 4096 ∷ num 0 ∷ []
 
 -- nodeid, generation, entry_valid, attr_valid; entry_valid_nsec, attr_valid_nsec; the attributes
 abbrev pub entry_layout : List Field
 entry_layout = u64 ∷ u64 ∷ u64 ∷ u64 ∷ u32 ∷ u32 ∷ attributes_layout
 
 abbrev pub entry_values : GivenEntry → List Value
-entry_values e = num e.node ∷ num e.generation ∷ num 1 ∷ num 1 ∷ num 0 ∷ num 0 ∷ attributes_values e.node e.attributes
+entry_values e = num e.node ∷ num e.generation ∷ num 1 ∷ num 1 ∷ num 0 ∷ num 0 ∷ attributes_values e.attributes
 
 -- attr_valid; attr_valid_nsec, dummy; the attributes
 abbrev pub attr_layout : List Field
 attr_layout = u64 ∷ u32 ∷ u32 ∷ attributes_layout
 
-abbrev pub attr_values : ℕ → GivenAttributes → List Value
-attr_values node a = num 1 ∷ num 0 ∷ num 0 ∷ attributes_values node a
+abbrev pub attr_values : GivenAttributes → List Value
+attr_values a = num 1 ∷ num 0 ∷ num 0 ∷ attributes_values a
 
 -- ---- sizes of the file system
 
@@ -117,7 +120,7 @@ abbrev pub reply_layout : ReplyBody → List Field
 reply_layout (Failed _) = []
 reply_layout Done = []
 reply_layout (Entry _) = entry_layout
-reply_layout (Attributes _ _) = attr_layout
+reply_layout (Attributes _) = attr_layout
 reply_layout (Opened _) = opened_layout
 reply_layout (Created _ _) = created_layout
 reply_layout (Wrote _) = wrote_layout
@@ -129,7 +132,7 @@ abbrev pub reply_values : ReplyBody → List Value
 reply_values (Failed _) = []
 reply_values Done = []
 reply_values (Entry e) = entry_values e
-reply_values (Attributes node a) = attr_values node a
+reply_values (Attributes a) = attr_values a
 reply_values (Opened fh) = opened_values fh
 reply_values (Created e fh) = created_values e fh
 reply_values (Wrote size) = wrote_values size
@@ -154,7 +157,7 @@ abbrev pub IsAnswer : ReplyBody → Type 0
 IsAnswer (Failed errno) = IsErrno errno
 IsAnswer Done = Unit {0}
 IsAnswer (Entry e) = IsSized e.attributes.kind e.attributes.size
-IsAnswer (Attributes node a) = IsSized a.kind a.size
+IsAnswer (Attributes a) = IsSized a.kind a.size
 IsAnswer (Opened fh) = Unit {0}
 IsAnswer (Created e fh) = IsSized e.attributes.kind e.attributes.size
 IsAnswer (Wrote size) = Unit {0}

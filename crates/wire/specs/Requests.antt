@@ -6,6 +6,7 @@ use Rattle.byteorder.specs.Endian.{little_number}
 use Rattle.wire.specs.declared.header.Header.{Header}
 use Rattle.wire.specs.declared.opcode.TheConstants.{LOOKUP, FORGET, GETATTR, SETATTR, MKDIR, UNLINK, RMDIR, RENAME, OPEN, READ, WRITE, STATFS, RELEASE, FSYNC, FLUSH, INIT, OPENDIR, READDIR, RELEASEDIR, FSYNCDIR, CREATE, INTERRUPT, DESTROY, BATCH_FORGET, READDIRPLUS, RENAME2}
 use Rattle.wire.specs.declared.request.TheConstants.{HEADER_LEN, MAX_FRAME_LEN, MAX_READ_LEN, MAX_WRITE_LEN}
+use Rattle.wire.specs.declared.request.NewAttributes.{NewAttributes}
 use Rattle.wire.specs.declared.request.Request.{Request}
 use Rattle.wire.specs.declared.request.Operation.{Operation}
 use Rattle.wire.specs.declared.request.Operation.TheVariants.{Lookup, Forget, GetAttr, SetAttr, MakeDir, Unlink, RemoveDir, Rename, Open, Read, Write, StatFs, Release, Sync, Flush, Init, OpenDir, ReadDir, ReleaseDir, SyncDir, Create, Interrupt, Destroy, BatchForget, ReadDirPlus, Rename2}
@@ -36,14 +37,24 @@ pub record IsFramed (frame : List ℕ) : Type 0 where
 
 -- ---- what follows the header, by the opcode: a further opcode is one more line in each table
 
+-- behind the size of a SETATTR: lock_owner, atime, mtime, ctime; atimensec, mtimensec, ctimensec, mode, unused, uid, gid, unused
+abbrev pub new_attributes_layout : List Field
+new_attributes_layout =
+    unread 8 ∷ u64 ∷ u64 ∷ unread 8 ∷ u32 ∷ u32 ∷ unread 4 ∷ u32 ∷ unread 4 ∷ u32 ∷ u32 ∷ unread 4 ∷ []
+
+abbrev pub new_attributes_values : NewAttributes → List Value
+new_attributes_values a =
+    num a.accessed.seconds ∷ num a.modified.seconds ∷ num a.accessed.nanos ∷ num a.modified.nanos
+    ∷ num a.mode ∷ num a.uid ∷ num a.gid ∷ []
+
 -- the fields of its body, if the opcode is served
 abbrev pub layout : ℕ → Option (List Field)
 layout opcode =
     if opcode == LOOKUP then Some (text ∷ [])
     else (if opcode == FORGET then Some (u64 ∷ [])
     else (if opcode == GETATTR then Some (unread 16 ∷ [])
-    else (if opcode == SETATTR then Some (u32 ∷ unread 4 ∷ u64 ∷ u64 ∷ unread 64 ∷ [])
-    else (if opcode == MKDIR then Some (unread 8 ∷ text ∷ [])
+    else (if opcode == SETATTR then Some (u32 ∷ unread 4 ∷ u64 ∷ u64 ∷ new_attributes_layout)
+    else (if opcode == MKDIR then Some (u32 ∷ u32 ∷ text ∷ [])
     else (if opcode == UNLINK then Some (text ∷ [])
     else (if opcode == RMDIR then Some (text ∷ [])
     else (if opcode == RENAME then Some (u64 ∷ text ∷ text ∷ [])
@@ -59,7 +70,7 @@ layout opcode =
     else (if opcode == READDIR then Some (u64 ∷ u64 ∷ limited MAX_READ_LEN ∷ unread 20 ∷ [])
     else (if opcode == RELEASEDIR then Some (u64 ∷ unread 16 ∷ [])
     else (if opcode == FSYNCDIR then Some (u64 ∷ unread 8 ∷ [])
-    else (if opcode == CREATE then Some (u32 ∷ unread 12 ∷ text ∷ [])
+    else (if opcode == CREATE then Some (u32 ∷ u32 ∷ u32 ∷ unread 4 ∷ text ∷ [])
     else (if opcode == INTERRUPT then Some (anything ∷ [])
     else (if opcode == DESTROY then Some []
     else (if opcode == BATCH_FORGET then Some (counted 16 4 (2 ^ 32 - 1) ∷ [])
@@ -71,8 +82,8 @@ abbrev pub opcode_of : Operation → ℕ
 opcode_of (Lookup _) = LOOKUP
 opcode_of (Forget _) = FORGET
 opcode_of GetAttr = GETATTR
-opcode_of (SetAttr _ _ _) = SETATTR
-opcode_of (MakeDir _) = MKDIR
+opcode_of (SetAttr _ _ _ _) = SETATTR
+opcode_of (MakeDir _ _ _) = MKDIR
 opcode_of (Unlink _) = UNLINK
 opcode_of (RemoveDir _) = RMDIR
 opcode_of (Rename _ _ _) = RENAME
@@ -88,7 +99,7 @@ opcode_of OpenDir = OPENDIR
 opcode_of (ReadDir _ _ _) = READDIR
 opcode_of (ReleaseDir _) = RELEASEDIR
 opcode_of (SyncDir _) = FSYNCDIR
-opcode_of (Create _ _) = CREATE
+opcode_of (Create _ _ _ _) = CREATE
 opcode_of Interrupt = INTERRUPT
 opcode_of Destroy = DESTROY
 opcode_of (BatchForget _) = BATCH_FORGET
@@ -100,8 +111,8 @@ abbrev pub values_of : Operation → List Value
 values_of (Lookup n) = name n.now ∷ []
 values_of (Forget nlookup) = num nlookup ∷ []
 values_of GetAttr = []
-values_of (SetAttr valid fh size) = num valid ∷ num fh ∷ num size ∷ []
-values_of (MakeDir n) = name n.now ∷ []
+values_of (SetAttr valid fh size attributes) = num valid ∷ num fh ∷ num size ∷ new_attributes_values attributes
+values_of (MakeDir n mode umask) = num mode ∷ num umask ∷ name n.now ∷ []
 values_of (Unlink n) = name n.now ∷ []
 values_of (RemoveDir n) = name n.now ∷ []
 values_of (Rename n new_parent new_name) = num new_parent ∷ name n.now ∷ name new_name.now ∷ []
@@ -117,7 +128,7 @@ values_of OpenDir = []
 values_of (ReadDir fh offset size) = num fh ∷ num offset ∷ num size ∷ []
 values_of (ReleaseDir fh) = num fh ∷ []
 values_of (SyncDir fh) = num fh ∷ []
-values_of (Create n flags) = num flags ∷ name n.now ∷ []
+values_of (Create n flags mode umask) = num flags ∷ num mode ∷ num umask ∷ name n.now ∷ []
 values_of Interrupt = []
 values_of Destroy = []
 values_of (BatchForget pairs) = bytes pairs.now ∷ []

@@ -2,7 +2,7 @@
 
 ghost use Rattle.std.specs.Prelude.{◌≡◌, ◌≤◌, ◌+◌, ◌^◌, ◌++◌, length, vec_len, vec_capacity};
 ghost use Rattle.wire.specs.Fields.{CanTell};
-ghost use Rattle.wire.specs.Replies.{blocks_of, mode_of, links_of, attributes_layout, attributes_values, entry_layout, entry_values, attr_layout, attr_values, opened_layout, opened_values, created_layout, created_values, wrote_layout, wrote_values, statfs_layout, statfs_values, init_layout, init_values, reply_layout, reply_values, IsAnswer};
+ghost use Rattle.wire.specs.Replies.{blocks_of, mode_of, attributes_layout, attributes_values, entry_layout, entry_values, attr_layout, attr_values, opened_layout, opened_values, created_layout, created_values, wrote_layout, wrote_values, statfs_layout, statfs_values, init_layout, init_values, reply_layout, reply_values, IsAnswer};
 ghost use Rattle.wire.specs.Written.{written, body_bytes};
 
 use crate::put::{put, put_u16s, put_u32s, put_u64s};
@@ -22,35 +22,53 @@ fn blocks(size: u64) -> u64
     }
 }
 
-fn mode(kind: Kind) -> u32
-    ensures { result ≡ mode_of kind }
+/// The bits of the type, and the permissions.
+fn mode(kind: Kind, permissions: u32) -> u32
+    ensures { result ≡ mode_of kind permissions }
 {
     match kind {
-        Kind::Folder => 0o040755,
-        Kind::File => 0o100644,
-    }
-}
-
-fn links(kind: Kind) -> u32
-    ensures { result ≡ links_of kind }
-{
-    match kind {
-        Kind::Folder => 2,
-        Kind::File => 1,
+        Kind::Folder => 0o040000 + permissions % 0o10000,
+        Kind::File => 0o100000 + permissions % 0o10000,
     }
 }
 
 #[tactic(auto, using(crate::proofs::Entries::entries))]
-fn put_attributes(out: &mut Vec<u8>, node: u64, a: &Attributes)
+fn put_attributes(out: &mut Vec<u8>, a: &Attributes)
     requires { vec_len out.old + 88 ≤ vec_capacity out.old }
-    ensures items { out.new.items ≡ out.old.items ++ written attributes_layout (attributes_values node a.now) }
+    ensures items { out.new.items ≡ out.old.items ++ written attributes_layout (attributes_values a.now) }
     ensures capacity { vec_capacity out.old ≤ vec_capacity out.new }
-    ensures tells { CanTell attributes_layout (attributes_values node a.now) }
+    ensures tells { CanTell attributes_layout (attributes_values a.now) }
 {
-    let (size, uid, gid) = (a.size, a.uid, a.gid);
-    let (blocks, mode, links) = (blocks(size), mode(a.kind), links(a.kind));
-    put_u64s(out, &[node, size, blocks, 0, 0, 0]);
-    put_u32s(out, &[0, 0, 0, mode, links, uid, gid, 0, 4096, 0]);
+    let (ino, size, details) = (a.ino, a.size, a.details);
+    let (accessed, modified, changed) = (details.accessed, details.modified, details.changed);
+    let (links, uid, gid) = (details.links, details.uid, details.gid);
+    let (blocks, mode) = (blocks(size), mode(a.kind, details.permissions));
+    put_u64s(
+        out,
+        &[
+            ino,
+            size,
+            blocks,
+            accessed.seconds,
+            modified.seconds,
+            changed.seconds,
+        ],
+    );
+    put_u32s(
+        out,
+        &[
+            accessed.nanos,
+            modified.nanos,
+            changed.nanos,
+            mode,
+            links,
+            uid,
+            gid,
+            0,
+            4096,
+            0,
+        ],
+    );
 }
 
 #[tactic(auto, using(crate::proofs::Entries::entries))]
@@ -63,18 +81,18 @@ pub fn put_entry(out: &mut Vec<u8>, e: &Entry)
     let (node, generation) = (e.node, e.generation);
     put_u64s(out, &[node, generation, 1, 1]);
     put_u32s(out, &[0, 0]);
-    put_attributes(out, node, &e.attributes);
+    put_attributes(out, &e.attributes);
 }
 
 #[tactic(auto, using(crate::proofs::Entries::entries))]
-fn put_attr(out: &mut Vec<u8>, node: u64, a: &Attributes)
+fn put_attr(out: &mut Vec<u8>, a: &Attributes)
     requires { vec_len out.old + ATTRIBUTES_LEN ≤ vec_capacity out.old }
-    ensures items { out.new.items ≡ out.old.items ++ written attr_layout (attr_values node a.now) }
-    ensures tells { CanTell attr_layout (attr_values node a.now) }
+    ensures items { out.new.items ≡ out.old.items ++ written attr_layout (attr_values a.now) }
+    ensures tells { CanTell attr_layout (attr_values a.now) }
 {
     put_u64s(out, &[1]);
     put_u32s(out, &[0, 0]);
-    put_attributes(out, node, a);
+    put_attributes(out, a);
 }
 
 #[tactic(auto, using(crate::proofs::Entries::entries))]
@@ -147,7 +165,7 @@ pub fn body_len(body: &ReplyBody) -> usize
     match body {
         ReplyBody::Failed { .. } | ReplyBody::Done => 0,
         ReplyBody::Entry(_) => ENTRY_LEN,
-        ReplyBody::Attributes { .. } => ATTRIBUTES_LEN,
+        ReplyBody::Attributes(_) => ATTRIBUTES_LEN,
         ReplyBody::Opened { .. } => OPENED_LEN,
         ReplyBody::Created { .. } => CREATED_LEN,
         ReplyBody::Wrote { .. } => WROTE_LEN,
@@ -166,7 +184,7 @@ pub fn put_body(out: &mut Vec<u8>, body: &ReplyBody)
     match body {
         ReplyBody::Failed { .. } | ReplyBody::Done => {}
         ReplyBody::Entry(entry) => put_entry(out, entry),
-        ReplyBody::Attributes { node, attributes } => put_attr(out, *node, attributes),
+        ReplyBody::Attributes(attributes) => put_attr(out, attributes),
         ReplyBody::Opened { fh } => put_opened(out, *fh),
         ReplyBody::Created { entry, fh } => put_created(out, entry, *fh),
         ReplyBody::Wrote { size } => put_wrote(out, *size),

@@ -76,12 +76,12 @@ pub fn encode_dirent(
     Ok(())
 }
 
-/// The inode number of an entry with which this node is given, if any.
+/// The inode number of an entry with which a node is given, if any.
 fn ino_of(entry: Option<Entry>) -> u64
     ensures { result ≡ ino_of entry }
 {
     match entry {
-        Some(entry) => entry.node,
+        Some(entry) => entry.attributes.ino,
         None => NO_INO,
     }
 }

@@ -30,9 +30,16 @@ pub fn create(body: &[u8]) -> Result<Operation<'_>, WireFault>
     ensures { Gives told result (operation_at CREATE body.now) }
 {
     let (flags, rest) = u32_front(body)?;
-    let rest = unread_front(rest, 12)?;
+    let (mode, rest) = u32_front(rest)?;
+    let (umask, rest) = u32_front(rest)?;
+    let rest = unread_front(rest, 4)?;
     let name = name_alone(rest)?;
-    Ok(Operation::Create { name, flags })
+    Ok(Operation::Create {
+        name,
+        flags,
+        mode,
+        umask,
+    })
 }
 
 #[tactic(auto, unfolding(crate::specs::Reading::operation_at))]

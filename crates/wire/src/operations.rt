@@ -3,6 +3,7 @@
 ghost use Rattle.std.specs.Prelude.{◌∷◌, []};
 ghost use Rattle.wire.specs.Fields.{text, name};
 ghost use Rattle.wire.specs.Reading.{Gives, fields_at, operation_at, told};
+ghost use Rattle.wire.specs.Requests.{new_attributes_layout, new_attributes_values};
 
 use crate::fault::WireFault;
 use crate::fronts::{
@@ -17,7 +18,7 @@ use crate::opened::{
     create, flush, open, open_dir, read, read_dir, read_dir_plus, release, release_dir, sync,
     sync_dir, write,
 };
-use crate::request::Operation;
+use crate::request::{NewAttributes, Operation, Time};
 
 pub fn name_alone(body: &[u8]) -> Result<&str, WireFault>
     ensures { Gives (λ x. name x.now ∷ []) result (fields_at (text ∷ []) body.now) }
@@ -45,6 +46,38 @@ fn get_attr(body: &[u8]) -> Result<Operation<'_>, WireFault>
     Ok(Operation::GetAttr)
 }
 
+/// What a SETATTR may set besides the size, and nothing after it. The owner of locks and the time of the last change are not read.
+fn new_attributes(body: &[u8]) -> Result<NewAttributes, WireFault>
+    ensures { Gives new_attributes_values result (fields_at new_attributes_layout body.now) }
+{
+    let rest = unread_front(body, 8)?;
+    let (accessed, rest) = u64_front(rest)?;
+    let (modified, rest) = u64_front(rest)?;
+    let rest = unread_front(rest, 8)?;
+    let (accessed_nanos, rest) = u32_front(rest)?;
+    let (modified_nanos, rest) = u32_front(rest)?;
+    let rest = unread_front(rest, 4)?;
+    let (mode, rest) = u32_front(rest)?;
+    let rest = unread_front(rest, 4)?;
+    let (uid, rest) = u32_front(rest)?;
+    let (gid, rest) = u32_front(rest)?;
+    let rest = unread_front(rest, 4)?;
+    nothing_left(rest)?;
+    Ok(NewAttributes {
+        mode,
+        uid,
+        gid,
+        accessed: Time {
+            seconds: accessed,
+            nanos: accessed_nanos,
+        },
+        modified: Time {
+            seconds: modified,
+            nanos: modified_nanos,
+        },
+    })
+}
+
 #[tactic(auto, unfolding(crate::specs::Reading::operation_at))]
 fn set_attr(body: &[u8]) -> Result<Operation<'_>, WireFault>
     ensures { Gives told result (operation_at SETATTR body.now) }
@@ -53,18 +86,23 @@ fn set_attr(body: &[u8]) -> Result<Operation<'_>, WireFault>
     let rest = unread_front(rest, 4)?;
     let (fh, rest) = u64_front(rest)?;
     let (size, rest) = u64_front(rest)?;
-    let rest = unread_front(rest, 64)?;
-    nothing_left(rest)?;
-    Ok(Operation::SetAttr { valid, fh, size })
+    let attributes = new_attributes(rest)?;
+    Ok(Operation::SetAttr {
+        valid,
+        fh,
+        size,
+        attributes,
+    })
 }
 
 #[tactic(auto, unfolding(crate::specs::Reading::operation_at))]
 fn make_dir(body: &[u8]) -> Result<Operation<'_>, WireFault>
     ensures { Gives told result (operation_at MKDIR body.now) }
 {
-    let rest = unread_front(body, 8)?;
+    let (mode, rest) = u32_front(body)?;
+    let (umask, rest) = u32_front(rest)?;
     let name = name_alone(rest)?;
-    Ok(Operation::MakeDir { name })
+    Ok(Operation::MakeDir { name, mode, umask })
 }
 
 /// Two names, and nothing after them.

@@ -1,8 +1,8 @@
 //! The operation of a request as a row of what is written: the one table that an opcode, a length and bytes come from.
 
 ghost use Rattle.std.specs.Prelude.{◌≡◌, ◌≤◌, ◌+◌, ◌^◌, ◌++◌, length, vec_len, vec_capacity, IfSome};
-ghost use Rattle.wire.specs.Requests.{opcode_of};
-ghost use Rattle.wire.specs.Written.{operation_bytes};
+ghost use Rattle.wire.specs.Requests.{new_attributes_layout, new_attributes_values, opcode_of};
+ghost use Rattle.wire.specs.Written.{operation_bytes, written};
 ghost use Rattle.wire.specs.Rows.{part_bytes, parts_bytes};
 
 use crate::opcode::{
@@ -10,9 +10,12 @@ use crate::opcode::{
     LOOKUP, MKDIR, OPEN, OPENDIR, READ, READDIR, READDIRPLUS, RELEASE, RELEASEDIR, RENAME, RENAME2,
     RMDIR, SETATTR, STATFS, UNLINK, WRITE,
 };
-use crate::put::{put, put_low_u32, put_text, put_u32, put_u64, put_zeros};
-use crate::request::{HEADER_LEN, Operation};
-use Part::{Bytes, LowU32, Text, U32, U64, Zeros};
+use crate::put::{put, put_low_u32, put_text, put_u32, put_u32s, put_u64, put_u64s, put_zeros};
+use crate::request::{HEADER_LEN, NewAttributes, Operation};
+use Part::{Bytes, LowU32, New, Text, U32, U64, Zeros};
+
+/// How many bytes stand behind the size of a SETATTR (`fuse_setattr_in`).
+const NEW_ATTRIBUTES_LEN: usize = 64;
 
 /// A part of a body.
 #[derive(Clone, Copy)]
@@ -26,6 +29,8 @@ pub enum Part<'a> {
     /// A text and a zero byte.
     Text(&'a str),
     Bytes(&'a [u8]),
+    /// What a SETATTR sets besides the size. The owner of locks and the time of the last change are zero.
+    New(NewAttributes),
 }
 
 /// What is written of an operation.
@@ -47,11 +52,19 @@ pub fn row_of<'a>(operation: &Operation<'a>) -> Row<'a>
         Operation::Lookup { name } => (LOOKUP, [Text(name), end, end, end, end]),
         Operation::Forget { nlookup } => (FORGET, [U64(nlookup), end, end, end, end]),
         Operation::GetAttr => (GETATTR, [Zeros(16), end, end, end, end]),
-        Operation::SetAttr { valid, fh, size } => (
+        Operation::SetAttr {
+            valid,
+            fh,
+            size,
+            attributes,
+        } => (
             SETATTR,
-            [U32(valid), Zeros(4), U64(fh), U64(size), Zeros(64)],
+            [U32(valid), Zeros(4), U64(fh), U64(size), New(attributes)],
         ),
-        Operation::MakeDir { name } => (MKDIR, [Zeros(8), Text(name), end, end, end]),
+        Operation::MakeDir { name, mode, umask } => (
+            MKDIR,
+            [U32(mode), U32(umask), Text(name), end, end],
+        ),
         Operation::Unlink { name } => (UNLINK, [Text(name), end, end, end, end]),
         Operation::RemoveDir { name } => (RMDIR, [Text(name), end, end, end, end]),
         Operation::Rename {
@@ -97,9 +110,15 @@ pub fn row_of<'a>(operation: &Operation<'a>) -> Row<'a>
         ),
         Operation::ReleaseDir { fh } => (RELEASEDIR, [U64(fh), Zeros(16), end, end, end]),
         Operation::SyncDir { fh } => (FSYNCDIR, [U64(fh), Zeros(8), end, end, end]),
-        Operation::Create { name, flags } => {
-            (CREATE, [U32(flags), Zeros(12), Text(name), end, end])
-        }
+        Operation::Create {
+            name,
+            flags,
+            mode,
+            umask,
+        } => (
+            CREATE,
+            [U32(flags), U32(mode), U32(umask), Zeros(4), Text(name)],
+        ),
         Operation::Interrupt => (INTERRUPT, [end; 5]),
         Operation::Destroy => (DESTROY, [end; 5]),
         Operation::BatchForget { pairs } => (
@@ -140,6 +159,7 @@ fn part_len(part: &Part<'_>) -> usize
         Zeros(count) => *count as usize,
         Text(text) => text.len() + 1,
         Bytes(bytes) => bytes.len(),
+        New(_) => NEW_ATTRIBUTES_LEN,
     }
 }
 
@@ -152,6 +172,22 @@ pub fn request_len(parts: &[Part<'_>]) -> Option<usize>
         len = len.checked_add(part_len(part))?;
     }
     Some(len)
+}
+
+#[tactic(auto, using(crate::proofs::Lengths::lengths))]
+fn put_new_attributes(out: &mut Vec<u8>, a: &NewAttributes)
+    requires { vec_len out.old + NEW_ATTRIBUTES_LEN ≤ vec_capacity out.old }
+    ensures items { out.new.items ≡ out.old.items ++ written new_attributes_layout (new_attributes_values a.now) }
+    ensures len { vec_len out.new ≡ vec_len out.old + NEW_ATTRIBUTES_LEN }
+    ensures capacity { vec_capacity out.old ≤ vec_capacity out.new }
+{
+    let (accessed, modified) = (a.accessed, a.modified);
+    let (mode, uid, gid) = (a.mode, a.uid, a.gid);
+    put_u64s(out, &[0, accessed.seconds, modified.seconds, 0]);
+    put_u32s(
+        out,
+        &[accessed.nanos, modified.nanos, 0, mode, 0, uid, gid, 0],
+    );
 }
 
 #[tactic(auto, using(crate::proofs::Lengths::lengths))]
@@ -168,6 +204,7 @@ fn put_part(out: &mut Vec<u8>, part: &Part<'_>)
         Zeros(count) => put_zeros(out, *count),
         Text(text) => put_text(out, text),
         Bytes(bytes) => put(out, bytes),
+        New(attributes) => put_new_attributes(out, attributes),
     }
 }
 
