@@ -44,7 +44,7 @@ plus_parts p = elim p.entry as (λ e. written (entry_layout ++ dirent_layout (di
 
 ino_fits : (e : Option Entry) → CanTell entry_layout (given_values e) → ino_of e < 256 ^ 8
 ino_fits None h = lit< tt
-ino_fits (Some e) h = h.0
+ino_fits (Some e) h = h.1.1.1.1.1.1.0
 
 pub is_plus_dirent : (p : PlusDirent) → CanTell entry_layout (given_values p.entry) → p.next < 2 ^ 64 → length p.name < 2 ^ 32 → IsPlusDirent p (plus_bytes p)
 unfolding plus_bytes
