@@ -53,8 +53,8 @@ pub wrote_parts : (size : ℕ) → written wrote_layout (wrote_values size) ≡ 
 unfolding le u32s
 wrote_parts size = refl
 
-pub statfs_parts : written statfs_layout statfs_values ≡ u64s (0 ∷ 0 ∷ 0 ∷ 0 ∷ 0 ∷ []) ++ u32s (4096 ∷ 255 ∷ 4096 ∷ 0 ∷ 0 ∷ 0 ∷ 0 ∷ 0 ∷ 0 ∷ 0 ∷ [])
-unfolding le u32s u64s
+pub statfs_parts : written statfs_layout statfs_values ≡ zeros 40 ++ (u32s (4096 ∷ 255 ∷ 4096 ∷ 0 ∷ []) ++ zeros 24)
+unfolding le zeros u32s
 statfs_parts = refl
 
 pub init_parts : (i : InitOut) → written init_layout (init_values i) ≡ u32s (i.major ∷ i.minor ∷ i.max_readahead ∷ i.flags ∷ []) ++ (u16s (i.max_background ∷ i.congestion_threshold ∷ []) ++ (u32s (i.max_write ∷ i.time_gran ∷ []) ++ (u16s (i.max_pages ∷ 0 ∷ []) ++ u32s (0 ∷ 0 ∷ 0 ∷ 0 ∷ 0 ∷ 0 ∷ 0 ∷ 0 ∷ []))))

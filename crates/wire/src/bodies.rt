@@ -5,7 +5,7 @@ ghost use Rattle.wire.specs.Fields.{CanTell};
 ghost use Rattle.wire.specs.Replies.{blocks_of, mode_of, attributes_layout, attributes_values, entry_layout, entry_values, attr_layout, attr_values, opened_layout, opened_values, created_layout, created_values, wrote_layout, wrote_values, statfs_layout, statfs_values, init_layout, init_values, reply_layout, reply_values, IsAnswer};
 ghost use Rattle.wire.specs.Written.{written, body_bytes};
 
-use crate::put::{put, put_four_u32, put_two_u64, put_u16s, put_u32s, put_u64, put_u64s};
+use crate::put::{put, put_four_u32, put_two_u64, put_u16s, put_u32s, put_u64, put_zeros};
 use crate::reply::{
     ATTRIBUTES_LEN, Attributes, CREATED_LEN, ENTRY_LEN, Entry, INIT_LEN, InitOut, Kind, OPENED_LEN,
     ReplyBody, STATFS_LEN, WROTE_LEN,
@@ -91,8 +91,9 @@ fn put_statfs(out: &mut Vec<u8>)
     ensures items { out.new.items ≡ out.old.items ++ written statfs_layout statfs_values }
     ensures tells { CanTell statfs_layout statfs_values }
 {
-    put_u64s(out, &[0, 0, 0, 0, 0]);
-    put_u32s(out, &[4096, 255, 4096, 0, 0, 0, 0, 0, 0, 0]);
+    put_zeros(out, 40);
+    put_four_u32(out, 4096, 255, 4096, 0);
+    put_zeros(out, 24);
 }
 
 #[tactic(auto, using(crate::proofs::Entries::entries))]
