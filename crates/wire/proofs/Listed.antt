@@ -1,5 +1,5 @@
 -- Entries of a folder as runs of numbers, a name and zeros.
-use Rattle.std.proofs.Common.{◌≡◌, ℕ, ◌+◌, ◌^◌, ◌<◌, List, [], ◌∷◌, ◌++◌, length, map, refl, ap, lit<, arith, Option, Some, None}
+use Rattle.std.proofs.Common.{◌≡◌, ℕ, ◌+◌, ◌^◌, ◌<◌, List, ◌++◌, length, map, refl, ap, lit<, arith, Option, Some, None}
 use Rattle.wire.specs.declared.reply.Entry.{Entry}
 use Rattle.wire.specs.declared.reply.Kind.TheVariants.{File, Folder}
 use Rattle.wire.specs.declared.reply.Kind.{Kind}
