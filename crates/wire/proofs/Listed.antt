@@ -1,12 +1,12 @@
 -- Entries of a folder as runs of numbers, a name and zeros.
-use Rattle.std.proofs.Common.{◌≡◌, ℕ, ◌+◌, ◌^◌, ◌<◌, List, [], ◌∷◌, ◌++◌, length, map, refl, ap, lit<, arith, Option, Some, None}
+use Rattle.std.proofs.Common.{◌≡◌, ℕ, ◌+◌, ◌^◌, ◌<◌, List, ◌++◌, length, map, refl, ap, lit<, arith, Option, Some, None}
 use Rattle.wire.specs.declared.reply.Entry.{Entry}
 use Rattle.wire.specs.declared.reply.Kind.TheVariants.{File, Folder}
 use Rattle.wire.specs.declared.reply.Kind.{Kind}
 use Rattle.wire.specs.Dirents.{Dirent, PlusDirent, IsDirent, IsPlusDirent, dirent_bytes, dirent_in, dirent_layout, dirent_values, given_values, ino_of, padding_of, plus_bytes, plus_layout, plus_values, type_of}
 use Rattle.wire.specs.Fields.{Value, num, CanTell}
 use Rattle.wire.specs.Replies.{entry_layout}
-use Rattle.wire.specs.Written.{le, zeros, u32s, u64s, written}
+use Rattle.wire.specs.Written.{le, zeros, written}
 use Rattle.wire.proofs.Again.{written_spelled}
 use Rattle.wire.proofs.Entries.{entry_lens, tells_on}
 use Rattle.wire.proofs.Lengths.{cat_assoc, cat_nil, length-cat, length-le, length-zeros}
@@ -18,8 +18,8 @@ dirent_parts d = ap (λ (z : List ℕ). le 8 d.ino ++ (le 8 d.next ++ (le 4 (len
 abbrev no_values : List Value
 no_values = map (λ _. num 0) entry_layout
 
-pub none_parts : written entry_layout no_values ≡ u64s (0 ∷ 0 ∷ 0 ∷ 0 ∷ []) ++ (u32s (0 ∷ 0 ∷ []) ++ (u64s (0 ∷ 0 ∷ 0 ∷ 0 ∷ 0 ∷ 0 ∷ []) ++ u32s (0 ∷ 0 ∷ 0 ∷ 0 ∷ 0 ∷ 0 ∷ 0 ∷ 0 ∷ 0 ∷ 0 ∷ [])))
-unfolding le u32s u64s
+pub none_parts : written entry_layout no_values ≡ zeros 128
+unfolding le zeros
 none_parts = refl
 
 type_fits : (kind : Kind) → type_of kind < 256 ^ 4
@@ -44,7 +44,7 @@ plus_parts p = elim p.entry as (λ e. written (entry_layout ++ dirent_layout (di
 
 ino_fits : (e : Option Entry) → CanTell entry_layout (given_values e) → ino_of e < 256 ^ 8
 ino_fits None h = lit< tt
-ino_fits (Some e) h = h.0
+ino_fits (Some e) h = h.1.1.1.1.1.1.0
 
 pub is_plus_dirent : (p : PlusDirent) → CanTell entry_layout (given_values p.entry) → p.next < 2 ^ 64 → length p.name < 2 ^ 32 → IsPlusDirent p (plus_bytes p)
 unfolding plus_bytes

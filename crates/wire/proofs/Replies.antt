@@ -60,7 +60,7 @@ all_read : (body : ReplyBody) → AreRead (reply_layout body)
 all_read (Failed _) = tt
 all_read Done = tt
 all_read (Entry _) = tt
-all_read (Attributes _ _) = tt
+all_read (Attributes _) = tt
 all_read (Opened _) = tt
 all_read (Created _ _) = tt
 all_read (Wrote _) = tt

@@ -5,12 +5,12 @@ ghost use Rattle.wire.specs.Fields.{CanTell};
 ghost use Rattle.wire.specs.Replies.{blocks_of, mode_of, attributes_layout, attributes_values, entry_layout, entry_values, attr_layout, attr_values, opened_layout, opened_values, created_layout, created_values, wrote_layout, wrote_values, statfs_layout, statfs_values, init_layout, init_values, reply_layout, reply_values, IsAnswer};
 ghost use Rattle.wire.specs.Written.{written, body_bytes};
 
-use crate::put::{put, put_u16s, put_u32s, put_u64s};
+use crate::put::{put, put_four_u32, put_two_u64, put_u16s, put_u32s, put_u64, put_zeros};
 use crate::reply::{
     ATTRIBUTES_LEN, Attributes, CREATED_LEN, ENTRY_LEN, Entry, INIT_LEN, InitOut, Kind, OPENED_LEN,
     ReplyBody, STATFS_LEN, WROTE_LEN,
 };
-use crate::request::MAX_READ_LEN;
+use crate::request::{MAX_READ_LEN, Time};
 
 fn blocks(size: u64) -> u64
     ensures { result ≡ blocks_of size }
@@ -32,6 +32,14 @@ fn mode(kind: Kind, permissions: u32) -> u32
     }
 }
 
+/// The seconds of a time, and its nanoseconds.
+fn parts(time: &Time) -> (u64, u32)
+    ensures seconds { result.0 ≡ time.now.seconds }
+    ensures nanos { result.1 ≡ time.now.nanos }
+{
+    (time.seconds, time.nanos)
+}
+
 #[tactic(auto, using(crate::proofs::Entries::entries))]
 fn put_attributes(out: &mut Vec<u8>, a: &Attributes)
     requires { vec_len out.old + 88 ≤ vec_capacity out.old }
@@ -39,36 +47,18 @@ fn put_attributes(out: &mut Vec<u8>, a: &Attributes)
     ensures capacity { vec_capacity out.old ≤ vec_capacity out.new }
     ensures tells { CanTell attributes_layout (attributes_values a.now) }
 {
-    let (ino, size, details) = (a.ino, a.size, a.details);
-    let (accessed, modified, changed) = (details.accessed, details.modified, details.changed);
-    let (links, uid, gid) = (details.links, details.uid, details.gid);
-    let (blocks, mode) = (blocks(size), mode(a.kind, details.permissions));
-    put_u64s(
-        out,
-        &[
-            ino,
-            size,
-            blocks,
-            accessed.seconds,
-            modified.seconds,
-            changed.seconds,
-        ],
-    );
-    put_u32s(
-        out,
-        &[
-            accessed.nanos,
-            modified.nanos,
-            changed.nanos,
-            mode,
-            links,
-            uid,
-            gid,
-            0,
-            4096,
-            0,
-        ],
-    );
+    let (ino, size, links) = (a.ino, a.size, a.details.links);
+    let (uid, gid) = (a.details.uid, a.details.gid);
+    let (blocks, mode) = (blocks(size), mode(a.kind, a.details.permissions));
+    let (accessed, accessed_nanos) = parts(&a.details.accessed);
+    let (modified, modified_nanos) = parts(&a.details.modified);
+    let (changed, changed_nanos) = parts(&a.details.changed);
+    put_two_u64(out, ino, size);
+    put_two_u64(out, blocks, accessed);
+    put_two_u64(out, modified, changed);
+    put_four_u32(out, accessed_nanos, modified_nanos, changed_nanos, mode);
+    put_four_u32(out, links, uid, gid, 0);
+    put_u64(out, 4096);
 }
 
 #[tactic(auto, using(crate::proofs::Entries::entries))]
@@ -79,8 +69,9 @@ pub fn put_entry(out: &mut Vec<u8>, e: &Entry)
     ensures tells { CanTell entry_layout (entry_values e.now) }
 {
     let (node, generation) = (e.node, e.generation);
-    put_u64s(out, &[node, generation, 1, 1]);
-    put_u32s(out, &[0, 0]);
+    put_two_u64(out, node, generation);
+    put_two_u64(out, 1, 1);
+    put_u64(out, 0);
     put_attributes(out, &e.attributes);
 }
 
@@ -90,8 +81,7 @@ fn put_attr(out: &mut Vec<u8>, a: &Attributes)
     ensures items { out.new.items ≡ out.old.items ++ written attr_layout (attr_values a.now) }
     ensures tells { CanTell attr_layout (attr_values a.now) }
 {
-    put_u64s(out, &[1]);
-    put_u32s(out, &[0, 0]);
+    put_two_u64(out, 1, 0);
     put_attributes(out, a);
 }
 
@@ -101,8 +91,9 @@ fn put_statfs(out: &mut Vec<u8>)
     ensures items { out.new.items ≡ out.old.items ++ written statfs_layout statfs_values }
     ensures tells { CanTell statfs_layout statfs_values }
 {
-    put_u64s(out, &[0, 0, 0, 0, 0]);
-    put_u32s(out, &[4096, 255, 4096, 0, 0, 0, 0, 0, 0, 0]);
+    put_zeros(out, 40);
+    put_four_u32(out, 4096, 255, 4096, 0);
+    put_zeros(out, 24);
 }
 
 #[tactic(auto, using(crate::proofs::Entries::entries))]
@@ -111,8 +102,7 @@ fn put_opened(out: &mut Vec<u8>, fh: u64)
     ensures items { out.new.items ≡ out.old.items ++ written opened_layout (opened_values fh) }
     ensures tells { CanTell opened_layout (opened_values fh) }
 {
-    put_u64s(out, &[fh]);
-    put_u32s(out, &[0, 0]);
+    put_two_u64(out, fh, 0);
 }
 
 #[tactic(auto, using(crate::proofs::Entries::entries))]

@@ -7,7 +7,7 @@ ghost use Rattle.wire.specs.Replies.{entry_layout};
 ghost use Rattle.wire.specs.Written.{written};
 
 use crate::bodies::put_entry;
-use crate::put::{put, put_low_u32, put_u32, put_u32s, put_u64, put_u64s, put_zeros};
+use crate::put::{put, put_low_u32, put_u32, put_u64, put_zeros};
 use crate::reply::{ENTRY_LEN, Entry, Kind};
 use std::alloc::AllocError;
 
@@ -97,12 +97,7 @@ fn put_given(out: &mut Vec<u8>, entry: Option<Entry>)
 {
     match entry {
         Some(entry) => put_entry(out, &entry),
-        None => {
-            put_u64s(out, &[0; 4]);
-            put_u32s(out, &[0; 2]);
-            put_u64s(out, &[0; 6]);
-            put_u32s(out, &[0; 10]);
-        }
+        None => put_zeros(out, ENTRY_LEN as u8),
     }
 }
 

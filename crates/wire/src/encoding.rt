@@ -10,7 +10,7 @@ ghost use Rattle.wire.specs.Rows.{parts_bytes};
 ghost use Rattle.wire.specs.Written.{operation_bytes, request_bytes, reply_bytes, body_bytes, error_word, negated as negated_of};
 
 use crate::bodies::{body_len, put_body};
-use crate::put::{put_low_u32, put_u32, put_u64, put_zeros};
+use crate::put::{put_low_u32, put_reply_header, put_u32, put_u64, put_zeros};
 use crate::reply::{REPLY_HEADER_LEN, Reply, ReplyBody};
 use crate::request::{HEADER_LEN, Request};
 use crate::writing::{Row, put_parts, request_len, row_of};
@@ -74,9 +74,7 @@ fn put_reply(out: &mut Vec<u8>, reply: &Reply, len: usize)
     ensures tells { CanTell (reply_layout reply.now.body) (reply_values reply.now.body) }
 {
     let unique = reply.unique;
-    put_low_u32(out, len);
-    put_u32(out, error(&reply.body));
-    put_u64(out, unique);
+    put_reply_header(out, len, error(&reply.body), unique);
     put_body(out, &reply.body);
 }
 

@@ -54,6 +54,48 @@ pub fn put_u64(out: &mut Vec<u8>, n: u64)
     put(out, &n.to_le_bytes());
 }
 
+/// Two numbers of eight bytes, at once.
+#[tactic(auto, unfolding(crate::specs::Written::u64s, crate::specs::Written::le))]
+pub fn put_two_u64(out: &mut Vec<u8>, m: u64, n: u64)
+    requires { vec_len out.old + 16 ≤ vec_capacity out.old }
+    ensures items { out.new.items ≡ out.old.items ++ u64s (m ∷ n ∷ []) }
+    ensures len { vec_len out.new ≡ vec_len out.old + 16 }
+    ensures capacity { vec_capacity out.old ≤ vec_capacity out.new }
+{
+    let [a, b, c, d, e, f, g, h] = m.to_le_bytes();
+    let [i, j, k, l, p, q, r, s] = n.to_le_bytes();
+    put(out, &[a, b, c, d, e, f, g, h, i, j, k, l, p, q, r, s]);
+}
+
+/// Four numbers of four bytes, at once.
+#[tactic(auto, unfolding(crate::specs::Written::u32s, crate::specs::Written::le))]
+pub fn put_four_u32(out: &mut Vec<u8>, m: u32, n: u32, o: u32, p: u32)
+    requires { vec_len out.old + 16 ≤ vec_capacity out.old }
+    ensures items { out.new.items ≡ out.old.items ++ u32s (m ∷ n ∷ o ∷ p ∷ []) }
+    ensures len { vec_len out.new ≡ vec_len out.old + 16 }
+    ensures capacity { vec_capacity out.old ≤ vec_capacity out.new }
+{
+    let [a, b, c, d] = m.to_le_bytes();
+    let [e, f, g, h] = n.to_le_bytes();
+    let [i, j, k, l] = o.to_le_bytes();
+    let [q, r, s, t] = p.to_le_bytes();
+    put(out, &[a, b, c, d, e, f, g, h, i, j, k, l, q, r, s, t]);
+}
+
+/// The header of a reply, at once: the lowest four bytes of a length, an error, and the number of a request.
+#[tactic(auto, unfolding(crate::specs::Written::le))]
+pub fn put_reply_header(out: &mut Vec<u8>, len: usize, error: u32, unique: u64)
+    requires { vec_len out.old + 16 ≤ vec_capacity out.old }
+    ensures items { out.new.items ≡ out.old.items ++ (le 4 len ++ (le 4 error ++ le 8 unique)) }
+    ensures len { vec_len out.new ≡ vec_len out.old + 16 }
+    ensures capacity { vec_capacity out.old ≤ vec_capacity out.new }
+{
+    let [a, b, c, d, ..] = len.to_le_bytes();
+    let [e, f, g, h] = error.to_le_bytes();
+    let [i, j, k, l, p, q, r, s] = unique.to_le_bytes();
+    put(out, &[a, b, c, d, e, f, g, h, i, j, k, l, p, q, r, s]);
+}
+
 #[tactic(auto, unfolding(crate::specs::Written::u16s, crate::specs::Written::le))]
 pub fn put_u16s(out: &mut Vec<u8>, numbers: &[u16])
     requires { vec_len out.old + 2 * length numbers.now ≤ vec_capacity out.old }
@@ -75,18 +117,6 @@ pub fn put_u32s(out: &mut Vec<u8>, numbers: &[u32])
 {
     for n in numbers {
         put_u32(out, *n);
-    }
-}
-
-#[tactic(auto, unfolding(crate::specs::Written::u64s, crate::specs::Written::le))]
-pub fn put_u64s(out: &mut Vec<u8>, numbers: &[u64])
-    requires { vec_len out.old + 8 * length numbers.now ≤ vec_capacity out.old }
-    ensures items { out.new.items ≡ out.old.items ++ u64s numbers.now }
-    ensures len { vec_len out.new ≡ vec_len out.old + 8 * length numbers.now }
-    ensures capacity { vec_capacity out.old ≤ vec_capacity out.new }
-{
-    for n in numbers {
-        put_u64(out, *n);
     }
 }
 

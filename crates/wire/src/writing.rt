@@ -10,7 +10,9 @@ use crate::opcode::{
     LOOKUP, MKDIR, OPEN, OPENDIR, READ, READDIR, READDIRPLUS, RELEASE, RELEASEDIR, RENAME, RENAME2,
     RMDIR, SETATTR, STATFS, UNLINK, WRITE,
 };
-use crate::put::{put, put_low_u32, put_text, put_u32, put_u32s, put_u64, put_u64s, put_zeros};
+use crate::put::{
+    put, put_four_u32, put_low_u32, put_text, put_two_u64, put_u32, put_u64, put_zeros,
+};
 use crate::request::{HEADER_LEN, NewAttributes, Operation};
 use Part::{Bytes, LowU32, New, Text, U32, U64, Zeros};
 
@@ -174,7 +176,7 @@ pub fn request_len(parts: &[Part<'_>]) -> Option<usize>
     Some(len)
 }
 
-#[tactic(auto, using(crate::proofs::Lengths::lengths))]
+#[tactic(auto, using(crate::proofs::Entries::entries))]
 fn put_new_attributes(out: &mut Vec<u8>, a: &NewAttributes)
     requires { vec_len out.old + NEW_ATTRIBUTES_LEN ≤ vec_capacity out.old }
     ensures items { out.new.items ≡ out.old.items ++ written new_attributes_layout (new_attributes_values a.now) }
@@ -183,11 +185,10 @@ fn put_new_attributes(out: &mut Vec<u8>, a: &NewAttributes)
 {
     let (accessed, modified) = (a.accessed, a.modified);
     let (mode, uid, gid) = (a.mode, a.uid, a.gid);
-    put_u64s(out, &[0, accessed.seconds, modified.seconds, 0]);
-    put_u32s(
-        out,
-        &[accessed.nanos, modified.nanos, 0, mode, 0, uid, gid, 0],
-    );
+    put_two_u64(out, 0, accessed.seconds);
+    put_two_u64(out, modified.seconds, 0);
+    put_four_u32(out, accessed.nanos, modified.nanos, 0, mode);
+    put_four_u32(out, 0, uid, gid, 0);
 }
 
 #[tactic(auto, using(crate::proofs::Lengths::lengths))]
