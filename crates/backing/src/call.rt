@@ -179,7 +179,11 @@ pub enum Call<'a> {
 pub enum Answer {
     Done,
     /// `size` is in bytes, and 0 for a folder.
-    Stat { kind: Kind, size: u64, details: Details },
+    Stat {
+        kind: Kind,
+        size: u64,
+        details: Details,
+    },
     Names(Children),
     Bytes(Bytes),
     /// How many bytes were written.

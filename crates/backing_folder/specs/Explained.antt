@@ -3,13 +3,14 @@ use Rattle.std.specs.Prelude.{ℕ, ℤ, ◌≡◌, ◌≤◌, ◌⊎◌, Bool, t
 use Rattle.backing.specs.declared.call.Answer.{Answer}
 use Rattle.backing.specs.declared.call.Answer.TheVariants.{Done, Stat, Names as NamesAre, Bytes, Wrote, Fault}
 use Rattle.backing.specs.declared.call.Child.{Child}
+use Rattle.backing.specs.declared.call.Details.{Details}
 use Rattle.backing.specs.declared.call.Kind.TheVariants as kinds
 use Rattle.errno.specs.declared.TheConstants.{EBUSY, ENOENT, EEXIST, ENOTDIR, EISDIR, EINVAL, ENOTEMPTY}
 use Rattle.backing_folder.specs.declared.host_error.HostError.{HostError}
 use Rattle.backing_folder.specs.declared.host_error.Reason.{Reason}
 use Rattle.backing_folder.specs.declared.host_error.Reason.TheVariants.{Root, Nothing, Taken, NoFolder, Folder, Below, Names}
 use Rattle.backing.specs.Tree.{Tree, IsTree}
-use Rattle.backing.specs.Calls.{Asked, AskStat, AskList, AskMake, AskMakeDir, AskRemove, AskRemoveDir, AskRename, AskRenameNew, AskExchange, AskRead, AskWrite, AskSetLen, AskSync, Test, Refuses, tests_of}
+use Rattle.backing.specs.Calls.{Asked, AskStat, AskList, AskMake, AskMakeDir, AskRemove, AskRemoveDir, AskRename, AskRenameNew, AskExchange, AskRead, AskWrite, AskSetLen, AskSync, AskSetPermissions, AskSetOwner, AskSetTimes, Test, Refuses, tests_of}
 use Rattle.backing.specs.Device.{IsFault, counted, one_if}
 
 abbrev pub reason_errno : Reason → ℤ
@@ -34,10 +35,10 @@ Explains call errno = Explained (tests_of call) errno
 -- What a call answers that is done: the kind of answer, and how many bytes. The system has no call that exchanges two paths
 -- and that the standard library knows: it is done by being refused, whatever stands there, and that is no failure.
 abbrev pub Suits : Asked → Answer → Type 0
-Suits (AskStat p) answer = (answer ≡ Stat kinds.Folder 0) ⊎ ((size : ℕ) × (answer ≡ Stat kinds.File size))
+Suits (AskStat p) answer = (details : Details) × ((answer ≡ Stat kinds.Folder 0 details) ⊎ ((size : ℕ) × (answer ≡ Stat kinds.File size details)))
 Suits (AskList p) answer = (children : List Child) × (answer ≡ NamesAre children)
-Suits (AskMake p) answer = answer ≡ Done
-Suits (AskMakeDir p) answer = answer ≡ Done
+Suits (AskMake p permissions) answer = answer ≡ Done
+Suits (AskMakeDir p permissions) answer = answer ≡ Done
 Suits (AskRemove p) answer = answer ≡ Done
 Suits (AskRemoveDir p) answer = answer ≡ Done
 Suits (AskRename s t) answer = answer ≡ Done
@@ -47,6 +48,9 @@ Suits (AskRead p offset size) answer = (bytes : List ℕ) × (answer ≡ Bytes b
 Suits (AskWrite p offset piece) answer = answer ≡ Wrote (length piece)
 Suits (AskSetLen p size) answer = answer ≡ Done
 Suits (AskSync p) answer = answer ≡ Done
+Suits (AskSetPermissions p permissions) answer = answer ≡ Done
+Suits (AskSetOwner p uid gid) answer = answer ≡ Done
+Suits (AskSetTimes p accessed modified) answer = answer ≡ Done
 
 -- what may be told of a call: where nothing failed, an answer that suits it, or a fault by which some tree refuses it; a
 -- failure is a fault

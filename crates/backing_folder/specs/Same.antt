@@ -14,3 +14,22 @@ pub record ShowsFolder (shows : Found → Type 0) (identity : Identity) : Type 0
   pub now : Identity
   pub shown : shows (found.Folder now)
   pub same : IsSame now identity
+
+-- that one was found, a file or a folder
+abbrev pub IsIt : Found → Identity → Type 0
+IsIt found.Nothing identity = ⊥
+IsIt (found.Folder now) identity = identity ≡ now
+IsIt (found.File now) identity = identity ≡ now
+IsIt found.Hidden identity = ⊥
+
+-- a file or a folder was found, and it is the same as that one
+pub record Shows (shows : Found → Type 0) (identity : Identity) : Type 0 where
+  pub found : Found
+  pub shown : shows found
+  pub now : Identity
+  pub is : IsIt found now
+  pub same : IsSame now identity
+
+-- some file or folder was found
+abbrev pub ShowsAny : (Found → Type 0) → Type 0
+ShowsAny shows = (identity : Identity) × Shows shows identity

@@ -2,6 +2,7 @@
 
 ghost use Rattle.std.specs.Prelude.{ℕ, List, ◌≡◌, IfOk};
 ghost use Rattle.backing_folder.specs.Routes.{IsBelow, IsFolder};
+ghost use Rattle.backing_folder.specs.Same.{ShowsAny};
 ghost use Rattle.backing_folder.specs.declared.walk.Found.{Found};
 
 use crate::host_error::HostError;
@@ -10,6 +11,7 @@ use backing::Children;
 use std::alloc::Global;
 use std::fs::File;
 use std::io;
+use std::time::SystemTime;
 
 /// A disk, as a folder of it is served. Each path that is handed to it leads down from the root by lawful names, and at each
 /// place above it a folder was found before.
@@ -48,13 +50,27 @@ pub trait Disk {
     fn open_to_write(&self, path: &str) -> Result<File, HostError>
         requires { IsBelow (root self.now) (folders self.now) path.now };
 
-    /// Makes an empty file where nothing stands.
-    fn create_new(&self, path: &str) -> io::Result<()>
+    /// Makes an empty file where nothing stands, and opens it. It has these permission bits at once, but for those that the
+    /// process's mask takes; with none given it has the process's default.
+    fn create_new(&self, path: &str, permissions: Option<u32>) -> io::Result<File>
         requires { IsBelow (root self.now) (folders self.now) path.now };
 
-    /// Makes an empty folder where nothing stands.
-    fn create_dir(&self, path: &str) -> io::Result<()>
+    /// Makes an empty folder where nothing stands, with permission bits as `create_new`.
+    fn create_dir(&self, path: &str, permissions: Option<u32>) -> io::Result<()>
         requires { IsBelow (root self.now) (folders self.now) path.now };
+
+    /// Sets the permission bits of what stands there: a look at that very path has shown a file or a folder.
+    fn set_permissions(&self, path: &str, permissions: u32) -> Result<(), HostError>
+        requires below { IsBelow (root self.now) (folders self.now) path.now }
+        requires shown { ShowsAny (shows self.now path.now) };
+
+    /// Sets whose that is, in the same way. What is `None` stays.
+    fn set_owner(&self, path: &str, uid: Option<u32>, gid: Option<u32>) -> Result<(), HostError>
+        requires below { IsBelow (root self.now) (folders self.now) path.now }
+        requires shown { ShowsAny (shows self.now path.now) };
+
+    /// What the clock says.
+    fn now(&self) -> Result<SystemTime, HostError>;
 
     /// Removes the file.
     fn remove_file(&self, path: &str) -> Result<(), HostError>

@@ -17,8 +17,8 @@ pub fn is_explained(call: Call<'_>, reason: Reason) -> bool
     match call {
         Call::Stat(path) => is_lost(path, reason),
         Call::List(path) => is_no_folder(path, reason),
-        Call::Make(path) => is_not_free(path, reason),
-        Call::MakeDir(path) => is_not_free(path, reason),
+        Call::Make { path, .. } => is_not_free(path, reason),
+        Call::MakeDir { path, .. } => is_not_free(path, reason),
         Call::Remove(path) => is_no_file(path, reason),
         Call::RemoveDir(path) => is_no_bare_folder(path, reason),
         Call::Rename { from, to } => is_no_move(from, to, reason),
@@ -28,6 +28,9 @@ pub fn is_explained(call: Call<'_>, reason: Reason) -> bool
         Call::Write { path, .. } => is_no_file(path, reason),
         Call::SetLen { path, .. } => is_no_file(path, reason),
         Call::Sync(path) => is_lost(path, reason),
+        Call::SetPermissions { path, .. } => is_lost(path, reason),
+        Call::SetOwner { path, .. } => is_lost(path, reason),
+        Call::SetTimes { path, .. } => is_lost(path, reason),
     }
 }
 

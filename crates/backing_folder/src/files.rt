@@ -11,7 +11,7 @@ use crate::disk::Disk;
 use crate::host_error::{HostError, Reason};
 use crate::kept::{Access, Kept, OpenFiles};
 use crate::parts::{read_all, write_all};
-use crate::walk::{Found, Identity, Walk};
+use crate::walk::{Found, Identity, Walk, expect_present};
 use crate::ways::Ways;
 use backing::{Answer, Bytes, Kind};
 use errno::EIO;
@@ -27,13 +27,15 @@ pub fn stat<D: Disk + Drop>(
     ensures { IfOk result (Suits (AskStat path.now)) }
 {
     match ways.find(walk, path.names())? {
-        Found::Folder(_) => Ok(Answer::Stat {
+        Found::Folder(identity) => Ok(Answer::Stat {
             kind: Kind::Folder,
             size: 0,
+            details: identity.details,
         }),
         Found::File(identity) => Ok(Answer::Stat {
             kind: Kind::File,
             size: identity.size,
+            details: identity.details,
         }),
         Found::Nothing | Found::Hidden => Err(HostError::Refused(Reason::Nothing)),
     }
@@ -107,11 +109,8 @@ pub fn sync<D: Disk + Drop>(
 ) -> Result<Answer, HostError>
     ensures { IfOk result (Suits (AskSync path.now)) }
 {
-    let identity = match ways.find(walk, path.names())? {
-        Found::Folder(identity) => identity,
-        Found::File(identity) => identity,
-        Found::Nothing | Found::Hidden => return Err(HostError::Refused(Reason::Nothing)),
-    };
+    let found = ways.find(walk, path.names())?;
+    let identity = expect_present(found)?;
     let file = ways.disk().open(walk.path())?;
     expect_same(&file, &identity)?;
     file.sync_all()?;
@@ -174,8 +173,8 @@ fn open_found<D: Disk>(
     })?)
 }
 
-/// The open file is the one that was found: one `fstat`.
-fn expect_same(file: &File, identity: &Identity) -> Result<Identity, HostError>
+/// The open file or folder is the one that was found: one `fstat`.
+pub fn expect_same(file: &File, identity: &Identity) -> Result<Identity, HostError>
     ensures { IfOk result (λ opened. IsSame opened identity.now) }
 {
     let opened = Identity::of(&file.metadata()?);

@@ -4,6 +4,7 @@ ghost use Rattle.std.specs.Prelude.{◌≡◌, ℕ, IfOk};
 ghost use Rattle.backing.specs.Calls.{asked};
 ghost use Rattle.backing_folder.specs.Explained.{Suits, Follows, IsRefused, IsUnserved, Tells};
 
+use crate::attributes::{set_owner, set_permissions, set_times};
 use crate::disk::Disk;
 use crate::entries::{make, make_dir, remove, remove_dir, rename, rename_new};
 use crate::explained::is_explained;
@@ -20,6 +21,7 @@ use std::fs::File;
 use std::io;
 use std::marker::Model;
 use std::rt::Files;
+use std::time::Clock;
 
 /// A folder of the file system, and all that is below it.
 ///
@@ -52,7 +54,7 @@ impl<D: Disk + Drop> Model for Folder<D> {
     ghost view = { λ f. f.failures };
 }
 
-impl<H: Files<File = File> + AllocGlobal + Clone + Drop> Folder<System<H>> {
+impl<H: Files<File = File> + Clock + AllocGlobal + Clone + Drop> Folder<System<H>> {
     /// Opens the folder at `root`, whose own links are resolved once (`realpath`, `stat`).
     pub fn open(rt: H, root: &str) -> io::Result<Folder<System<H>>>
         ensures { IfOk result (λ f. f ≡ 0) }
@@ -122,8 +124,8 @@ fn perform<D: Disk + Drop>(
     match call {
         Call::Stat(path) => stat(ways, walk, path),
         Call::List(path) => list(ways, walk, path),
-        Call::Make(path) => make(ways, walk, path),
-        Call::MakeDir(path) => make_dir(ways, walk, path),
+        Call::Make { path, permissions } => make(ways, files, walk, path, permissions),
+        Call::MakeDir { path, permissions } => make_dir(ways, files, walk, path, permissions),
         Call::Remove(path) => remove(ways, files, walk, path),
         Call::RemoveDir(path) => remove_dir(ways, walk, path),
         Call::Rename { from, to } => rename(ways, files, walk, target, from, to),
@@ -133,6 +135,15 @@ fn perform<D: Disk + Drop>(
         Call::Write { path, offset, data } => write(ways, files, walk, path, offset, data),
         Call::SetLen { path, size } => set_len(ways, files, walk, path, size),
         Call::Sync(path) => sync(ways, walk, path),
+        Call::SetPermissions { path, permissions } => {
+            set_permissions(ways, files, walk, path, permissions)
+        }
+        Call::SetOwner { path, uid, gid } => set_owner(ways, files, walk, path, uid, gid),
+        Call::SetTimes {
+            path,
+            accessed,
+            modified,
+        } => set_times(ways, files, walk, path, accessed, modified),
     }
 }
 

@@ -1,9 +1,12 @@
 //! Why a call on a real folder did not do its work.
 
-ghost use Rattle.std.specs.Prelude.{◌≡◌};
+ghost use Rattle.std.specs.Prelude.{◌≡◌, Some};
+ghost use Rattle.std.specs.IoError.{error_kind, raw_os_error};
 ghost use Rattle.backing_folder.specs.HostErrors.{number_of};
+ghost use Rattle.backing_folder.specs.declared.host_error.HostError.TheVariants as HostError;
+ghost use Rattle.errno.specs.declared.TheConstants.{EPERM};
 
-use errno::{EACCES, EBUSY, EEXIST, EINVAL, EIO, EISDIR, ENOENT, ENOMEM, ENOTDIR, ENOTEMPTY};
+use errno::{EACCES, EBUSY, EEXIST, EINVAL, EIO, EISDIR, ENOENT, ENOMEM, ENOTDIR, ENOTEMPTY, EPERM};
 use std::alloc::{AllocError, AllocFailed};
 use std::io;
 use std::io::ErrorKind;
@@ -86,6 +89,22 @@ impl<T: Drop> From<AllocFailed<T>> for HostError {
 
     fn from(_: AllocFailed<T>) -> HostError {
         HostError::Failed(ENOMEM)
+    }
+}
+
+/// Why an attribute was not set: EPERM where only its owner, or a privileged user, may, and else as any failure of the system.
+pub fn unchanged(error: io::Error) -> HostError
+    ensures owned { raw_os_error error ≡ Some EPERM → result ≡ HostError.Failed EPERM }
+    ensures other { (raw_os_error error ≡ Some EPERM → ⊥) → result ≡ HostError.Failed (number_of (error_kind error)) }
+{
+    match error.raw_os_error() {
+        Some(errno) => {
+            if errno == EPERM {
+                return HostError::Failed(EPERM);
+            }
+            HostError::from(error)
+        }
+        None => HostError::from(error),
     }
 }
 

@@ -81,6 +81,7 @@ impl OpenFiles {
     ghost use Rattle.std.specs.Prelude.{Some, slice_get, ◌≤◌};
     ghost use Rattle.std.specs.List.{All};
     ghost use Rattle.backing_folder.specs.declared.walk.Found.TheVariants as Found;
+    ghost use Rattle.backing_folder.specs.declared.kept.Access.{Access};
     ghost use Rattle.backing_folder.specs.declared.walk.Identity.{Identity};
     ghost use Rattle.backing_folder.specs.Kept.{IsKeptAt, IsOther};
 
@@ -104,6 +105,16 @@ impl OpenFiles {
             }
         }
         None
+    }
+
+    /// Which of them is that file, whatever it was opened for.
+    pub fn index_of_any(&self, identity: &Identity) -> Option<usize>
+        ensures { IfSome result (λ i. (access : Access) × IsKeptAt self.now i identity.now access) }
+    {
+        match self.index_of(identity, Access::Write) {
+            Some(i) => Some(i),
+            None => self.index_of(identity, Access::Read),
+        }
     }
 
     /// The open file.

@@ -1,6 +1,9 @@
 //! A real folder as a directory.
 #![tactic(auto)]
 
+mod attributes;
+mod changes;
+mod details;
 mod disk;
 mod entries;
 mod explained;

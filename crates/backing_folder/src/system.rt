@@ -2,26 +2,29 @@
 
 ghost use Rattle.std.specs.Prelude.{string_bytes};
 
+use crate::details::PERMISSION_BITS;
 use crate::disk::Disk;
-use crate::host_error::HostError;
+use crate::host_error::{HostError, unchanged};
 use crate::listing::{children_of, expect_bare};
 use crate::walk::{Found, Identity, found_of};
 use backing::Children;
 use std::alloc::Global;
-use std::fs::{File, OpenOptions};
+use std::fs::{DirBuilder, File, OpenOptions, Permissions};
 use std::io::ErrorKind;
+use std::os::unix::fs::{DirBuilderExt, OpenOptionsExt, PermissionsExt, lchown};
 use std::rt::Files;
+use std::time::{Clock, SystemTime};
 use std::{fs, io};
 
 /// A folder of the file system, by its path without links. Each call is one of the system's, but where it says more.
 #[derive(Drop)]
-pub struct System<H: Files<File = File> + AllocGlobal + Clone + Drop> {
+pub struct System<H: Files<File = File> + Clock + AllocGlobal + Clone + Drop> {
     rt: H,
     root: String,
     top: Identity,
 }
 
-impl<H: Files<File = File> + AllocGlobal + Clone + Drop> System<H> {
+impl<H: Files<File = File> + Clock + AllocGlobal + Clone + Drop> System<H> {
     /// The folder at `root`, whose own links are resolved once (`realpath`, `stat`).
     pub fn open(rt: H, root: &str) -> io::Result<System<H>> {
         let root = fs::canonicalize(&rt, root)?.into_string();
@@ -34,7 +37,7 @@ impl<H: Files<File = File> + AllocGlobal + Clone + Drop> System<H> {
     }
 }
 
-impl<H: Files<File = File> + AllocGlobal + Clone + Drop> Disk for System<H> {
+impl<H: Files<File = File> + Clock + AllocGlobal + Clone + Drop> Disk for System<H> {
     ghost root = { λ s. string_bytes s.root };
 
     ghost folders = { λ _ _. Unit {0} };
@@ -70,14 +73,35 @@ impl<H: Files<File = File> + AllocGlobal + Clone + Drop> Disk for System<H> {
         Ok(OpenOptions::new().write(true).open(&self.rt, path)?)
     }
 
-    /// `open` with `O_EXCL`, `close`.
-    fn create_new(&self, path: &str) -> io::Result<()> {
-        File::create_new(&self.rt, path)?;
-        Ok(())
+    /// `open` with `O_EXCL`.
+    fn create_new(&self, path: &str, permissions: Option<u32>) -> io::Result<File> {
+        match permissions {
+            None => File::create_new(&self.rt, path),
+            Some(bits) => new_options(bits).open(&self.rt, path),
+        }
     }
 
-    fn create_dir(&self, path: &str) -> io::Result<()> {
-        fs::create_dir(&self.rt, path)
+    fn create_dir(&self, path: &str, permissions: Option<u32>) -> io::Result<()> {
+        match permissions {
+            None => fs::create_dir(&self.rt, path),
+            Some(bits) => new_builder(bits).create(&self.rt, path),
+        }
+    }
+
+    /// `chmod`.
+    fn set_permissions(&self, path: &str, permissions: u32) -> Result<(), HostError> {
+        let bits = Permissions::from_mode(permissions & PERMISSION_BITS);
+        fs::set_permissions(&self.rt, path, bits).map_err(unchanged)
+    }
+
+    /// `lchown`.
+    fn set_owner(&self, path: &str, uid: Option<u32>, gid: Option<u32>) -> Result<(), HostError> {
+        lchown(&self.rt, path, uid, gid).map_err(unchanged)
+    }
+
+    /// `clock_gettime`.
+    fn now(&self) -> Result<SystemTime, HostError> {
+        Ok(SystemTime::now(&self.rt)?)
     }
 
     fn remove_file(&self, path: &str) -> Result<(), HostError> {
@@ -101,4 +125,19 @@ impl<H: Files<File = File> + AllocGlobal + Clone + Drop> Disk for System<H> {
     fn expect_bare(&self, path: &str) -> Result<(), HostError> {
         expect_bare(&self.rt, path)
     }
+}
+
+/// How a file is made that has these permission bits.
+fn new_options(permissions: u32) -> OpenOptions {
+    let mut options = OpenOptions::new();
+    options.read(true).write(true).create_new(true);
+    options.mode(permissions & PERMISSION_BITS);
+    options
+}
+
+/// How a folder is made that has these permission bits.
+fn new_builder(permissions: u32) -> DirBuilder {
+    let mut builder = DirBuilder::new();
+    builder.mode(permissions & PERMISSION_BITS);
+    builder
 }

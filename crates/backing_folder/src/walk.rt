@@ -2,9 +2,12 @@
 
 ghost use Rattle.std.specs.Prelude.{true, ◌≡◌, ◌≢◌, ◌<◌, ℕ, List, [], ◌∷◌, ◌++◌, IfOk, OnOk, length, slice_index};
 ghost use Rattle.backing_folder.specs.Routes.{IsFolder, IsLawfulName, IsWalked};
+ghost use Rattle.backing_folder.specs.Same.{IsIt};
 
+use crate::details::details_of;
 use crate::disk::Disk;
 use crate::host_error::{HostError, Reason};
+use backing::Details;
 use errno::EINVAL;
 use paths::Name;
 use std::alloc::{AllocError, Global};
@@ -12,12 +15,13 @@ use std::fs::Metadata;
 use std::marker::Model;
 use std::os::unix::fs::MetadataExt;
 
-/// Which file it is, and how long it was.
+/// Which file or folder it is, and what one look told of it besides.
 #[derive(Clone, Copy)]
 pub struct Identity {
     device: u64,
     inode: u64,
     pub size: u64,
+    pub details: Details,
 }
 
 impl Identity {
@@ -29,6 +33,7 @@ impl Identity {
             device: metadata.dev(),
             inode: metadata.ino(),
             size: metadata.size(),
+            details: details_of(metadata),
         }
     }
 
@@ -168,6 +173,17 @@ pub fn expect_folder(found: Found) -> Result<Identity, HostError>
     match found {
         Found::Folder(identity) => Ok(identity),
         Found::File(_) => Err(HostError::Refused(Reason::NoFolder)),
+        Found::Nothing | Found::Hidden => Err(HostError::Refused(Reason::Nothing)),
+    }
+}
+
+/// A file or a folder was found: which one it is.
+pub fn expect_present(found: Found) -> Result<Identity, HostError>
+    ensures { IfOk result (IsIt found) }
+{
+    match found {
+        Found::Folder(identity) => Ok(identity),
+        Found::File(identity) => Ok(identity),
         Found::Nothing | Found::Hidden => Err(HostError::Refused(Reason::Nothing)),
     }
 }

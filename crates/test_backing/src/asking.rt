@@ -21,6 +21,11 @@ fn number(text: &str) -> u64 {
     text.parse::<u64>().unwrap_or(0)
 }
 
+/// Permission bits in octal, if any are written.
+fn octal(text: &str) -> Option<u32> {
+    u32::from_str_radix(text, 8).ok()
+}
+
 /// The call of that name on the path. A rename is to the other path, with which an exchange is, and `first` and `second` are its numbers or bytes.
 fn call_of<'a>(
     name: &str,
@@ -32,8 +37,14 @@ fn call_of<'a>(
     Some(match name {
         "stat" => Call::Stat(path),
         "list" => Call::List(path),
-        "make" => Call::Make(path),
-        "mkdir" => Call::MakeDir(path),
+        "make" => Call::Make {
+            path,
+            permissions: octal(first),
+        },
+        "mkdir" => Call::MakeDir {
+            path,
+            permissions: octal(first),
+        },
         "remove" => Call::Remove(path),
         "rmdir" => Call::RemoveDir(path),
         "sync" => Call::Sync(path),
@@ -143,7 +154,7 @@ pub fn ask<C: Calls>(alloc: Global, calls: &mut C, words: &str) -> Result<String
 fn shown(alloc: Global, answer: Answer) -> Result<String, AllocError> {
     match answer {
         Answer::Done => String::from_str(alloc, "done"),
-        Answer::Stat { kind, size } => format!(in alloc; "{} {size}", word(kind)),
+        Answer::Stat { kind, size, .. } => format!(in alloc; "{} {size}", word(kind)),
         Answer::Names(children) => listed(alloc, children.into_vec()),
         Answer::Bytes(bytes) => hexadecimal(alloc, bytes.as_slice()),
         Answer::Wrote(count) => format!(in alloc; "wrote {count}"),

@@ -10,6 +10,7 @@ use std::os::unix::fs::symlink;
 use std::path::PathBuf;
 use std::rt::Files;
 use std::test::Fail;
+use std::time::{Clock, Duration};
 use std::{fs, io};
 
 /// What goes wrong.
@@ -50,6 +51,17 @@ impl Alloc for Tricked {
 
     fn alloc(&self) -> Global {
         self.rt.alloc()
+    }
+}
+
+/// It stands still, at half a second past a billion seconds.
+impl Clock for Tricked {
+    fn monotonic(&self) -> io::Result<Duration> {
+        self.since_1970()
+    }
+
+    fn since_1970(&self) -> io::Result<Duration> {
+        Ok(Duration::from_millis(1_000_000_000_500))
     }
 }
 

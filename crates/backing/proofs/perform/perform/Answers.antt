@@ -1,15 +1,16 @@
-use Rattle.std.proofs.Common.{sym, subst}
+use Rattle.std.proofs.Common.{List, sym, subst}
 use Rattle.backing.specs.declared.call.Call.{Call}
-use Rattle.backing.specs.Calls.{asked}
+use Rattle.backing.specs.declared.entries.Entry.{Entry}
+use Rattle.backing.specs.Calls.{asked, AskSetPermissions, AskSetOwner, AskSetTimes}
 use Rattle.backing.specs.Entries.{tree_of}
 use Rattle.backing.specs.Refusals.{Ends}
 use Rattle.backing.proofs.perform.perform.Goals as goal
 
 pub returns-in-Make-clause-ends : goal.returns-in-Make-clause-ends
-returns-in-Make-clause-ends c = subst (λ (call : Call). Ends (tree_of c.args.entries.now.items) (asked call) c.make.result (tree_of c.make.new.entries.items)) (sym c.in-Make.is) c.make.ensures.ends c.in-Make.permissions
+returns-in-Make-clause-ends c = subst (λ (call : Call). Ends (tree_of c.args.entries.now.items) (asked call) c.make.result (tree_of c.make.new.entries.items)) (sym c.in-Make.is) (c.make.ensures.ends c.in-Make.permissions)
 
 pub returns-in-MakeDir-clause-ends : goal.returns-in-MakeDir-clause-ends
-returns-in-MakeDir-clause-ends c = subst (λ (call : Call). Ends (tree_of c.args.entries.now.items) (asked call) c.make_dir.result (tree_of c.make_dir.new.entries.items)) (sym c.in-MakeDir.is) c.make_dir.ensures.ends c.in-MakeDir.permissions
+returns-in-MakeDir-clause-ends c = subst (λ (call : Call). Ends (tree_of c.args.entries.now.items) (asked call) c.make_dir.result (tree_of c.make_dir.new.entries.items)) (sym c.in-MakeDir.is) (c.make_dir.ensures.ends c.in-MakeDir.permissions)
 
 pub returns-in-Remove-clause-ends : goal.returns-in-Remove-clause-ends
 returns-in-Remove-clause-ends c = subst (λ (call : Call). Ends (tree_of c.args.entries.now.items) (asked call) c.remove.result (tree_of c.remove.new.entries.items)) (sym c.in-Remove.is) c.remove.ensures.ends
@@ -31,3 +32,18 @@ returns-in-Write-clause-ends c = subst (λ (call : Call). Ends (tree_of c.args.e
 
 pub returns-in-SetLen-clause-ends : goal.returns-in-SetLen-clause-ends
 returns-in-SetLen-clause-ends c = subst (λ (call : Call). Ends (tree_of c.args.entries.now.items) (asked call) c.set_len.result (tree_of c.set_len.new.entries.items)) (sym c.in-SetLen.is) c.set_len.ensures.ends
+
+pub returns-in-SetPermissions-clause-ends : goal.returns-in-SetPermissions-clause-ends
+returns-in-SetPermissions-clause-ends c =
+    let ends = subst (λ (es : List Entry). Ends (tree_of es) (AskSetPermissions c.in-SetPermissions.path.now c.in-SetPermissions.permissions) c.set_details.result (tree_of es)) c.deref-in-SetPermissions.ensures.value (c.set_details.ensures.permissions c.in-SetPermissions.permissions) in
+    subst (λ (call : Call). Ends (tree_of c.args.entries.now.items) (asked call) c.set_details.result (tree_of c.args.entries.now.items)) (sym c.in-SetPermissions.is) ends
+
+pub returns-in-SetOwner-clause-ends : goal.returns-in-SetOwner-clause-ends
+returns-in-SetOwner-clause-ends c =
+    let ends = subst (λ (es : List Entry). Ends (tree_of es) (AskSetOwner c.in-SetOwner.path.now c.in-SetOwner.uid c.in-SetOwner.gid) c.set_details-in-SetOwner.result (tree_of es)) c.deref-in-SetOwner.ensures.value (c.set_details-in-SetOwner.ensures.owner c.in-SetOwner.uid c.in-SetOwner.gid) in
+    subst (λ (call : Call). Ends (tree_of c.args.entries.now.items) (asked call) c.set_details-in-SetOwner.result (tree_of c.args.entries.now.items)) (sym c.in-SetOwner.is) ends
+
+pub returns-in-SetTimes-clause-ends : goal.returns-in-SetTimes-clause-ends
+returns-in-SetTimes-clause-ends c =
+    let ends = subst (λ (es : List Entry). Ends (tree_of es) (AskSetTimes c.in-SetTimes.path.now c.in-SetTimes.accessed c.in-SetTimes.modified) c.set_details-in-SetTimes.result (tree_of es)) c.deref-in-SetTimes.ensures.value (c.set_details-in-SetTimes.ensures.times c.in-SetTimes.accessed c.in-SetTimes.modified) in
+    subst (λ (call : Call). Ends (tree_of c.args.entries.now.items) (asked call) c.set_details-in-SetTimes.result (tree_of c.args.entries.now.items)) (sym c.in-SetTimes.is) ends
