@@ -11,7 +11,7 @@ use Rattle.ops.specs.declared.attributes.Settings.{Settings}
 use Rattle.ops.specs.declared.attributes.Settings.TheVariants.{Fixed, Host}
 
 -- a value counts where its bit of `valid` is set
-abbrev pub counted : (valid bit value : ℕ) → Option ℕ
+abbrev pub counted : {X : Type 0} → (valid bit : ℕ) → X → Option X
 counted valid bit value = if bit_at valid bit == 1 then Some value else None
 
 abbrev pub time_at : Told → Time
@@ -27,13 +27,14 @@ permissions_of mode = bit_and mode (2 ^ 12 - 1)
 
 -- by the bits of `valid`, as `fuse.h` numbers them
 abbrev pub parts_of : (valid size : ℕ) → NewAttributes → Parts
-parts_of valid size new = record
-  { permissions = option_map permissions_of (counted valid 0 new.mode)
-  ; uid = counted valid 1 new.uid
-  ; gid = counted valid 2 new.gid
-  ; size = counted valid 3 size
-  ; accessed = new_time valid 4 7 new.accessed
-  ; modified = new_time valid 5 8 new.modified }
+parts_of valid size new = record {
+  permissions = option_map permissions_of (counted valid 0 new.mode);
+  uid = counted valid 1 new.uid;
+  gid = counted valid 2 new.gid;
+  size = counted valid 3 size;
+  accessed = new_time valid 4 7 new.accessed;
+  modified = new_time valid 5 8 new.modified;
+}
 
 -- ---- what a file or a folder is made with: with attributes of the host, the permission bits of the request's mode that are not in its umask
 

@@ -9,8 +9,8 @@ ghost use Rattle.ops.specs.Replies.{entries_bytes, first, plus_entry};
 ghost use Rattle.wire.specs.Dirents.{plus_bytes};
 ghost use Rattle.wire.specs.declared.reply.ReplyBody.TheVariants.{Data as Told};
 
-use crate::findings::Found;
 use crate::attributes::{Settings, kind_of};
+use crate::findings::Found;
 use crate::replies::entry_of;
 use backing::Child;
 use handles::Page;

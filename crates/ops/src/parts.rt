@@ -23,12 +23,19 @@ pub struct Parts {
 
 /// The bits of SETATTR's `valid`, counted from 0 (`FATTR_MODE`, `FATTR_UID` .. of `fuse.h`).
 const MODE: u32 = 0;
+
 const UID: u32 = 1;
+
 const GID: u32 = 2;
+
 const SIZE: u32 = 3;
+
 const ACCESSED: u32 = 4;
+
 const MODIFIED: u32 = 5;
+
 const ACCESSED_NOW: u32 = 7;
+
 const MODIFIED_NOW: u32 = 8;
 
 /// The bits of a mode that are permissions, with those of `setuid`, `setgid` and the sticky bit.
@@ -47,7 +54,11 @@ fn counted<T: Copy>(valid: u32, bit: u32, value: T) -> Option<T>
     requires { bit < 32 }
     ensures { result ≡ counted valid bit value }
 {
-    if is_set(valid, bit) { Some(value) } else { None }
+    if is_set(valid, bit) {
+        Some(value)
+    } else {
+        None
+    }
 }
 
 /// The present, where its bit is set, else the time, where its own is.

@@ -1,6 +1,6 @@
 //! How attributes are set: one call for each part that is asked for, and then a look.
 
-ghost use Rattle.std.specs.Prelude.{◌≡◌, ◌+◌, IfNone, IfSome};
+ghost use Rattle.std.specs.Prelude.{◌≡◌, ◌+◌, ◌<◌, IfNone, IfSome};
 ghost use Rattle.backing.specs.Calls.{asked};
 ghost use Rattle.ops.specs.Ahead.{calls_ending, calls_set, plan_ending, plan_setting};
 ghost use Rattle.ops.specs.Scripts.{after, make, next_of, tell_attributes};
@@ -45,7 +45,9 @@ impl<'a> Setting<'a> {
             left.accessed = None;
             left.modified = None;
             let Parts {
-                accessed, modified, ..
+                accessed,
+                modified,
+                ..
             } = parts;
             Call::SetTimes {
                 path,
