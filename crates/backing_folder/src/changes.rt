@@ -1,6 +1,6 @@
 //! What is set of a file or a folder.
 
-ghost use Rattle.std.specs.Prelude.{◌≡◌, ◌+◌, ◌*◌, ◌<◌, ◌^◌, IfOk, IfSome, Some, bit_or, bit_and};
+ghost use Rattle.std.specs.Prelude.{◌≡◌, ◌+◌, ◌*◌, ◌<◌, ◌^◌, ◌↔◌, IfOk, IsOk};
 ghost use Rattle.std.specs.Time.{system_time_nanos};
 ghost use Rattle.backing_folder.specs.Routes.{IsBelow};
 ghost use Rattle.backing_folder.specs.Same.{ShowsAny};
@@ -106,7 +106,8 @@ fn moment_of<D: Disk>(disk: &D, time: NewTime) -> Result<SystemTime, HostError> 
 /// The same time as the standard library has it. It has none before 1970 (EINVAL, own), and no second has more than
 /// 999,999,999 nanoseconds (EINVAL, POSIX).
 fn system_time_of(time: Time) -> Result<SystemTime, HostError>
-    ensures { IfOk result (λ moment. system_time_nanos moment ≡ time.seconds * 1_000_000_000 + time.nanos) }
+    ensures same { IfOk result (λ moment. system_time_nanos moment ≡ time.seconds * 1_000_000_000 + time.nanos) }
+    ensures when { IsOk result ↔ ((time.nanos < 1_000_000_000) × (time.seconds < 2 ^ 63)) }
 {
     if time.nanos >= 1_000_000_000 {
         return Err(HostError::Failed(EINVAL));

@@ -13,12 +13,12 @@ use crate::kept::{Access, Kept, OpenFiles};
 use crate::parts::{read_all, write_all};
 use crate::walk::{Found, Identity, Walk, expect_present};
 use crate::ways::Ways;
-use backing::{Answer, Bytes, Kind};
+use backing::{Answer, Bytes, Details, Kind};
 use errno::EIO;
 use paths::Path;
 use std::fs::File;
 
-/// What stands at the path.
+/// What stands at the path. At the root that takes one `lstat`, since the way to it takes none.
 pub fn stat<D: Disk + Drop>(
     ways: &mut Ways<D>,
     walk: &mut Walk,
@@ -27,17 +27,40 @@ pub fn stat<D: Disk + Drop>(
     ensures { IfOk result (Suits (AskStat path.now)) }
 {
     match ways.find(walk, path.names())? {
-        Found::Folder(identity) => Ok(Answer::Stat {
-            kind: Kind::Folder,
-            size: 0,
-            details: identity.details,
-        }),
+        Found::Folder(identity) => {
+            let details = if path.len() == 0 {
+                details_now(ways.disk(), walk.path(), identity)
+            } else {
+                identity.details
+            };
+            Ok(Answer::Stat {
+                kind: Kind::Folder,
+                size: 0,
+                details,
+            })
+        }
         Found::File(identity) => Ok(Answer::Stat {
             kind: Kind::File,
             size: identity.size,
             details: identity.details,
         }),
         Found::Nothing | Found::Hidden => Err(HostError::Refused(Reason::Nothing)),
+    }
+}
+
+/// What one more look tells of the folder; what was told before, where it does not show that folder any more.
+fn details_now<D: Disk>(disk: &D, path: &str, identity: Identity) -> Details
+    requires { IsBelow (D.root disk.now) (D.folders disk.now) path.now }
+{
+    match disk.look(path) {
+        Ok(Found::Folder(now)) => {
+            if now.is(&identity) {
+                now.details
+            } else {
+                identity.details
+            }
+        }
+        _ => identity.details,
     }
 }
 

@@ -6,12 +6,13 @@ ghost use Rattle.backing_folder.specs.Explained.{Suits, Follows, IsRefused, IsUn
 
 use crate::attributes::{set_owner, set_permissions, set_times};
 use crate::disk::Disk;
-use crate::entries::{make, make_dir, remove, remove_dir, rename, rename_new};
+use crate::entries::{remove, remove_dir, rename, rename_new};
 use crate::explained::is_explained;
 use crate::files::{read, set_len, stat, sync, write};
 use crate::host_error::{HostError, Reason};
 use crate::kept::OpenFiles;
 use crate::listing::list;
+use crate::making::{make, make_dir};
 use crate::system::System;
 use crate::walk::Walk;
 use crate::ways::Ways;
@@ -28,10 +29,19 @@ use std::time::Clock;
 /// It shows files and folders alone: a symbolic link, a pipe, a socket or a device is absent to it, wherever it stands in a
 /// path, and is neither followed nor opened. Each call first walks down the path, with one look for each name. Up to 256
 /// folders that it walked to are remembered: one look at such a folder that shows the same device and inode number stands
-/// for the walk to it. What is opened to be read, written, cut or synced is compared with what was found in the same way,
-/// before a byte moves: a file that was replaced after its look is not touched. Up to 64 files that were read, written or
-/// cut stay open, and are used again where a look at a path shows their numbers; a file that the folder's own call removes
-/// or replaces is closed.
+/// for the walk to it. What is opened to be read, written, cut or synced, or to have its permission bits, its owner or its
+/// times set, is compared with what was found in the same way, before that is done: a file that was replaced after its look
+/// is not touched. Up to 64 files that were read, written, cut or made with permission bits stay open, whatever their bits
+/// become, and are used again where a look at a path shows their numbers; a file that the folder's own call removes or
+/// replaces is closed.
+///
+/// Bits and an owner are set through an open file or folder; of what may not be opened by their path, right after one more
+/// look at it that shows the same numbers; times then are not set (EACCES). Bits are the lowest twelve (POSIX). EPERM: it
+/// belongs to somebody else (POSIX). EINVAL: a time with 1,000,000,000 nanoseconds or more (POSIX), a time before 1970
+/// (own), the owner or the group 2^32 - 1 (POSIX, to which that number says that it stays). The present is what the clock of
+/// the program says.
+///
+/// What is made with permission bits has them at once but for those that the process's mask takes; these are set right after.
 ///
 /// Two paths are not exchanged: that is EINVAL, whatever stands there, and counted as no failure. A move that is to replace
 /// nothing looks at its target first: what somebody else makes there between that look and the move is replaced.

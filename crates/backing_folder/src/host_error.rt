@@ -6,7 +6,9 @@ ghost use Rattle.backing_folder.specs.HostErrors.{number_of};
 ghost use Rattle.backing_folder.specs.declared.host_error.HostError.TheVariants as HostError;
 ghost use Rattle.errno.specs.declared.TheConstants.{EPERM};
 
-use errno::{EACCES, EBUSY, EEXIST, EINVAL, EIO, EISDIR, ENOENT, ENOMEM, ENOTDIR, ENOTEMPTY, EPERM};
+use errno::{
+    EACCES, EBUSY, EEXIST, EINVAL, EIO, EISDIR, ENOENT, ENOMEM, ENOTDIR, ENOTEMPTY, EPERM,
+};
 use std::alloc::{AllocError, AllocFailed};
 use std::io;
 use std::io::ErrorKind;

@@ -12,6 +12,7 @@ mod folder;
 mod host_error;
 mod kept;
 mod listing;
+mod making;
 mod parts;
 mod places;
 mod system;

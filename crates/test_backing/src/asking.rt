@@ -1,5 +1,6 @@
 //! Calls written as words, and answers as text.
 
+use crate::details::{call_that_sets, mode_told, octal, times_told};
 use backing::{Answer, Call, Calls, Child, Kind};
 use paths::{Name, Path};
 use std::alloc::{AllocError, Global};
@@ -19,11 +20,6 @@ pub fn path_of(alloc: Global, text: &str) -> Result<Path, AllocError> {
 
 fn number(text: &str) -> u64 {
     text.parse::<u64>().unwrap_or(0)
-}
-
-/// Permission bits in octal, if any are written.
-fn octal(text: &str) -> Option<u32> {
-    u32::from_str_radix(text, 8).ok()
 }
 
 /// The call of that name on the path. A rename is to the other path, with which an exchange is, and `first` and `second` are its numbers or bytes.
@@ -74,7 +70,7 @@ fn call_of<'a>(
             path,
             size: number(first),
         },
-        _ => return None,
+        _ => return call_that_sets(name, path, first, second),
     })
 }
 
@@ -131,7 +127,7 @@ fn check<C: Calls>(
 }
 
 /// The answer to a call that is written as its name, its paths and its numbers or bytes, with a space between them. Of many bytes,
-/// `fill` writes them in one call, and `check` reads them in one.
+/// `fill` writes them in one call, and `check` reads them in one. `mode` and `times` tell some of what a STAT tells.
 pub fn ask<C: Calls>(alloc: Global, calls: &mut C, words: &str) -> Result<String, AllocError> {
     let mut parts = words.split(' ');
     let name = parts.next().unwrap_or("");
@@ -141,6 +137,8 @@ pub fn ask<C: Calls>(alloc: Global, calls: &mut C, words: &str) -> Result<String
     match name {
         "fill" => return fill(alloc, calls, &path, number(first), number(second)),
         "check" => return check(alloc, calls, &path, number(first), number(second)),
+        "mode" => return mode_told(alloc, calls.call(Call::Stat(&path))),
+        "times" => return times_told(alloc, calls.call(Call::Stat(&path))),
         _ => {}
     }
     let other = path_of(alloc, first)?;

@@ -4,7 +4,7 @@ use crate::asking::{expect_count, expect_rows};
 use crate::places::{place_of, sample_folder};
 use backing_folder::{Folder, System};
 use std::alloc::{Allocator, Global};
-use std::fs::{File, Metadata, OpenOptions};
+use std::fs::{File, Metadata, OpenOptions, Permissions};
 use std::io::ErrorKind;
 use std::os::unix::fs::symlink;
 use std::path::PathBuf;
@@ -24,6 +24,8 @@ enum Trick {
     Enter,
     /// A file comes to a path right before something is renamed to it.
     Arrive,
+    /// No file may be opened.
+    Shut,
 }
 
 /// The system, but for the trick.
@@ -34,6 +36,15 @@ struct Tricked {
 }
 
 impl Tricked {
+    /// Makes a link of the file, if it is `a`.
+    fn replace(&self, path: &str) -> io::Result<()> {
+        if path.ends_with("/a") {
+            fs::remove_file(&self.rt, path)?;
+            symlink(&self.rt, "e", path)?;
+        }
+        Ok(())
+    }
+
     /// Puts the file into the folder, if that is the trick.
     fn enter(&self, folder: &str) -> io::Result<()> {
         match self.trick {
@@ -41,7 +52,7 @@ impl Tricked {
                 let place = place_of(self.rt.alloc(), folder, "late")?;
                 fs::write(&self.rt, place.as_str(), "late")
             }
-            Trick::Look(_) | Trick::Replace | Trick::Arrive => Ok(()),
+            Trick::Look(_) | Trick::Replace | Trick::Arrive | Trick::Shut => Ok(()),
         }
     }
 }
@@ -72,10 +83,8 @@ impl Files for Tricked {
 
     fn open_file(&self, how: &OpenOptions, path: &str) -> io::Result<File> {
         match self.trick {
-            Trick::Replace => {
-                fs::remove_file(&self.rt, path)?;
-                symlink(&self.rt, "e", path)?;
-            }
+            Trick::Replace => self.replace(path)?,
+            Trick::Shut => return Err(io::Error::from(ErrorKind::PermissionDenied)),
             Trick::Look(_) | Trick::Enter | Trick::Arrive => {}
         }
         self.rt.open_file(how, path)
@@ -92,7 +101,9 @@ impl Files for Tricked {
     fn symlink_metadata(&self, path: &str) -> io::Result<Metadata> {
         match self.trick {
             Trick::Look(kind) => Err(io::Error::from(kind)),
-            Trick::Replace | Trick::Enter | Trick::Arrive => self.rt.symlink_metadata(path),
+            Trick::Replace | Trick::Enter | Trick::Arrive | Trick::Shut => {
+                self.rt.symlink_metadata(path)
+            }
         }
     }
 
@@ -103,7 +114,7 @@ impl Files for Tricked {
     fn rename(&self, from: &str, to: &str) -> io::Result<()> {
         match self.trick {
             Trick::Arrive => fs::write(&self.rt, to, "late")?,
-            Trick::Look(_) | Trick::Replace | Trick::Enter => {}
+            Trick::Look(_) | Trick::Replace | Trick::Enter | Trick::Shut => {}
         }
         self.rt.rename(from, to)
     }
@@ -124,6 +135,18 @@ impl Files for Tricked {
     fn remove_dir_all<B: Allocator>(&self, alloc: B, path: &str) -> io::Result<()> {
         self.enter(path)?;
         self.rt.remove_dir_all(alloc, path)
+    }
+
+    fn create_dir_with_mode(&self, path: &str, mode: u32) -> io::Result<()> {
+        self.rt.create_dir_with_mode(path, mode)
+    }
+
+    fn set_permissions(&self, path: &str, permissions: Permissions) -> io::Result<()> {
+        self.rt.set_permissions(path, permissions)
+    }
+
+    fn lchown(&self, path: &str, uid: Option<u32>, gid: Option<u32>) -> io::Result<()> {
+        self.rt.lchown(path, uid, gid)
     }
 
     fn canonicalize<B: Allocator>(&self, alloc: B, path: &str) -> io::Result<PathBuf<B>> {
@@ -186,8 +209,24 @@ fn a_failure_has_its_number(rt: HostRuntime) -> Result<(), Fail> {
 // What stands at `e` is as it was.
 #[test]
 fn a_file_replaced_before_it_is_opened_is_not_touched(rt: HostRuntime) -> Result<(), Fail> {
-    for words in ["read a 0 9", "write a 0 xyz", "setlen a 7", "sync a"] {
-        let rows = [(words, "fault 5"), ("stat e", "file 0")];
+    const WORDS: [&str; 7] = [
+        "read a 0 9",
+        "write a 0 xyz",
+        "setlen a 7",
+        "sync a",
+        "chmod a 7777",
+        "chown a 0 -",
+        "utimes a 5.1 6.2",
+    ];
+    for words in WORDS {
+        let rows = [
+            ("chmod e 640", "done"),
+            ("utimes e 1.2 3.4", "done"),
+            (words, "fault 5"),
+            ("stat e", "file 0"),
+            ("mode e", "640"),
+            ("times e", "1.2 3.4"),
+        ];
         tell(rt, "replaced", Trick::Replace, rows.as_slice(), 1)?;
     }
     Ok(())
@@ -208,4 +247,35 @@ fn a_folder_is_not_removed_with_what_came_into_it(rt: HostRuntime) -> Result<(),
 fn a_move_replaces_what_came_after_its_look(rt: HostRuntime) -> Result<(), Fail> {
     let rows = [("rename-new a b", "done"), ("read b 0 9", "bytes 616263")];
     tell(rt, "arrived", Trick::Arrive, rows.as_slice(), 0)
+}
+
+// Bits and owners are then set by the path, and times are not.
+#[test]
+fn what_cannot_be_opened_is_changed_by_its_path(rt: HostRuntime) -> Result<(), Fail> {
+    let rows = [
+        ("chmod a 0", "done"),
+        ("mode a", "0"),
+        ("chmod a 750", "done"),
+        ("mode a", "750"),
+        ("chmod d 700", "done"),
+        ("mode d", "700"),
+        ("mkdir m 7777", "done"),
+        ("mode m", "7777"),
+        ("chown a - -", "done"),
+        ("utimes a - -", "done"),
+        ("utimes a now -", "fault 13"),
+    ];
+    tell(rt, "shut", Trick::Shut, rows.as_slice(), 1)
+}
+
+// By the clock, and not by the disk.
+#[test]
+fn now_is_what_the_clock_says(rt: HostRuntime) -> Result<(), Fail> {
+    let rows = [
+        ("utimes a now 6.2", "done"),
+        ("times a", "1000000000.500000000 6.2"),
+        ("utimes d 5.1 now", "done"),
+        ("times d", "5.1 1000000000.500000000"),
+    ];
+    tell(rt, "now", Trick::Arrive, rows.as_slice(), 0)
 }

@@ -4,6 +4,10 @@
 #[cfg(test)]
 mod asking;
 #[cfg(test)]
+mod attributes;
+#[cfg(test)]
+mod details;
+#[cfg(test)]
 mod faults;
 #[cfg(test)]
 mod links;

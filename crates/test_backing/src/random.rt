@@ -46,7 +46,7 @@ fn path(alloc: Global, dice: &mut Dice) -> Result<String, AllocError> {
 }
 
 /// More often a call that makes something than one that removes it.
-const NAMES: [&str; 22] = [
+const NAMES: [&str; 25] = [
     "stat",
     "stat",
     "list",
@@ -69,18 +69,25 @@ const NAMES: [&str; 22] = [
     "write",
     "write",
     "setlen",
+    "chmod",
+    "chown",
+    "utimes",
 ];
 
 fn call(alloc: Global, dice: &mut Dice) -> Result<String, AllocError> {
     let one = path(alloc, dice)?;
     let offset = dice.below(12);
     let size = dice.below(9);
-    let kind = dice.below(22) as usize % 22;
+    let kind = dice.below(25) as usize % 25;
     let name = NAMES[kind];
     let rest = match kind {
+        4 | 5 | 6 | 7 | 8 => format!(in alloc; "7{}{}", offset % 8, size % 8)?,
         11 | 12 | 13 | 14 | 15 => path(alloc, dice)?,
         16 | 17 => format!(in alloc; "{offset} {size}")?,
         19 | 20 => format!(in alloc; "{offset} xyz{size}")?,
+        22 => format!(in alloc; "7{}{}", offset % 8, size % 8)?,
+        23 => String::from_str(alloc, "- -")?,
+        24 => format!(in alloc; "{offset}.{size} now")?,
         _ => format!(in alloc; "{offset} ")?,
     };
     format!(in alloc; "{name} {one} {rest}")

@@ -1,9 +1,10 @@
 //! Stories of a real folder: what the system puts into it, and what its calls answer. Each is told to a new sample folder.
 
-use crate::asking::{expect, expect_count};
+use crate::asking::{expect, expect_count, path_of};
 use crate::places::{place_of, sample_folder};
+use backing::{Answer, Call, Calls, Details, Time};
 use backing_folder::{Folder, System};
-use std::os::unix::fs::symlink;
+use std::os::unix::fs::{MetadataExt, PermissionsExt, symlink};
 use std::os::unix::net::UnixListener;
 use std::test::Fail;
 use std::{fs, io};
@@ -31,6 +32,10 @@ pub enum Step<'a> {
     Ask(&'a str, &'a str),
     /// The same, and a folder that was opened just now has the same answer.
     Both(&'a str, &'a str),
+    /// A STAT tells what the system tells of what stands at the name.
+    Same(&'a str),
+    /// What stands there may be given to whom it is already.
+    Own(&'a str),
     /// So many of the calls so far were counted as failures.
     Failed(u64),
 }
@@ -47,6 +52,65 @@ fn put(rt: &HostRuntime, root: &str, place: &str, item: Item) -> io::Result<()> 
         Item::Nothing => fs::remove_file(rt, place),
         Item::Moved(name) => fs::rename(rt, place_of(rt.alloc(), root, name)?.as_str(), place),
     }
+}
+
+/// What the system tells of what stands there, as a directory would.
+fn details_at(rt: &HostRuntime, root: &str, name: &str) -> io::Result<Details> {
+    let place = place_of(rt.alloc(), root, name)?;
+    let metadata = fs::symlink_metadata(rt, place.as_str())?;
+    let time = |seconds: i64, nanos: i64| Time {
+        seconds: seconds.cast_unsigned(),
+        nanos: u32::try_from(nanos).unwrap_or(u32::MAX),
+    };
+    Ok(Details {
+        ino: metadata.ino(),
+        permissions: metadata.permissions().mode() % 0o10000,
+        links: u32::try_from(metadata.nlink()).unwrap_or(u32::MAX),
+        uid: metadata.uid(),
+        gid: metadata.gid(),
+        accessed: time(metadata.atime(), metadata.atime_nsec()),
+        modified: time(metadata.mtime(), metadata.mtime_nsec()),
+        changed: time(metadata.ctime(), metadata.ctime_nsec()),
+    })
+}
+
+fn expect_same(
+    rt: &HostRuntime,
+    root: &str,
+    folder: &mut Folder<System<HostRuntime>>,
+    name: &str,
+) -> Result<(), Fail> {
+    let path = path_of(rt.alloc(), name)?;
+    match folder.call(Call::Stat(&path)) {
+        Answer::Stat { details, .. } => {
+            let wanted = details_at(rt, root, name)?;
+            if details == wanted {
+                return Ok(());
+            }
+            Err(Fail::from((name, details, wanted)))
+        }
+        _ => Err(Fail::from((name, "no details"))),
+    }
+}
+
+/// Sets owner and group to what they are, one alone and both together.
+fn expect_own(
+    rt: &HostRuntime,
+    root: &str,
+    folder: &mut Folder<System<HostRuntime>>,
+    name: &str,
+) -> Result<(), Fail> {
+    let Details { uid, gid, .. } = details_at(rt, root, name)?;
+    let alloc = rt.alloc();
+    for words in [
+        format!(in alloc; "chown {name} {uid} {gid}")?,
+        format!(in alloc; "chown {name} {uid} -")?,
+        format!(in alloc; "chown {name} - {gid}")?,
+        format!(in alloc; "chown {name} - -")?,
+    ] {
+        expect(alloc, folder, words.as_str(), "done")?;
+    }
+    expect_same(rt, root, folder, name)
 }
 
 /// A folder that is opened just now has that answer.
@@ -72,6 +136,8 @@ fn take(
             expect(rt.alloc(), folder, words, wanted)?;
             expect_anew(*rt, root, words, wanted)
         }
+        Step::Same(name) => expect_same(rt, root, folder, name),
+        Step::Own(name) => expect_own(rt, root, folder, name),
         Step::Failed(count) => expect_count(folder.failures(), count),
     }
 }

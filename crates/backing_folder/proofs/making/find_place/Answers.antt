@@ -1,7 +1,7 @@
 use Rattle.std.proofs.Common.{sym, ◌∙◌, subst}
 use Rattle.backing_folder.proofs.RouteLemmas.{entered}
 use Rattle.backing_folder.specs.Routes.{IsFolder}
-use Rattle.backing_folder.proofs.entries.find_place.Goals as goal
+use Rattle.backing_folder.proofs.making.find_place.Goals as goal
 
 pub returns-in-Folder : goal.returns-in-Folder
 returns-in-Folder g c =

@@ -1,0 +1,139 @@
+//! Calls that make something in a real folder.
+
+ghost use Rattle.std.specs.Prelude.{◌≡◌, IfOk, OnOk};
+ghost use Rattle.backing.specs.Calls.{AskMake, AskMakeDir};
+ghost use Rattle.backing_folder.specs.Contents.{takenness};
+ghost use Rattle.backing_folder.specs.Explained.{Suits};
+ghost use Rattle.backing_folder.specs.Routes.{IsBelow, IsWalked};
+
+use crate::attributes::change_found;
+use crate::changes::{Change, with_missing};
+use crate::disk::Disk;
+use crate::host_error::{HostError, Reason};
+use crate::kept::{Access, Kept, OpenFiles};
+use crate::walk::{Found, Identity, Walk, expect_present};
+use crate::ways::Ways;
+use backing::Answer;
+use errno::EEXIST;
+use paths::Path;
+use std::fs::File;
+use std::io;
+use std::io::ErrorKind;
+
+/// Makes an empty file: `open` with `O_EXCL`, `close`, or one `lstat` where something stands there. With permission bits
+/// given, `fstat`, and `fchmod` where the process's mask took some of them; the file is then kept open.
+pub fn make<D: Disk + Drop>(
+    ways: &mut Ways<D>,
+    files: &mut OpenFiles,
+    walk: &mut Walk,
+    path: &Path,
+    permissions: Option<u32>,
+) -> Result<Answer, HostError>
+    ensures { IfOk result (Suits (AskMake path.now permissions)) }
+{
+    find_place(ways, walk, path)?;
+    match ways.disk().create_new(walk.path(), permissions) {
+        Ok(file) => keep_made(files, file, permissions)?,
+        Err(error) => return Err(why_not_made(ways.disk(), walk.path(), error)),
+    }
+    Ok(Answer::Done)
+}
+
+/// Makes an empty folder: `mkdir`, or one `lstat` more where something stands there. With permission bits given, one
+/// `lstat`, and what `SetPermissions` does where `mkdir` left some of them out.
+pub fn make_dir<D: Disk + Drop>(
+    ways: &mut Ways<D>,
+    files: &mut OpenFiles,
+    walk: &mut Walk,
+    path: &Path,
+    permissions: Option<u32>,
+) -> Result<Answer, HostError>
+    ensures { IfOk result (Suits (AskMakeDir path.now permissions)) }
+{
+    find_place(ways, walk, path)?;
+    match ways.disk().create_dir(walk.path(), permissions) {
+        Ok(()) => complete_dir(ways.disk(), files, walk.path(), permissions)?,
+        Err(error) => return Err(why_not_made(ways.disk(), walk.path(), error)),
+    }
+    Ok(Answer::Done)
+}
+
+/// The file that was made has all of its bits, and stays open where bits were given: who made it may write it, whatever
+/// they are. Where memory is refused it is closed.
+fn keep_made(files: &mut OpenFiles, file: File, permissions: Option<u32>) -> Result<(), HostError> {
+    let Some(wanted) = permissions else {
+        return Ok(());
+    };
+    let identity = Identity::of(&file.metadata()?);
+    if let Some(bits) = with_missing(identity.details.permissions, wanted) {
+        Change::Permissions(bits).apply(&file)?;
+    }
+    let access = Access::Write;
+    let _ = files.keep(Kept {
+        identity,
+        access,
+        file,
+    });
+    Ok(())
+}
+
+/// The folder that was made has all of its bits, where bits were given.
+fn complete_dir<D: Disk>(
+    disk: &D,
+    files: &OpenFiles,
+    path: &str,
+    permissions: Option<u32>,
+) -> Result<(), HostError>
+    requires { IsBelow (D.root disk.now) (D.folders disk.now) path.now }
+{
+    let Some(wanted) = permissions else {
+        return Ok(());
+    };
+    let found = disk.look(path)?;
+    let identity = expect_present(found)?;
+    match with_missing(identity.details.permissions, wanted) {
+        Some(bits) => change_found(disk, files, path, found, Change::Permissions(bits)),
+        None => Ok(()),
+    }
+}
+
+/// Why nothing could be made there. If something stands there, one `lstat` says what.
+fn why_not_made<D: Disk + Drop>(disk: &D, path: &str, error: io::Error) -> HostError
+    requires { IsBelow (D.root disk.now) (D.folders disk.now) path.now }
+{
+    if error.kind() != ErrorKind::AlreadyExists {
+        return HostError::from(error);
+    }
+    match disk.look(path) {
+        Ok(found) => taken_by(found),
+        Err(host_error) => host_error,
+    }
+}
+
+/// What keeps a place from being free. What is shown explains it; what is hidden, or has gone, does not.
+pub fn taken_by(found: Found) -> HostError
+    ensures { result ≡ takenness found }
+{
+    match found {
+        Found::File(_) | Found::Folder(_) => HostError::Refused(Reason::Taken),
+        Found::Nothing | Found::Hidden => HostError::Failed(EEXIST),
+    }
+}
+
+/// A folder stands at the path's parent, where something is to be made.
+fn find_place<D: Disk + Drop>(
+    ways: &mut Ways<D>,
+    walk: &mut Walk,
+    path: &Path,
+) -> Result<(), HostError>
+    ensures { OnOk result (IsWalked (D.root ways.new) (D.folders ways.new) walk.new path.now) }
+{
+    let Some((name, parent)) = path.names().split_last() else {
+        return Err(HostError::Refused(Reason::Taken));
+    };
+    match ways.find(walk, parent)? {
+        Found::Folder(_) => walk.enter(name),
+        Found::File(_) => Err(HostError::Refused(Reason::NoFolder)),
+        Found::Nothing | Found::Hidden => Err(HostError::Refused(Reason::Nothing)),
+    }
+}

@@ -1,0 +1,85 @@
+//! Words of the calls that set details, and details as text.
+
+use backing::{Answer, Call, NewTime, Time};
+use paths::Path;
+use std::alloc::{AllocError, Global};
+
+/// Permission bits in octal, if any are written.
+pub fn octal(text: &str) -> Option<u32> {
+    u32::from_str_radix(text, 8).ok()
+}
+
+/// An owner or a group, and none for `-`.
+fn owner(text: &str) -> Option<u32> {
+    text.parse::<u32>().ok()
+}
+
+/// Seconds and nanoseconds with a `.` between them.
+fn time(text: &str) -> Option<Time> {
+    let (seconds, nanos) = text.split_once('.')?;
+    Some(Time {
+        seconds: seconds.parse::<u64>().ok()?,
+        nanos: nanos.parse::<u32>().ok()?,
+    })
+}
+
+/// What a time is set to: `now`, a time, or none for `-`.
+fn new_time(text: &str) -> Option<NewTime> {
+    if text == "now" {
+        return Some(NewTime::Now);
+    }
+    Some(NewTime::At(time(text)?))
+}
+
+/// The call of that name which sets details of what stands at the path.
+pub fn call_that_sets<'a>(
+    name: &str,
+    path: &'a Path,
+    first: &str,
+    second: &str,
+) -> Option<Call<'a>> {
+    Some(match name {
+        "chmod" => Call::SetPermissions {
+            path,
+            permissions: octal(first)?,
+        },
+        "chown" => Call::SetOwner {
+            path,
+            uid: owner(first),
+            gid: owner(second),
+        },
+        "utimes" => Call::SetTimes {
+            path,
+            accessed: new_time(first),
+            modified: new_time(second),
+        },
+        _ => return None,
+    })
+}
+
+/// The permission bits of a STAT in octal.
+pub fn mode_told(alloc: Global, answer: Answer) -> Result<String, AllocError> {
+    match answer {
+        Answer::Stat { details, .. } => format!(in alloc; "{:o}", details.permissions),
+        Answer::Fault(errno) => format!(in alloc; "fault {errno}"),
+        _ => String::from_str(alloc, "no mode"),
+    }
+}
+
+/// When it was last read and when it was last changed, by a STAT.
+pub fn times_told(alloc: Global, answer: Answer) -> Result<String, AllocError> {
+    match answer {
+        Answer::Stat { details, .. } => {
+            let (accessed, modified) = (details.accessed, details.modified);
+            format!(in alloc;
+                "{}.{} {}.{}",
+                accessed.seconds,
+                accessed.nanos,
+                modified.seconds,
+                modified.nanos
+            )
+        }
+        Answer::Fault(errno) => format!(in alloc; "fault {errno}"),
+        _ => String::from_str(alloc, "no times"),
+    }
+}
