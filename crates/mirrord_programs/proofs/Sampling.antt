@@ -1,5 +1,5 @@
 -- What the puts of the sample names make of a tree.
-use Rattle.std.proofs.Common.{ℕ, ◌≡◌, Bool, true, false, if◌then◌else◌, List, [], ◌∷◌, codes, Option, Some, Ok, inl, inr, refl, ap, ◌∙◌}
+use Rattle.std.proofs.Common.{ℕ, ◌≡◌, Bool, true, false, if◌then◌else◌, List, [], ◌∷◌, codes, Option, Some, None, Ok, inl, inr, refl, ap, ◌∙◌}
 use Rattle.paths.specs.Prefixes.{Names}
 use Rattle.backing.specs.Calls.{AskMake, AskMakeDir, AskWrite, Works}
 use Rattle.backing.specs.Entries.{tree_of}
@@ -22,11 +22,11 @@ last_counts : (b : Bool) (first last other : Option Item) → (if b then last el
 last_counts true first last other = refl
 last_counts false first last other = refl
 
-made_file : (old new : Tree) (p : Names) → Works old (AskMake p) Done new → new ≡ with_item old p (File [])
+made_file : (old new : Tree) (p : Names) → Works old (AskMake p None) Done new → new ≡ with_item old p (File [])
 made_file old new p (inl (passes, (done, is))) = is
 made_file old new p (inr (errno, refuses, told, same)) = cc
 
-made_dir : (old new : Tree) (p : Names) → Works old (AskMakeDir p) Done new → new ≡ with_item old p Folder
+made_dir : (old new : Tree) (p : Names) → Works old (AskMakeDir p None) Done new → new ≡ with_item old p Folder
 made_dir old new p (inl (passes, (done, is))) = is
 made_dir old new p (inr (errno, refuses, told, same)) = cc
 

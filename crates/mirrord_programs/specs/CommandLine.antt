@@ -1,13 +1,17 @@
 -- The command line, as clap reads it.
-use Rattle.std.specs.Prelude.{ℕ, ◌≡◌, ◌≢◌, ◌<◌, ◌^◌, pos, Bool, true, false, List, [], ◌∷◌, codes, Option, Some, None}
+use Rattle.std.specs.Prelude.{ℕ, ◌≡◌, ◌≢◌, ◌<◌, ◌^◌, ◌⊎◌, pos, Bool, true, false, is_some, List, [], ◌∷◌, codes, Option, Some, None}
 use Rattle.std.specs.Str.Parse.{IsNumeral, without_leading_plus, digits_value}
 use Rattle.clap.specs.Words.{App, Row, Rule, Text, first_of, new_app, new_rule, one_of, with_rule, with_subcommand}
 use Rattle.clap.specs.declared.builder.action.ArgAction.TheVariants.{Set, SetTrue}
 use Rattle.clap.specs.declared.builder.value_parser.ValueParser.TheVariants.{Signed}
+use Rattle.ops.specs.declared.attributes.Settings.{Settings}
+use Rattle.ops.specs.declared.attributes.Settings.TheVariants.{Fixed, Host}
 use Rattle.mirrord_server.specs.declared.terms.Bounds.{Bounds}
 use Rattle.mirrord_server.specs.declared.terms.Terms.{Terms}
 use Rattle.mirrord_programs.specs.declared.options.Options.{Options}
-use Rattle.mirrord_programs.specs.declared.options.Options.TheVariants.{Serve, Pipe, Hex}
+use Rattle.mirrord_programs.specs.declared.options.Options.TheVariants.{Serve, Pipe, Hex, Refused}
+use Rattle.mirrord_programs.specs.declared.refusals.Refusal.{Refusal}
+use Rattle.mirrord_programs.specs.declared.refusals.Refusal.TheVariants.{Attributes, Owner}
 
 -- ---- what may be written
 
@@ -25,9 +29,13 @@ number_rule id least most default = record (new_rule id) {
   defaults = default ∷ [];
 }
 
--- a user or a group
+-- a user or a group, which nobody need say
 abbrev pub user : Text → Rule
-user id = number_rule id 0 4294967295 (codes "0")
+user id = record (new_rule id) { long = Some id; action = Some Set; value_names = 1; parser = Some (Signed (pos 0) (pos 4294967295)) }
+
+-- whose attributes are told
+abbrev pub attributes_rule : Rule
+attributes_rule = record (new_rule (codes "attributes")) { long = Some (codes "attributes"); action = Some Set; value_names = 1; defaults = codes "fixed" ∷ [] }
 
 -- a flag
 abbrev pub flag_rule : Text → Rule
@@ -49,9 +57,9 @@ limited app = with_rule (with_rule (with_rule app (number_rule (codes "nodes") 2
 abbrev pub hex_app : App
 hex_app = bounded (with_rule (new_app (codes "hex")) (flag_rule (codes "sample")))
 
--- told a user and a group, too
+-- told whose attributes are told, and a user and a group, too
 abbrev pub owned : App → App
-owned app = with_rule (with_rule app (user (codes "uid"))) (user (codes "gid"))
+owned app = with_rule (with_rule (with_rule app attributes_rule) (user (codes "uid"))) (user (codes "gid"))
 
 abbrev pub pipe_app : App
 pipe_app = bounded (limited (owned (with_rule (new_app (codes "pipe")) (text_rule (codes "root")))))
@@ -109,10 +117,23 @@ pub record AreBounds (rows : List Row) (bounds : Bounds) : Type 0 where
   pub requests : IsNumber 32 (codes "requests") rows bounds.requests
   pub postings : IsNumber 32 (codes "postings") rows bounds.postings
 
+-- whether an option was given that has no default
+abbrev pub is_given : Text → List Row → Bool
+is_given id rows = is_some (first_of id rows)
+
+-- whose attributes are told: fixed ones, of an owner, who is user 0 and group 0 where none is given; or those of the host, which have their owners
+abbrev pub AreSettings : List Row → Settings → Type 0
+AreSettings rows (Fixed uid gid) = IsText (codes "attributes") rows (codes "fixed") × IsNumber 32 (codes "uid") rows uid × IsNumber 32 (codes "gid") rows gid
+AreSettings rows Host = IsText (codes "attributes") rows (codes "host") × (is_given (codes "uid") rows ≡ false) × (is_given (codes "gid") rows ≡ false)
+
+-- why no settings can be: the attributes are neither, or an owner is given beside those of the host
+abbrev pub AreRefused : List Row → Refusal → Type 0
+AreRefused rows Attributes = (text : Text) × IsText (codes "attributes") rows text × (text ≢ codes "fixed") × (text ≢ codes "host")
+AreRefused rows Owner = IsText (codes "attributes") rows (codes "host") × ((is_given (codes "uid") rows ≡ true) ⊎ (is_given (codes "gid") rows ≡ true))
+
 -- what a session is served by
 pub record AreTerms (rows : List Row) (terms : Terms) : Type 0 where
-  pub uid : IsNumber 32 (codes "uid") rows terms.settings.uid
-  pub gid : IsNumber 32 (codes "gid") rows terms.settings.gid
+  pub settings : AreSettings rows terms.settings
   pub bounds : AreBounds rows terms.bounds
 
 -- what is asked for by the subcommand of that name, which was met with these rows
@@ -121,6 +142,7 @@ IsAskedBy name rows (Serve root socket workers single terms) =
     (name ≡ codes "serve") × IsText (codes "root") rows root.now × IsText (codes "socket") rows socket.now
     × IsNumber 8 (codes "workers") rows workers × IsFlag (codes "single") rows single × AreTerms rows terms
 IsAskedBy name rows (Pipe root terms) = (name ≡ codes "pipe") × IsText (codes "root") rows root.now × AreTerms rows terms
+IsAskedBy name rows (Refused refusal) = ((name ≡ codes "serve") ⊎ (name ≡ codes "pipe")) × AreRefused rows refusal
 IsAskedBy name rows (Hex sample postings) = (name ≢ codes "serve") × (name ≢ codes "pipe") × IsFlag (codes "sample") rows sample × IsNumber 32 (codes "postings") rows postings
 
 abbrev pub IsAsked : Option (Text × List Row) → Options → Type 0

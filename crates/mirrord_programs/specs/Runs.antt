@@ -9,6 +9,7 @@ use Rattle.clap.specs.declared.error.kind.ErrorKind.TheVariants.{OutOfMemory, Di
 use Rattle.engine.specs.Serving.{events_of, traffic}
 use Rattle.engine.specs.declared.ends.SessionEnd.{SessionEnd}
 use Rattle.engine.specs.declared.ends.SessionEnd.TheVariants as end
+use Rattle.ops.specs.declared.attributes.Settings.TheVariants.{Fixed}
 use Rattle.mirrord_server.specs.Folders.{ServesFolder, ServesSocket, ServesWorkers}
 use Rattle.mirrord_server.specs.Known.{known_calls, IsKnownServed}
 use Rattle.mirrord_server.specs.declared.folder.Unserved.{Unserved}
@@ -18,16 +19,17 @@ use Rattle.mirrord_programs.specs.Ends.{exit_of, failure_after, failure_of, Tell
 use Rattle.mirrord_programs.specs.Lines.{Hexing, Receives, Sends, broken_line, lines_in, unread}
 use Rattle.mirrord_programs.specs.Samples.{IsStart}
 use Rattle.mirrord_programs.specs.declared.folders.Serving.{Serving}
-use Rattle.mirrord_programs.specs.declared.faults.Failure.TheVariants.{Stopped}
+use Rattle.mirrord_programs.specs.declared.faults.Failure.TheVariants.{Stopped, Refused as Refuses}
 use Rattle.mirrord_programs.specs.declared.faults.Fault.TheVariants.{Memory, Seed}
 use Rattle.mirrord_programs.specs.declared.options.Options.{Options}
-use Rattle.mirrord_programs.specs.declared.options.Options.TheVariants.{Serve, Pipe, Hex}
+use Rattle.mirrord_programs.specs.declared.refusals.Refusal.{Refusal}
+use Rattle.mirrord_programs.specs.declared.options.Options.TheVariants.{Serve, Pipe, Hex, Refused}
 
 -- ---- the program `hex`
 
 -- nobody owns what is mirrored
 abbrev pub unowned : (postings : ℕ) → Terms
-unowned postings = record { settings = record { uid = 0; gid = 0 }; bounds = record { nodes = 65536; files = 4096; requests = 64; postings = postings } }
+unowned postings = record { settings = Fixed 0 0; bounds = record { nodes = 65536; files = 4096; requests = 64; postings = postings } }
 
 -- how often calls of a memory tree have failed
 abbrev pub failed_in : MemTree → ℕ
@@ -105,11 +107,18 @@ pub record IsRefused (words : List Text) (kind : ErrorKind) : Type 0 where
   pub among : (kind ≡ OutOfMemory) ⊎ IsAmong kind (refusals_of mirrord_app words)
   pub memory : takes mirrord_app words ≡ true → kind ≡ OutOfMemory
 
+-- options that cannot be: nothing is read and nothing written to the output
+pub record IsRefusedBy (refusal : Refusal) (output output' faults faults' : Option (List ℕ)) (status : ℕ) (told : Bool) : Type 0 where
+  pub status_is : status ≡ 2
+  pub output_is : output' ≡ output
+  pub tells : Tells (Some (Refuses refusal)) told faults faults'
+
 -- the program that was asked for
 abbrev pub RunsAsked : Options → (input output output' faults faults' : Option (List ℕ)) → (status : ℕ) → (told : Bool) → Type 0
 RunsAsked (Serve root socket workers single terms) input output output' faults faults' status told =
     RunsServe root socket (record { workers = workers; single = single }) terms faults faults' status told × (output' ≡ output)
 RunsAsked (Pipe root terms) input output output' faults faults' status told = RunsPipe root terms input output output' faults faults' status told
+RunsAsked (Refused refusal) input output output' faults faults' status told = IsRefusedBy refusal output output' faults faults' status told
 RunsAsked (Hex sampled postings) input output output' faults faults' status told = RunsSeeded sampled postings input output output' faults faults' status told
 
 -- The program does what the words ask for where clap has nothing against them. Else, or where memory is refused, it ends as a

@@ -3,7 +3,7 @@
 ghost use Rattle.std.specs.Prelude.{◌≡◌, codes, false, IfOk, pos};
 ghost use Rattle.clap.specs.Words.{app_of, rule_of};
 ghost use Rattle.clap.specs.declared.builder.command.Command.TheViews.{out-Command as fields_of};
-ghost use Rattle.mirrord_programs.specs.CommandLine.{bare_app, bounded, flag_rule, hex_app, limited, mirrord_app, owned, number_rule, pipe_app, serve_app, single_rule, staffed, text_rule, user};
+ghost use Rattle.mirrord_programs.specs.CommandLine.{attributes_rule, bare_app, bounded, flag_rule, hex_app, limited, mirrord_app, owned, number_rule, pipe_app, serve_app, single_rule, staffed, text_rule, user};
 
 use clap::builder::ValueParser;
 use clap::{Arg, ArgAction, Command};
@@ -46,9 +46,11 @@ const WORKERS: &str =
 
 const SINGLE: &str = "One thread does all, one request after another, whatever --workers says";
 
-const UID: &str = "The user that each file and folder is told to belong to";
+const ATTRIBUTES: &str = "Whose attributes are told: fixed (of one owner, without times), or host (those of the folder, which can be set)";
 
-const GID: &str = "The group that each file and folder is told to belong to";
+const UID: &str = "The user that each file and folder is told to belong to, if not 0; with fixed attributes";
+
+const GID: &str = "The group that each file and folder is told to belong to, if not 0; with fixed attributes";
 
 const NODES: &str = "How many files and folders the client may know at a time, the root among them";
 
@@ -104,7 +106,26 @@ fn owner_option<'a>(alloc: Global, name: &'a str, help: &'a str) -> Arg<'a>
     ensures rule { rule_of result ≡ user name.entry.now }
     ensures local { result.global ≡ false }
 {
-    number_option(alloc, name, 0, u32::MAX, "0", help)
+    let parser = ValueParser::Signed(0, i64::from(u32::MAX));
+    Arg::new(alloc, name)
+        .long(name)
+        .value_name("N")
+        .value_parser(parser)
+        .action(ArgAction::Set)
+        .help(help)
+}
+
+/// The option that says whose attributes are told.
+fn attributes_option<'a>(alloc: Global) -> Arg<'a>
+    ensures rule { rule_of result ≡ attributes_rule }
+    ensures local { result.global ≡ false }
+{
+    Arg::new(alloc, "attributes")
+        .long("attributes")
+        .value_name("WHOSE")
+        .default_value("fixed")
+        .action(ArgAction::Set)
+        .help(ATTRIBUTES)
 }
 
 /// A flag.
@@ -165,12 +186,13 @@ fn hex_command<'a>(alloc: Global) -> Result<Command<'a>, AllocError>
     with_postings(alloc, sampled)
 }
 
-/// A command that is also told a user and a group.
+/// A command that is also told whose attributes are told, and a user and a group.
 fn with_owner<'a>(alloc: Global, command: Command<'a>) -> Result<Command<'a>, AllocError>
     ensures app { IfOk result (λ c. app_of c ≡ owned (app_of command.entry)) }
     ensures local { (fields_of command.entry).has_globals ≡ false → IfOk result (λ c. (fields_of c).has_globals ≡ false) }
 {
     command
+        .arg(attributes_option(alloc))?
         .arg(owner_option(alloc, "uid", UID))?
         .arg(owner_option(alloc, "gid", GID))
 }

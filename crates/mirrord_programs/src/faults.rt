@@ -5,6 +5,7 @@ ghost use Rattle.std.specs.Io.KnownBytes.{Appends};
 ghost use Rattle.mirrord_programs.specs.Faults.{line_of, status_of};
 ghost use Rattle.mirrord_programs.specs.declared.faults.Fault.TheVariants.{Link, Memory};
 
+use crate::refusals::Refusal;
 use std::alloc::AllocError;
 use std::error::Error;
 use std::fmt::Display;
@@ -37,6 +38,8 @@ pub enum Failure<'a> {
     NoFolder { root: &'a str },
     /// No client can be waited for there.
     NoSocket { path: &'a str },
+    /// Its options cannot be.
+    Refused(Refusal),
 }
 
 impl<'a> Failure<'a> {
@@ -45,6 +48,7 @@ impl<'a> Failure<'a> {
         ensures { result ≡ status_of self.entry }
     {
         match self {
+            Failure::Refused(_) => 2,
             Failure::Stopped(Fault::FrameLength { .. }) => 3,
             Failure::Stopped(
                 Fault::Line { .. } | Fault::Link | Fault::Memory | Fault::Seed | Fault::Workers,
@@ -87,6 +91,7 @@ impl<'a> Display for Failure<'a> {
             Failure::Stopped(fault) => write!(f, "{fault}"),
             Failure::NoFolder { root } => write!(f, "{root} is not a folder"),
             Failure::NoSocket { path } => write!(f, "cannot listen on {path}"),
+            Failure::Refused(refusal) => write!(f, "{refusal}"),
         }
     }
 }

@@ -12,13 +12,14 @@ use std::random::RandomSource;
 use std::rt::Files;
 use std::sync::Wait;
 use std::thread::Threads;
+use std::time::Clock;
 
 /// The name of what `pipe` reads.
 const STANDARD_INPUT: &str = "standard input";
 
 /// Serves the folder `root` to the client who writes `input` and reads `output`: the program `pipe` but for its command line.
 pub fn pipe_run<
-    H: Wait + RandomSource + Files<File = File> + AllocGlobal + Clone + Drop,
+    H: Wait + RandomSource + Files<File = File> + Clock + AllocGlobal + Clone + Drop,
     I: Read + Drop,
     O: Write + Drop,
     F: Write,
@@ -51,6 +52,7 @@ pub fn serve_run<
         + Net
         + RandomSource
         + Files<File = File>
+        + Clock
         + AllocGlobal
         + Clone
         + Send

@@ -7,6 +7,7 @@ mod faults;
 mod folders;
 mod hexadecimal;
 mod options;
+mod refusals;
 mod runs;
 mod samples;
 
@@ -16,5 +17,6 @@ pub use faults::{Failure, Fault, tell};
 pub use folders::{Serving, pipe_run, serve_run};
 pub use hexadecimal::HexLink;
 pub use options::{Options, read_options};
+pub use refusals::Refusal;
 pub use runs::{hex_run, run};
 pub use samples::new_tree;

@@ -1,11 +1,12 @@
 //! What a command line asks for.
 
-ghost use Rattle.std.specs.Prelude.{◌≡◌, codes, true, map, IfErr, IfOk};
+ghost use Rattle.std.specs.Prelude.{◌≡◌, ◌⊎◌, codes, true, map, IfErr, IfOk};
 ghost use Rattle.clap.specs.Words.{fault_of, found_of, kind_of, rows_of, subcommand_of, subcommand_rows_of, takes, FailsBy};
 ghost use Rattle.clap.specs.declared.error.kind.ErrorKind.TheVariants.{OutOfMemory};
-ghost use Rattle.mirrord_programs.specs.CommandLine.{mirrord_app, AreBounds, AreTerms, IsAsked, IsAskedBy, IsFlag, IsNumber, IsText, NumberReads};
+ghost use Rattle.mirrord_programs.specs.CommandLine.{mirrord_app, AreBounds, AreRefused, AreSettings, AreTerms, IsAsked, IsAskedBy, IsFlag, IsNumber, IsText, NumberReads, is_given};
 
 use crate::command::{DEFAULT_POSTINGS, command};
+use crate::refusals::Refusal;
 use clap::{ArgMatches, Error};
 use engine::Settings;
 use mirrord_server::{Bounds, Terms};
@@ -25,14 +26,14 @@ pub enum Options<'a> {
         workers: u8,
         /// Whether one thread does all, whatever their number.
         single: bool,
-        /// Whom all of it is told to belong to, and how far the table may grow.
+        /// Whose attributes are told, and how far the table may grow.
         terms: Terms,
     },
     /// Serve a folder over standard input and output.
     Pipe {
         /// The folder.
         root: &'a str,
-        /// Whom all of it is told to belong to, and how far the table may grow.
+        /// Whose attributes are told, and how far the table may grow.
         terms: Terms,
     },
     /// Serve a tree in memory over hexadecimal lines.
@@ -42,6 +43,8 @@ pub enum Options<'a> {
         /// How many postings a period of the ledger may have.
         postings: u32,
     },
+    /// Nothing can be served so.
+    Refused(Refusal),
 }
 
 /// The text of an option.
@@ -104,29 +107,56 @@ fn bounds_in(matches: &ArgMatches<'_>) -> Bounds
     }
 }
 
-/// What a session is served by.
-fn terms_in(matches: &ArgMatches<'_>) -> Terms
-    ensures { AreTerms (rows_of (found_of matches.now)) result }
+/// Whether an option was given that has no default.
+fn is_given(matches: &ArgMatches<'_>, name: &str) -> bool
+    ensures { result ≡ is_given name.now (rows_of (found_of matches.now)) }
 {
-    Terms {
-        settings: Settings {
-            uid: number_in(matches, "uid"),
-            gid: number_in(matches, "gid"),
-        },
-        bounds: bounds_in(matches),
+    matches.get_str(name).is_some()
+}
+
+/// Whose attributes are told.
+fn settings_in(matches: &ArgMatches<'_>) -> Result<Settings, Refusal>
+    ensures ok { IfOk result (AreSettings (rows_of (found_of matches.now))) }
+    ensures err { IfErr result (AreRefused (rows_of (found_of matches.now))) }
+{
+    let attributes = text_in(matches, "attributes");
+    if attributes == "fixed" {
+        let uid = number_in(matches, "uid");
+        let gid = number_in(matches, "gid");
+        return Ok(Settings::Fixed { uid, gid });
     }
+    if attributes != "host" {
+        return Err(Refusal::Attributes);
+    }
+    if is_given(matches, "uid") || is_given(matches, "gid") {
+        return Err(Refusal::Owner);
+    }
+    Ok(Settings::Host)
+}
+
+/// What a session is served by.
+fn terms_in(matches: &ArgMatches<'_>) -> Result<Terms, Refusal>
+    ensures ok { IfOk result (AreTerms (rows_of (found_of matches.now))) }
+    ensures err { IfErr result (AreRefused (rows_of (found_of matches.now))) }
+{
+    let settings = settings_in(matches)?;
+    let bounds = bounds_in(matches);
+    Ok(Terms { settings, bounds })
 }
 
 /// What `serve` asks for.
 fn serve_asked<'a>(matches: &ArgMatches<'a>) -> Options<'a>
     ensures { IsAskedBy (codes "serve") (rows_of (found_of matches.now)) result }
 {
-    Options::Serve {
-        root: text_in(matches, "root"),
-        socket: text_in(matches, "socket"),
-        workers: small_number_in(matches, "workers"),
-        single: flag_in(matches, "single"),
-        terms: terms_in(matches),
+    match terms_in(matches) {
+        Ok(terms) => Options::Serve {
+            root: text_in(matches, "root"),
+            socket: text_in(matches, "socket"),
+            workers: small_number_in(matches, "workers"),
+            single: flag_in(matches, "single"),
+            terms,
+        },
+        Err(refusal) => Options::Refused(refusal),
     }
 }
 
@@ -134,9 +164,12 @@ fn serve_asked<'a>(matches: &ArgMatches<'a>) -> Options<'a>
 fn pipe_asked<'a>(matches: &ArgMatches<'a>) -> Options<'a>
     ensures { IsAskedBy (codes "pipe") (rows_of (found_of matches.now)) result }
 {
-    Options::Pipe {
-        root: text_in(matches, "root"),
-        terms: terms_in(matches),
+    match terms_in(matches) {
+        Ok(terms) => Options::Pipe {
+            root: text_in(matches, "root"),
+            terms,
+        },
+        Err(refusal) => Options::Refused(refusal),
     }
 }
 

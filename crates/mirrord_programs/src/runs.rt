@@ -1,14 +1,15 @@
 //! Whole runs of the programs, but for the system around them.
 
-ghost use Rattle.std.specs.Prelude.{◌≡◌, map};
+ghost use Rattle.std.specs.Prelude.{◌≡◌, ℕ, List, Option, map};
 ghost use Rattle.clap.specs.Words.{kind_of};
-ghost use Rattle.mirrord_programs.specs.Runs.{IsUnserved, RunsHex, RunsSeeded, RunsWords, ServesHex, unowned};
+ghost use Rattle.mirrord_programs.specs.Runs.{IsRefusedBy, IsUnserved, RunsHex, RunsSeeded, RunsWords, ServesHex, unowned};
 
 use crate::ended::{Ended, failure_of, status_after, tell_any};
 use crate::faults::{Failure, Fault, tell};
 use crate::folders::{Serving, pipe_run, serve_run};
 use crate::hexadecimal::HexLink;
 use crate::options::{Options, read_options};
+use crate::refusals::Refusal;
 use crate::samples::new_tree;
 use clap::error::ErrorKind;
 use engine::{SessionEnd, Settings};
@@ -22,6 +23,7 @@ use std::random::RandomSource;
 use std::rt::Files;
 use std::sync::Wait;
 use std::thread::Threads;
+use std::time::Clock;
 use table::Seeds;
 
 /// What a tree in memory is served by: nobody owns what is mirrored.
@@ -29,7 +31,7 @@ fn unowned(postings: u32) -> Terms
     ensures { result ≡ unowned postings }
 {
     Terms {
-        settings: Settings { uid: 0, gid: 0 },
+        settings: Settings::Fixed { uid: 0, gid: 0 },
         bounds: Bounds {
             postings,
             ..Bounds::default()
@@ -142,6 +144,19 @@ fn explain<O: Write + Drop, F: Write>(
     }
 }
 
+/// Says why options cannot be.
+fn refuse<O: Drop, F: Write>(refusal: Refusal, output: O, faults: &mut F) -> Ended<O>
+    ensures output { result.output ≡ output }
+    ensures refused { (out : Option (List ℕ)) → IsRefusedBy refusal out out (F.contents faults.old) (F.contents faults.new) result.status result.told }
+{
+    let failure = Failure::Refused(refusal);
+    Ended {
+        status: failure.status(),
+        told: tell(faults, failure),
+        output,
+    }
+}
+
 /// The program `mirrord`, whose first word names it. The `host` is the same system as `rt`, by its name: what workers are sent may rest on
 /// no bound of a type parameter.
 pub fn run<
@@ -150,6 +165,7 @@ pub fn run<
         + Net
         + RandomSource
         + Files<File = File>
+        + Clock
         + AllocGlobal
         + Clone
         + Send
@@ -180,6 +196,7 @@ pub fn run<
         Ok(Options::Hex { sample, postings }) => {
             run_hex(rt, sample, postings, input, output, faults)
         }
+        Ok(Options::Refused(refusal)) => refuse(refusal, output, faults),
         Err(error) => explain(&error, output, faults),
     }
 }

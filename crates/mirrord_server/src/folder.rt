@@ -15,6 +15,7 @@ use std::io::{ErrorKind, Read, Write};
 use std::random::RandomSource;
 use std::rt::Files;
 use std::sync::Wait;
+use std::time::Clock;
 use table::Seeds;
 
 /// Why nothing is served.
@@ -50,7 +51,7 @@ fn unopened(error: io::Error) -> Unserved
 }
 
 /// Opens the folder that is served.
-pub(crate) fn open_folder<H: Files<File = File> + AllocGlobal + Clone + Drop>(
+pub(crate) fn open_folder<H: Files<File = File> + Clock + AllocGlobal + Clone + Drop>(
     rt: &H,
     root: &str,
 ) -> Result<Folder<System<H>>, Unserved>
@@ -78,7 +79,7 @@ pub(crate) fn new_seeds<H: RandomSource>(rt: &H) -> Result<Seeds, Unserved>
 
 /// Serves a folder that no call was made of.
 pub(crate) fn serve_opened<
-    H: Wait + Files<File = File> + AllocGlobal + Clone + Drop,
+    H: Wait + Files<File = File> + Clock + AllocGlobal + Clone + Drop,
     I: Read + Drop,
     O: Write + Drop,
 >(
@@ -99,7 +100,7 @@ pub(crate) fn serve_opened<
 
 /// Serves the folder at `root` to the client who writes `input` and reads `output`, until its session ends.
 pub fn serve_folder<
-    H: Wait + RandomSource + Files<File = File> + AllocGlobal + Clone + Drop,
+    H: Wait + RandomSource + Files<File = File> + Clock + AllocGlobal + Clone + Drop,
     I: Read + Drop,
     O: Write + Drop,
 >(rt: &H, root: &str, terms: Terms, input: I, output: O) -> Served<O>

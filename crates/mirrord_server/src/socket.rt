@@ -17,6 +17,7 @@ use std::random::RandomSource;
 use std::rt::Files;
 use std::sync::Wait;
 use std::thread::Threads;
+use std::time::Clock;
 use std::{fs, io};
 use table::Seeds;
 
@@ -32,7 +33,7 @@ fn unheard(error: io::Error) -> Unserved {
 }
 
 /// Serves the client at the other end of a socket.
-fn serve_client<H: Wait + Files<File = File> + AllocGlobal + Clone + Drop>(
+fn serve_client<H: Wait + Files<File = File> + Clock + AllocGlobal + Clone + Drop>(
     rt: &H,
     folder: Folder<System<H>>,
     seeds: Seeds,
@@ -103,7 +104,7 @@ impl Place {
 
 /// Serves the folder at `root` to the first client that connects to a new socket at `path`, until its session ends. The file of
 /// the socket is then removed, unless something else stands there by then.
-pub fn serve_socket<H: Wait + Net + RandomSource + Files<File = File> + AllocGlobal + Clone + Drop>(
+pub fn serve_socket<H: Wait + Net + RandomSource + Files<File = File> + Clock + AllocGlobal + Clone + Drop>(
     rt: &H,
     root: &str,
     path: &str,
