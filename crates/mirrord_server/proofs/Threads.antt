@@ -1,6 +1,6 @@
 -- A folder that is served by threads.
-use Rattle.std.proofs.Common.{ℕ, ◌+◌, ◌<◌, ◌≡◌, ◌⊎◌, List, Option, Some, None, Ok, IfNone, IfSome, inl, inr, option_map, range_with_len, subst}
-use Rattle.std.proofs.Math.ListN.{replicate}
+use Rattle.std.proofs.Common.{ℕ, ◌+◌, ◌<◌, ◌≡◌, ◌⊎◌, List, Option, Some, None, Ok, IfNone, IfSome, inl, inr, option_map, replicate, subst}
+use Rattle.std.specs.List.{range_with_len}
 use Rattle.crossbeam_channel.specs.Claims.{view}
 use Rattle.backing_folder.specs.Explained.{Tells}
 use Rattle.table_recorded.specs.Histories.{Made}

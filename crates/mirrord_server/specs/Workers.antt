@@ -1,6 +1,6 @@
 -- Sessions from a folder of the system by threads.
-use Rattle.std.specs.Prelude.{ℕ, ◌<◌, ◌+◌, ◌≡◌, ◌⊎◌, List, Option, Some, Result, Ok, Err, option_map, range_with_len}
-use Rattle.std.proofs.Math.ListN.{replicate}
+use Rattle.std.specs.Prelude.{ℕ, ◌<◌, ◌+◌, ◌≡◌, ◌⊎◌, List, replicate, Option, Some, Result, Ok, Err, option_map}
+use Rattle.std.specs.List.{range_with_len}
 use Rattle.crossbeam_channel.specs.Claims.{view}
 use Rattle.backing_folder.specs.Explained.{Tells}
 use Rattle.table_recorded.specs.Histories.{Made}

@@ -1,7 +1,6 @@
 //! A folder of the system, served by threads.
 
-ghost use Rattle.std.specs.Prelude.{◌≡◌, IfOk, vec_len};
-ghost use Rattle.std.proofs.Math.ListN.{replicate};
+ghost use Rattle.std.specs.Prelude.{◌≡◌, IfOk, replicate, vec_len};
 ghost use Rattle.mirrord_server.specs.Workers.{ServesWorkers};
 
 use crate::folder::{Unserved, open_folder};

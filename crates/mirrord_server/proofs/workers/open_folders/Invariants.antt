@@ -1,5 +1,4 @@
-use Rattle.std.specs.Prelude.{◌≡◌, ◌≤◌, vec_capacity}
-use Rattle.std.proofs.Math.ListN.{replicate}
+use Rattle.std.specs.Prelude.{◌≡◌, ◌≤◌, replicate, vec_capacity}
 use Rattle.mirrord_server.proofs.workers.open_folders.Given as goal
 
 abbrev pub invariant-loop-opened : goal.invariant-loop-opened
