@@ -17,13 +17,15 @@ pub struct ReaderEnd {
     pub end: Option<SessionEnd>,
     /// The job of the frame that ended the session, if one did.
     pub farewell: Option<Job>,
+    /// The job that was handed back, if one was.
+    pub handed_back: Option<Job>,
 }
 
 impl ReaderEnd {
     /// What a reader leaves that has ended so.
     pub fn new(reader: Reader, end: Option<SessionEnd>) -> ReaderEnd
         ensures seat { IsSeatAt (sends_on reader.to) result.pass }
-        ensures same { (view result.pass ≡ view reader.pass) × (result.end ≡ end) × (result.farewell ≡ reader.farewell) }
+        ensures same { (view result.pass ≡ view reader.pass) × (result.end ≡ end) × (result.farewell ≡ reader.farewell) × (result.handed_back ≡ reader.handed_back) }
         ensures takes_none { length (view result.pass).taken ≡ 0 }
     {
         let Reader {
@@ -33,13 +35,16 @@ impl ReaderEnd {
             agreed: _,
             cutter: _,
             room: _,
+            unkept: _,
             farewell,
+            handed_back,
         } = reader;
         drop(to);
         ReaderEnd {
             pass,
             end,
             farewell,
+            handed_back,
         }
     }
 }
