@@ -126,7 +126,7 @@ abbrev pub KeepsNone : (kept : List ℕ) → Option SessionEnd → Type 0
 KeepsNone kept None = ⊥
 KeepsNone kept (Some (ends.Closed len)) = ⊥
 KeepsNone kept (Some ends.Destroyed) = ⊥
-KeepsNone kept (Some (ends.BadLength len)) = BeginsBadly kept len
+KeepsNone kept (Some (ends.BadLength len)) = ∥ BeginsBadly kept len ∥₁
 KeepsNone kept (Some ends.LinkBroken) = ⊥
 KeepsNone kept (Some ends.Memory) = Unit {0}
 KeepsNone kept (Some ends.NoWorkers) = ⊥

@@ -6,6 +6,7 @@ ghost use Rattle.crossbeam_channel.specs.Ends.{sends_on};
 ghost use Rattle.engine.specs.Links.{heard, IsWithin};
 ghost use Rattle.engine_queues.specs.Jobs.{numbers};
 ghost use Rattle.wire.specs.Requests.{IsFramed};
+ghost use Rattle.wire.specs.Stream.{StoppedBy};
 
 use crate::verdicts::{agrees_after, is_farewell};
 use engine::{LinkIn, Received, SessionEnd};
@@ -34,6 +35,7 @@ pub struct Reader {
     /// The job that the queue handed back, if it did that, or for which no number was left. It is not queued.
     pub handed_back: Option<Job>,
     ghost within: { unkept ≤ vec_len room },
+    ghost stopped_by: { ∥ StoppedBy cutter.kept cutter.stopped ∥₁ },
     ghost seated: { IsSeatAt (sends_on to) pass },
     ghost some_part: { 0 < (view pass).parts },
     ghost takes_none: { length (view pass).taken ≡ 0 },

@@ -125,11 +125,10 @@ pub fn end_all<
         pass,
         end,
         farewell,
-        handed_back: back,
+        is_handed_back: is_job_handed_back,
     } = reader.into_inner().into_end();
     let mut writer = writer.into_inner();
     let last = Snapshot::of(&farewell);
-    let is_job_handed_back = back.is_some();
     let leaving = take_leave(
         rt, &hall, &dirs, jobs, replies, ends, starter, own, farewell,
     );

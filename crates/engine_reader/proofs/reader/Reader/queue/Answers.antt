@@ -13,8 +13,8 @@ use Rattle.engine_reader.proofs.reader.Reader.queue.Goals as goal
 pub send_as-requires-clause-rule : goal.send_as-requires-clause-rule
 send_as-requires-clause-rule g c = (puts _ _ _ _ c.args.self.now.some_part, λ items views b at. tt)
 
-pub invariant_of-self-clause-numbered : goal.invariant_of-self-clause-numbered
-invariant_of-self-clause-numbered g c =
+pub invariant_of-self-in-Ok-clause-numbered : goal.invariant_of-self-in-Ok-clause-numbered
+invariant_of-self-in-Ok-clause-numbered g c =
     subst (λ (v : Hand Job). map (λ (j : Job). j.ordinal) v.put ≡ numbers 0 (length v.put)) (sym c.in-Ok.ensures.rule)
     (numbered_snoc (λ (j : Job). j.ordinal) (view c.args.self.now.pass).put _ c.args.self.now.numbered (sym c.args.self.now.counted))
 

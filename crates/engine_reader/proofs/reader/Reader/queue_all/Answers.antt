@@ -5,6 +5,7 @@ use Rattle.engine.specs.declared.ends.SessionEnd.TheVariants as ends
 use Rattle.engine_jobs.specs.declared.jobs.Job.{Job}
 use Rattle.engine_reader.specs.Shown.{progress, shown}
 use Rattle.engine_reader.specs.Verdicts.{IsFarewell, Queued}
+use Rattle.engine_reader.proofs.Receiving.{stopped_after}
 use Rattle.engine_reader.proofs.Queuing.{all_queued, nothing_queued, one_queued, told_same}
 use Rattle.engine_reader.proofs.reader.Reader.queue_all.Goals as goal
 
@@ -48,9 +49,9 @@ returns-then-not-queue-clause-all g c =
       framed = frame.framed;
       other = subst (λ (b : Bool). IsFarewell b items → ⊥) (sym no.1) other;
       tells = record {
-          farewell_is = ap (λ (j : Option Job). option_map shown j) c.queue.ensures.farewell;
-          handed_back_is = no.2 ∙ ap (λ (b : Bool). Some (record { agreed = b; frame = items })) (sym no.1);
-        };
+        farewell_is = ap (λ (j : Option Job). option_map shown j) c.queue.ensures.farewell;
+        handed_back_is = no.2 ∙ ap (λ (b : Bool). Some (record { agreed = b; frame = items })) (sym no.1);
+      };
     }))
 
 pub loop-frame-preserved : goal.loop-frame-preserved
@@ -83,3 +84,9 @@ returns-in-Err-Memory-clause-all g c =
     let asked = arm.ensures.asked lacks in
     all_queued (progress c.args.self.now) (progress c.loop-frame.self) _ (Some ends.Memory) c.loop-frame.invariant.so_far refl refl refl
     (inl (record { len = asked.0; whole = asked.1; kept_is = ap (λ (k : Cutting). k.kept) (arm.ensures.memory lacks); tells = told_same }))
+
+-- it may be stopped now
+pub invariant_of-self-in-Err-1-clause-stopped_by : goal.invariant_of-self-in-Err-1-clause-stopped_by
+invariant_of-self-in-Err-1-clause-stopped_by g c =
+    let e = c.next.ensures in
+    stopped_after (λ f. f.items) c.loop-frame.self.cutter c.next.new.self c.next.result e.frame e.none e.bad e.for_good e.memory c.loop-frame.self.stopped_by
