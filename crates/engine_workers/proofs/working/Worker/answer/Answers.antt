@@ -13,4 +13,4 @@ returns-clause-answers g c settled e =
     let m = c.meet in
     let same : m.result ≡ settled = ap settled_by e in
     subst (λ (o : Option Settlement). AnswersJob (does g.C.Calls.gives g.D.Folders.keeps) s.session.settings s.number c.args.job.now (standing (view s.job_pass) (outbox (view s.reply_pass) s.handed_back) (means c.args.served.now c.args.share.now (on_table_of c.args.visitor.now.front))) o
-        (standing (view m.new.self.job_pass) (outbox (view m.new.self.reply_pass) m.new.self.handed_back) (means m.new.served m.new.share (on_table_of m.new.visitor.front)))) same m.ensures.answers
+    (standing (view m.new.self.job_pass) (outbox (view m.new.self.reply_pass) m.new.self.handed_back) (means m.new.served m.new.share (on_table_of m.new.visitor.front)))) same m.ensures.answers

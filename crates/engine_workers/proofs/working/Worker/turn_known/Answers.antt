@@ -1,5 +1,5 @@
 use Rattle.engine_workers.proofs.KnownRuns.{known_run}
-use Rattle.engine_workers.proofs.known.Worker.turn_known.Goals as goal
+use Rattle.engine_workers.proofs.working.Worker.turn_known.Goals as goal
 
 pub returns-clause-worked : goal.returns-clause-worked
 returns-clause-worked g c settled e =
