@@ -24,7 +24,7 @@ pub record AreServed (terms : Terms) (workers : ℕ) (over : SessionEnd) : Type 
   pub output : Streaming
   pub account : Account
   pub numbers : numbers_of account.passed.passes.value.items ≡ range_with_len 0 (workers + 1)
-  pub reads : ∥ HasReadAll Receives (Some input) account.passed.input (queued_of (view account.passed.read.value).put) (option_map shown account.passed.farewell.value) ∥₁
+  pub reads : ∥ HasReadAll Receives (Some input) account.passed.input (queued_of (view account.passed.read.value).put) (option_map shown account.passed.farewell.value) account.passed.is_job_handed_back ∥₁
   pub shared : IsShared (view account.passed.read.value) account.passed.passes.value.items (view account.passed.written.value)
   pub served : ∥ ((history : List Made) × HasServed Tells Sends (limits_of terms.bounds) terms.settings (replicate workers 0) output account.passed account.sums.totals history) ∥₁
   pub ends : EndsAs account.passed.input account.passed.is_broken over
