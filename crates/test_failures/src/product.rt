@@ -76,10 +76,10 @@ pub fn what_stands(alloc: Global, tree: &mut MemTree, name: &str) -> Result<Told
         Answer::Stat {
             kind: Kind::File,
             size,
+            ..
         } => Told::File(size),
         Answer::Stat {
-            kind: Kind::Folder,
-            size: _,
+            kind: Kind::Folder, ..
         } => Told::Folder,
         Answer::Fault(errno) => Told::Error(errno),
         _ => Told::Done,

@@ -65,7 +65,7 @@ pub struct Came {
     pub totals: Option<(u64, u64, u64)>,
 }
 
-pub const SETTINGS: Settings = Settings { uid: 0, gid: 0 };
+pub const SETTINGS: Settings = Settings::Fixed { uid: 0, gid: 0 };
 
 const INIT: (u64, Operation<'static>) = (
     0,
