@@ -33,7 +33,9 @@ LEAST_FRAME, MOST_FRAME = 40, 69632
 MOST_WRITTEN, MOST_READ = 65536, 131072
 PAGE = 4096
 FOLDER, FILE = 4, 8
-SET_SIZE, SET_HANDLE = 1 << 3, 1 << 6
+SET_MODE, SET_UID, SET_GID, SET_SIZE, SET_ATIME, SET_MTIME = (1 << bit for bit in range(6))
+SET_HANDLE, SET_ATIME_NOW, SET_MTIME_NOW = 1 << 6, 1 << 7, 1 << 8
+NOW = "now"
 NO_REPLACE, EXCHANGE = 1, 2
 
 HEADER = struct.Struct("<IIQQIIII")
@@ -51,7 +53,8 @@ ENTRY_LEN = ENTRY_OUT.size + ATTR.size
 # --- What replies say ---
 
 class Attr(NamedTuple):
-    """What is known of a file or a folder. Times are always 0, and `mode`, `uid` and `gid` are the server's settings."""
+    """What is known of a file or a folder; times in nanoseconds since 1970. With `--attributes fixed` the times are 0, the number `ino` is the node's,
+    and `mode`, `uid` and `gid` are the server's settings."""
     ino: int
     size: int
     blocks: int
@@ -60,6 +63,9 @@ class Attr(NamedTuple):
     uid: int
     gid: int
     blksize: int
+    atime: int
+    mtime: int
+    ctime: int
 
 
 class Entry(NamedTuple):
@@ -150,13 +156,27 @@ def setattr_size(unique, node, size, handle=None):
     return setattr_of(unique, node, valid, handle or 0, size)
 
 
-def setattr_of(unique, node, valid, handle=0, size=0):
-    """A SETATTR of any fields; all but the size are refused."""
-    return request(SETATTR, unique, node, SETATTR_IN.pack(valid, 0, handle, size, *[0] * 12))
+def setattr_of(unique, node, valid, handle=0, size=0, mode=0, uid=0, gid=0, atime=0, mtime=0):
+    """A SETATTR of the fields that `valid` says. With `--attributes fixed` all but the size are refused."""
+    (accessed, accessed_part), (modified, modified_part) = (divmod(time, 10**9) for time in (atime, mtime))
+    seconds = [accessed % 2**64, modified % 2**64, 0]
+    return request(SETATTR, unique, node, SETATTR_IN.pack(valid, 0, handle, size, 0, *seconds, accessed_part, modified_part, 0, mode, 0, uid, gid, 0))
 
 
-def mkdir(unique, parent, name):
-    return request(MKDIR, unique, parent, bytes(8) + name_bytes(name))
+def setattr_parts(unique, node, handle=None, **parts):
+    """A SETATTR of what is given: `mode`, `uid`, `gid`, `size`, and `atime` and `mtime` in nanoseconds since 1970 or NOW, the server's present."""
+    asked = {name: value for name, value in parts.items() if value is not None}
+    bits = {"mode": SET_MODE, "uid": SET_UID, "gid": SET_GID, "size": SET_SIZE, "atime": SET_ATIME, "mtime": SET_MTIME}
+    valid = sum(bits[name] for name in asked) | (0 if handle is None else SET_HANDLE)
+    for name, bit in (("atime", SET_ATIME_NOW), ("mtime", SET_MTIME_NOW)):
+        if asked.get(name) == NOW:
+            valid, asked[name] = valid | bit, 0
+    return setattr_of(unique, node, valid, handle or 0, **asked)
+
+
+def mkdir(unique, parent, name, mode=0, umask=0):
+    """With `--attributes host` the folder gets the bits of the mode that are not in the umask; else the server's own mask decides."""
+    return request(MKDIR, unique, parent, struct.pack("<II", mode, umask) + name_bytes(name))
 
 
 def unlink(unique, parent, name):
@@ -184,8 +204,9 @@ def open_file(unique, node, flags):
     return request(OPEN, unique, node, struct.pack("<II", flags, 0))
 
 
-def create(unique, parent, name, flags):
-    return request(CREATE, unique, parent, struct.pack("<IIII", flags, 0, 0, 0) + name_bytes(name))
+def create(unique, parent, name, flags, mode=0, umask=0):
+    """The mode and the umask count as those of a MKDIR."""
+    return request(CREATE, unique, parent, struct.pack("<IIII", flags, mode, umask, 0) + name_bytes(name))
 
 
 def read(unique, node, handle, offset, size):
@@ -273,8 +294,10 @@ def written_of(body):
 
 
 def attr_at(body, at):
-    ino, size, blocks, _, _, _, _, _, _, mode, nlink, uid, gid, _, blksize, _ = ATTR.unpack_from(body, at)
-    return Attr(ino, size, blocks, mode, nlink, uid, gid, blksize)
+    ino, size, blocks, *told, mode, nlink, uid, gid, _, blksize, _ = ATTR.unpack_from(body, at)
+    # Seconds may be before 1970: in two's complement.
+    times = [((seconds + 2**63) % 2**64 - 2**63) * 10**9 + nanos for seconds, nanos in zip(told[:3], told[3:])]
+    return Attr(ino, size, blocks, mode, nlink, uid, gid, blksize, *times)
 
 
 def attr_of(body):
@@ -429,8 +452,12 @@ class Client:
     def setattr_size(self, node, size, handle=None):
         return attr_of(self.ask(setattr_size(self.number(), node, size, handle)))
 
-    def mkdir(self, parent, name):
-        return entry_of(self.ask(mkdir(self.number(), parent, name), name))
+    def setattr(self, node, handle=None, **parts):
+        """Sets `mode`, `uid`, `gid`, `size`, `atime` and `mtime`, those of them that are given; times in nanoseconds since 1970, or NOW."""
+        return attr_of(self.ask(setattr_parts(self.number(), node, handle, **parts)))
+
+    def mkdir(self, parent, name, mode=0, umask=0):
+        return entry_of(self.ask(mkdir(self.number(), parent, name, mode, umask), name))
 
     def unlink(self, parent, name):
         self.ask(unlink(self.number(), parent, name), name)
@@ -454,9 +481,9 @@ class Client:
 
     # Files.
 
-    def create(self, parent, name, flags=os.O_RDWR):
+    def create(self, parent, name, flags=os.O_RDWR, mode=0, umask=0):
         """Makes a file and opens it: its entry, and its handle."""
-        body = self.ask(create(self.number(), parent, name, flags), name)
+        body = self.ask(create(self.number(), parent, name, flags, mode, umask), name)
         return entry_of(body), created_of(body)[1]
 
     def open(self, node, flags=os.O_RDONLY):
