@@ -79,7 +79,8 @@ pub fn what_stands(alloc: Global, tree: &mut MemTree, name: &str) -> Result<Told
             ..
         } => Told::File(size),
         Answer::Stat {
-            kind: Kind::Folder, ..
+            kind: Kind::Folder,
+            ..
         } => Told::Folder,
         Answer::Fault(errno) => Told::Error(errno),
         _ => Told::Done,
