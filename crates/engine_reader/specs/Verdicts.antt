@@ -131,7 +131,7 @@ KeepsNone kept (Some ends.LinkBroken) = ⊥
 KeepsNone kept (Some ends.Memory) = Unit {0}
 KeepsNone kept (Some ends.NoWorkers) = ⊥
 
--- one receive, and what was queued after it
+-- one receive, and what was queued after it; at the end of the input it is told how many bytes are kept
 abbrev pub ReadsAs : Heard → Progress → Option SessionEnd → Progress → Type 0
 ReadsAs (Piece bytes) old end new = QueuesAll (and_then old bytes) end new ⊎ (KeepsNone old.kept end × (new ≡ with_unkept old bytes))
 ReadsAs Ended old end new = (end ≡ Some (ends.Closed (length old.kept))) × (new ≡ old)

@@ -14,7 +14,7 @@ pub put-requires : goal.put-requires
 put-requires g c =
     let m = c.meet_job-said in
     record {
-      countable = c.requires;
+      countable = c.requires.countable;
       right = λ bytes is. subst (λ (s : Settings). IsRight s c.args.job.now (bytes_of bytes) (left_in (visited_of m.result.1))) (sym m.ensures.settings)
           (right_of (does g.C.Calls.gives g.D.Folders.keeps) c.args.self.now.session.settings c.args.job.now (means c.args.served.now c.args.share.now (on_table_of c.args.visitor.now.front)) (means m.new.served m.new.share (on_table_of m.new.visitor.front)) m.result.0 (visited_of m.result.1) bytes m.ensures.meets is);
     }
