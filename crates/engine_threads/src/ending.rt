@@ -142,8 +142,13 @@ pub fn end_all<
     } = writer.into_end();
     closed.look(&mut front);
     shares.put(kept);
-    let (passes, handed_back, calls) =
-        part_with(&mut closed, leaving, passes, handed_back, &mut shares);
+    let (passes, handed_back, calls) = part_with(
+        &mut closed,
+        leaving,
+        passes,
+        handed_back,
+        &mut shares,
+    );
     let passed = Passed {
         input: end,
         is_broken,
