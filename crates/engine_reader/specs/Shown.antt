@@ -1,5 +1,5 @@
 -- Jobs as their frames and verdicts, and how far a reader has got, in its code.
-use Rattle.std.specs.Prelude.{List, map}
+use Rattle.std.specs.Prelude.{List, map, take}
 use Rattle.std.specs.Option.{option_map}
 use Rattle.crossbeam_channel.specs.Claims.{view}
 use Rattle.engine_jobs.specs.declared.jobs.Job.{Job}
@@ -13,7 +13,14 @@ abbrev pub queued_of : List Job → List Queued
 queued_of jobs = map shown jobs
 
 abbrev pub progress : Reader → Progress
-progress reader = record { kept = reader.cutter.kept; agreed = reader.agreed; put = queued_of (view reader.pass).put; farewell = option_map shown reader.farewell }
+progress reader = record {
+  kept = reader.cutter.kept;
+  unkept = take reader.unkept reader.room.items;
+  agreed = reader.agreed;
+  put = queued_of (view reader.pass).put;
+  farewell = option_map shown reader.farewell;
+  handed_back = option_map shown reader.handed_back;
+}
 
 abbrev pub reading : {L : Type 0} → L → Reader → Reading L
 reading link reader = record { link = link; so_far = progress reader }

@@ -1,6 +1,7 @@
 -- What the reader queues: the frames that it hears, each with the verdict of whether a version was agreed on before it.
 use Rattle.std.specs.Prelude.{ℕ, ◌≡◌, ◌⊎◌, Bool, List, [], ◌∷◌, ◌++◌, length, Option, Some, None}
 use Rattle.wire.specs.Faults.{IsFirstFault}
+use Rattle.wire.specs.NextFrame.{IsWhole}
 use Rattle.wire.specs.Requests.{IsFramed, IsRequest, opcode_in}
 use Rattle.wire.specs.Stream.{BeginsBadly, IsPartial}
 use Rattle.wire.specs.declared.fault.WireFault.{WireFault}
@@ -50,27 +51,50 @@ Queues kept agreed (job ∷ jobs) rest now =
     (job.agreed ≡ agreed) × IsFramed job.frame × (IsFarewell agreed job.frame → ⊥)
     × ((mid : List ℕ) × (next : Bool) × (kept ≡ job.frame ++ mid) × IsVerdict agreed job.frame next × Queues mid next jobs rest now)
 
--- how far a reader has got with what it heard: the bytes that are no whole frame yet, the verdict so far, what it has queued, and the frame that
--- ended the session, if one did
+-- How far a reader has got with what it heard: the bytes that are in no frame yet, those that came behind them and could not be kept with them, the
+-- verdict so far, what it has queued, the frame that ended the session, if one did, and the one that the queue handed back, if it did that. What was
+-- received is in one of these.
 pub record Progress : Type 0 where
   pub kept : List ℕ
+  pub unkept : List ℕ
   pub agreed : Bool
   pub put : List Queued
   pub farewell : Option Queued
+  pub handed_back : Option Queued
 
--- why no more is queued, where these bytes come next; before them this frame had ended the session
-abbrev pub Stops : (rest : List ℕ) → (before : Option Queued) → Option SessionEnd → Progress → Type 0
-Stops rest before None new = (new.kept ≡ rest) × IsPartial rest × (new.farewell ≡ before)
-Stops rest before (Some (ends.Closed len)) new = ⊥
+-- which frames are told and not queued
+pub record Tells (new : Progress) (farewell handed_back : Option Queued) : Type 0 where
+  pub farewell_is : new.farewell ≡ farewell
+  pub handed_back_is : new.handed_back ≡ handed_back
+
+-- there is no copy of the whole frame that comes next, and all is kept
+pub record LacksCopy (rest : List ℕ) (old new : Progress) : Type 0 where
+  pub len : ℕ
+  pub whole : IsWhole rest len
+  pub kept_is : new.kept ≡ rest
+  pub tells : Tells new old.farewell old.handed_back
+
+-- the frame that comes next was handed back, and what comes after it is kept
+pub record IsHandedBack (rest : List ℕ) (old new : Progress) : Type 0 where
+  pub frame : List ℕ
+  pub front : rest ≡ frame ++ new.kept
+  pub framed : IsFramed frame
+  pub other : IsFarewell new.agreed frame → ⊥
+  pub tells : Tells new old.farewell (Some (record { agreed = new.agreed; frame = frame }))
+
+-- why no more is queued, where these bytes come next; so far the old frames were told
+abbrev pub Stops : (rest : List ℕ) → (old : Progress) → Option SessionEnd → Progress → Type 0
+Stops rest old None new = (new.kept ≡ rest) × IsPartial rest × Tells new old.farewell old.handed_back
+Stops rest old (Some (ends.Closed len)) new = ⊥
 -- a farewell comes next
-Stops rest before (Some ends.Destroyed) new =
-    (frame : List ℕ) × (rest ≡ frame ++ new.kept) × IsFarewell new.agreed frame × (new.farewell ≡ Some (record { agreed = new.agreed; frame = frame }))
-Stops rest before (Some (ends.BadLength len)) new = BeginsBadly rest len × (new.farewell ≡ before)
+Stops rest old (Some ends.Destroyed) new =
+    (frame : List ℕ) × (rest ≡ frame ++ new.kept) × IsFarewell new.agreed frame × Tells new (Some (record { agreed = new.agreed; frame = frame })) old.handed_back
+Stops rest old (Some (ends.BadLength len)) new = (new.kept ≡ rest) × BeginsBadly rest len × Tells new old.farewell old.handed_back
 -- a link breaks where it is heard, and nowhere else
-Stops rest before (Some ends.LinkBroken) new = ⊥
--- memory was refused, or the queue handed a job back
-Stops rest before (Some ends.Memory) new = new.farewell ≡ before
-Stops rest before (Some ends.NoWorkers) new = ⊥
+Stops rest old (Some ends.LinkBroken) new = ⊥
+-- which of both it was the frame that was handed back tells
+Stops rest old (Some ends.Memory) new = LacksCopy rest old new ⊎ IsHandedBack rest old new
+Stops rest old (Some ends.NoWorkers) new = ⊥
 
 -- these bytes are worked through: which jobs join the queue
 pub record QueuesAll (old : Progress) (end : Option SessionEnd) (new : Progress) : Type 0 where
@@ -78,22 +102,38 @@ pub record QueuesAll (old : Progress) (end : Option SessionEnd) (new : Progress)
   pub rest : List ℕ
   pub queued : new.put ≡ old.put ++ jobs
   pub queues : Queues old.kept old.agreed jobs rest new.agreed
-  pub stops : Stops rest old.farewell end new
+  pub stops : Stops rest old end new
+  pub unkept_is : new.unkept ≡ old.unkept
 
 -- so far
 pub record Queueing (old new : Progress) : Type 0 where
   pub done : List Queued
   pub queued : new.put ≡ old.put ++ done
   pub onwards : (jobs : List Queued) (rest : List ℕ) (then' : Bool) → Queues new.kept new.agreed jobs rest then' → Queues old.kept old.agreed (done ++ jobs) rest then'
-  pub farewell_is : new.farewell ≡ old.farewell
+  pub tells : Tells new old.farewell old.handed_back
+  pub unkept_is : new.unkept ≡ old.unkept
 
--- these bytes come after those that are kept
+-- these bytes come after those that came before
 abbrev pub and_then : Progress → List ℕ → Progress
-and_then old bytes = record { kept = old.kept ++ bytes; agreed = old.agreed; put = old.put; farewell = old.farewell }
+and_then old bytes = record { kept = old.kept ++ (old.unkept ++ bytes); unkept = []; agreed = old.agreed; put = old.put; farewell = old.farewell; handed_back = old.handed_back }
 
--- one receive, and what was queued after it
+-- the same, where they could not be kept
+abbrev pub with_unkept : Progress → List ℕ → Progress
+with_unkept old bytes = record { kept = old.kept; unkept = old.unkept ++ bytes; agreed = old.agreed; put = old.put; farewell = old.farewell; handed_back = old.handed_back }
+
+-- Why bytes could not be kept: a length that no frame has stands before them, or memory was refused, of which the allocator alone knows.
+abbrev pub KeepsNone : (kept : List ℕ) → Option SessionEnd → Type 0
+KeepsNone kept None = ⊥
+KeepsNone kept (Some (ends.Closed len)) = ⊥
+KeepsNone kept (Some ends.Destroyed) = ⊥
+KeepsNone kept (Some (ends.BadLength len)) = ∥ BeginsBadly kept len ∥₁
+KeepsNone kept (Some ends.LinkBroken) = ⊥
+KeepsNone kept (Some ends.Memory) = Unit {0}
+KeepsNone kept (Some ends.NoWorkers) = ⊥
+
+-- one receive, and what was queued after it; at the end of the input it is told how many bytes are kept
 abbrev pub ReadsAs : Heard → Progress → Option SessionEnd → Progress → Type 0
-ReadsAs (Piece bytes) old end new = QueuesAll (and_then old bytes) end new
+ReadsAs (Piece bytes) old end new = QueuesAll (and_then old bytes) end new ⊎ (KeepsNone old.kept end × (new ≡ with_unkept old bytes))
 ReadsAs Ended old end new = (end ≡ Some (ends.Closed (length old.kept))) × (new ≡ old)
 ReadsAs Broke old end new = (end ≡ Some ends.LinkBroken) × (new ≡ old)
 

@@ -1,6 +1,6 @@
 //! What a reader leaves.
 
-ghost use Rattle.std.specs.Prelude.{◌≡◌, length};
+ghost use Rattle.std.specs.Prelude.{◌≡◌, is_some, length};
 ghost use Rattle.crossbeam_channel.specs.Claims.{view, IsSeatAt};
 ghost use Rattle.crossbeam_channel.specs.Ends.{sends_on};
 
@@ -17,13 +17,15 @@ pub struct ReaderEnd {
     pub end: Option<SessionEnd>,
     /// The job of the frame that ended the session, if one did.
     pub farewell: Option<Job>,
+    /// Whether a job was handed back.
+    pub is_handed_back: bool,
 }
 
 impl ReaderEnd {
     /// What a reader leaves that has ended so.
     pub fn new(reader: Reader, end: Option<SessionEnd>) -> ReaderEnd
         ensures seat { IsSeatAt (sends_on reader.to) result.pass }
-        ensures same { (view result.pass ≡ view reader.pass) × (result.end ≡ end) × (result.farewell ≡ reader.farewell) }
+        ensures same { (view result.pass ≡ view reader.pass) × (result.end ≡ end) × (result.farewell ≡ reader.farewell) × (result.is_handed_back ≡ is_some reader.handed_back) }
         ensures takes_none { length (view result.pass).taken ≡ 0 }
     {
         let Reader {
@@ -33,13 +35,17 @@ impl ReaderEnd {
             agreed: _,
             cutter: _,
             room: _,
+            unkept: _,
             farewell,
+            handed_back,
         } = reader;
         drop(to);
+        let is_handed_back = handed_back.is_some();
         ReaderEnd {
             pass,
             end,
             farewell,
+            is_handed_back,
         }
     }
 }

@@ -1,6 +1,6 @@
 //! The reader as a role.
 
-ghost use Rattle.std.specs.Prelude.{◌≡◌, ◌+◌, length, Some, IfSome, IfNone};
+ghost use Rattle.std.specs.Prelude.{◌≡◌, ◌+◌, is_some, length, Some, IfSome, IfNone};
 ghost use Rattle.std.specs.Option.{option_map};
 ghost use Rattle.crossbeam_channel.specs.Claims.{view, IsSeatAt};
 ghost use Rattle.crossbeam_channel.specs.Ends.{sends_on};
@@ -60,8 +60,8 @@ impl<I: LinkIn + Drop, S: Source<I>> ReaderRole<I, S> {
         ensures seat { IfSome S.jobs (λ jobs. IsSeatAt jobs result.pass) }
         ensures parts { (view result.pass).parts + S.parted ≡ 8 }
         ensures takes_none { length (view result.pass).taken ≡ 0 }
-        ensures same { (result.end ≡ self.end) × (result.farewell ≡ self.reader.farewell) }
-        ensures read { ∥ HasReadAll I.receives S.heard_from result.end (queued_of (view result.pass).put) (option_map shown result.farewell) ∥₁ }
+        ensures same { (result.end ≡ self.end) × (result.farewell ≡ self.reader.farewell) × (result.is_handed_back ≡ is_some self.reader.handed_back) }
+        ensures read { ∥ HasReadAll I.receives S.heard_from result.end (queued_of (view result.pass).put) (option_map shown result.farewell) result.is_handed_back ∥₁ }
     {
         let ReaderRole {
             reader,

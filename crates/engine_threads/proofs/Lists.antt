@@ -29,6 +29,12 @@ next_given {X} {V} f made new x v from rest whole n s same e =
     ∙ (ap (λ (l : List V). l ++ rest) (map_last f made x)
     ∙ (append_assoc (map f made) (f x ∷ []) rest ∙ (ap (λ (k : V). map f made ++ k ∷ rest) same ∙ (ap (λ (l : List V). map f made ++ l) (sym s) ∙ e))))
 
+-- one more was put that is made of the next
+pub next_put : {X V : Type 0} (f : X → V) (put new : List V) (v : V) (x : X) (from rest : List X) (whole : List V) → new ≡ put ++ v ∷ [] → from ≡ x ∷ rest → v ≡ f x → put ++ map f from ≡ whole → new ++ map f rest ≡ whole
+next_put {X} {V} f put new v x from rest whole n s same e =
+    ap (λ (l : List V). l ++ map f rest) n
+    ∙ (append_assoc put (v ∷ []) (map f rest) ∙ (ap (λ (k : V). put ++ k ∷ map f rest) same ∙ (ap (λ (l : List X). put ++ map f l) (sym s) ∙ e)))
+
 -- nothing is left
 pub none_left : {V : Type 0} (made rest whole : List V) → length rest ≡ 0 → made ++ rest ≡ whole → made ≡ whole
 none_left made [] whole none e = sym (append-nil made) ∙ e

@@ -31,7 +31,7 @@ made_as calls_by front number n d =
 
 module _ {T N C D : Type 0} (jobs : JobQueue) (replies : ReplyQueue) (does : Behaviour C D) (settings : Settings) (calls_by : ℕ → List Call) where
   abbrev pub Ends : WorkerEnd T N C → Type 0
-  Ends e = IsOver jobs replies does settings e.given.value e.passes e.calls e.kept.share (on_table_of e.front)
+  Ends e = IsOver jobs replies does settings e.given.value e.passes e.handed_back e.calls e.kept.share (on_table_of e.front)
 
   abbrev pub Did : WorkerEnd T N C → Type 0
   Did e = calls_by e.front.by ≡ calls_of e.front.mine
@@ -42,14 +42,18 @@ module _ {T N C D : Type 0} (jobs : JobQueue) (replies : ReplyQueue) (does : Beh
   abbrev pub passes_of : List (WorkerEnd T N C) → List (Passes Job Reply)
   passes_of es = map (λ (e : WorkerEnd T N C). e.passes) es
 
-  worked_so : (e : WorkerEnd T N C) → Ends e → Did e → HasWorkedFrom does settings e.given.value e.passes e.calls e.kept.share (made_by calls_by e.passes.number)
-  worked_so e over d =
-      let index = index_from does settings e.given.value e.passes e.calls e.kept.share (on_table_of e.front) over.worked in
-      subst (λ (o : OnTable). HasWorkedFrom does settings e.given.value e.passes e.calls e.kept.share o) (made_as calls_by e.front e.passes.number index d) over.worked
+  -- how many replies of each were handed back
+  abbrev pub counts_of : List (WorkerEnd T N C) → List ℕ
+  counts_of es = map (λ (e : WorkerEnd T N C). e.handed_back) es
 
-  pub each_worked : (es : List (WorkerEnd T N C)) (own : Passes Job Reply) → All Ends es → All Did es → WorkedEach does settings calls_by (given_of es) (passes_of es ++ own ∷ [])
-  each_worked [] own h d = (own, refl)
-  each_worked (e ∷ es) own h d = ((e.calls, e.kept.share, worked_so e (All-head Ends e es h) (All-head Did e es d)), each_worked es own (All-tail Ends e es h) (All-tail Did e es d))
+  worked_so : (e : WorkerEnd T N C) → Ends e → Did e → HasWorkedFrom does settings e.given.value e.passes e.handed_back e.calls e.kept.share (made_by calls_by e.passes.number)
+  worked_so e over d =
+      let index = index_from does settings e.given.value e.passes e.handed_back e.calls e.kept.share (on_table_of e.front) over.worked in
+      subst (λ (o : OnTable). HasWorkedFrom does settings e.given.value e.passes e.handed_back e.calls e.kept.share o) (made_as calls_by e.front e.passes.number index d) over.worked
+
+  pub each_worked : (es : List (WorkerEnd T N C)) (own : Passes Job Reply) (count : ℕ) → All Ends es → All Did es → WorkedEach does settings calls_by (given_of es) (passes_of es ++ own ∷ []) (counts_of es ++ count ∷ [])
+  each_worked [] own count h d = (own, count, refl, refl)
+  each_worked (e ∷ es) own count h d = ((e.calls, e.kept.share, worked_so e (All-head Ends e es h) (All-head Did e es d)), each_worked es own count (All-tail Ends e es h) (All-tail Did e es d))
 
   are_seated : (es : List (WorkerEnd T N C)) → All Ends es → All (Seated jobs replies) (passes_of es)
   are_seated [] h = All-nil (Seated jobs replies)
@@ -74,12 +78,15 @@ module _ {T N C D : Type 0} (jobs : JobQueue) (replies : ReplyQueue) (does : Beh
   pub passes_in : (es rest : List (WorkerEnd T N C)) (last : WorkerEnd T N C) → es ≡ rest ++ last ∷ [] → passes_of es ≡ passes_of rest ++ last.passes ∷ []
   passes_in es rest last e = ap passes_of e ∙ map_last (λ (w : WorkerEnd T N C). w.passes) rest last
 
+  counts_in : (es rest : List (WorkerEnd T N C)) (last : WorkerEnd T N C) → es ≡ rest ++ last ∷ [] → counts_of es ≡ counts_of rest ++ last.handed_back ∷ []
+  counts_in es rest last e = ap counts_of e ∙ map_last (λ (w : WorkerEnd T N C). w.handed_back) rest last
+
   pub all_did : (es rest : List (WorkerEnd T N C)) (last : WorkerEnd T N C) → es ≡ rest ++ last ∷ [] → All Did rest → Did last → All Did es
   all_did es rest last e d one = All-same Did es (rest ++ last ∷ []) e (All-push Did rest last d one)
 
-  pub bids_farewell : (es rest : List (WorkerEnd T N C)) (last : WorkerEnd T N C) (own : Passes Job Reply) (front : View (Entry T)) (farewell : Option Job) → es ≡ rest ++ last ∷ [] → All Ends es → Did last → calls_by front.by ≡ calls_of front.mine
-      → AnswersFarewell does settings farewell last.calls last.kept.share own (on_table_of front) → BidsFarewell does settings calls_by (given_of es) farewell (passes_of es ++ own ∷ [])
-  bids_farewell es rest last own front farewell e h d o said = record {
+  pub bids_farewell : (es rest : List (WorkerEnd T N C)) (last : WorkerEnd T N C) (own : Passes Job Reply) (count : ℕ) (front : View (Entry T)) (farewell : Option Job) → es ≡ rest ++ last ∷ [] → All Ends es → Did last → calls_by front.by ≡ calls_of front.mine
+      → AnswersFarewell does settings farewell last.calls last.kept.share own count (on_table_of front) → BidsFarewell does settings calls_by (given_of es) farewell (passes_of es ++ own ∷ []) (counts_of es ++ count ∷ [])
+  bids_farewell es rest last own count front farewell e h d o said = record {
     others = given_of rest;
     calls = last.given.value;
     given_are = ap given_of e ∙ map_last (λ (w : WorkerEnd T N C). w.given.value) rest last;
@@ -87,10 +94,14 @@ module _ {T N C D : Type 0} (jobs : JobQueue) (replies : ReplyQueue) (does : Beh
     worker = last.passes;
     own = own;
     passes_are = ap (λ (ps : List (Passes Job Reply)). ps ++ own ∷ []) (passes_in es rest last e) ∙ append_assoc (passes_of rest) (last.passes ∷ []) (own ∷ []);
+    counts = counts_of rest;
+    worker_back = last.handed_back;
+    own_back = count;
+    handed_back_are = ap (λ (ns : List ℕ). ns ++ count ∷ []) (counts_in es rest last e) ∙ append_assoc (counts_of rest) (last.handed_back ∷ []) (count ∷ []);
     left = last.calls;
     share = last.kept.share;
     worked = worked_so last (last_of rest (All-same Ends (rest ++ last ∷ []) es (sym e) h)) d;
-    ends = subst (λ (x : OnTable). AnswersFarewell does settings farewell last.calls last.kept.share own x) (made_as calls_by front own.number (index_last does settings farewell last.calls last.kept.share own (on_table_of front) said) o) said;
+    ends = subst (λ (x : OnTable). AnswersFarewell does settings farewell last.calls last.kept.share own count x) (made_as calls_by front own.number (index_last does settings farewell last.calls last.kept.share own count (on_table_of front) said) o) said;
   } where
     last_of : (before : List (WorkerEnd T N C)) → All Ends (before ++ last ∷ []) → Ends last
     last_of [] all = All-head Ends last [] all
@@ -99,6 +110,9 @@ module _ {T N C D : Type 0} (jobs : JobQueue) (replies : ReplyQueue) (does : Beh
   -- all passes, where the last worker's and the starter's came behind the others
   pub passes_are : (es rest : List (WorkerEnd T N C)) (last : WorkerEnd T N C) (worker own : Passes Job Reply) (ps : List (Passes Job Reply)) → es ≡ rest ++ last ∷ [] → worker ≡ last.passes → ps ≡ (passes_of rest ++ worker ∷ []) ++ own ∷ [] → passes_of es ++ own ∷ [] ≡ ps
   passes_are es rest last worker own ps e w p = sym (p ∙ ap (λ (l : List (Passes Job Reply)). l ++ own ∷ []) (ap (λ (q : Passes Job Reply). passes_of rest ++ q ∷ []) w ∙ sym (passes_in es rest last e)))
+
+  pub counts_are : (es rest : List (WorkerEnd T N C)) (last : WorkerEnd T N C) (worker own : ℕ) (ns : List ℕ) → es ≡ rest ++ last ∷ [] → worker ≡ last.handed_back → ns ≡ (counts_of rest ++ worker ∷ []) ++ own ∷ [] → counts_of es ++ own ∷ [] ≡ ns
+  counts_are es rest last worker own ns e w p = sym (p ∙ ap (λ (l : List ℕ). l ++ own ∷ []) (ap (λ (q : ℕ). counts_of rest ++ q ∷ []) w ∙ sym (counts_in es rest last e)))
 
   pub did_last : (last : WorkerEnd T N C) (front : View (Entry T)) → front ≡ last.front → calls_by front.by ≡ calls_of front.mine → Did last
   did_last last front is d = subst (λ (f : View (Entry T)). calls_by f.by ≡ calls_of f.mine) is d

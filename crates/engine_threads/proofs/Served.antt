@@ -20,7 +20,7 @@ use Rattle.engine_threads.specs.declared.ended.Passed.{Passed}
 module _ {C O L : Type 0} (gives : C → Asked → Answer → C → Type 0) (sends : O → List ℕ → Sent → O → Type 0) (settings : Settings) (calls : List C) (link : O) where
   -- what was served is what a closed hall tells
   pub has_served : (limits own : Limits) (count : ℕ) (log : Log L) (passed : Passed) (served : Option Account) → limits ≡ own → count ≡ length calls → IsHistory (opened_world own) (history_of log) → ((index : ℕ) → count + 2 ≤ index → did log index ≡ [])
-      → WorkedEach (does_shared gives) settings (did log) calls passed.passes.value.items → BidsFarewell (does_shared gives) settings (did log) calls passed.farewell.value passed.passes.value.items
+      → WorkedEach (does_shared gives) settings (did log) calls passed.passes.value.items passed.handed_back.items → BidsFarewell (does_shared gives) settings (did log) calls passed.farewell.value passed.passes.value.items passed.handed_back.items
       → ∥ HasWrittenAll sends (Some link) (count + 1) (made_by (did log) (count + 1)) (view passed.written.value) passed.is_broken ∥₁
       → IfSome served (λ a. a.passed ≡ passed) → IfSome served (λ a. a.sums.totals ≡ totals_over (last_world (opened_world own) (history_of log)).postings)
       → IfSome served (λ a. ∥ ((history : List Made) × HasServed gives sends limits settings calls link a.passed a.sums.totals history) ∥₁)
@@ -29,8 +29,8 @@ module _ {C O L : Type 0} (gives : C → Asked → Answer → C → Type 0) (sen
       let served : HasServed gives sends limits settings calls link a.passed a.sums.totals (history_of log) = record {
         run = subst (λ (k : Limits). IsHistory (opened_world k) (history_of log)) (sym l) run;
         totals_are = subst (λ (k : Limits). a.sums.totals ≡ totals_over (last_world (opened_world k) (history_of log)).postings) (sym l) totals;
-        worked = subst (λ (p : Passed). WorkedEach (does_shared gives) settings (did log) calls p.passes.value.items) (sym same) worked;
-        farewell = subst (λ (p : Passed). BidsFarewell (does_shared gives) settings (did log) calls p.farewell.value p.passes.value.items) (sym same) farewell;
+        worked = subst (λ (p : Passed). WorkedEach (does_shared gives) settings (did log) calls p.passes.value.items p.handed_back.items) (sym same) worked;
+        farewell = subst (λ (p : Passed). BidsFarewell (does_shared gives) settings (did log) calls p.farewell.value p.passes.value.items p.handed_back.items) (sym same) farewell;
         writes = subst₂ (λ (p : Passed) (k : ℕ). ∥ HasWrittenAll sends (Some link) (k + 1) (made_by (did log) (k + 1)) (view p.written.value) p.is_broken ∥₁) (sym same) n writes;
         nobody = subst (λ (k : ℕ). (index : ℕ) → k + 2 ≤ index → did log index ≡ []) n nobody;
       } in

@@ -22,7 +22,7 @@ use Rattle.engine_threads.specs.declared.ended.Passed.{Passed}
 pub record HasServed {C O : Type 0} (gives : C → Asked → Answer → C → Type 0) (sends : O → List ℕ → Sent → O → Type 0) (limits : Limits) (settings : Settings) (calls : List C) (link : O) (passed : Passed) (totals : Totals) (history : List Made) : Type 0 where
   pub run : IsHistory (opened_world limits) history
   pub totals_are : totals ≡ totals_over (last_world (opened_world limits) history).postings
-  pub worked : WorkedEach (does_shared gives) settings (λ index. calls_by index history) calls passed.passes.value.items
-  pub farewell : BidsFarewell (does_shared gives) settings (λ index. calls_by index history) calls passed.farewell.value passed.passes.value.items
+  pub worked : WorkedEach (does_shared gives) settings (λ index. calls_by index history) calls passed.passes.value.items passed.handed_back.items
+  pub farewell : BidsFarewell (does_shared gives) settings (λ index. calls_by index history) calls passed.farewell.value passed.passes.value.items passed.handed_back.items
   pub writes : ∥ HasWrittenAll sends (Some link) (length calls + 1) (made_by (λ index. calls_by index history) (length calls + 1)) (view passed.written.value) passed.is_broken ∥₁
   pub nobody : (index : ℕ) → length calls + 2 ≤ index → calls_by index history ≡ []

@@ -20,7 +20,7 @@ use Rattle.engine.specs.declared.served.Served.{Served}
 use Rattle.table_recorded.specs.Histories.{calls_by, history_of}
 use Rattle.table_recorded.specs.Runs.{Call, Log}
 use Rattle.engine_visits.specs.Visits.{OnTable, idle}
-use Rattle.engine_workers.specs.Turns.{AnswersJob, means, standing}
+use Rattle.engine_workers.specs.Turns.{AnswersJob, means, outbox, standing}
 use Rattle.engine_workers.specs.Works.{HasWorked, newcomer}
 use Rattle.engine_workers.specs.declared.replies.Reply.{Reply}
 use Rattle.engine_workers.specs.declared.working.Worker.{Worker}
@@ -34,13 +34,14 @@ pub record AreUnused (passes : Passes Job Reply) : Type 0 where
   pub takes_none : view passes.job_pass ≡ hand 1 [] []
   pub puts_none : view passes.reply_pass ≡ sender passes.number []
 
--- a worker at these queues, by these settings, that has taken no job and put no reply
+-- a worker at these queues, by these settings, that has taken no job, put no reply and got none back
 pub record IsHired (jobs : JobQueue) (replies : ReplyQueue) (settings : Settings) (worker : Worker) : Type 0 where
   pub takes_from : receives_on worker.jobs ≡ jobs
   pub puts_into : sends_on worker.replies ≡ replies
   pub settings_are : worker.session.settings ≡ settings
   pub takes_none : view worker.job_pass ≡ hand 1 [] []
   pub puts_none : view worker.reply_pass ≡ sender worker.number []
+  pub none_back : worker.handed_back ≡ 0
 
 -- the same with a share on which nothing stands, and no call on the table
 pub record IsStaffed (jobs : JobQueue) (replies : ReplyQueue) (settings : Settings) (worker : Worker) (share : Part) (on_table : OnTable) : Type 0 where
@@ -48,16 +49,17 @@ pub record IsStaffed (jobs : JobQueue) (replies : ReplyQueue) (settings : Settin
   pub share_is : share.totals ≡ nothing
   pub idle_is : on_table ≡ idle worker.number
 
--- the worker of these passes began with this directory, did this on the table, and left that directory and this share
-pub record HasWorkedFrom {C D : Type 0} (does : Behaviour C D) (settings : Settings) (given : C) (passes : Passes Job Reply) (left : C) (share : Part) (on_table : OnTable) : Type 0 where
+-- the worker of these passes began with this directory, got so many of its replies back, did this on the table, and left that directory and
+-- this share
+pub record HasWorkedFrom {C D : Type 0} (does : Behaviour C D) (settings : Settings) (given : C) (passes : Passes Job Reply) (handed_back : ℕ) (left : C) (share : Part) (on_table : OnTable) : Type 0 where
   pub dirs : D
-  pub worked : HasWorked does settings passes.number given (standing (view passes.job_pass) (view passes.reply_pass) (means (record { calls = left; dirs = dirs }) share on_table))
+  pub worked : HasWorked does settings passes.number given (standing (view passes.job_pass) (outbox (view passes.reply_pass) handed_back) (means (record { calls = left; dirs = dirs }) share on_table))
 
 -- the same, at these queues
-pub record IsOver {C D : Type 0} (jobs : JobQueue) (replies : ReplyQueue) (does : Behaviour C D) (settings : Settings) (given : C) (passes : Passes Job Reply) (left : C) (share : Part) (on_table : OnTable) : Type 0 where
+pub record IsOver {C D : Type 0} (jobs : JobQueue) (replies : ReplyQueue) (does : Behaviour C D) (settings : Settings) (given : C) (passes : Passes Job Reply) (handed_back : ℕ) (left : C) (share : Part) (on_table : OnTable) : Type 0 where
   pub job_seat : IsSeatAt jobs passes.job_pass
   pub reply_seat : IsSeatAt replies passes.reply_pass
-  pub worked : HasWorkedFrom does settings given passes left share on_table
+  pub worked : HasWorkedFrom does settings given passes handed_back left share on_table
 
 -- what the thread of an index did on the table, where this says of each which calls it made
 abbrev pub made_by : (calls_by : ℕ → List Call) → ℕ → OnTable
@@ -67,27 +69,30 @@ made_by calls_by index = record { by = index; calls = calls_by index }
 abbrev pub did : {L : Type 0} → Log L → ℕ → List Call
 did log index = calls_by index (history_of log)
 
--- each directory's worker worked so, by these calls on the table, whatever it left; the starter comes last
-abbrev pub WorkedEach : {C D : Type 0} → Behaviour C D → Settings → (calls_by : ℕ → List Call) → (given : List C) → List (Passes Job Reply) → Type 0
-WorkedEach does settings calls_by [] passes = (own : Passes Job Reply) × (passes ≡ own ∷ [])
-WorkedEach does settings calls_by (calls ∷ given) [] = ⊥
-WorkedEach {C = C} does settings calls_by (calls ∷ given) (one ∷ passes) = ((left : C) × (share : Part) × HasWorkedFrom does settings calls one left share (made_by calls_by one.number)) × WorkedEach does settings calls_by given passes
+-- each directory's worker worked so, by these calls on the table, and got so many of its replies back, whatever it left; the starter comes last
+abbrev pub WorkedEach : {C D : Type 0} → Behaviour C D → Settings → (calls_by : ℕ → List Call) → (given : List C) → List (Passes Job Reply) → (handed_back : List ℕ) → Type 0
+WorkedEach does settings calls_by [] passes handed_back = (own : Passes Job Reply) × (count : ℕ) × (passes ≡ own ∷ []) × (handed_back ≡ count ∷ [])
+WorkedEach does settings calls_by (calls ∷ given) [] handed_back = ⊥
+WorkedEach does settings calls_by (calls ∷ given) (one ∷ passes) [] = ⊥
+WorkedEach {C = C} does settings calls_by (calls ∷ given) (one ∷ passes) (count ∷ handed_back) =
+    ((left : C) × (share : Part) × HasWorkedFrom does settings calls one count left share (made_by calls_by one.number)) × WorkedEach does settings calls_by given passes handed_back
 
--- a job that was not queued is answered by who has these passes, with this directory and this share, and by these calls on the table
-pub record AnswersLast {C D : Type 0} (does : Behaviour C D) (settings : Settings) (job : Job) (calls : C) (share : Part) (passes : Passes Job Reply) (on_table : OnTable) : Type 0 where
+-- a job that was not queued is answered by who has these passes, with this directory and this share, and by these calls on the table; so many
+-- replies, one or none, were handed back
+pub record AnswersLast {C D : Type 0} (does : Behaviour C D) (settings : Settings) (job : Job) (calls : C) (share : Part) (passes : Passes Job Reply) (handed_back : ℕ) (on_table : OnTable) : Type 0 where
   pub dirs : D
   pub settled : Option Settlement
   pub served : Served C D
   pub gained : Part
-  pub answers : AnswersJob does settings passes.number job (newcomer passes.number calls dirs share) settled (standing (view passes.job_pass) (view passes.reply_pass) (means served gained on_table))
+  pub answers : AnswersJob does settings passes.number job (newcomer passes.number calls dirs share) settled (standing (view passes.job_pass) (outbox (view passes.reply_pass) handed_back) (means served gained on_table))
 
 -- the frame that ended the session is answered, if one did; else nothing is put, and nothing done
-abbrev pub AnswersFarewell : {C D : Type 0} → Behaviour C D → Settings → (farewell : Option Job) → C → Part → Passes Job Reply → OnTable → Type 0
-AnswersFarewell does settings None calls share passes on_table = AreUnused passes × (on_table ≡ idle passes.number)
-AnswersFarewell does settings (Some job) calls share passes on_table = AnswersLast does settings job calls share passes on_table
+abbrev pub AnswersFarewell : {C D : Type 0} → Behaviour C D → Settings → (farewell : Option Job) → C → Part → Passes Job Reply → (handed_back : ℕ) → OnTable → Type 0
+AnswersFarewell does settings None calls share passes handed_back on_table = AreUnused passes × (handed_back ≡ 0) × (on_table ≡ idle passes.number)
+AnswersFarewell does settings (Some job) calls share passes handed_back on_table = AnswersLast does settings job calls share passes handed_back on_table
 
 -- the starter, who comes last, does so with what the last worker left
-pub record BidsFarewell {C D : Type 0} (does : Behaviour C D) (settings : Settings) (calls_by : ℕ → List Call) (given : List C) (farewell : Option Job) (passes : List (Passes Job Reply)) : Type 0 where
+pub record BidsFarewell {C D : Type 0} (does : Behaviour C D) (settings : Settings) (calls_by : ℕ → List Call) (given : List C) (farewell : Option Job) (passes : List (Passes Job Reply)) (handed_back : List ℕ) : Type 0 where
   pub others : List C
   pub calls : C
   pub given_are : given ≡ others ++ calls ∷ []
@@ -95,7 +100,11 @@ pub record BidsFarewell {C D : Type 0} (does : Behaviour C D) (settings : Settin
   pub worker : Passes Job Reply
   pub own : Passes Job Reply
   pub passes_are : passes ≡ workers ++ worker ∷ own ∷ []
+  pub counts : List ℕ
+  pub worker_back : ℕ
+  pub own_back : ℕ
+  pub handed_back_are : handed_back ≡ counts ++ worker_back ∷ own_back ∷ []
   pub left : C
   pub share : Part
-  pub worked : HasWorkedFrom does settings calls worker left share (made_by calls_by worker.number)
-  pub ends : AnswersFarewell does settings farewell left share own (made_by calls_by own.number)
+  pub worked : HasWorkedFrom does settings calls worker worker_back left share (made_by calls_by worker.number)
+  pub ends : AnswersFarewell does settings farewell left share own own_back (made_by calls_by own.number)

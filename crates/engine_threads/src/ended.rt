@@ -43,7 +43,7 @@ impl Sums {
     }
 }
 
-/// What passed through the queues and the link of a session. It takes no memory: what its parts show stands in proofs alone.
+/// What passed through the queues and the link of a session. What its snapshots show stands in proofs alone, and takes no memory.
 #[derive(Drop)]
 pub struct Passed {
     /// How a receive ended the input. None where the link broke as a reply was offered, and no receive was made after that.
@@ -58,6 +58,10 @@ pub struct Passed {
     pub written: Snapshot<ReplyPass<Reply>>,
     /// Which jobs each worker took and which replies it put. The starter, who answers the last frame and takes no job, comes last.
     pub passes: Snapshot<Vec<Passes<Job, Reply>>>,
+    /// How many replies of each of these their queue handed back.
+    pub handed_back: Vec<u64>,
+    /// Whether the queue of jobs handed one back to the reader.
+    pub is_job_handed_back: bool,
 }
 
 /// What was served.

@@ -52,6 +52,7 @@ pub struct Room<T: Ledgers, N: Opening> {
     pub own: Bid<T, N>,
     pub starter: Starter,
     pub passes: Vec<Passes<Job, Reply>>,
+    pub handed_back: Vec<u64>,
     pub taken: Vec<u64>,
     pub shares: Shares<T>,
 }
@@ -80,7 +81,7 @@ pub fn end_all<
     requires senders { S.senders ≡ vec_len ends + 1 }
     requires some { 0 < vec_len ends }
     requires few { vec_len ends ≤ 4 }
-    requires over { All (λ e. IsOver (sends_on jobs.now) (sends_on replies.now) (does_shared C.gives) room.starter.settings e.given.value e.passes e.calls e.kept.share (on_table_of e.front)) ends.items }
+    requires over { All (λ e. IsOver (sends_on jobs.now) (sends_on replies.now) (does_shared C.gives) room.starter.settings e.given.value e.passes e.handed_back e.calls e.kept.share (on_table_of e.front)) ends.items }
     requires numbers { map (λ e. e.passes.number) ends.items ≡ range_with_len 0 (vec_len ends) }
     requires job_seat { IsSeatAt (sends_on jobs.now) room.own.passes.job_pass }
     requires reply_seat { IsSeatAt (sends_on replies.now) room.own.passes.reply_pass }
@@ -91,21 +92,23 @@ pub fn end_all<
     requires ring { sends_on room.starter.replies ≡ sends_on replies.now }
     requires passes { 5 ≤ vec_capacity room.passes }
     requires no_passes { room.passes.items ≡ [] }
+    requires handed_back { (5 ≤ vec_capacity room.handed_back) × (room.handed_back.items ≡ []) }
     requires taken { 5 ≤ vec_capacity room.taken }
     requires none_taken { room.taken.items ≡ [] }
     ensures taken { vec_len result.taken ≡ vec_len ends + 1 }
     ensures counted { result.taken.items ≡ map (λ js. length js) (takings_of result.passed.passes.value.items) }
     ensures numbers { numbers_of result.passed.passes.value.items ≡ range_with_len 0 (vec_len ends + 1) }
-    ensures reads { ∥ HasReadAll I.receives S.heard_from result.passed.input (queued_of (view result.passed.read.value).put) (option_map shown result.passed.farewell.value) ∥₁ }
+    ensures reads { ∥ HasReadAll I.receives S.heard_from result.passed.input (queued_of (view result.passed.read.value).put) (option_map shown result.passed.farewell.value) result.passed.is_job_handed_back ∥₁ }
     ensures writes { ∥ HasWrittenAll O.sends S.sent_to S.senders (made_by (did result.closed.table.log) S.senders) (view result.passed.written.value) result.passed.is_broken ∥₁ }
     ensures shared { IsShared (view result.passed.read.value) result.passed.passes.value.items (view result.passed.written.value) }
-    ensures worked { WorkedEach (does_shared C.gives) room.starter.settings (did result.closed.table.log) (map (λ e. e.given.value) ends.items) result.passed.passes.value.items }
-    ensures farewell { BidsFarewell (does_shared C.gives) room.starter.settings (did result.closed.table.log) (map (λ e. e.given.value) ends.items) result.passed.farewell.value result.passed.passes.value.items }
+    ensures worked { WorkedEach (does_shared C.gives) room.starter.settings (did result.closed.table.log) (map (λ e. e.given.value) ends.items) result.passed.passes.value.items result.passed.handed_back.items }
+    ensures farewell { BidsFarewell (does_shared C.gives) room.starter.settings (did result.closed.table.log) (map (λ e. e.given.value) ends.items) result.passed.farewell.value result.passed.passes.value.items result.passed.handed_back.items }
 {
     let Room {
         own,
         starter,
         passes,
+        handed_back,
         taken,
         mut shares,
     } = room;
@@ -122,6 +125,7 @@ pub fn end_all<
         pass,
         end,
         farewell,
+        is_handed_back: is_job_handed_back,
     } = reader.into_inner().into_end();
     let mut writer = writer.into_inner();
     let last = Snapshot::of(&farewell);
@@ -138,7 +142,8 @@ pub fn end_all<
     } = writer.into_end();
     closed.look(&mut front);
     shares.put(kept);
-    let (passes, calls) = part_with(&mut closed, leaving, passes, &mut shares);
+    let (passes, handed_back, calls) =
+        part_with(&mut closed, leaving, passes, handed_back, &mut shares);
     let passed = Passed {
         input: end,
         is_broken,
@@ -146,6 +151,8 @@ pub fn end_all<
         farewell: last,
         written: Snapshot::of(&written),
         passes: Snapshot::of(&passes),
+        handed_back,
+        is_job_handed_back,
     };
     let taken = gather(jobs, replies, pass, passes, written, taken);
     Over {

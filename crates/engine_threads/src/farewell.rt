@@ -15,7 +15,7 @@ use engine_queues::letters::ReplySender;
 use engine_queues::passes::Passes;
 use engine_roles::Kept;
 use engine_visits::Visitor;
-use engine_workers::{Reply, Worker};
+use engine_workers::{Reply, Turn, Worker};
 use handles::Folders;
 use ledger::Ledgers;
 use std::alloc::Global;
@@ -40,6 +40,15 @@ pub struct Bid<T: Ledgers, N: Opening> {
     pub front: Front<Entry<T>, Runs<N>>,
 }
 
+/// What a thread leaves at the queues and at the table.
+#[derive(Drop)]
+pub struct ThreadEnd<T: Ledgers, N: Opening> {
+    pub passes: Passes<Job, Reply>,
+    /// How many of its replies were handed back.
+    pub handed_back: u64,
+    pub front: Front<Entry<T>, Runs<N>>,
+}
+
 /// Puts the reply to the frame that ended the session, as a worker does.
 fn answer_last<H: Wait + Drop, T: Ledgers, N: Opening, C: Calls + Drop, D: Folders>(
     rt: &H,
@@ -49,14 +58,14 @@ fn answer_last<H: Wait + Drop, T: Ledgers, N: Opening, C: Calls + Drop, D: Folde
     kept: &mut Kept<T>,
     served: &mut Served<C, D>,
     job: &Job,
-) -> Bid<T, N>
+) -> ThreadEnd<T, N>
     requires jobs { IsSeatAt (receives_on starter.work) own.passes.job_pass }
     requires replies { IsSeatAt (sends_on starter.replies) own.passes.reply_pass }
     requires unused { AreUnused own.passes }
     requires front { on_table_of own.front ≡ idle own.passes.number }
     ensures seats { IsSeatAt (receives_on starter.work) result.passes.job_pass × IsSeatAt (sends_on starter.replies) result.passes.reply_pass }
     ensures number { result.passes.number ≡ own.passes.number }
-    ensures answered { AnswersLast (does C.gives D.keeps) starter.settings job.now served.old.calls kept.old.share result.passes (on_table_of result.front) }
+    ensures answered { AnswersLast (does C.gives D.keeps) starter.settings job.now served.old.calls kept.old.share result.passes result.handed_back (on_table_of result.front) }
 {
     let Starter {
         alloc,
@@ -67,10 +76,28 @@ fn answer_last<H: Wait + Drop, T: Ledgers, N: Opening, C: Calls + Drop, D: Folde
     let Bid { passes, front } = own;
     let mut worker = Worker::new(alloc, settings, work, replies, passes);
     let mut visitor = Visitor::new(rt, hall, front);
-    let _settled = worker.answer(&mut visitor, &mut kept.share, served, job);
-    Bid {
+    match worker.answer(&mut visitor, &mut kept.share, served, job) {
+        Turn::Worked(_settled) => {}
+        // Its count is new.
+        Turn::Nothing => unreachable!(),
+    }
+    let handed_back = worker.handed_back;
+    ThreadEnd {
         passes: worker.into_passes(),
+        handed_back,
         front: visitor.into_front(),
+    }
+}
+
+/// What a thread leaves that was asked for nothing.
+fn unasked<T: Ledgers, N: Opening>(own: Bid<T, N>) -> ThreadEnd<T, N>
+    ensures { (result.passes ≡ own.passes) × (result.handed_back ≡ 0) × (result.front ≡ own.front) }
+{
+    let Bid { passes, front } = own;
+    ThreadEnd {
+        passes,
+        handed_back: 0,
+        front,
     }
 }
 
@@ -83,17 +110,17 @@ pub fn bid_farewell<H: Wait + Drop, T: Ledgers, N: Opening, C: Calls + Drop, D: 
     kept: &mut Kept<T>,
     served: &mut Served<C, D>,
     farewell: Option<Job>,
-) -> Bid<T, N>
+) -> ThreadEnd<T, N>
     requires jobs { IsSeatAt (receives_on starter.work) own.passes.job_pass }
     requires replies { IsSeatAt (sends_on starter.replies) own.passes.reply_pass }
     requires unused { AreUnused own.passes }
     requires front { on_table_of own.front ≡ idle own.passes.number }
     ensures seats { IsSeatAt (receives_on starter.work) result.passes.job_pass × IsSeatAt (sends_on starter.replies) result.passes.reply_pass }
     ensures number { result.passes.number ≡ own.passes.number }
-    ensures ends { AnswersFarewell (does C.gives D.keeps) starter.settings farewell served.old.calls kept.old.share result.passes (on_table_of result.front) }
+    ensures ends { AnswersFarewell (does C.gives D.keeps) starter.settings farewell served.old.calls kept.old.share result.passes result.handed_back (on_table_of result.front) }
 {
     match farewell {
         Some(job) => answer_last(rt, hall, starter, own, kept, served, &job),
-        None => own,
+        None => unasked(own),
     }
 }

@@ -50,6 +50,7 @@ fn reader_of(alloc: Global, jobs: &JobSender<Job>, read: JobPass<Job>) -> Option
     ensures ring { IfSome result (λ r. sends_on r.to ≡ sends_on jobs.now) }
     ensures pass { IfSome result (λ r. view r.pass ≡ view read) }
     ensures unheard { IfSome result (λ r. (r.cutter.kept ≡ []) × (r.agreed ≡ false) × (r.farewell ≡ None)) }
+    ensures none_back { IfSome result (λ r. (r.unkept ≡ 0) × (r.handed_back ≡ None)) }
 {
     let jobs = jobs.try_clone().ok()?;
     Reader::new(alloc, jobs, read).ok()
@@ -69,10 +70,12 @@ pub fn room_of<T: Ledgers, N: Opening>(
     ensures work { IfSome result (λ r. receives_on r.starter.work ≡ receives_on work) }
     ensures ring { IfSome result (λ r. sends_on r.starter.replies ≡ sends_on replies.now) }
     ensures passes { IfSome result (λ r. (5 ≤ vec_capacity r.passes) × (r.passes.items ≡ [])) }
+    ensures handed_back { IfSome result (λ r. (5 ≤ vec_capacity r.handed_back) × (r.handed_back.items ≡ [])) }
     ensures taken { IfSome result (λ r. (5 ≤ vec_capacity r.taken) × (r.taken.items ≡ [])) }
 {
     let replies = replies.try_clone().ok()?;
     let passes = room_for::<Passes<Job, Reply>>(alloc, 5)?;
+    let handed_back = room_for::<u64>(alloc, 5)?;
     let taken = room_for::<u64>(alloc, 5)?;
     Some(Room {
         own,
@@ -83,6 +86,7 @@ pub fn room_of<T: Ledgers, N: Opening>(
             replies,
         },
         passes,
+        handed_back,
         taken,
         shares,
     })

@@ -8,7 +8,7 @@ ghost use Rattle.table_recorded.specs.Histories.{calls_of};
 ghost use Rattle.engine_visits.specs.Visits.{idle, on_table_of};
 ghost use Rattle.engine_threads.specs.Worked.{did, does_shared, AnswersFarewell, AreUnused};
 
-use crate::farewell::{Bid, Starter, bid_farewell};
+use crate::farewell::{Bid, Starter, ThreadEnd, bid_farewell};
 use crate::working::WorkerEnd;
 use backing::Calls;
 use engine::Served;
@@ -32,8 +32,8 @@ pub struct Leaving<T: Ledgers, N: Opening, C: Calls + Drop> {
     pub ends: Vec<WorkerEnd<T, N, C>>,
     /// What the last one left.
     pub last: Snapshot<WorkerEnd<T, N, C>>,
-    pub worker: Bid<T, N>,
-    pub own: Bid<T, N>,
+    pub worker: ThreadEnd<T, N>,
+    pub own: ThreadEnd<T, N>,
     pub kept: Kept<T>,
     pub calls: C,
 }
@@ -59,11 +59,11 @@ pub fn take_leave<H: Wait + Drop, T: Ledgers, N: Opening, C: Calls + Drop>(
     requires front { on_table_of own.front ≡ idle own.passes.number }
     ensures ends { ends.items ≡ result.ends.items ++ result.last.value ∷ [] }
     ensures len { vec_len result.ends + 1 ≡ vec_len ends }
-    ensures worker { (result.worker.passes ≡ result.last.value.passes) × (result.worker.front ≡ result.last.value.front) }
+    ensures worker { (result.worker.passes ≡ result.last.value.passes) × (result.worker.handed_back ≡ result.last.value.handed_back) × (result.worker.front ≡ result.last.value.front) }
     ensures job_seat { IsSeatAt (sends_on jobs.now) result.own.passes.job_pass }
     ensures reply_seat { IsSeatAt (sends_on replies.now) result.own.passes.reply_pass }
     ensures number { result.own.passes.number ≡ own.passes.number }
-    ensures farewell { AnswersFarewell (does_shared C.gives) starter.settings farewell result.last.value.calls result.last.value.kept.share result.own.passes (on_table_of result.own.front) }
+    ensures farewell { AnswersFarewell (does_shared C.gives) starter.settings farewell result.last.value.calls result.last.value.kept.share result.own.passes result.own.handed_back (on_table_of result.own.front) }
 {
     let _jobs = jobs;
     let _replies = replies;
@@ -75,6 +75,7 @@ pub fn take_leave<H: Wait + Drop, T: Ledgers, N: Opening, C: Calls + Drop>(
     let WorkerEnd {
         given: _,
         passes,
+        handed_back,
         mut kept,
         front,
         calls,
@@ -85,7 +86,11 @@ pub fn take_leave<H: Wait + Drop, T: Ledgers, N: Opening, C: Calls + Drop>(
     Leaving {
         ends,
         last,
-        worker: Bid { passes, front },
+        worker: ThreadEnd {
+            passes,
+            handed_back,
+            front,
+        },
         own,
         kept,
         calls,
@@ -93,12 +98,19 @@ pub fn take_leave<H: Wait + Drop, T: Ledgers, N: Opening, C: Calls + Drop>(
 }
 
 /// What a thread did is what the history has of it. Its passes are left.
-fn part_bid<T: Ledgers, N: Opening>(closed: &mut Closed<T, N>, bid: Bid<T, N>) -> Passes<Job, Reply>
-    ensures passes { result ≡ bid.passes }
-    ensures did { did closed.old.table.log bid.front.by ≡ calls_of bid.front.mine }
+fn part_end<T: Ledgers, N: Opening>(
+    closed: &mut Closed<T, N>,
+    end: ThreadEnd<T, N>,
+) -> Passes<Job, Reply>
+    ensures passes { result ≡ end.passes }
+    ensures did { did closed.old.table.log end.front.by ≡ calls_of end.front.mine }
     ensures same { closed.new.table.log ≡ closed.old.table.log }
 {
-    let Bid { passes, mut front } = bid;
+    let ThreadEnd {
+        passes,
+        handed_back: _,
+        mut front,
+    } = end;
     closed.look(&mut front);
     passes
 }
@@ -116,46 +128,58 @@ fn part<T: Ledgers, N: Opening, C: Calls + Drop>(
     let WorkerEnd {
         given: _,
         passes,
+        handed_back,
         kept,
         front,
         calls: _,
     } = end;
     shares.put(kept);
-    part_bid(closed, Bid { passes, front })
+    let end = ThreadEnd {
+        passes,
+        handed_back,
+        front,
+    };
+    part_end(closed, end)
 }
 
-/// The same of some workers, in their order.
+/// The same of some workers, in their order, with how many replies of each were handed back.
 fn part_all<T: Ledgers, N: Opening, C: Calls + Drop>(
     closed: &mut Closed<T, N>,
     ends: Vec<WorkerEnd<T, N, C>>,
     passes: Vec<Passes<Job, Reply>>,
+    handed_back: Vec<u64>,
     shares: &mut Shares<T>,
-) -> Vec<Passes<Job, Reply>>
-    requires room { vec_len ends ≤ vec_capacity passes }
-    requires empty { passes.items ≡ [] }
-    ensures passes { result.items ≡ map (λ e. e.passes) ends.items }
+) -> (Vec<Passes<Job, Reply>>, Vec<u64>)
+    requires room { (vec_len ends ≤ vec_capacity passes) × (vec_len ends ≤ vec_capacity handed_back) }
+    requires empty { (passes.items ≡ []) × (handed_back.items ≡ []) }
+    ensures passes { result.0.items ≡ map (λ e. e.passes) ends.items }
+    ensures handed_back { result.1.items ≡ map (λ e. e.handed_back) ends.items }
     ensures did { All (λ e. did closed.old.table.log e.front.by ≡ calls_of e.front.mine) ends.items }
     ensures same { closed.new.table.log ≡ closed.old.table.log }
-    ensures len { vec_len result ≡ vec_len ends }
-    ensures capacity { vec_capacity result ≡ vec_capacity passes }
+    ensures len { (vec_len result.0 ≡ vec_len ends) × (vec_len result.1 ≡ vec_len ends) }
+    ensures capacity { (vec_capacity result.0 ≡ vec_capacity passes) × (vec_capacity result.1 ≡ vec_capacity handed_back) }
 {
     let mut passes = passes;
+    let mut handed_back = handed_back;
     for end in ends {
+        handed_back.push_reserved(end.handed_back);
         passes.push_reserved(part(closed, end, shares));
     }
-    passes
+    (passes, handed_back)
 }
 
-/// Takes apart what all leave: their passes, of which the starter's come last, and a directory.
+/// Takes apart what all leave: their passes, of which the starter's come last, how many replies of each were handed back, and a directory.
 pub fn part_with<T: Ledgers, N: Opening, C: Calls + Drop>(
     closed: &mut Closed<T, N>,
     leaving: Leaving<T, N, C>,
     passes: Vec<Passes<Job, Reply>>,
+    handed_back: Vec<u64>,
     shares: &mut Shares<T>,
-) -> (Vec<Passes<Job, Reply>>, C)
-    requires room { vec_len leaving.ends + 1 < vec_capacity passes }
-    requires empty { passes.items ≡ [] }
+) -> (Vec<Passes<Job, Reply>>, Vec<u64>, C)
+    requires room { (vec_len leaving.ends + 1 < vec_capacity passes) × (vec_len leaving.ends + 1 < vec_capacity handed_back) }
+    requires empty { (passes.items ≡ []) × (handed_back.items ≡ []) }
     ensures passes { result.0.items ≡ (map (λ e. e.passes) leaving.ends.items ++ leaving.worker.passes ∷ []) ++ leaving.own.passes ∷ [] }
+    ensures handed_back { result.1.items ≡ (map (λ e. e.handed_back) leaving.ends.items ++ leaving.worker.handed_back ∷ []) ++ leaving.own.handed_back ∷ [] }
     ensures len { vec_len result.0 ≡ vec_len leaving.ends + 2 }
     ensures did { All (λ e. did closed.old.table.log e.front.by ≡ calls_of e.front.mine) leaving.ends.items }
     ensures worker_did { did closed.old.table.log leaving.worker.front.by ≡ calls_of leaving.worker.front.mine }
@@ -171,8 +195,10 @@ pub fn part_with<T: Ledgers, N: Opening, C: Calls + Drop>(
         calls,
     } = leaving;
     shares.put(kept);
-    let mut passes = part_all(closed, ends, passes, shares);
-    passes.push_reserved(part_bid(closed, worker));
-    passes.push_reserved(part_bid(closed, own));
-    (passes, calls)
+    let (mut passes, mut handed_back) = part_all(closed, ends, passes, handed_back, shares);
+    handed_back.push_reserved(worker.handed_back);
+    handed_back.push_reserved(own.handed_back);
+    passes.push_reserved(part_end(closed, worker));
+    passes.push_reserved(part_end(closed, own));
+    (passes, handed_back, calls)
 }

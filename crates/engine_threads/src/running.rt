@@ -178,16 +178,17 @@ pub fn run<
     requires ring { sends_on room.starter.replies ≡ sends_on replies.now }
     requires passes { 5 ≤ vec_capacity room.passes }
     requires no_passes { room.passes.items ≡ [] }
+    requires handed_back { (5 ≤ vec_capacity room.handed_back) × (room.handed_back.items ≡ []) }
     requires taken { 5 ≤ vec_capacity room.taken }
     requires none_taken { room.taken.items ≡ [] }
     ensures taken { IfSome result (λ o. vec_len o.taken ≡ vec_len staff + 1) }
     ensures counted { IfSome result (λ o. o.taken.items ≡ map (λ js. length js) (takings_of o.passed.passes.value.items)) }
     ensures numbers { IfSome result (λ o. numbers_of o.passed.passes.value.items ≡ range_with_len 0 (vec_len staff + 1)) }
-    ensures reads { IfSome result (λ o. ∥ HasReadAll I.receives (Some parts.link_in) o.passed.input (queued_of (view o.passed.read.value).put) (option_map shown o.passed.farewell.value) ∥₁) }
+    ensures reads { IfSome result (λ o. ∥ HasReadAll I.receives (Some parts.link_in) o.passed.input (queued_of (view o.passed.read.value).put) (option_map shown o.passed.farewell.value) o.passed.is_job_handed_back ∥₁) }
     ensures writes { IfSome result (λ o. ∥ HasWrittenAll O.sends (Some parts.link_out) (vec_len staff + 1) (made_by (did o.closed.table.log) (vec_len staff + 1)) (view o.passed.written.value) o.passed.is_broken ∥₁) }
     ensures shared { IfSome result (λ o. IsShared (view o.passed.read.value) o.passed.passes.value.items (view o.passed.written.value)) }
-    ensures worked { IfSome result (λ o. WorkedEach (does_shared C.gives) room.starter.settings (did o.closed.table.log) (map (λ s. s.calls) staff.items) o.passed.passes.value.items) }
-    ensures farewell { IfSome result (λ o. BidsFarewell (does_shared C.gives) room.starter.settings (did o.closed.table.log) (map (λ s. s.calls) staff.items) o.passed.farewell.value o.passed.passes.value.items) }
+    ensures worked { IfSome result (λ o. WorkedEach (does_shared C.gives) room.starter.settings (did o.closed.table.log) (map (λ s. s.calls) staff.items) o.passed.passes.value.items o.passed.handed_back.items) }
+    ensures farewell { IfSome result (λ o. BidsFarewell (does_shared C.gives) room.starter.settings (did o.closed.table.log) (map (λ s. s.calls) staff.items) o.passed.farewell.value o.passed.passes.value.items o.passed.handed_back.items) }
 {
     let count = staff.len();
     let common: Shared<H, T, N, I, O, S> = share(alloc, parts)?;

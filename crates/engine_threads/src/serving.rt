@@ -117,7 +117,7 @@ fn serve_opened<
     requires few { vec_len trees ≤ 4 }
     ensures taken { IfSome result (λ a. vec_len a.taken ≡ vec_len trees) }
     ensures numbers { IfSome result (λ a. numbers_of a.passed.passes.value.items ≡ range_with_len 0 (vec_len trees + 1)) }
-    ensures reads { IfSome result (λ a. ∥ HasReadAll I.receives (Some links.link_in) a.passed.input (queued_of (view a.passed.read.value).put) (option_map shown a.passed.farewell.value) ∥₁) }
+    ensures reads { IfSome result (λ a. ∥ HasReadAll I.receives (Some links.link_in) a.passed.input (queued_of (view a.passed.read.value).put) (option_map shown a.passed.farewell.value) a.passed.is_job_handed_back ∥₁) }
     ensures shared { IfSome result (λ a. IsShared (view a.passed.read.value) a.passed.passes.value.items (view a.passed.written.value)) }
     ensures served { IfSome result (λ a. ∥ ((history : List Made) × HasServed C.gives O.sends limits settings trees.items links.link_out a.passed a.sums.totals history) ∥₁) }
 {
@@ -161,7 +161,7 @@ fn serve_table<
     requires few { vec_len trees ≤ 4 }
     ensures taken { IfSome result (λ a. vec_len a.taken ≡ vec_len trees) }
     ensures numbers { IfSome result (λ a. numbers_of a.passed.passes.value.items ≡ range_with_len 0 (vec_len trees + 1)) }
-    ensures reads { IfSome result (λ a. ∥ HasReadAll I.receives (Some links.link_in) a.passed.input (queued_of (view a.passed.read.value).put) (option_map shown a.passed.farewell.value) ∥₁) }
+    ensures reads { IfSome result (λ a. ∥ HasReadAll I.receives (Some links.link_in) a.passed.input (queued_of (view a.passed.read.value).put) (option_map shown a.passed.farewell.value) a.passed.is_job_handed_back ∥₁) }
     ensures shared { IfSome result (λ a. IsShared (view a.passed.read.value) a.passed.passes.value.items (view a.passed.written.value)) }
     ensures served { IfSome result (λ a. ∥ ((history : List Made) × HasServed C.gives O.sends limits settings trees.items links.link_out a.passed a.sums.totals history) ∥₁) }
 {
@@ -199,7 +199,7 @@ pub fn serve_threads<
     ensures taken { IfSome result.account (λ a. vec_len a.taken ≡ vec_len calls) }
     ensures end { IfSome result.account (λ a. EndsAs a.passed.input a.passed.is_broken result.end) }
     ensures numbers { IfSome result.account (λ a. numbers_of a.passed.passes.value.items ≡ range_with_len 0 (vec_len calls + 1)) }
-    ensures reads { IfSome result.account (λ a. ∥ HasReadAll I.receives (Some link_in) a.passed.input (queued_of (view a.passed.read.value).put) (option_map shown a.passed.farewell.value) ∥₁) }
+    ensures reads { IfSome result.account (λ a. ∥ HasReadAll I.receives (Some link_in) a.passed.input (queued_of (view a.passed.read.value).put) (option_map shown a.passed.farewell.value) a.passed.is_job_handed_back ∥₁) }
     ensures shared { IfSome result.account (λ a. IsShared (view a.passed.read.value) a.passed.passes.value.items (view a.passed.written.value)) }
     ensures served { IfSome result.account (λ a. ∥ ((history : List Made) × HasServed C.gives O.sends limits settings calls.items link_out a.passed a.sums.totals history) ∥₁) }
 {

@@ -39,7 +39,7 @@ impl<T: Ledgers, N: Opening, C: Calls + Drop> Promise<WorkerEnd<T, N, C>> for Wo
     ghost use Rattle.engine_visits.specs.Visits.{on_table_of};
     ghost use Rattle.engine_threads.specs.Worked.{does_shared, IsOver};
 
-    ghost kept_by = { λ p r. (r.passes.number ≡ p.number) × (r.given.value ≡ p.calls.value) × IsOver (sends_on p.jobs.value) (sends_on p.replies.value) (does_shared C.gives) p.settings p.calls.value r.passes r.calls r.kept.share (on_table_of r.front) };
+    ghost kept_by = { λ p r. (r.passes.number ≡ p.number) × (r.given.value ≡ p.calls.value) × IsOver (sends_on p.jobs.value) (sends_on p.replies.value) (does_shared C.gives) p.settings p.calls.value r.passes r.handed_back r.calls r.kept.share (on_table_of r.front) };
 }
 
 pub type Working<T, N, C> = PromisedHandle<WorkerEnd<T, N, C>, WorkerKeeps<C>>;
@@ -127,7 +127,7 @@ pub fn join_all<H: Threads, T: Ledgers, N: Opening, C: Calls + Drop>(
     requires rings { All (λ h. (sends_on h.promise.jobs.value ≡ sends_on jobs.now) × (sends_on h.promise.replies.value ≡ sends_on replies.now) × (h.promise.settings ≡ settings)) handles.items }
     requires room { vec_len handles ≤ vec_capacity ended }
     requires empty { ended.items ≡ [] }
-    ensures over { All (λ e. IsOver (sends_on jobs.now) (sends_on replies.now) (does_shared C.gives) settings e.given.value e.passes e.calls e.kept.share (on_table_of e.front)) result.items }
+    ensures over { All (λ e. IsOver (sends_on jobs.now) (sends_on replies.now) (does_shared C.gives) settings e.given.value e.passes e.handed_back e.calls e.kept.share (on_table_of e.front)) result.items }
     ensures numbers { map (λ e. e.passes.number) result.items ≡ map (λ h. h.promise.number) handles.items }
     ensures given { map (λ e. e.given.value) result.items ≡ map (λ h. h.promise.calls.value) handles.items }
     ensures len { vec_len result ≡ vec_len handles }

@@ -5,7 +5,7 @@ ghost use Rattle.crossbeam_channel.specs.Claims.{view};
 ghost use Rattle.crossbeam_channel.specs.Ends.{sends_on, receives_on};
 ghost use Rattle.table_steps.specs.Answers.{Settlement};
 ghost use Rattle.engine_visits.specs.Visits.{on_table_of};
-ghost use Rattle.engine_workers.specs.Turns.{means, standing};
+ghost use Rattle.engine_workers.specs.Turns.{means, outbox, standing};
 ghost use Rattle.engine_workers.specs.Works.{WorkedAll};
 ghost use Rattle.engine_threads.specs.Worked.{does_shared};
 
@@ -169,8 +169,8 @@ pub fn take_turns<
 ) -> bool
     ensures rings { (receives_on worker.new.jobs ≡ receives_on worker.old.jobs) × (sends_on worker.new.replies ≡ sends_on worker.old.replies) × (worker.new.number ≡ worker.old.number) }
     ensures settings { worker.new.session.settings ≡ worker.old.session.settings }
-    ensures worked { (settled : List (Option Settlement)) × WorkedAll (does_shared C.gives) worker.old.session.settings worker.old.number (standing (view worker.old.job_pass) (view worker.old.reply_pass) (means served.old kept.old.share (on_table_of visitor.old.front))) settled
-        (standing (view worker.new.job_pass) (view worker.new.reply_pass) (means served.new kept.new.share (on_table_of visitor.new.front))) }
+    ensures worked { (settled : List (Option Settlement)) × WorkedAll (does_shared C.gives) worker.old.session.settings worker.old.number (standing (view worker.old.job_pass) (outbox (view worker.old.reply_pass) worker.old.handed_back) (means served.old kept.old.share (on_table_of visitor.old.front))) settled
+        (standing (view worker.new.job_pass) (outbox (view worker.new.reply_pass) worker.new.handed_back) (means served.new kept.new.share (on_table_of visitor.new.front))) }
 {
     let mut is_busy = offer(common, left);
     for _ in *left..JOINED {

@@ -36,6 +36,8 @@ pub struct WorkerEnd<T: Ledgers, N: Opening, C: Calls + Drop> {
     /// The directory that it was given.
     pub given: Snapshot<C>,
     pub passes: Passes<Job, Reply>,
+    /// How many of its replies were handed back.
+    pub handed_back: u64,
     pub kept: Kept<T>,
     pub front: Front<Entry<T>, Runs<N>>,
     pub calls: C,
@@ -133,7 +135,7 @@ pub fn work_all<
     requires staffed { IsStaffed (receives_on staff.worker.jobs) (sends_on staff.worker.replies) staff.worker.session.settings staff.worker staff.kept.share (on_table_of staff.front) }
     ensures number { result.passes.number ≡ staff.worker.number }
     ensures given { result.given.value ≡ staff.calls }
-    ensures over { IsOver (receives_on staff.worker.jobs) (sends_on staff.worker.replies) (does_shared C.gives) staff.worker.session.settings staff.calls result.passes result.calls result.kept.share (on_table_of result.front) }
+    ensures over { IsOver (receives_on staff.worker.jobs) (sends_on staff.worker.replies) (does_shared C.gives) staff.worker.session.settings staff.calls result.passes result.handed_back result.calls result.kept.share (on_table_of result.front) }
 {
     let Staff {
         mut worker,
@@ -173,9 +175,11 @@ pub fn work_all<
     let Served { calls, dirs: _ } = served;
     let front = visitor.into_front();
     drop(common);
+    let handed_back = worker.handed_back;
     WorkerEnd {
         given,
         passes: worker.into_passes(),
+        handed_back,
         kept,
         front,
         calls,

@@ -2,6 +2,7 @@
 use Rattle.std.proofs.Common.{◌≡◌, ℕ, false, List, [], ◌++◌, Option, Some, None, refl, sym, ap, ◌∙◌, append-nil, append_assoc, arith}
 use Rattle.std.proofs.lemmas.Option.{none-some}
 use Rattle.ledger.specs.Shares.{Part}
+use Rattle.table_steps.specs.Answers.{Settlement}
 use Rattle.ops.specs.declared.attributes.Settings.{Settings}
 use Rattle.engine.specs.Reference.{Offer}
 use Rattle.engine.specs.Serving.{Behaviour}
@@ -16,6 +17,8 @@ use Rattle.engine_workers.specs.Turns.{Means, MeetsJob, Met, Writes, means}
 use Rattle.engine_jobs.specs.declared.jobs.Job.{Job}
 use Rattle.engine_jobs.specs.declared.left.Left.{Left}
 use Rattle.engine_workers.specs.declared.replies.Reply.{Reply}
+use Rattle.engine_workers.specs.declared.working.Turn.{Turn}
+use Rattle.engine_workers.specs.declared.working.Turn.TheVariants.{Worked, Nothing}
 use Rattle.engine.specs.declared.bytes.Bytes.{Bytes}
 
 abbrev bytes_or : List ℕ → Option (List ℕ) → List ℕ
@@ -50,6 +53,11 @@ met_on does settings job old served mid after handled met m e i = record {
   writes = m.writes;
   gains = record { entries = (let g = m.gains.entries in omega arith); index = i ∙ m.gains.index; by_is = m.gains.by_is };
 }
+
+-- the settle that a turn tells
+abbrev pub settled_by : Turn → Option Settlement
+settled_by (Worked settled) = settled
+settled_by Nothing = None
 
 abbrev pub left_by : Option (Letter Reply) → Option Left
 left_by None = None

@@ -1,5 +1,5 @@
 -- What one turn of each thread does.
-use Rattle.std.specs.Prelude.{◌≡◌, ℕ, Bool, true, false, List, [], ◌∷◌, Option, Some, None}
+use Rattle.std.specs.Prelude.{◌≡◌, ℕ, ◌+◌, Bool, true, false, List, [], ◌∷◌, Option, Some, None}
 use Rattle.std.specs.Option.{option_or}
 use Rattle.handles.specs.Calls.{FolderCall}
 use Rattle.ledger.specs.Shares.{Part}
@@ -106,27 +106,35 @@ pub record ByBoth {D : Type 0} (keeps : D → FolderCall → D → Type 0) (old 
   pub on_table : after ≡ then_all before calls
   pub so : holds folders calls
 
--- Exactly one reply is put, unless the queue hands it back; then its answer is settled as untaken, and a listing that was put for it is given
--- up. None is put where nothing is written.
-pub data PutsReply (settings : Settings) (from : ℕ) (job : Job) (met : Met) (old : ReplyLane Reply) (did : Ending) (new : ReplyLane Reply) : Type 0 where
-  is_put : (bytes : List ℕ) (letter : Letter Reply) → met.said ≡ Some bytes → IsReplyTo settings from job bytes met.visited letter → new ≡ letters.put_of old (Some letter) → did.settled ≡ settled_in met.visited → did.folders ≡ [] → did.on_table ≡ []
+-- what a worker has put into the queue of replies, and how many of its replies that queue handed back
+pub record Outbox : Type 0 where
+  pub lane : ReplyLane Reply
+  pub handed_back : ℕ
+
+abbrev pub outbox : ReplyLane Reply → (handed_back : ℕ) → Outbox
+outbox lane handed_back = record { lane = lane; handed_back = handed_back }
+
+-- Exactly one reply is put, or else the queue hands it back, which is counted; then its answer is settled as untaken, and a listing that was
+-- put for it is given up. None is put or counted where nothing is written.
+pub data PutsReply (settings : Settings) (from : ℕ) (job : Job) (met : Met) (old : Outbox) (did : Ending) (new : Outbox) : Type 0 where
+  is_put : (bytes : List ℕ) (letter : Letter Reply) → met.said ≡ Some bytes → IsReplyTo settings from job bytes met.visited letter → new ≡ outbox (letters.put_of old.lane (Some letter)) old.handed_back → did.settled ≡ settled_in met.visited → did.folders ≡ [] → did.on_table ≡ []
       → PutsReply settings from job met old did new
-  handed_back : (bytes : List ℕ) → met.said ≡ Some bytes → new ≡ old → did.settled ≡ untaken_in met.visited → GivesUp false (put_in (left_in met.visited)) did.folders → did.on_table ≡ settles_of (left_in met.visited) false
+  handed_back : (bytes : List ℕ) → met.said ≡ Some bytes → new ≡ outbox old.lane (old.handed_back + 1) → did.settled ≡ untaken_in met.visited → GivesUp false (put_in (left_in met.visited)) did.folders → did.on_table ≡ settles_of (left_in met.visited) false
       → PutsReply settings from job met old did new
   none : met.said ≡ None → new ≡ old → did.settled ≡ settled_in met.visited → did.folders ≡ [] → did.on_table ≡ [] → PutsReply settings from job met old did new
 
--- where a worker stands: what it has taken from the queue of jobs, what it has put into that of replies, and what it meets jobs with
+-- where a worker stands: what it has taken from the queue of jobs, what became of its replies at theirs, and what it meets jobs with
 pub record Standing (C D : Type 0) : Type 0 where
   pub hand : Hand Job
-  pub lane : ReplyLane Reply
+  pub out : Outbox
   pub means : Means C D
 
-abbrev pub standing : {C D : Type 0} → Hand Job → ReplyLane Reply → Means C D → Standing C D
-standing taken put means = record { hand = taken; lane = put; means = means }
+abbrev pub standing : {C D : Type 0} → Hand Job → Outbox → Means C D → Standing C D
+standing taken out means = record { hand = taken; out = out; means = means }
 
 -- it has taken this job too
 abbrev pub takes : {C D : Type 0} → Standing C D → Job → Standing C D
-takes old job = record { hand = taken_of old.hand (Some job); lane = old.lane; means = old.means }
+takes old job = record { hand = taken_of old.hand (Some job); out = old.out; means = old.means }
 
 -- a job was handled, and then answered; none was taken
 pub record AnswersJob {C D : Type 0} (does : Behaviour C D) (settings : Settings) (from : ℕ) (job : Job) (old : Standing C D) (settled : Option Settlement) (new : Standing C D) : Type 0 where
@@ -134,7 +142,7 @@ pub record AnswersJob {C D : Type 0} (does : Behaviour C D) (settings : Settings
   pub between : D
   pub handled : OnTable
   pub meets : MeetsJob does settings job old.means met (means (record { calls = new.means.served.calls; dirs = between }) new.means.share handled)
-  pub puts : ByBoth does.keeps between handled new.means.served.dirs new.means.on_table (λ folders calls. PutsReply settings from job met old.lane (ending settled folders calls) new.lane)
+  pub puts : ByBoth does.keeps between handled new.means.served.dirs new.means.on_table (λ folders calls. PutsReply settings from job met old.out (ending settled folders calls) new.out)
   pub hand_is : new.hand ≡ old.hand
 
 -- one job was taken, handled and answered

@@ -8,7 +8,7 @@ ghost use Rattle.engine_workers.specs.Batches.{endings, last_of, taken_at, Offer
 ghost use Rattle.engine_workers.specs.Turns.{ByBoth};
 
 use crate::replies::Reply;
-use crate::working::settle_left;
+use crate::settling::settle_left;
 use engine::{Bytes, LinkOut, Sent};
 use engine_jobs::Left;
 use handles::Folders;

@@ -1,6 +1,6 @@
 //! One job of a worker.
 
-ghost use Rattle.std.specs.Prelude.{◌≡◌, ◌+◌, [], ◌∷◌, ◌++◌, length, true, None, Some, Option, List, ℕ};
+ghost use Rattle.std.specs.Prelude.{◌≡◌, ◌<◌, ◌+◌, ◌^◌, length, true, Some, Option, List, ℕ};
 ghost use Rattle.crossbeam_channel.specs.Claims.{view, IsSeatAt};
 ghost use Rattle.crossbeam_channel.specs.Ends.{sends_on, receives_on};
 ghost use Rattle.table_steps.specs.Answers.{Settlement};
@@ -10,12 +10,13 @@ ghost use Rattle.engine.specs.Serving.{does};
 ghost use Rattle.engine_visits.specs.Visits.{left_in, on_table_of, settled_in, visited_of};
 ghost use Rattle.engine_workers.specs.Rights.{IsRight};
 ghost use Rattle.engine_workers.specs.Slips.{bytes_in};
-ghost use Rattle.engine_workers.specs.Turns.{AnswersJob, ByBoth, IsEnded, IsReplyTo, MeetsJob, PutsReply, Worked, ending, means, standing};
+ghost use Rattle.engine_workers.specs.Turns.{AnswersJob, ByBoth, MeetsJob, PutsReply, Worked, ending, means, outbox, standing};
 
 use crate::replies::Reply;
+use crate::settling::settle_left;
 use crate::slips::Slip;
 use backing::Calls;
-use engine::{Bytes, Served, Session, Settings, give_up};
+use engine::{Bytes, Served, Session, Settings};
 use engine_jobs::{Job, Left};
 use engine_queues::jobs::{JobPass, JobReceiver, Takes};
 use engine_queues::letters::{Letter, Posts, ReplyPass, ReplySender};
@@ -27,16 +28,14 @@ use std::alloc::Global;
 use std::snapshot::Snapshot;
 use std::sync::Wait;
 use table::Settled;
-use table_halls::Hall;
-use table_histories::Front;
-use table_recorded::{Entry, Opening, Runs};
+use table_recorded::Opening;
 
 /// What a turn did.
 #[derive(Drop)]
 pub enum Turn {
-    /// It took a message, and made this settle, if any.
+    /// It met a job, and made this settle, if any.
     Worked(Option<Settled>),
-    /// It took nothing from its queue.
+    /// It met none: there was none, or a count of the worker is full.
     Nothing,
 }
 
@@ -90,29 +89,6 @@ fn reply_to(settings: Settings, job: &Job, bytes: Bytes, left: Option<Left>) -> 
     }
 }
 
-/// Settles what is left. A listing that was put for it is given up where its reply was not taken.
-pub(crate) fn settle_left<H: Wait, T: Ledgers, O: Opening, D: Folders>(
-    rt: &H,
-    hall: &Hall<T, O>,
-    front: &mut Front<Entry<T>, Runs<O>>,
-    share: &mut Share<T>,
-    dirs: &mut D,
-    left: Option<Left>,
-    taken: bool,
-) -> Option<Settled>
-    ensures ends { ByBoth D.keeps dirs.old (on_table_of front.old) dirs.new (on_table_of front.new) (λ folders calls. IsEnded left taken (ending result folders calls)) }
-    ensures entries { share.new.totals.entries ≡ share.old.totals.entries }
-    ensures index { share.new.index ≡ share.old.index }
-{
-    let Some(left) = left else {
-        return None;
-    };
-    let (answered, put) = left.into_parts();
-    let settled = hall.settle(rt, front, share, answered, taken);
-    give_up(dirs, put, taken);
-    Some(settled)
-}
-
 /// Who takes jobs, and puts a reply to each that gets one.
 #[derive(Drop)]
 pub struct Worker {
@@ -123,6 +99,8 @@ pub struct Worker {
     pub replies: ReplySender<Reply>,
     pub reply_pass: ReplyPass<Reply>,
     pub count: u64,
+    /// How many of its replies the queue handed back.
+    pub handed_back: u64,
     ghost seated: { IsSeatAt (receives_on jobs) job_pass },
     ghost reply_seated: { IsSeatAt (sends_on replies) reply_pass },
     ghost one_part: { (view job_pass).parts ≡ 1 },
@@ -133,7 +111,7 @@ pub struct Worker {
 }
 
 impl Worker {
-    /// A worker that goes on from these passes.
+    /// A worker that goes on from these passes. None of its replies was handed back.
     pub fn new(
         alloc: Global,
         settings: Settings,
@@ -146,6 +124,7 @@ impl Worker {
         ensures rings { (receives_on result.jobs ≡ receives_on jobs) × (sends_on result.replies ≡ sends_on replies) × (result.number ≡ passes.number) }
         ensures passes { (view result.job_pass ≡ view passes.job_pass) × (view result.reply_pass ≡ view passes.reply_pass) }
         ensures settings { result.session.settings ≡ settings }
+        ensures none_back { result.handed_back ≡ 0 }
     {
         let Passes {
             number,
@@ -167,6 +146,7 @@ impl Worker {
             replies,
             reply_pass,
             count,
+            handed_back: 0,
         }
     }
 
@@ -184,6 +164,7 @@ impl Worker {
             replies,
             reply_pass,
             count,
+            handed_back: _,
         } = self;
         drop(jobs);
         drop(replies);
@@ -195,7 +176,7 @@ impl Worker {
         }
     }
 
-    /// Puts the reply to a job, if there is one. One that is handed back is settled as untaken.
+    /// Puts the reply to a job, if there is one. One that is handed back is counted, and settled as untaken.
     fn put<'a, H: Wait, T: Ledgers, O: Opening, D: Folders>(
         &mut self,
         visitor: &mut Visitor<'a, H, T, O>,
@@ -205,8 +186,9 @@ impl Worker {
         said: Option<Bytes>,
         come_to: ComeTo,
     ) -> Option<Settled>
+        requires countable { self.old.handed_back + 1 < 2 ^ 64 }
         requires right { (bytes : Bytes) → said ≡ Some bytes → IsRight self.old.session.settings job.now (bytes_of bytes) (left_in (visited_of come_to)) }
-        ensures puts { ByBoth D.keeps dirs.old (on_table_of visitor.old.front) dirs.new (on_table_of visitor.new.front) (λ folders calls. PutsReply self.old.session.settings self.old.number job.now (record { said = bytes_in said; visited = visited_of come_to }) (view self.old.reply_pass) (ending result folders calls) (view self.new.reply_pass)) }
+        ensures puts { ByBoth D.keeps dirs.old (on_table_of visitor.old.front) dirs.new (on_table_of visitor.new.front) (λ folders calls. PutsReply self.old.session.settings self.old.number job.now (record { said = bytes_in said; visited = visited_of come_to }) (outbox (view self.old.reply_pass) self.old.handed_back) (ending result folders calls) (outbox (view self.new.reply_pass) self.new.handed_back)) }
         ensures entries { share.new.totals.entries ≡ share.old.totals.entries }
         ensures index { share.new.index ≡ share.old.index }
         ensures jobs { (self.new.jobs ≡ self.old.jobs) × (view self.new.job_pass ≡ view self.old.job_pass) }
@@ -227,6 +209,7 @@ impl Worker {
             Ok(()) => settled,
             Err(back) => match back.into_inner() {
                 Some(letter) => {
+                    self.handed_back += 1;
                     let Letter { from: _, reply } = letter;
                     let left = reply.into_left();
                     let (rt, hall) = (visitor.rt, visitor.hall);
@@ -247,23 +230,44 @@ impl Worker {
     }
 
     /// Meets a job, and puts its reply.
-    pub fn answer<'a, H: Wait, T: Ledgers, O: Opening, C: Calls, D: Folders>(
+    fn meet<'a, H: Wait, T: Ledgers, O: Opening, C: Calls, D: Folders>(
         &mut self,
         visitor: &mut Visitor<'a, H, T, O>,
         share: &mut Share<T>,
         served: &mut Served<C, D>,
         job: &Job,
     ) -> Option<Settled>
+        requires countable { self.old.handed_back + 1 < 2 ^ 64 }
         ensures rings { (receives_on self.new.jobs ≡ receives_on self.old.jobs) × (sends_on self.new.replies ≡ sends_on self.old.replies) × (self.new.number ≡ self.old.number) }
-        ensures answers { AnswersJob (does C.gives D.keeps) self.old.session.settings self.old.number job.now (standing (view self.old.job_pass) (view self.old.reply_pass) (means served.old share.old (on_table_of visitor.old.front))) result
-            (standing (view self.new.job_pass) (view self.new.reply_pass) (means served.new share.new (on_table_of visitor.new.front))) }
+        ensures answers { AnswersJob (does C.gives D.keeps) self.old.session.settings self.old.number job.now (standing (view self.old.job_pass) (outbox (view self.old.reply_pass) self.old.handed_back) (means served.old share.old (on_table_of visitor.old.front))) result
+            (standing (view self.new.job_pass) (outbox (view self.new.reply_pass) self.new.handed_back) (means served.new share.new (on_table_of visitor.new.front))) }
         ensures settings { self.new.session.settings ≡ self.old.session.settings }
     {
         let (said, come_to) = meet_job(&mut self.session, visitor, share, served, job);
         self.put(visitor, share, &mut served.dirs, job, said, come_to)
     }
 
-    /// Takes one job, meets it, and puts its reply.
+    /// Meets a job that was not queued, and puts its reply. It does nothing where the count of replies that were handed back is full.
+    pub fn answer<'a, H: Wait, T: Ledgers, O: Opening, C: Calls, D: Folders>(
+        &mut self,
+        visitor: &mut Visitor<'a, H, T, O>,
+        share: &mut Share<T>,
+        served: &mut Served<C, D>,
+        job: &Job,
+    ) -> Turn
+        ensures rings { (receives_on self.new.jobs ≡ receives_on self.old.jobs) × (sends_on self.new.replies ≡ sends_on self.old.replies) × (self.new.number ≡ self.old.number) }
+        ensures answers { (settled : Option Settlement) → result ≡ Turn.Worked settled → AnswersJob (does C.gives D.keeps) self.old.session.settings self.old.number job.now (standing (view self.old.job_pass) (outbox (view self.old.reply_pass) self.old.handed_back) (means served.old share.old (on_table_of visitor.old.front))) settled
+            (standing (view self.new.job_pass) (outbox (view self.new.reply_pass) self.new.handed_back) (means served.new share.new (on_table_of visitor.new.front))) }
+        ensures nothing { result ≡ Turn.Nothing → (self.old.handed_back + 1 ≡ 2 ^ 64) × (self.new ≡ self.old) × (share.new ≡ share.old) × (served.new ≡ served.old) × (visitor.new ≡ visitor.old) }
+        ensures settings { self.new.session.settings ≡ self.old.session.settings }
+    {
+        if self.handed_back == u64::MAX {
+            return Turn::Nothing;
+        }
+        Turn::Worked(self.meet(visitor, share, served, job))
+    }
+
+    /// Takes one job, meets it, and puts its reply. It takes none where a count of its own is full.
     pub fn turn<'a, H: Wait, T: Ledgers, O: Opening, C: Calls, D: Folders>(
         &mut self,
         visitor: &mut Visitor<'a, H, T, O>,
@@ -271,11 +275,14 @@ impl Worker {
         served: &mut Served<C, D>,
     ) -> Turn
         ensures rings { (receives_on self.new.jobs ≡ receives_on self.old.jobs) × (sends_on self.new.replies ≡ sends_on self.old.replies) × (self.new.number ≡ self.old.number) }
-        ensures worked { (settled : Option Settlement) → result ≡ Turn.Worked settled → Worked (does C.gives D.keeps) self.old.session.settings self.old.number (standing (view self.old.job_pass) (view self.old.reply_pass) (means served.old share.old (on_table_of visitor.old.front))) settled
-            (standing (view self.new.job_pass) (view self.new.reply_pass) (means served.new share.new (on_table_of visitor.new.front))) }
-        ensures nothing { result ≡ Turn.Nothing → (view self.new.job_pass ≡ view self.old.job_pass) × (view self.new.reply_pass ≡ view self.old.reply_pass) × (share.new ≡ share.old) × (served.new ≡ served.old) × (visitor.new ≡ visitor.old) }
+        ensures worked { (settled : Option Settlement) → result ≡ Turn.Worked settled → Worked (does C.gives D.keeps) self.old.session.settings self.old.number (standing (view self.old.job_pass) (outbox (view self.old.reply_pass) self.old.handed_back) (means served.old share.old (on_table_of visitor.old.front))) settled
+            (standing (view self.new.job_pass) (outbox (view self.new.reply_pass) self.new.handed_back) (means served.new share.new (on_table_of visitor.new.front))) }
+        ensures nothing { result ≡ Turn.Nothing → (view self.new.job_pass ≡ view self.old.job_pass) × (view self.new.reply_pass ≡ view self.old.reply_pass) × (self.new.handed_back ≡ self.old.handed_back) × (share.new ≡ share.old) × (served.new ≡ served.old) × (visitor.new ≡ visitor.old) }
         ensures settings { self.new.session.settings ≡ self.old.session.settings }
     {
+        if self.handed_back == u64::MAX {
+            return Turn::Nothing;
+        }
         let Some(after) = self.count.checked_add(1) else {
             return Turn::Nothing;
         };
@@ -285,7 +292,7 @@ impl Worker {
         {
             Ok(Some(job)) => {
                 self.count = after;
-                Turn::Worked(self.answer(visitor, share, served, &job))
+                Turn::Worked(self.meet(visitor, share, served, &job))
             }
             Ok(None) | Err(_) => Turn::Nothing,
         }

@@ -10,7 +10,8 @@ use Rattle.engine.specs.Serving.{events_of, traffic}
 use Rattle.engine.specs.declared.ends.SessionEnd.{SessionEnd}
 use Rattle.engine.specs.declared.ends.SessionEnd.TheVariants as end
 use Rattle.ops.specs.declared.attributes.Settings.TheVariants.{Fixed}
-use Rattle.mirrord_server.specs.Folders.{ServesFolder, ServesSocket, ServesWorkers}
+use Rattle.mirrord_server.specs.Folders.{ServesFolder, ServesSocket}
+use Rattle.mirrord_server.specs.Workers.{ServesWorkers}
 use Rattle.mirrord_server.specs.Known.{known_calls, IsKnownServed}
 use Rattle.mirrord_server.specs.declared.folder.Unserved.{Unserved}
 use Rattle.mirrord_server.specs.declared.terms.Terms.{Terms}
@@ -83,7 +84,7 @@ pub record RunsPipe (root : Bor Text) (terms : Terms) (input output output' faul
 
 -- by one thread, or by threads
 abbrev pub ServesBy : Serving → Terms → Result SessionEnd Unserved → Type 0
-ServesBy threads terms ended = (threads.single ≡ true → ServesSocket terms ended) × (threads.single ≡ false → ServesWorkers threads.workers ended)
+ServesBy threads terms ended = (threads.single ≡ true → ServesSocket terms ended) × (threads.single ≡ false → ServesWorkers terms threads.workers ended)
 
 -- A folder is served over a socket.
 pub record RunsServe (root path : Bor Text) (threads : Serving) (terms : Terms) (faults faults' : Option (List ℕ)) (status : ℕ) (told : Bool) : Type 0 where

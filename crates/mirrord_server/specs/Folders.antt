@@ -1,5 +1,5 @@
 -- Sessions from a folder of the system.
-use Rattle.std.specs.Prelude.{ℕ, ◌<◌, ◌≡◌, ◌≢◌, ◌⊎◌, ◌++◌, List, take, Option, Result, Ok, Err}
+use Rattle.std.specs.Prelude.{◌≡◌, ◌≢◌, ◌⊎◌, ◌++◌, List, take, Option, Result, Ok, Err}
 use Rattle.std.specs.Io.KnownBytes.{Appends, Consumes}
 use Rattle.engine.specs.Serving.{events_of, heard_of, traffic}
 use Rattle.engine.specs.declared.ends.SessionEnd.{SessionEnd}
@@ -39,8 +39,3 @@ ServesFolder terms input output (Err why) output' = (why ≢ NoSocket) × (outpu
 abbrev pub ServesSocket : Terms → Result SessionEnd Unserved → Type 0
 ServesSocket terms (Ok over) = (input output output' : Option (List ℕ)) × IsFolderServed terms input output over output'
 ServesSocket terms (Err why) = Unit {0}
-
--- by threads: there were workers, unless their number is not from 1 to 4
-abbrev pub ServesWorkers : (workers : ℕ) → Result SessionEnd Unserved → Type 0
-ServesWorkers workers (Ok over) = over ≡ end.NoWorkers → (workers ≡ 0) ⊎ (4 < workers)
-ServesWorkers workers (Err why) = Unit {0}

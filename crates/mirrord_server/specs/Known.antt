@@ -1,27 +1,14 @@
 -- Sessions from a tree that is known.
-use Rattle.std.specs.Prelude.{ℕ, ◌≡◌, ◌⊎◌, ◌+◌, List, [], ◌∷◌, ◌++◌}
+use Rattle.std.specs.Prelude.{ℕ, ◌≡◌, ◌⊎◌, ◌++◌}
 use Rattle.backing.specs.Calls.{Asked}
-use Rattle.backing.specs.Device.{Device, Performs, counted, faulty}
 use Rattle.backing.specs.Tree.{Tree}
 use Rattle.backing.specs.declared.call.Answer.{Answer}
 use Rattle.engine.specs.Serving.{made_of, turns_of, Traffic}
 use Rattle.engine.specs.declared.ends.SessionEnd.{SessionEnd}
 use Rattle.engine.specs.declared.ends.SessionEnd.TheVariants as end
-use Rattle.ops.specs.Scripts.{Made}
+use Rattle.engine_workers.specs.Known.{KnownRun}
 use Rattle.mirrord_server.specs.declared.terms.Terms.{Terms}
 use Rattle.mirrord_server.specs.Sessions.{IsServed}
-
--- how many of them fail
-abbrev pub faults_in : List Device → ℕ
-faults_in [] = 0
-faults_in (device ∷ devices) = faulty device + faults_in devices
-
--- Each call is one of the tree, as the device treats it, and leads to the tree of the next.
-abbrev pub OnTree : Tree → List Device → List Made → Tree → Type 0
-OnTree old [] [] new = new ≡ old
-OnTree old [] (made ∷ more) new = ⊥
-OnTree old (device ∷ devices) [] new = ⊥
-OnTree old (device ∷ devices) (made ∷ more) new = (mid : Tree) × Performs old device made.call made.answer mid × OnTree mid devices more new
 
 -- what calls of a directory may answer that tells the tree in it and its count of failures
 pub record KnownCalls (C : Type 0) : Type 1 where
@@ -35,9 +22,7 @@ known_calls gives tree faults = record { gives = gives; tree = tree; faults = fa
 -- All calls of a session are those of the tree from first to last, with the faults of its device as inputs; each is counted, and nothing else is.
 pub record IsKnownServed {L C : Type 0} (terms : Terms) (link : Traffic L) (calls : KnownCalls C) (first : C) (old : L) (over : SessionEnd) (new : L) : Type 0 where
   pub served : IsServed terms link calls.gives first old over new
-  pub devices : List Device
-  pub on_tree : OnTree (calls.tree first) devices (made_of (turns_of served.run.client.steps) ++ served.run.removal.removals) (calls.tree served.left)
-  pub counts : calls.faults served.left ≡ counted (calls.faults first) (faults_in devices)
+  pub known : KnownRun calls.tree calls.faults first (made_of (turns_of served.run.client.steps) ++ served.run.removal.removals) served.left
 
 -- the same, unless there is no memory for a table
 abbrev pub ServesKnown : {L C : Type 0} → Terms → Traffic L → KnownCalls C → C → L → SessionEnd → L → Type 0

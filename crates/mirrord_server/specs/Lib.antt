@@ -1,3 +1,4 @@
 pub mod Folders
 pub mod Known
 pub mod Sessions
+pub mod Workers

@@ -1,7 +1,8 @@
 //! A folder of the system, served over a Unix socket.
 
 ghost use Rattle.std.specs.Prelude.{◌≡◌};
-ghost use Rattle.mirrord_server.specs.Folders.{ServesSocket, ServesWorkers};
+ghost use Rattle.mirrord_server.specs.Folders.{ServesSocket};
+ghost use Rattle.mirrord_server.specs.Workers.{ServesWorkers};
 
 use crate::folder::{Unserved, new_seeds, open_folder, serve_opened};
 use crate::terms::Terms;
@@ -145,7 +146,7 @@ pub fn serve_socket_by<
     workers: u8,
     terms: Terms,
 ) -> Result<SessionEnd, Unserved>
-    ensures { ServesWorkers workers result }
+    ensures { ServesWorkers terms workers result }
 {
     let folders = open_folders(host, root, workers)?;
     let seeds = new_seeds(rt)?;

@@ -1,7 +1,7 @@
 //! A folder of the system, served by threads.
 
-ghost use Rattle.std.specs.Prelude.{◌≡◌, IfOk, vec_len};
-ghost use Rattle.mirrord_server.specs.Folders.{ServesWorkers};
+ghost use Rattle.std.specs.Prelude.{◌≡◌, IfOk, replicate, vec_len};
+ghost use Rattle.mirrord_server.specs.Workers.{ServesWorkers};
 
 use crate::folder::{Unserved, open_folder};
 use crate::socket::RECEIVED;
@@ -28,7 +28,7 @@ pub(crate) fn open_folders(
     root: &str,
     workers: u8,
 ) -> Result<Vec<HostFolder>, Unserved>
-    ensures { IfOk result (λ folders. vec_len folders ≡ workers) }
+    ensures { IfOk result (λ folders. folders.items ≡ replicate workers 0) }
 {
     let Ok(mut folders) = Vec::with_capacity(host.alloc(), usize::from(workers)) else {
         return Err(Unserved::Memory);
@@ -47,7 +47,8 @@ pub(crate) fn serve_workers<H: Threads + Wait + AllocGlobal + Clone + Send + Syn
     terms: Terms,
     stream: UnixStream,
 ) -> Result<SessionEnd, Unserved>
-    ensures { ServesWorkers (vec_len folders) result }
+    requires { folders.items ≡ replicate (vec_len folders) 0 }
+    ensures { ServesWorkers terms (vec_len folders) result }
 {
     let _names: Option<ReadDir> = None; // proof: a type that a folder's calls name
     let Ok(heard) = stream.try_clone() else {

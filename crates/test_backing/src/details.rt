@@ -73,10 +73,7 @@ pub fn times_told(alloc: Global, answer: Answer) -> Result<String, AllocError> {
             let (accessed, modified) = (details.accessed, details.modified);
             format!(in alloc;
                 "{}.{} {}.{}",
-                accessed.seconds,
-                accessed.nanos,
-                modified.seconds,
-                modified.nanos
+                accessed.seconds, accessed.nanos, modified.seconds, modified.nanos
             )
         }
         Answer::Fault(errno) => format!(in alloc; "fault {errno}"),

@@ -24,7 +24,7 @@ enum Trick {
     Enter,
     /// A file comes to a path right before something is renamed to it.
     Arrive,
-    /// No file may be opened.
+    /// Nothing may be opened, and the file `e` is somebody else's.
     Shut,
 }
 
@@ -142,6 +142,9 @@ impl Files for Tricked {
     }
 
     fn set_permissions(&self, path: &str, permissions: Permissions) -> io::Result<()> {
+        if path.ends_with("/e") {
+            return Err(io::Error::from_raw_os_error(1));
+        }
         self.rt.set_permissions(path, permissions)
     }
 
@@ -264,8 +267,9 @@ fn what_cannot_be_opened_is_changed_by_its_path(rt: HostRuntime) -> Result<(), F
         ("chown a - -", "done"),
         ("utimes a - -", "done"),
         ("utimes a now -", "fault 13"),
+        ("chmod e 600", "fault 1"),
     ];
-    tell(rt, "shut", Trick::Shut, rows.as_slice(), 1)
+    tell(rt, "shut", Trick::Shut, rows.as_slice(), 2)
 }
 
 // By the clock, and not by the disk.

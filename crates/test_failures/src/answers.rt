@@ -3,7 +3,7 @@
 use crate::items::Told;
 use crate::world::SlowNode;
 use std::alloc::{AllocError, Global};
-use wire::{Attributes, Entry, Kind, ReplyBody};
+use wire::{Attributes, Details, Entry, Kind, ReplyBody, Time};
 
 /// The answer to a request.
 #[derive(Drop)]
@@ -40,6 +40,26 @@ pub fn kind_of(is_folder: bool) -> Kind {
     if is_folder { Kind::Folder } else { Kind::File }
 }
 
+/// The beginning of 1970.
+const BEGINNING: Time = Time {
+    seconds: 0,
+    nanos: 0,
+};
+
+/// What is told of all folders, or of all files.
+fn details_of(is_folder: bool) -> Details {
+    let (permissions, links) = if is_folder { (0o755, 2) } else { (0o644, 1) };
+    Details {
+        permissions,
+        links,
+        uid: 0,
+        gid: 0,
+        accessed: BEGINNING,
+        modified: BEGINNING,
+        changed: BEGINNING,
+    }
+}
+
 /// The entry of a node where that was found.
 pub fn entry_of(node: SlowNode, found: Told) -> Entry {
     let (is_folder, size) = match found {
@@ -50,10 +70,10 @@ pub fn entry_of(node: SlowNode, found: Told) -> Entry {
         node: node.number,
         generation: node.generation,
         attributes: Attributes {
+            ino: node.number,
             kind: kind_of(is_folder),
             size,
-            uid: 0,
-            gid: 0,
+            details: details_of(is_folder),
         },
     }
 }

@@ -31,7 +31,13 @@ pub fn is_ask(call: Call<'_>, ask: Ask) -> bool {
     match (call, ask) {
         (Call::Stat(path), Ask::Stat(name)) => is_at(path, name),
         (Call::List(path), Ask::List) => path.names().is_empty(),
-        (Call::MakeDir(path), Ask::MakeDir(name)) => is_at(path, name),
+        (
+            Call::MakeDir {
+                path,
+                permissions: None,
+            },
+            Ask::MakeDir(name),
+        ) => is_at(path, name),
         (Call::Remove(path), Ask::Remove(name)) => is_at(path, name),
         (Call::RemoveDir(path), Ask::RemoveDir(name)) => is_at(path, name),
         (Call::Rename { from, to }, Ask::Rename(source, target)) => {

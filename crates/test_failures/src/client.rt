@@ -150,7 +150,7 @@ pub fn serve_on<H: Wait + RandomSource, T: Ledgers>(
         return Err(AllocError);
     };
     let (mut table, mut share) = open_one::<T>(alloc, Limits::default(), seeds, blanks)?;
-    let settings = Settings { uid: 0, gid: 0 };
+    let settings = Settings::Fixed { uid: 0, gid: 0 };
     let end = serve(rt, alloc, client, served, &mut table, &mut share, settings);
     share.leave();
     let image = table.export()?;

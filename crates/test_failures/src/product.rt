@@ -76,10 +76,11 @@ pub fn what_stands(alloc: Global, tree: &mut MemTree, name: &str) -> Result<Told
         Answer::Stat {
             kind: Kind::File,
             size,
+            ..
         } => Told::File(size),
         Answer::Stat {
             kind: Kind::Folder,
-            size: _,
+            ..
         } => Told::Folder,
         Answer::Fault(errno) => Told::Error(errno),
         _ => Told::Done,

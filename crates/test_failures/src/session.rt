@@ -39,7 +39,14 @@ pub const REQUESTS: &[(u64, Operation<'static>)] = &[
             new_name: "b",
         },
     ),
-    (1, Operation::MakeDir { name: "m" }),
+    (
+        1,
+        Operation::MakeDir {
+            name: "m",
+            mode: 0,
+            umask: 0,
+        },
+    ),
     (1, Operation::RemoveDir { name: "m" }),
     (1, Operation::OpenDir),
     (

@@ -60,7 +60,7 @@ impl World {
             Operation::Write { fh, offset, data } => self.write(node, fh, offset, data),
             Operation::Unlink { name } => self.unlink(name),
             Operation::Rename { name, new_name, .. } => self.rename(name, new_name),
-            Operation::MakeDir { name } => self.make_folder(name),
+            Operation::MakeDir { name, .. } => self.make_folder(name),
             Operation::RemoveDir { name } => self.remove(name, Ask::RemoveDir(name)),
             Operation::OpenDir => self.open_folder(),
             Operation::ReadDirPlus { fh, .. } => self.read_entries(node, fh),

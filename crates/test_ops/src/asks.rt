@@ -1,6 +1,6 @@
 //! What a script asks and comes to, by the places of its ticket's paths.
 
-use backing::Call;
+use backing::{Call, NewTime};
 use ops::{Found, ScriptResult};
 use paths::Path;
 use table::Ticket;
@@ -31,8 +31,9 @@ pub enum Ask {
     /// Of the path at that place in the ticket.
     Stat(usize),
     List,
-    Make,
-    MakeDir,
+    /// With these permission bits, or by the default.
+    Make(Option<u32>),
+    MakeDir(Option<u32>),
     Remove,
     RemoveDir,
     /// From the path at one place to that at another.
@@ -48,6 +49,12 @@ pub enum Ask {
     /// From that byte on, so many.
     Write(u64, usize),
     Sync,
+    /// To these permission bits.
+    SetPermissions(u32),
+    /// To that owner and that group, if it is set.
+    SetOwner(Option<u32>, Option<u32>),
+    /// When it was read and when it was changed, if it is set.
+    SetTimes(Option<NewTime>, Option<NewTime>),
     /// No script asks this.
     Other,
 }
@@ -123,6 +130,23 @@ fn place_of(path: &Path, paths: &[Path]) -> usize {
     place
 }
 
+/// What a call is that sets attributes of the first path.
+fn ask_to_set(call: Call<'_>, first: &Path) -> Ask {
+    match call {
+        Call::SetLen { path, size } if path.is(first) => Ask::SetLen(size),
+        Call::SetPermissions { path, permissions } if path.is(first) => {
+            Ask::SetPermissions(permissions)
+        }
+        Call::SetOwner { path, uid, gid } if path.is(first) => Ask::SetOwner(uid, gid),
+        Call::SetTimes {
+            path,
+            accessed,
+            modified,
+        } if path.is(first) => Ask::SetTimes(accessed, modified),
+        _ => Ask::Other,
+    }
+}
+
 /// What a call of a script is, where it is about the request's paths.
 pub fn ask_of(call: Call<'_>, paths: &[Path]) -> Ask {
     let Some(first) = paths.first() else {
@@ -131,11 +155,10 @@ pub fn ask_of(call: Call<'_>, paths: &[Path]) -> Ask {
     match call {
         Call::Stat(path) => Ask::Stat(place_of(path, paths)),
         Call::List(path) if path.is(first) => Ask::List,
-        Call::Make(path) if path.is(first) => Ask::Make,
-        Call::MakeDir(path) if path.is(first) => Ask::MakeDir,
+        Call::Make { path, permissions } if path.is(first) => Ask::Make(permissions),
+        Call::MakeDir { path, permissions } if path.is(first) => Ask::MakeDir(permissions),
         Call::Remove(path) if path.is(first) => Ask::Remove,
         Call::RemoveDir(path) if path.is(first) => Ask::RemoveDir,
-        Call::SetLen { path, size } if path.is(first) => Ask::SetLen(size),
         Call::Read { path, offset, size } if path.is(first) => Ask::Read(offset, size),
         Call::Write { path, offset, data } if path.is(first) => Ask::Write(offset, data.len()),
         Call::Sync(path) if path.is(first) => Ask::Sync,
@@ -144,6 +167,6 @@ pub fn ask_of(call: Call<'_>, paths: &[Path]) -> Ask {
         Call::Exchange { first, second } => {
             Ask::Exchange(place_of(first, paths), place_of(second, paths))
         }
-        _ => Ask::Other,
+        other => ask_to_set(other, first),
     }
 }

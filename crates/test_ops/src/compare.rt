@@ -2,53 +2,19 @@
 
 ghost use Rattle.std.specs.Prelude.{◌≡◌};
 
+use crate::answers::{LISTS, answers_of};
 use crate::asks::{Form, Stands, ask_of, ends_of, form_of};
 use crate::slow::stands_after;
-use backing::{Answer, Bytes, Child, Children, Kind};
+use backing::{Answer, Child, Kind};
 use handles::Page;
 use ledger::{Blanks, Ledgers, Share};
-use ops::{FolderUse, Intent, Paged, Script, intent_of};
+use ops::{FolderUse, Intent, Paged, Script, Settings, intent_of};
 use paths::Name;
 use std::alloc::{AllocError, Global};
 use std::test::Fail;
 use table::{Begin, Limits, Outcome, Seeds, Table, Ticket, Want};
 use table_files::Access;
 use wire::{Operation, Request};
-
-/// How many answers are tried for each call.
-const ANSWERS: u32 = 14;
-
-/// How many lists of at most three answers there are.
-const LISTS: u32 = 1 + ANSWERS + ANSWERS * ANSWERS + ANSWERS * ANSWERS * ANSWERS;
-
-/// An answer of each kind, of each shape, and of each sort of error number.
-fn answer_of(alloc: Global, number: u32) -> Result<Answer, AllocError> {
-    Ok(match number {
-        0 => Answer::Done,
-        1 => Answer::Stat {
-            kind: Kind::File,
-            size: 5,
-        },
-        2 => Answer::Stat {
-            kind: Kind::Folder,
-            size: 0,
-        },
-        3 => Answer::Stat {
-            kind: Kind::Folder,
-            size: 5,
-        },
-        4 => Answer::Names(Children::from_vec(Vec::new(alloc))),
-        5 => Answer::Bytes(Bytes::from_vec(Vec::from_slice(alloc, b"abcd")?)),
-        6 => Answer::Bytes(Bytes::from_vec(Vec::from_slice(alloc, b"abcde")?)),
-        7 => Answer::Wrote(2),
-        8 => Answer::Wrote(3),
-        9 => Answer::Fault(2),
-        10 => Answer::Fault(0),
-        11 => Answer::Fault(-2),
-        12 => Answer::Fault(4095),
-        _ => Answer::Fault(4096),
-    })
-}
 
 /// What was done before a request is begun. The root is open as file 1.
 #[derive(Clone, Copy, Debug, PartialEq, Eq)]
@@ -68,35 +34,20 @@ pub struct Row<'a> {
     pub operation: Operation<'a>,
     /// What its ticket says.
     pub form: Form,
-    /// So many answers that a file stands there come before each list.
+    pub settings: Settings,
+    /// So many answers come before each list: that a call is done, and then that a file stands there.
+    pub done: u32,
     pub files: u32,
-}
-
-/// The list of answers under that number, after so many files: none is the first, then those of one answer, and so on.
-fn answers_of(alloc: Global, files: u32, number: u32) -> Result<Vec<Answer>, AllocError> {
-    let mut answers = Vec::new(alloc);
-    for _ in 0..files {
-        answers.push(answer_of(alloc, 1)?)?;
-    }
-    let mut left = number;
-    for _ in 0..3 {
-        if left > 0 {
-            let last = left - 1;
-            answers.push(answer_of(alloc, last % ANSWERS)?)?;
-            left = last / ANSWERS;
-        }
-    }
-    Ok(answers)
 }
 
 /// Where the script stands after these answers.
 fn script_after(
     alloc: Global,
-    operation: Operation<'_>,
+    row: &Row<'_>,
     ticket: &Ticket,
     answers: Vec<Answer>,
 ) -> Result<Stands, AllocError> {
-    let mut script = Script::start(alloc, operation, ticket)?;
+    let mut script = Script::start(alloc, row.settings, row.operation, ticket)?;
     for answer in answers {
         script.feed(answer);
     }
@@ -110,9 +61,9 @@ fn script_after(
 /// The first list of answers after which the script stands elsewhere than the slow program.
 fn first_other(alloc: Global, row: &Row<'_>, ticket: &Ticket) -> Result<Option<u32>, AllocError> {
     for number in 0..LISTS {
-        let answers = answers_of(alloc, row.files, number)?;
-        let slow = stands_after(row.operation, row.form, &answers);
-        if script_after(alloc, row.operation, ticket, answers)? != slow {
+        let answers = answers_of(alloc, row, number)?;
+        let slow = stands_after(row.settings, row.operation, row.form, &answers);
+        if script_after(alloc, row, ticket, answers)? != slow {
             return Ok(Some(number));
         }
     }
@@ -190,8 +141,12 @@ fn page_of(alloc: Global) -> Result<Paged, AllocError> {
 }
 
 /// What the request is begun with, if it is begun. Of an open folder that page is told.
-fn want_of(alloc: Global, request: &Request<'_>) -> Result<Option<Want>, AllocError> {
-    match intent_of(request) {
+fn want_of(
+    alloc: Global,
+    settings: Settings,
+    request: &Request<'_>,
+) -> Result<Option<Want>, AllocError> {
+    match intent_of(settings, request) {
         Intent::Want(wanted) => Ok(Some(wanted.own(alloc)?)),
         Intent::Folder {
             usage: FolderUse::ReadEntries { .. },
@@ -290,7 +245,7 @@ pub fn compare<T: Ledgers>(
         node: row.node,
         operation: row.operation,
     };
-    let Some(want) = want_of(alloc, &request)? else {
+    let Some(want) = want_of(alloc, row.settings, &request)? else {
         return Err(Fail::from(("no want", request.unique)));
     };
     match tell_alone::<T>(alloc, seeds, blanks, row, want)? {

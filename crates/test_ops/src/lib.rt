@@ -2,10 +2,18 @@
 #![tactic(auto)]
 
 #[cfg(test)]
+mod answers;
+#[cfg(test)]
 mod asks;
+#[cfg(test)]
+mod attribute_rows;
 #[cfg(test)]
 mod compare;
 #[cfg(test)]
+mod intents;
+#[cfg(test)]
 mod rows;
+#[cfg(test)]
+mod setting;
 #[cfg(test)]
 mod slow;

@@ -3,49 +3,25 @@
 use crate::asks::Form;
 use crate::compare::{Before, Row, compare};
 use ledger::Blanks;
+use ops::Settings;
 use std::marker::Brand;
 use std::test::Fail;
 use table::Seeds;
 use wire::Operation::{
     self, Create, GetAttr, Lookup, MakeDir, Open, OpenDir, Read, ReadDirPlus, Release, RemoveDir,
-    Rename, Rename2, SetAttr, Sync, Unlink, Write,
+    Rename, Rename2, Sync, Unlink, Write,
 };
 
 /// About the root, which is open as file 1, or a name in it. Some have several scripts.
 const OPERATIONS: &[Operation] = &[
     Lookup { name: "a" },
     GetAttr,
-    // The size, the owner of a lock, both, and nothing.
-    SetAttr {
-        valid: 8,
-        fh: 0,
-        size: 7,
-    },
-    SetAttr {
-        valid: 512,
-        fh: 0,
-        size: 7,
-    },
-    SetAttr {
-        valid: 520,
-        fh: 0,
-        size: 7,
-    },
-    SetAttr {
-        valid: 0,
-        fh: 0,
-        size: 7,
-    },
-    // By a handle.
-    SetAttr {
-        valid: 0x48,
-        fh: 1,
-        size: 7,
-    },
     Open { flags: 0 },
     Create {
         name: "a",
         flags: 2,
+        mode: 0,
+        umask: 0,
     },
     Read {
         fh: 1,
@@ -64,7 +40,11 @@ const OPERATIONS: &[Operation] = &[
         offset: 0,
         size: 4096,
     },
-    MakeDir { name: "a" },
+    MakeDir {
+        name: "a",
+        mode: 0,
+        umask: 0,
+    },
     Unlink { name: "a" },
     RemoveDir { name: "a" },
     Rename {
@@ -115,13 +95,23 @@ const LAST: Form = Form {
     ..PLAIN
 };
 
+/// About the root, with attributes that are fixed.
+pub const OF_THE_ROOT: Row = Row {
+    before: Before::Nothing,
+    node: 1,
+    operation: GetAttr,
+    form: PLAIN,
+    settings: Settings::Fixed { uid: 0, gid: 0 },
+    done: 0,
+    files: 0,
+};
+
 /// A file that is open is removed.
 const REMOVED: Row = Row {
     before: Before::Opened,
-    node: 1,
     operation: Unlink { name: "a" },
     form: HIDES,
-    files: 0,
+    ..OF_THE_ROOT
 };
 
 /// Another is moved to its place.
@@ -245,11 +235,8 @@ const ROWS: &[Row] = &[
 fn scripts_are_those_of_the_slow_program(rt: HostRuntime) -> Result<(), Fail> {
     for operation in OPERATIONS {
         let row = Row {
-            before: Before::Nothing,
-            node: 1,
             operation: *operation,
-            form: PLAIN,
-            files: 0,
+            ..OF_THE_ROOT
         };
         compare::<Brand>(rt.alloc(), Seeds::new(&rt)?, Blanks::new(1), &row)?;
     }

@@ -1,9 +1,10 @@
 //! The scripts of all requests as a plain slow program: where a script stands is found by going over all of its answers anew.
 
 use crate::asks::{Ask, Ends, Form, Stands};
+use crate::setting::{asks_to_set, made_with};
 use backing::{Answer, Kind};
 use errno::{EBUSY, EEXIST, EIO, EISDIR, ENOENT, ENOTDIR};
-use ops::Found;
+use ops::{Found, Settings};
 use std::slice::Iter;
 use wire::Operation;
 
@@ -22,23 +23,24 @@ enum Counts {
 }
 
 /// The calls of a request that hides nothing, one after another, where nothing fails.
-fn asks_of(operation: Operation<'_>, same: bool) -> (Option<Ask>, Option<Ask>) {
+fn asks_of(settings: Settings, operation: Operation<'_>, same: bool) -> (Option<Ask>, Option<Ask>) {
     match operation {
         Operation::Lookup { .. } | Operation::GetAttr | Operation::Open { .. } => (
             Some(Ask::Stat(0)),
             None,
         ),
-        Operation::Create { .. } => (Some(Ask::Make), Some(Ask::Stat(0))),
+        Operation::Create { mode, umask, .. } => (
+            Some(Ask::Make(made_with(settings, mode, umask))),
+            Some(Ask::Stat(0)),
+        ),
         Operation::Read { offset, size, .. } => (Some(Ask::Read(offset, size)), None),
         Operation::Write { offset, data, .. } => (Some(Ask::Write(offset, data.len())), None),
         Operation::Sync { .. } => (Some(Ask::Sync), None),
         Operation::OpenDir => (Some(Ask::List), None),
-        Operation::SetAttr { valid, size, .. } if valid & 8 == 8 => (
-            Some(Ask::SetLen(size)),
+        Operation::MakeDir { mode, umask, .. } => (
+            Some(Ask::MakeDir(made_with(settings, mode, umask))),
             Some(Ask::Stat(0)),
         ),
-        Operation::SetAttr { .. } => (Some(Ask::Stat(0)), None),
-        Operation::MakeDir { .. } => (Some(Ask::MakeDir), Some(Ask::Stat(0))),
         Operation::Unlink { .. } => (Some(Ask::Remove), None),
         Operation::RemoveDir { .. } => (Some(Ask::RemoveDir), None),
         Operation::Rename { .. } | Operation::Rename2 { .. } if same => (Some(Ask::Stat(0)), None),
@@ -60,20 +62,24 @@ fn counts_as(ask: Ask, answer: &Answer) -> Counts {
             Answer::Stat {
                 kind: Kind::Folder,
                 size: 0,
+                details,
             },
         ) => Counts::Found(Found {
             kind: Kind::Folder,
             size: 0,
+            details: *details,
         }),
         (
             Ask::Stat(_),
             Answer::Stat {
                 kind: Kind::File,
                 size,
+                details,
             },
         ) => Counts::Found(Found {
             kind: Kind::File,
             size: *size,
+            details: *details,
         }),
         (Ask::Stat(_), _) => Counts::Error(EIO),
         (Ask::List, Answer::Names(names)) => Counts::Names(names.as_slice().len()),
@@ -101,9 +107,7 @@ fn ends_with(operation: Operation<'_>, last: Counts) -> Ends {
             Ends::NewEntry(found)
         }
         (Operation::Create { .. }, Counts::Found(found)) => Ends::NewFile(found),
-        (Operation::GetAttr | Operation::SetAttr { .. }, Counts::Found(found)) => {
-            Ends::Attributes(found)
-        }
+        (Operation::GetAttr, Counts::Found(found)) => Ends::Attributes(found),
         (Operation::Open { .. }, Counts::Found(found)) if found.kind == Kind::Folder => {
             Ends::Error(EISDIR)
         }
@@ -194,6 +198,21 @@ fn release_after(answers: &[Answer]) -> Result<Ends, Stands> {
     })
 }
 
+/// Where that of a SETATTR stands: one part after another is set, and then it is looked at.
+fn set_after(asks: [Option<Ask>; 4], answers: &[Answer]) -> Result<Ends, Stands> {
+    let mut answers = answers.iter();
+    for ask in asks {
+        if let Some(ask) = ask {
+            take_done(&mut answers, ask)?;
+        }
+    }
+    Ok(match take(&mut answers, Ask::Stat(0))? {
+        Counts::Error(errno) => Ends::Error(errno),
+        Counts::Found(found) => Ends::Attributes(found),
+        _ => Ends::Nothing,
+    })
+}
+
 /// Where it stands, asking or over.
 fn standing(ends: Result<Ends, Stands>) -> Stands {
     match ends {
@@ -203,9 +222,20 @@ fn standing(ends: Result<Ends, Stands>) -> Stands {
 }
 
 /// Where the script of a request stands after these answers. Answers after its end are not looked at.
-pub fn stands_after(operation: Operation<'_>, form: Form, answers: &[Answer]) -> Stands {
+pub fn stands_after(
+    settings: Settings,
+    operation: Operation<'_>,
+    form: Form,
+    answers: &[Answer],
+) -> Stands {
     match operation {
         Operation::ReadDirPlus { .. } => return page_after(answers),
+        Operation::SetAttr {
+            valid,
+            size,
+            attributes,
+            ..
+        } => return standing(set_after(asks_to_set(valid, size, attributes), answers)),
         Operation::Unlink { .. } if form.hide => return standing(unlink_after(answers)),
         Operation::Rename { .. } | Operation::Rename2 { flags: 0, .. } if form.hide => {
             return standing(rename_after(answers));
@@ -214,7 +244,7 @@ pub fn stands_after(operation: Operation<'_>, form: Form, answers: &[Answer]) ->
         _ => {}
     }
     let mut last = Counts::Done;
-    let (first, second) = asks_of(operation, form.same);
+    let (first, second) = asks_of(settings, operation, form.same);
     let mut answers = answers.iter();
     for ask in [first, second] {
         let Some(ask) = ask else {

@@ -8,6 +8,8 @@ mod frames;
 #[cfg(test)]
 mod host;
 #[cfg(test)]
+mod host_attributes;
+#[cfg(test)]
 mod meetings;
 #[cfg(test)]
 mod pipes;

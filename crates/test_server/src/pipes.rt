@@ -34,6 +34,24 @@ pub struct Outcome<O: Drop> {
     pub faults: Vec<u8>,
 }
 
+/// Runs the program with these words.
+pub fn run_words<H: Host, O: Write + Drop>(
+    rt: &H,
+    host: &HostRuntime,
+    words: &[&str],
+    asks: &[&str],
+    output: O,
+) -> Result<Outcome<O>, Fail> {
+    let input = bytes_of(rt.alloc(), asks)?;
+    let mut faults = Vec::new(rt.alloc());
+    let ended = run(rt, host, words, input.as_slice(), output, &mut faults);
+    Ok(Outcome {
+        status: ended.status,
+        output: ended.output,
+        faults,
+    })
+}
+
 /// Runs `pipe` on that folder.
 pub fn pipe<H: Host, O: Write + Drop>(
     rt: &H,
@@ -51,14 +69,7 @@ pub fn pipe<H: Host, O: Write + Drop>(
         "1000",
         "--gid=100",
     ];
-    let input = bytes_of(rt.alloc(), asks)?;
-    let mut faults = Vec::new(rt.alloc());
-    let ended = run(rt, host, &words, input.as_slice(), output, &mut faults);
-    Ok(Outcome {
-        status: ended.status,
-        output: ended.output,
-        faults,
-    })
+    run_words(rt, host, &words, asks, output)
 }
 
 fn run_in(rt: &impl Host, host: &HostRuntime, root: &str, row: &Run) -> Result<(), Fail> {

@@ -1,30 +1,47 @@
 //! What stories are answered, as bytes.
 
 use crate::stories::{Says, Stands};
+use ops::Settings;
 use std::alloc::{AllocError, Global};
 use wire::{
-    Attributes, Data, Entry, InitOut, NO_INO, Reply, ReplyBody, encode_dirent, encode_plus_dirent,
-    encode_reply,
+    Attributes, Data, Details, Entry, InitOut, NO_INO, Reply, ReplyBody, Time, encode_dirent,
+    encode_plus_dirent, encode_reply,
 };
 
-fn attributes_of(stands: Stands) -> Attributes {
-    let (kind, size) = match stands {
-        Stands::File(size) => (wire::Kind::File, size),
-        Stands::Folder | Stands::Nothing => (wire::Kind::Folder, 0),
+/// The beginning of 1970.
+const BEGINNING: Time = Time {
+    seconds: 0,
+    nanos: 0,
+};
+
+/// The attributes of a node. Those that are fixed tell its number as that of the inode, and a tree in memory, whose inodes have no numbers, 0.
+/// All else is alike.
+fn attributes_of(settings: Settings, node: u64, stands: Stands) -> Attributes {
+    let (kind, size, permissions, links) = match stands {
+        Stands::File(size) => (wire::Kind::File, size, 0o644, 1),
+        Stands::Folder | Stands::Nothing => (wire::Kind::Folder, 0, 0o755, 2),
     };
     Attributes {
+        ino: if settings == Settings::Host { 0 } else { node },
         kind,
         size,
-        uid: 0,
-        gid: 0,
+        details: Details {
+            permissions,
+            links,
+            uid: 0,
+            gid: 0,
+            accessed: BEGINNING,
+            modified: BEGINNING,
+            changed: BEGINNING,
+        },
     }
 }
 
-fn entry_of(node: u64, stands: Stands) -> Entry {
+fn entry_of(settings: Settings, node: u64, stands: Stands) -> Entry {
     Entry {
         node,
         generation: 0,
-        attributes: attributes_of(stands),
+        attributes: attributes_of(settings, node, stands),
     }
 }
 
@@ -47,6 +64,7 @@ fn names_of(alloc: Global, from: u64, names: &[(&str, Stands)]) -> Result<ReplyB
 
 fn entries_of(
     alloc: Global,
+    settings: Settings,
     from: u64,
     entries: &[(&str, Stands, u64)],
 ) -> Result<ReplyBody, AllocError> {
@@ -57,7 +75,7 @@ fn entries_of(
         let entry = if *node == 0 {
             None
         } else {
-            Some(entry_of(*node, *stands))
+            Some(entry_of(settings, *node, *stands))
         };
         encode_plus_dirent(&mut bytes, entry, next, kind_of(*stands), name)?;
     }
@@ -65,25 +83,24 @@ fn entries_of(
 }
 
 /// Nothing, where it gets no reply.
-fn body_of(alloc: Global, says: Says) -> Result<Option<ReplyBody>, AllocError> {
+fn body_of(alloc: Global, settings: Settings, says: Says) -> Result<Option<ReplyBody>, AllocError> {
     Ok(Some(match says {
         Says::Failed(errno) => ReplyBody::Failed { errno },
         Says::Done => ReplyBody::Done,
-        Says::Entry(node, stands) => ReplyBody::Entry(entry_of(node, stands)),
-        Says::Attributes(node, stands) => ReplyBody::Attributes {
-            node,
-            attributes: attributes_of(stands),
-        },
+        Says::Entry(node, stands) => ReplyBody::Entry(entry_of(settings, node, stands)),
+        Says::Attributes(node, stands) => {
+            ReplyBody::Attributes(attributes_of(settings, node, stands))
+        }
         Says::Sizes => ReplyBody::StatFs,
         Says::Opened(fh) => ReplyBody::Opened { fh },
         Says::Created(node, fh) => ReplyBody::Created {
-            entry: entry_of(node, Stands::File(0)),
+            entry: entry_of(settings, node, Stands::File(0)),
             fh,
         },
         Says::Bytes(bytes) => ReplyBody::Data(Data::new(Vec::from_slice(alloc, bytes)?)),
         Says::Wrote(size) => ReplyBody::Wrote { size },
         Says::Names(from, names) => names_of(alloc, from, names)?,
-        Says::Entries(from, entries) => entries_of(alloc, from, entries)?,
+        Says::Entries(from, entries) => entries_of(alloc, settings, from, entries)?,
         Says::NoReply => return Ok(None),
     }))
 }
@@ -102,7 +119,11 @@ const AGREED: ReplyBody = ReplyBody::Init(InitOut {
 });
 
 /// The reply to INIT, unique 0, and what the requests are answered, which are numbered from 1.
-pub fn replies_of(alloc: Global, replies: &[Says]) -> Result<Vec<u8>, AllocError> {
+pub fn replies_of(
+    alloc: Global,
+    settings: Settings,
+    replies: &[Says],
+) -> Result<Vec<u8>, AllocError> {
     let mut bytes = Vec::new(alloc);
     let mut unique = 0u64;
     let greeting = Reply {
@@ -112,7 +133,7 @@ pub fn replies_of(alloc: Global, replies: &[Says]) -> Result<Vec<u8>, AllocError
     encode_reply(&greeting, &mut bytes)?;
     for says in replies {
         unique = unique.saturating_add(1);
-        let Some(body) = body_of(alloc, *says)? else {
+        let Some(body) = body_of(alloc, settings, *says)? else {
             continue;
         };
         encode_reply(&Reply { unique, body }, &mut bytes)?;

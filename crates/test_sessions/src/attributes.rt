@@ -1,5 +1,6 @@
 //! Scripts that ask what stands, or set a size, with their errors.
 
+use crate::requests::{MAKE_M, NOTHING_NEW};
 use crate::stories::Says::{Attributes, Entry, Failed, Sizes};
 use crate::stories::Stands::{File, Folder, Nothing};
 use crate::stories::{NOTHING, Story, tell};
@@ -8,7 +9,7 @@ use errno::{EACCES, EBADF, EFBIG, EIO, EISDIR, ENFILE, ENOSPC, EPERM, ESTALE};
 use ledger::Blanks;
 use std::marker::Brand;
 use std::test::Fail;
-use wire::Operation::{GetAttr, Lookup, MakeDir, SetAttr, StatFs};
+use wire::Operation::{GetAttr, Lookup, SetAttr, StatFs};
 
 /// What stands at nodes, and sizes of the file system.
 const ATTRIBUTES: &[Story] = &[
@@ -66,6 +67,7 @@ const SIZES: &[Story] = &[
                     valid: 8,
                     fh: 0,
                     size: 600,
+                    attributes: NOTHING_NEW,
                 },
             ),
             (
@@ -74,6 +76,7 @@ const SIZES: &[Story] = &[
                     valid: 0x208,
                     fh: 0,
                     size: 1025,
+                    attributes: NOTHING_NEW,
                 },
             ),
             (
@@ -82,6 +85,7 @@ const SIZES: &[Story] = &[
                     valid: 0,
                     fh: 0,
                     size: 5,
+                    attributes: NOTHING_NEW,
                 },
             ),
         ],
@@ -104,6 +108,7 @@ const SIZES: &[Story] = &[
                     valid: 1,
                     fh: 0,
                     size: 0,
+                    attributes: NOTHING_NEW,
                 },
             ),
             (
@@ -112,6 +117,7 @@ const SIZES: &[Story] = &[
                     valid: 9,
                     fh: 0,
                     size: 0,
+                    attributes: NOTHING_NEW,
                 },
             ),
             (
@@ -120,6 +126,7 @@ const SIZES: &[Story] = &[
                     valid: 0x48,
                     fh: 0,
                     size: 0,
+                    attributes: NOTHING_NEW,
                 },
             ),
             (
@@ -128,6 +135,7 @@ const SIZES: &[Story] = &[
                     valid: 0x49,
                     fh: 0,
                     size: 0,
+                    attributes: NOTHING_NEW,
                 },
             ),
         ],
@@ -151,6 +159,7 @@ const SIZES: &[Story] = &[
                     valid: 8,
                     fh: 0,
                     size: 0,
+                    attributes: NOTHING_NEW,
                 },
             ),
             (1, Lookup { name: "a" }),
@@ -160,6 +169,7 @@ const SIZES: &[Story] = &[
                     valid: 8,
                     fh: 0,
                     size: 1048577,
+                    attributes: NOTHING_NEW,
                 },
             ),
         ],
@@ -182,6 +192,7 @@ const SIZES: &[Story] = &[
                     valid: 8,
                     fh: 0,
                     size: 600,
+                    attributes: NOTHING_NEW,
                 },
             ),
         ],
@@ -200,6 +211,7 @@ const SIZES: &[Story] = &[
                     valid: 8,
                     fh: 0,
                     size: 600,
+                    attributes: NOTHING_NEW,
                 },
             ),
         ],
@@ -227,7 +239,7 @@ const NODE_LIMIT: &[Story] = &[Story {
         (1, Lookup { name: "e" }),
         (1, Lookup { name: "zz" }),
         (2, GetAttr),
-        (1, MakeDir { name: "m" }),
+        (1, MAKE_M),
         (1, Lookup { name: "a" }),
     ],
     replies: &[

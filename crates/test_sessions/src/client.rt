@@ -131,6 +131,9 @@ impl Link for Client {
     ghost one_count = { λ _. refl };
 }
 
+/// Nobody owns what is mirrored, and all attributes are fixed.
+pub const FIXED: Settings = Settings::Fixed { uid: 0, gid: 0 };
+
 /// How a session ended, and what its share counts.
 #[derive(Clone, Copy, Debug, PartialEq, Eq)]
 pub struct Over {
@@ -138,11 +141,12 @@ pub struct Over {
     pub totals: Totals,
 }
 
-/// Serves a tree, and open folders, to a client with a table of these limits.
+/// Serves a tree, and open folders, to a client by these settings, with a table of these limits.
 pub fn serve_client<H: Wait + RandomSource, T: Ledgers, D: Folders>(
     rt: &H,
     alloc: Global,
     blanks: Blanks,
+    settings: Settings,
     limits: Limits,
     served: &mut Served<MemTree, D>,
     client: &mut Client,
@@ -160,7 +164,6 @@ pub fn serve_client<H: Wait + RandomSource, T: Ledgers, D: Folders>(
     let (mut table, mut shares) = Table::<T>::open(alloc, limits, seeds, blanks, 1)?;
     let mut share = shares.pop().unwrap();
     shares.destroy_empty();
-    let settings = Settings { uid: 0, gid: 0 };
     let end = serve(rt, alloc, client, served, &mut table, &mut share, settings);
     let totals = share.totals();
     share.leave();

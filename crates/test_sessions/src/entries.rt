@@ -1,5 +1,6 @@
 //! READDIRPLUS: pages of an open folder with the nodes of their names.
 
+use crate::requests::MAKE_A;
 use crate::stories::Says::{Attributes, Done, Entries, Entry, Failed, Opened};
 use crate::stories::Stands::{File, Folder};
 use crate::stories::{NOTHING, Story, tell};
@@ -8,7 +9,7 @@ use errno::{EACCES, ESTALE};
 use ledger::Blanks;
 use std::marker::Brand;
 use std::test::Fail;
-use wire::Operation::{GetAttr, Lookup, MakeDir, OpenDir, ReadDirPlus, Rename, Unlink};
+use wire::Operation::{GetAttr, Lookup, OpenDir, ReadDirPlus, Rename, Unlink};
 
 /// What a client reads of an open folder, by pages.
 const PAGES: &[Story] = &[
@@ -163,7 +164,7 @@ const LOOKS: &[Story] = &[
         asks: &[
             (1, OpenDir),
             (1, Unlink { name: "a" }),
-            (1, MakeDir { name: "a" }),
+            (1, MAKE_A),
             (
                 1,
                 ReadDirPlus {

@@ -1,6 +1,7 @@
 //! READDIRPLUS byte for byte.
 
-use crate::untaken::{Lines, tell_lines};
+use crate::client::FIXED;
+use crate::sampled::{Lines, tell_lines};
 use ledger::Blanks;
 use std::marker::Brand;
 use std::test::Fail;
@@ -46,6 +47,7 @@ const UNKNOWN_FOUR: &str = "10000000 8cffffff 0b00000000000000";
 /// A folder with `a`, a file of three bytes, and `b`, an empty one, alone: the pages from the index 2 on of 319, 320 and 159 bytes, and the one
 /// from the index 4 on. In between the one lookup of `a` is given back, and it is born again.
 const PAGE_SIZES: Lines = Lines {
+    settings: FIXED,
     lines: &[
         MAKE_M,
         MOVE_A,
@@ -97,6 +99,7 @@ fn page_sizes(rt: HostRuntime) -> Result<(), Fail> {
 
 /// `.` has an entry of zeros, and so has a name that is gone: 144 bytes but for where it stands, its kind and its name.
 const ZEROS: Lines = Lines {
+    settings: FIXED,
     lines: &[
         MAKE_M,
         OPEN_M,

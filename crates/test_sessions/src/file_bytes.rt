@@ -1,5 +1,6 @@
 //! What is read from open files, and written to them.
 
+use crate::requests::CREATE_N;
 use crate::stories::Says::{Attributes, Bytes, Created, Done, Entry, Failed, Opened, Wrote};
 use crate::stories::Stands::{File, Nothing};
 use crate::stories::{NOTHING, Story, tell};
@@ -8,20 +9,14 @@ use errno::{EACCES, EFBIG, EIO, ENOENT, ENOSPC};
 use ledger::Blanks;
 use std::marker::Brand;
 use std::test::Fail;
-use wire::Operation::{Create, Flush, GetAttr, Lookup, Open, Read, Rename, Sync, Write};
+use wire::Operation::{Flush, GetAttr, Lookup, Open, Read, Rename, Sync, Write};
 
 /// Bytes that are read and written.
 const BYTES: &[Story] = &[
     Story {
         says: "what was written is read, from any offset",
         asks: &[
-            (
-                1,
-                Create {
-                    name: "n",
-                    flags: 2,
-                },
-            ),
+            (1, CREATE_N),
             (
                 2,
                 Write {

@@ -1,5 +1,6 @@
 //! Handles of files: made up, of another node, without the access, and given up.
 
+use crate::requests::NOTHING_NEW;
 use crate::stories::Says::{Attributes, Bytes, Done, Entry, Failed, Opened, Wrote};
 use crate::stories::Stands::File;
 use crate::stories::{NOTHING, Story, tell};
@@ -64,6 +65,7 @@ const HANDLES: &[Story] = &[
                     valid: 0x48,
                     fh: 2,
                     size: 0,
+                    attributes: NOTHING_NEW,
                 },
             ),
             (2, Flush { fh: 1 }),
@@ -105,6 +107,7 @@ const HANDLES: &[Story] = &[
                     valid: 0x48,
                     fh: 1,
                     size: 0,
+                    attributes: NOTHING_NEW,
                 },
             ),
             (
@@ -113,6 +116,7 @@ const HANDLES: &[Story] = &[
                     valid: 0x49,
                     fh: 1,
                     size: 0,
+                    attributes: NOTHING_NEW,
                 },
             ),
             (
@@ -121,6 +125,7 @@ const HANDLES: &[Story] = &[
                     valid: 8,
                     fh: 1,
                     size: 2,
+                    attributes: NOTHING_NEW,
                 },
             ),
             (
@@ -174,6 +179,7 @@ const HANDLES: &[Story] = &[
                     valid: 0x248,
                     fh: 1,
                     size: 2,
+                    attributes: NOTHING_NEW,
                 },
             ),
             (
@@ -182,6 +188,7 @@ const HANDLES: &[Story] = &[
                     valid: 0x40,
                     fh: 1,
                     size: 9,
+                    attributes: NOTHING_NEW,
                 },
             ),
         ],

@@ -1,13 +1,15 @@
 //! READDIR byte for byte.
 
+use crate::client::FIXED;
 use crate::entry_lines::{MADE_M, MAKE_M, MOVE_A, MOVE_E, OPEN_M, OPENED as OPENED_M};
-use crate::untaken::{Lines, tell_lines};
+use crate::sampled::{Lines, tell_lines};
 use ledger::Blanks;
 use std::marker::Brand;
 use std::test::Fail;
 
 /// A folder with `a` and `b` alone: its first entry is itself, and is all that 32 bytes have room for.
 const FIRST: Lines = Lines {
+    settings: FIXED,
     lines: &[
         MAKE_M,
         MOVE_A,
@@ -39,6 +41,7 @@ const OPENED: &str = "20000000 00000000 0300000000000000 0100000000000000 000000
 
 /// The root from the index 2 on in 96, 95 and 31 bytes, and from the index 5 on, where no entry is left.
 const PAGES: Lines = Lines {
+    settings: FIXED,
     lines: &[
         OPEN_ROOT,
         "50000000 1c000000 0400000000000000 0100000000000000 00000000 00000000 00000000 00000000 \

@@ -1,5 +1,6 @@
 //! Scripts that make folders and remove names, with their errors.
 
+use crate::requests::{MAKE_A, MAKE_D, MAKE_M, MAKE_N, MAKE_RESERVED};
 use crate::stories::Says::{Done, Entry, Failed};
 use crate::stories::Stands::{File, Folder, Nothing};
 use crate::stories::{NOTHING, Story, tell};
@@ -8,17 +9,13 @@ use errno::{EACCES, EEXIST, EIO, EISDIR, ENOENT, ENOTDIR, ENOTEMPTY, EPERM, ESTA
 use ledger::Blanks;
 use std::marker::Brand;
 use std::test::Fail;
-use wire::Operation::{GetAttr, Lookup, MakeDir, RemoveDir, Unlink};
+use wire::Operation::{GetAttr, Lookup, RemoveDir, Unlink};
 
 /// Folders that are made.
 const NEW_FOLDERS: &[Story] = &[
     Story {
         says: "a new folder, one in it, and one that stands",
-        asks: &[
-            (1, MakeDir { name: "m" }),
-            (2, MakeDir { name: "n" }),
-            (1, MakeDir { name: "d" }),
-        ],
+        asks: &[(1, MAKE_M), (2, MAKE_N), (1, MAKE_D)],
         replies: &[Entry(2, Folder), Entry(3, Folder), Failed(EEXIST)],
         after: &[(&["m"], Folder), (&["m", "n"], Folder)],
         ..NOTHING
@@ -26,21 +23,11 @@ const NEW_FOLDERS: &[Story] = &[
     Story {
         says: "a reserved name, an unknown folder, and one below a file",
         asks: &[
-            (
-                1,
-                MakeDir {
-                    name: ".fuse_hiddenx",
-                },
-            ),
-            (
-                9,
-                MakeDir {
-                    name: ".fuse_hiddenx",
-                },
-            ),
-            (9, MakeDir { name: "m" }),
+            (1, MAKE_RESERVED),
+            (9, MAKE_RESERVED),
+            (9, MAKE_M),
             (1, Lookup { name: "a" }),
-            (2, MakeDir { name: "m" }),
+            (2, MAKE_M),
         ],
         replies: &[
             Failed(EPERM),
@@ -54,7 +41,7 @@ const NEW_FOLDERS: &[Story] = &[
     },
     Story {
         says: "it is not made",
-        asks: &[(1, MakeDir { name: "m" }), (1, Lookup { name: "m" })],
+        asks: &[(1, MAKE_M), (1, Lookup { name: "m" })],
         faults: &[(1, Before(EACCES))],
         replies: &[Failed(EACCES), Failed(ENOENT)],
         after: &[(&["m"], Nothing)],
@@ -62,7 +49,7 @@ const NEW_FOLDERS: &[Story] = &[
     },
     Story {
         says: "it is made, and told as failed",
-        asks: &[(1, MakeDir { name: "m" }), (1, Lookup { name: "m" })],
+        asks: &[(1, MAKE_M), (1, Lookup { name: "m" })],
         faults: &[(1, After(EIO))],
         replies: &[Failed(EIO), Entry(2, Folder)],
         after: &[(&["m"], Folder)],
@@ -70,7 +57,7 @@ const NEW_FOLDERS: &[Story] = &[
     },
     Story {
         says: "it is made and then not found: it stays, and nothing is given",
-        asks: &[(1, MakeDir { name: "m" }), (1, Lookup { name: "e" })],
+        asks: &[(1, MAKE_M), (1, Lookup { name: "e" })],
         faults: &[(2, Before(EIO))],
         replies: &[Failed(EIO), Entry(2, File(0))],
         after: &[(&["m"], Folder)],
@@ -103,7 +90,7 @@ const REMOVALS: &[Story] = &[
         says: "a folder with a name, one without, a file and nothing are removed as folders",
         asks: &[
             (1, Lookup { name: "d" }),
-            (2, MakeDir { name: "m" }),
+            (2, MAKE_M),
             (1, RemoveDir { name: "d" }),
             (2, RemoveDir { name: "m" }),
             (1, RemoveDir { name: "d" }),
@@ -147,7 +134,7 @@ const REMOVALS: &[Story] = &[
             (1, Lookup { name: "a" }),
             (1, Unlink { name: "a" }),
             (2, GetAttr),
-            (1, MakeDir { name: "a" }),
+            (1, MAKE_A),
             (2, GetAttr),
         ],
         replies: &[

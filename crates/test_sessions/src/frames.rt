@@ -9,6 +9,7 @@ use std::random::RandomSource;
 use std::rt::Files;
 use std::sync::Wait;
 use std::thread::Threads;
+use std::time::Clock;
 use table::Seeds;
 
 /// INIT 7.31 with 131,072 bytes read ahead and no flags, unique 1.
@@ -162,6 +163,7 @@ pub fn run_words<
         + Net
         + RandomSource
         + Files<File = File>
+        + Clock
         + AllocGlobal
         + Clone
         + Send

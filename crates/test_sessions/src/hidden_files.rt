@@ -1,5 +1,6 @@
 //! Files that are removed while they are open: hidden, used by their handles, and gone at the end of the session if not before.
 
+use crate::requests::CREATE_A;
 use crate::stories::Says::{Attributes, Bytes, Created, Done, Entry, Failed, Opened, Wrote};
 use crate::stories::Stands::{File, Folder, Nothing};
 use crate::stories::{NOTHING, Story, tell};
@@ -8,7 +9,7 @@ use errno::{EBUSY, EIO, ENOENT, ENOTDIR};
 use ledger::Blanks;
 use std::marker::Brand;
 use std::test::Fail;
-use wire::Operation::{Create, GetAttr, Lookup, Open, Read, Release, RemoveDir, Unlink, Write};
+use wire::Operation::{GetAttr, Lookup, Open, Read, Release, RemoveDir, Unlink, Write};
 
 /// The first two names that the file of node 2 may be hidden under, and the eleventh.
 const FIRST: &str = ".fuse_hidden0000000200000000";
@@ -69,13 +70,7 @@ const HIDDEN: &[Story] = &[
             (1, Lookup { name: "a" }),
             (2, Open { flags: 0 }),
             (1, Unlink { name: "a" }),
-            (
-                1,
-                Create {
-                    name: "a",
-                    flags: 2,
-                },
-            ),
+            (1, CREATE_A),
             (
                 3,
                 Write {

@@ -1,5 +1,6 @@
 //! The last handle of a hidden file: its RELEASE removes it, and no earlier one does.
 
+use crate::requests::CREATE_X;
 use crate::stories::Says::{Bytes, Created, Done, Entry, Failed, Opened};
 use crate::stories::Stands::{File, Folder, Nothing};
 use crate::stories::{NOTHING, Story, tell};
@@ -8,7 +9,7 @@ use errno::{EBADF, EIO, ENOTEMPTY};
 use ledger::Blanks;
 use std::marker::Brand;
 use std::test::Fail;
-use wire::Operation::{self, Create, Lookup, Open, Read, Release, RemoveDir, Unlink};
+use wire::Operation::{self, Lookup, Open, Read, Release, RemoveDir, Unlink};
 
 /// The first name that the file of node 2 may be hidden under.
 const FIRST: &str = ".fuse_hidden0000000200000000";
@@ -112,13 +113,7 @@ const STORIES: &[Story] = &[
         says: "its folder is empty once its last handle is given up",
         asks: &[
             (1, Lookup { name: "d" }),
-            (
-                2,
-                Create {
-                    name: "x",
-                    flags: 2,
-                },
-            ),
+            (2, CREATE_X),
             (2, Unlink { name: "x" }),
             (1, RemoveDir { name: "d" }),
             (3, Release { fh: 1 }),

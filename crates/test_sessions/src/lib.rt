@@ -4,6 +4,8 @@
 #[cfg(test)]
 mod answers;
 #[cfg(test)]
+mod attribute_words;
+#[cfg(test)]
 mod attributes;
 #[cfg(test)]
 mod batches;
@@ -38,6 +40,12 @@ mod hidden_files;
 #[cfg(test)]
 mod hidden_frames;
 #[cfg(test)]
+mod host_frames;
+#[cfg(test)]
+mod host_sets;
+#[cfg(test)]
+mod host_stories;
+#[cfg(test)]
 mod kept_targets;
 #[cfg(test)]
 mod last_handles;
@@ -62,9 +70,13 @@ mod renames;
 #[cfg(test)]
 mod replaced_files;
 #[cfg(test)]
+mod requests;
+#[cfg(test)]
 mod row;
 #[cfg(test)]
 mod runs;
+#[cfg(test)]
+mod sampled;
 #[cfg(test)]
 mod stories;
 #[cfg(test)]

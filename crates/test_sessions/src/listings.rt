@@ -1,5 +1,6 @@
 //! Open folders: what a client reads of them, and handles that are none.
 
+use crate::requests::MAKE_M;
 use crate::stories::Says::{Done, Entry, Failed, Names, Opened};
 use crate::stories::Stands::{File, Folder};
 use crate::stories::{NOTHING, Story, tell, tell_plainly};
@@ -8,7 +9,7 @@ use errno::{EACCES, EBADF, EINVAL, EIO, ENOTDIR, ESTALE};
 use ledger::Blanks;
 use std::marker::Brand;
 use std::test::Fail;
-use wire::Operation::{Lookup, MakeDir, OpenDir, ReadDir, ReleaseDir, RemoveDir, SyncDir};
+use wire::Operation::{Lookup, OpenDir, ReadDir, ReleaseDir, RemoveDir, SyncDir};
 
 /// What a client reads of an open folder.
 const PAGES: &[Story] = &[
@@ -96,7 +97,7 @@ const PAGES: &[Story] = &[
         asks: &[
             (1, Lookup { name: "d" }),
             (2, OpenDir),
-            (2, MakeDir { name: "m" }),
+            (2, MAKE_M),
             (
                 2,
                 ReadDir {

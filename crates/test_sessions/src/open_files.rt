@@ -1,5 +1,6 @@
 //! Files that are opened and made, and how many may be open.
 
+use crate::requests::CREATE_N;
 use crate::stories::Says::{Attributes, Bytes, Created, Entry, Failed, Opened};
 use crate::stories::Stands::{File, Folder, Nothing};
 use crate::stories::{NOTHING, Story, tell};
@@ -23,6 +24,8 @@ const OPENED: &[Story] = &[
                 Create {
                     name: "n",
                     flags: 1,
+                    mode: 0,
+                    umask: 0,
                 },
             ),
             (3, GetAttr),
@@ -47,6 +50,8 @@ const OPENED: &[Story] = &[
                 Create {
                     name: "a",
                     flags: 3,
+                    mode: 0,
+                    umask: 0,
                 },
             ),
             (
@@ -54,6 +59,8 @@ const OPENED: &[Story] = &[
                 Create {
                     name: "a",
                     flags: 0,
+                    mode: 0,
+                    umask: 0,
                 },
             ),
             (
@@ -61,6 +68,8 @@ const OPENED: &[Story] = &[
                 Create {
                     name: "n",
                     flags: 0,
+                    mode: 0,
+                    umask: 0,
                 },
             ),
         ],
@@ -85,6 +94,8 @@ const OPENED: &[Story] = &[
                 Create {
                     name: ".fuse_hidden0",
                     flags: 3,
+                    mode: 0,
+                    umask: 0,
                 },
             ),
         ],
@@ -105,6 +116,8 @@ const OPENED: &[Story] = &[
                 Create {
                     name: "n",
                     flags: 0,
+                    mode: 0,
+                    umask: 0,
                 },
             ),
             (
@@ -112,6 +125,8 @@ const OPENED: &[Story] = &[
                 Create {
                     name: "m",
                     flags: 0,
+                    mode: 0,
+                    umask: 0,
                 },
             ),
             (
@@ -119,6 +134,8 @@ const OPENED: &[Story] = &[
                 Create {
                     name: "m",
                     flags: 0,
+                    mode: 0,
+                    umask: 0,
                 },
             ),
             (
@@ -126,6 +143,8 @@ const OPENED: &[Story] = &[
                 Create {
                     name: "k",
                     flags: 0,
+                    mode: 0,
+                    umask: 0,
                 },
             ),
         ],
@@ -152,13 +171,7 @@ const FILE_LIMIT: &[Story] = &[Story {
         (1, Lookup { name: "a" }),
         (2, Open { flags: 0 }),
         (2, Open { flags: 0 }),
-        (
-            1,
-            Create {
-                name: "n",
-                flags: 2,
-            },
-        ),
+        (1, CREATE_N),
         (
             2,
             Read {

@@ -2,8 +2,8 @@
 
 ghost use Rattle.std.specs.Prelude.{◌≡◌};
 
-use crate::client::serve_client;
-use crate::untaken::client_of;
+use crate::client::{FIXED, serve_client};
+use crate::sampled::client_of;
 use engine::Served;
 use ledger::{Blanks, Ledgers};
 use mirrord_programs::new_tree;
@@ -97,7 +97,7 @@ fn open_after<H: Wait + RandomSource, T: Ledgers>(
         dirs: PlainFolders::new(alloc),
     };
     let limits = Limits::default();
-    serve_client::<H, T, PlainFolders>(rt, alloc, blanks, limits, &mut served, &mut client)?;
+    serve_client::<H, T, PlainFolders>(rt, alloc, blanks, FIXED, limits, &mut served, &mut client)?;
     Ok(served.dirs.open())
 }
 

@@ -2,7 +2,7 @@
 
 use crate::client::Client;
 use crate::frames::{INIT, LOOKUP_A};
-use crate::untaken::{bytes_of, serve_samples};
+use crate::sampled::{bytes_of, serve_samples};
 use ledger::Blanks;
 use std::marker::Brand;
 use std::test::Fail;

@@ -1,5 +1,6 @@
 //! Scripts that rename, with their errors.
 
+use crate::requests::{MAKE_C, MAKE_X};
 use crate::stories::Says::{Attributes, Done, Entry, Failed};
 use crate::stories::Stands::{File, Folder, Nothing};
 use crate::stories::{NOTHING, Story, tell};
@@ -8,7 +9,7 @@ use errno::{EACCES, EINVAL, EIO, EISDIR, ENOENT, ENOTDIR, ENOTEMPTY, EPERM, ESTA
 use ledger::Blanks;
 use std::marker::Brand;
 use std::test::Fail;
-use wire::Operation::{GetAttr, Lookup, MakeDir, Rename};
+use wire::Operation::{GetAttr, Lookup, Rename};
 
 /// Files and folders that are renamed.
 const RENAMES: &[Story] = &[
@@ -224,7 +225,7 @@ const MOVES_ONTO_OWN_FRONTS: &[Story] = &[
         says: "a folder is moved below itself",
         asks: &[
             (1, Lookup { name: "d" }),
-            (2, MakeDir { name: "x" }),
+            (2, MAKE_X),
             (
                 1,
                 Rename {
@@ -249,8 +250,8 @@ const MOVES_ONTO_OWN_FRONTS: &[Story] = &[
         files: &[&["d", "b"]],
         asks: &[
             (1, Lookup { name: "d" }),
-            (2, MakeDir { name: "x" }),
-            (3, MakeDir { name: "c" }),
+            (2, MAKE_X),
+            (3, MAKE_C),
             (
                 3,
                 Rename {

@@ -1,5 +1,6 @@
 //! Files that another is moved onto while they are open: hidden, and used by their handles.
 
+use crate::requests::CREATE_X;
 use crate::stories::Says::{Attributes, Bytes, Created, Done, Entry, Failed, Opened, Wrote};
 use crate::stories::Stands::{File, Folder, Nothing};
 use crate::stories::{NOTHING, Story, tell};
@@ -8,7 +9,7 @@ use errno::{EBUSY, EIO, ENOENT, ENOTDIR};
 use ledger::Blanks;
 use std::marker::Brand;
 use std::test::Fail;
-use wire::Operation::{self, Create, GetAttr, Lookup, Open, Read, Release, Rename, Unlink, Write};
+use wire::Operation::{self, GetAttr, Lookup, Open, Read, Release, Rename, Unlink, Write};
 
 /// The first name that the file of node 2 may be hidden under.
 const FIRST: &str = ".fuse_hidden0000000200000000";
@@ -230,13 +231,7 @@ const REPLACED: &[Story] = &[
         says: "across folders, and then the name is removed and made anew: each handle leads to its file",
         asks: &[
             (1, Lookup { name: "d" }),
-            (
-                2,
-                Create {
-                    name: "x",
-                    flags: 2,
-                },
-            ),
+            (2, CREATE_X),
             (
                 3,
                 Write {
@@ -262,13 +257,7 @@ const REPLACED: &[Story] = &[
                 },
             ),
             (2, Unlink { name: "x" }),
-            (
-                2,
-                Create {
-                    name: "x",
-                    flags: 2,
-                },
-            ),
+            (2, CREATE_X),
             (
                 4,
                 Write {

@@ -3,12 +3,13 @@
 ghost use Rattle.std.specs.Prelude.{◌≡◌};
 
 use crate::answers::replies_of;
-use crate::client::{Client, serve_client};
+use crate::client::{Client, FIXED, serve_client};
 use backing::{Answer, Call, Calls, Fault, Kind, MemTree};
 use engine::Served;
 use handles::{Dirs, Folders};
 use ledger::{Blanks, Ledgers};
 use mirrord_programs::new_tree;
+use ops::Settings;
 use paths::{Name, Path};
 use std::alloc::{AllocError, Global};
 use std::random::RandomSource;
@@ -22,6 +23,8 @@ use wire::{Operation, Request, encode_request};
 #[derive(Clone, Copy)]
 pub struct Story<'a> {
     pub says: &'a str,
+    /// Whose attributes are told.
+    pub settings: Settings,
     /// How many nodes may live, the root among them.
     pub nodes: u64,
     /// How many files may be open.
@@ -50,6 +53,7 @@ pub enum Stands {
 /// Nothing is asked, and nothing fails.
 pub const NOTHING: Story = Story {
     says: "nothing",
+    settings: FIXED,
     nodes: 65536,
     open_files: 4096,
     files: &[],
@@ -143,10 +147,11 @@ fn what_stands(alloc: Global, tree: &mut MemTree, names: &[&str]) -> Result<Stan
         Answer::Stat {
             kind: Kind::File,
             size,
+            ..
         } => Stands::File(size),
         Answer::Stat {
             kind: Kind::Folder,
-            size: _,
+            ..
         } => Stands::Folder,
         _ => Stands::Nothing,
     })
@@ -208,8 +213,16 @@ fn tell_on<H: Wait + RandomSource, T: Ledgers, D: Folders + Drop>(
         files: story.open_files,
         ..Limits::default()
     };
-    serve_client::<H, T, D>(rt, alloc, blanks, limits, &mut served, &mut client)?;
-    let replies = replies_of(alloc, story.replies)?;
+    serve_client::<H, T, D>(
+        rt,
+        alloc,
+        blanks,
+        story.settings,
+        limits,
+        &mut served,
+        &mut client,
+    )?;
+    let replies = replies_of(alloc, story.settings, story.replies)?;
     let are_replies = client.taken.as_slice() == replies.as_slice();
     let stand = stand_in(alloc, &mut served.calls, story)?;
     if are_replies && stand == story.after.len() {

@@ -1,103 +1,16 @@
 //! Clients that do not take a reply, or begin too early, directories that answer strangely, and what is left of the input at the end.
 
-ghost use Rattle.std.specs.Prelude.{◌≡◌};
-
-use crate::client::{Client, Over, serve_client};
 use crate::file_frames::{CREATE_N, FLUSH, FLUSH_REFUSED, OPEN_A};
 use crate::frames::{
-    ABSENT, AGREED, DESTROY, ENTRY_A, ENTRY_E_REBORN, INIT, LOOKUP_A, LOOKUP_E, LOOKUP_ZZ, lines_of,
+    ABSENT, AGREED, DESTROY, ENTRY_A, ENTRY_E_REBORN, INIT, LOOKUP_A, LOOKUP_E, LOOKUP_ZZ,
 };
+use crate::sampled::{are_taken, bytes_of, client_from, client_of, serve_samples};
 use backing::Fault;
-use engine::{Served, SessionEnd};
+use engine::SessionEnd;
 use errno::EACCES;
-use handles::Dirs;
-use ledger::{Blanks, Ledgers, Totals};
-use mirrord_programs::new_tree;
-use std::alloc::{AllocError, Global};
+use ledger::{Blanks, Totals};
 use std::marker::Brand;
-use std::random::RandomSource;
-use std::sync::Wait;
 use std::test::Fail;
-use table::Limits;
-
-// Serves the sample names. The first call of their tree fails, if a fault is planned.
-pub fn serve_samples<H: Wait + RandomSource, T: Ledgers>(
-    rt: &H,
-    alloc: Global,
-    blanks: Blanks,
-    planned: Option<Fault>,
-    client: &mut Client,
-) -> Result<Over, AllocError>
-    requires names { blanks ≡ T.names }
-    requires shares { T.names.parts ≡ 1 }
-{
-    let mut tree = new_tree(alloc, true)?;
-    if let Some(fault) = planned {
-        tree.fail_at(1, fault)?;
-    }
-    let dirs = Dirs::new(alloc)?;
-    let mut served = Served {
-        calls: tree,
-        dirs: &dirs,
-    };
-    let limits = Limits::default();
-    serve_client::<H, T, &Dirs>(rt, alloc, blanks, limits, &mut served, client)
-}
-
-pub fn bytes_of(alloc: Global, line: &str) -> Result<Vec<u8>, Fail> {
-    let digits = lines_of(alloc, &[line])?;
-    let end = digits.len().saturating_sub(1);
-    Ok(hex::decode(alloc, &digits[..end])?)
-}
-
-// A client that sends these frames after another one.
-fn client_from(alloc: Global, first: &str, lines: &[&str], declined: u32) -> Result<Client, Fail> {
-    let mut frames = Vec::new(alloc);
-    frames.push(bytes_of(alloc, first)?)?;
-    for line in lines {
-        frames.push(bytes_of(alloc, line)?)?;
-    }
-    Ok(Client::new(alloc, frames, declined))
-}
-
-// A client that sends INIT and these frames.
-pub fn client_of(alloc: Global, lines: &[&str], declined: u32) -> Result<Client, Fail> {
-    client_from(alloc, INIT, lines, declined)
-}
-
-// Whether these replies were taken, after INIT's.
-fn are_taken(alloc: Global, taken: &[u8], replies: &[&str]) -> Result<bool, Fail> {
-    let mut bytes = bytes_of(alloc, AGREED)?;
-    for reply in replies {
-        bytes.extend_from_slice(&bytes_of(alloc, reply)?)?;
-    }
-    Ok(taken == bytes.as_slice())
-}
-
-/// What a client sends after INIT, and what it is answered, in hexadecimal digits.
-#[derive(Clone, Copy)]
-pub struct Lines {
-    pub lines: &'static [&'static str],
-    pub replies: &'static [&'static str],
-}
-
-// A client that sends these lines over the sample names is answered so.
-pub fn tell_lines<H: Wait + RandomSource, T: Ledgers>(
-    rt: &H,
-    alloc: Global,
-    blanks: Blanks,
-    told: Lines,
-) -> Result<(), Fail>
-    requires names { blanks ≡ T.names }
-    requires shares { T.names.parts ≡ 1 }
-{
-    let mut client = client_of(alloc, told.lines, 0)?;
-    serve_samples::<H, T>(rt, alloc, blanks, None, &mut client)?;
-    if are_taken(alloc, &client.taken, told.replies)? {
-        return Ok(());
-    }
-    Err(Fail::from("the replies came otherwise"))
-}
 
 /// LOOKUP `n` in the root, unique 8.
 const LOOKUP_N: &str =

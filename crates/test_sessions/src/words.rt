@@ -16,7 +16,7 @@ const DEFAULT: Bounds = Bounds {
 
 fn terms(uid: u32, gid: u32, bounds: Bounds) -> Terms {
     Terms {
-        settings: Settings { uid, gid },
+        settings: Settings::Fixed { uid, gid },
         bounds,
     }
 }

@@ -58,12 +58,14 @@ pub struct Came {
     pub last: u64,
     pub workers: usize,
     pub taken: u64,
+    /// How many replies were handed back by their queue, and whether a job was.
+    pub handed_back: (u64, bool),
     /// Where that is asked for.
     pub births: Option<u64>,
     pub totals: Option<(u64, u64, u64)>,
 }
 
-pub const SETTINGS: Settings = Settings { uid: 0, gid: 0 };
+pub const SETTINGS: Settings = Settings::Fixed { uid: 0, gid: 0 };
 
 const INIT: (u64, Operation<'static>) = (
     0,
@@ -114,7 +116,8 @@ pub fn pieces_of(
     Ok(pieces)
 }
 
-fn tree_of(alloc: Global) -> Result<MemTree, AllocError> {
+/// A tree with the file `a` of three bytes.
+pub fn tree_of(alloc: Global) -> Result<MemTree, AllocError> {
     let mut tree = MemTree::new(alloc);
     let mut names = Vec::new(alloc);
     names.push(Name::copy_of(alloc, "a")?)?;
@@ -191,6 +194,18 @@ fn taken_of(ended: &Ended) -> (usize, u64) {
     }
 }
 
+/// How many replies of all threads were handed back by their queue, and whether a job was.
+fn handed_back(ended: &Ended) -> (u64, bool) {
+    match &ended.account {
+        Some(account) => {
+            let passed = &account.passed;
+            let count = summed(passed.handed_back.as_slice());
+            (count, passed.is_job_handed_back)
+        }
+        None => (0, false),
+    }
+}
+
 fn came_of(ended: &Ended, heard: &Heard, story: &Story<'_>) -> Came {
     let (births, totals) = totals_of(ended, story);
     let (workers, taken) = taken_of(ended);
@@ -201,6 +216,7 @@ fn came_of(ended: &Ended, heard: &Heard, story: &Story<'_>) -> Came {
         last: last_heard(heard, story),
         workers,
         taken,
+        handed_back: handed_back(ended),
         births,
         totals,
     }
@@ -312,6 +328,7 @@ pub fn check_over<
         last: story.last,
         workers,
         taken: story.taken,
+        handed_back: (0, false),
         births: story.births,
         totals: story.totals,
     };

@@ -1,4 +1,4 @@
-//! Turns of a worker whose replies nobody gets any more.
+//! Turns of a worker whose replies nobody gets any more, and of a reader whose jobs nobody takes.
 
 ghost use Rattle.std.specs.Prelude.{◌≡◌, ◌<◌, ◌+◌, length, true};
 ghost use Rattle.crossbeam_channel.specs.Claims.{view, IsSeatAt};
@@ -7,10 +7,10 @@ ghost use Rattle.table_steps.specs.Kept.{world_of};
 ghost use Rattle.table_steps.specs.World.{opened_world};
 
 use crate::client::{Asks, Heard};
-use crate::teller::{Comes, SETTINGS, holds_of, pieces_of};
-use backing::Shared;
+use crate::teller::{Comes, SETTINGS, pieces_of, tree_of};
+use backing::MemTree;
 use crossbeam_channel::bounded_with;
-use engine::Served;
+use engine::{Served, SessionEnd};
 use engine_jobs::Job;
 use engine_queues::jobs::{Cut, Fair, Hand, JobPass, JobSender};
 use engine_queues::letters::{InOrder, Letter, ReplyLane, ReplyPass, ReplySender, Roles};
@@ -124,15 +124,15 @@ fn work_both<H: Wait + Drop, T: Ledgers, N: Opening>(
     front: Front<Entry<T>, Runs<N>>,
     share: &mut Share<T>,
     worker: &mut Worker,
-    served: &mut Served<Shared<H>, &Dirs>,
+    served: &mut Served<MemTree, &Dirs>,
 ) {
     let mut visitor = Visitor::new(rt, hall, front);
     for _ in 0..2 {
-        let _turn = worker.turn(&mut visitor, share, served);
+        let _turn = worker.turn_known(&mut visitor, share, served);
     }
 }
 
-/// The same. What the table is then is the result.
+/// The same. What the table is then is the result, and how many replies were handed back.
 fn work<H: Wait + Drop, T: Ledgers, N: Opening>(
     rt: &H,
     alloc: Global,
@@ -140,9 +140,9 @@ fn work<H: Wait + Drop, T: Ledgers, N: Opening>(
     table: Table<T>,
     mut kept: Kept<T>,
     mut worker: Worker,
-    tree: Shared<H>,
+    tree: MemTree,
     dirs: &Dirs,
-) -> Result<Image, AllocError>
+) -> Result<(Image, u64), AllocError>
     requires history { opened.table.shared.table_id ≡ N.history }
     requires table { world_of table ≡ opened_world N.limits }
     requires threads { N.threads ≡ 2 }
@@ -150,7 +150,8 @@ fn work<H: Wait + Drop, T: Ledgers, N: Opening>(
     let (hall, front, _writer) = hall_of::<T, N>(alloc, opened, table)?;
     let mut served = Served { calls: tree, dirs };
     work_both(rt, &hall, front, &mut kept.share, &mut worker, &mut served);
-    hall.close().into_table().export()
+    let image = hall.close().into_table().export()?;
+    Ok((image, worker.handed_back))
 }
 
 /// The same from a new table.
@@ -160,8 +161,8 @@ fn work_anew<H: Wait + Drop, T: Ledgers>(
     seeds: Seeds,
     blanks: Blanks,
     worker: Worker,
-    tree: Shared<H>,
-) -> Result<Image, AllocError>
+    tree: MemTree,
+) -> Result<(Image, u64), AllocError>
     requires names { blanks ≡ T.names }
     requires shares { T.names.parts ≡ 1 }
 {
@@ -191,21 +192,46 @@ const POSTINGS: &[Posting] = &[
 ];
 
 /// Runs both turns, over a tree with the file `a`.
-fn image_of<H: Wait + RandomSource + Clone + Drop>(rt: &H, alloc: Global) -> Result<Image, Fail> {
+fn image_of<H: Wait + RandomSource + Clone + Drop>(
+    rt: &H,
+    alloc: Global,
+) -> Result<(Image, u64), Fail> {
     let worker = lone_worker(rt, alloc)?;
     let seeds = Seeds::new(rt)?;
-    let Some(tree) = holds_of(rt, alloc, 1)?.pop() else {
-        return Err(Fail::from("no tree"));
-    };
-    let image = work_anew::<H, Brand>(rt, alloc, seeds, Blanks::new(1), worker, tree)?;
-    Ok(image)
+    let tree = tree_of(alloc)?;
+    let told = work_anew::<H, Brand>(rt, alloc, seeds, Blanks::new(1), worker, tree)?;
+    Ok(told)
 }
 
 #[test]
 fn reply_that_nobody_gets(rt: HostRuntime) -> Result<(), Fail> {
-    let image = image_of(&rt, rt.alloc())?;
+    let (image, handed_back) = image_of(&rt, rt.alloc())?;
+    assert_eq!(rt; handed_back, 2);
     assert!(rt; image.postings.as_slice() == POSTINGS);
     assert_eq!(rt; image.records.as_slice().len(), 0);
     assert_eq!(rt; image.nodes.as_slice().len(), 1);
+    Ok(())
+}
+
+/// How a receive of two frames ends whose jobs nobody takes, and the number of the job that was handed back.
+fn read_for_nobody<H: Wait + Clone + Drop>(
+    rt: &H,
+    alloc: Global,
+) -> Result<(Option<SessionEnd>, Option<u64>), AllocError> {
+    let (jobs, work, read) = bounded_with::<Option<Job>, Hand<Job>, Fair, Global>(alloc, 16)?;
+    let mut reader = Reader::new(alloc, jobs, read)?;
+    drop(work);
+    let end = reader.turn(rt, &mut asks(rt, alloc)?);
+    match &reader.handed_back {
+        Some(job) => Ok((end, Some(job.ordinal))),
+        None => Ok((end, None)),
+    }
+}
+
+#[test]
+fn job_that_nobody_takes(rt: HostRuntime) -> Result<(), Fail> {
+    let (end, handed_back) = read_for_nobody(&rt, rt.alloc())?;
+    assert_eq!(rt; end, Some(SessionEnd::Memory));
+    assert_eq!(rt; handed_back, Some(0));
     Ok(())
 }

@@ -1,4 +1,4 @@
-use Rattle.std.proofs.Common.{◌≡◌, ◌+◌, ◌∙◌, List, Option, map, sym, ap, subst, vec_len, arith}
+use Rattle.std.proofs.Common.{◌≡◌, ◌+◌, ◌∙◌, ℕ, List, Option, map, sym, ap, subst, subst₂, vec_len, arith}
 use Rattle.std.specs.List.{All, range_with_len}
 use Rattle.crossbeam_channel.specs.Claims.{view, IsSeatAt}
 use Rattle.crossbeam_channel.specs.Ends.{sends_on}
@@ -10,7 +10,7 @@ use Rattle.engine_queues.specs.declared.passes.Passes.{Passes}
 use Rattle.engine_workers.specs.declared.replies.Reply.{Reply}
 use Rattle.engine_threads.specs.Worked.{BidsFarewell, WorkedEach, did, does_shared}
 use Rattle.engine_threads.specs.declared.working.WorkerEnd.{WorkerEnd}
-use Rattle.engine_threads.proofs.Parting.{all_did, all_numbered, all_seated, bids_farewell, did_last, each_worked, given_of, passes_are}
+use Rattle.engine_threads.proofs.Parting.{all_did, all_numbered, all_seated, bids_farewell, counts_are, did_last, each_worked, given_of, passes_are}
 use Rattle.engine_threads.proofs.Sharing.{shared_as}
 use Rattle.engine_threads.proofs.ending.end_all.Goals as goal
 
@@ -85,9 +85,10 @@ returns-clause-worked g c =
     let log = p.new.closed.table.log in
     let whole = passes_are jobs replies does settings (did log) ends l.ends.items l.last.value l.worker.passes l.own.passes p.result.0.items t.ensures.ends t.ensures.worker.0 p.ensures.passes in
     let others = subst (λ (k : Log g.row.T.Denot). All (λ (e : End). did k e.front.by ≡ calls_of e.front.mine) l.ends.items) (sym p.ensures.same) p.ensures.did in
-    let last = did_last jobs replies does settings (did log) l.last.value l.worker.front t.ensures.worker.1 (subst (λ (k : Log g.row.T.Denot). did k l.worker.front.by ≡ calls_of l.worker.front.mine) (sym p.ensures.same) p.ensures.worker_did) in
-    subst (λ (ps : List Pass). WorkedEach does settings (did log) (given_of jobs replies does settings (did log) ends) ps) (whole ∙ sym (ap (λ v. v.items) c.of-3.ensures))
-    (each_worked jobs replies does settings (did log) ends l.own.passes c.requires.over (all_did jobs replies does settings (did log) ends l.ends.items l.last.value t.ensures.ends others last))
+    let last = did_last jobs replies does settings (did log) l.last.value l.worker.front t.ensures.worker.2 (subst (λ (k : Log g.row.T.Denot). did k l.worker.front.by ≡ calls_of l.worker.front.mine) (sym p.ensures.same) p.ensures.worker_did) in
+    let counts = counts_are jobs replies does settings (did log) ends l.ends.items l.last.value l.worker.handed_back l.own.handed_back p.result.1.items t.ensures.ends t.ensures.worker.1 p.ensures.handed_back in
+    subst₂ (λ (ps : List Pass) (ns : List ℕ). WorkedEach does settings (did log) (given_of jobs replies does settings (did log) ends) ps ns) (whole ∙ sym (ap (λ v. v.items) c.of-3.ensures)) counts
+    (each_worked jobs replies does settings (did log) ends l.own.passes l.own.handed_back c.requires.over (all_did jobs replies does settings (did log) ends l.ends.items l.last.value t.ensures.ends others last))
 
 pub returns-clause-farewell : goal.returns-clause-farewell
 returns-clause-farewell g c =
@@ -104,9 +105,10 @@ returns-clause-farewell g c =
     let log = p.new.closed.table.log in
     let whole = passes_are jobs replies does settings (did log) ends l.ends.items l.last.value l.worker.passes l.own.passes p.result.0.items t.ensures.ends t.ensures.worker.0 p.ensures.passes in
     let others = subst (λ (k : Log g.row.T.Denot). All (λ (e : End). did k e.front.by ≡ calls_of e.front.mine) l.ends.items) (sym p.ensures.same) p.ensures.did in
-    let last = did_last jobs replies does settings (did log) l.last.value l.worker.front t.ensures.worker.1 (subst (λ (k : Log g.row.T.Denot). did k l.worker.front.by ≡ calls_of l.worker.front.mine) (sym p.ensures.same) p.ensures.worker_did) in
+    let last = did_last jobs replies does settings (did log) l.last.value l.worker.front t.ensures.worker.2 (subst (λ (k : Log g.row.T.Denot). did k l.worker.front.by ≡ calls_of l.worker.front.mine) (sym p.ensures.same) p.ensures.worker_did) in
     let own = subst (λ (k : Log g.row.T.Denot). did k l.own.front.by ≡ calls_of l.own.front.mine) (sym p.ensures.same) p.ensures.own_did in
     let farewell = c.into_end-pass.result.farewell in
-    subst (λ (o : Option Job). BidsFarewell does settings (did log) (given_of jobs replies does settings (did log) ends) o c.of-3.result.value.items) (sym c.of-last.ensures)
-    (subst (λ (ps : List Pass). BidsFarewell does settings (did log) (given_of jobs replies does settings (did log) ends) farewell ps) (whole ∙ sym (ap (λ v. v.items) c.of-3.ensures))
-    (bids_farewell jobs replies does settings (did log) ends l.ends.items l.last.value l.own.passes l.own.front farewell t.ensures.ends c.requires.over last own t.ensures.farewell))
+    let counts = counts_are jobs replies does settings (did log) ends l.ends.items l.last.value l.worker.handed_back l.own.handed_back p.result.1.items t.ensures.ends t.ensures.worker.1 p.ensures.handed_back in
+    subst (λ (o : Option Job). BidsFarewell does settings (did log) (given_of jobs replies does settings (did log) ends) o c.of-3.result.value.items p.result.1.items) (sym c.of-last.ensures)
+    (subst₂ (λ (ps : List Pass) (ns : List ℕ). BidsFarewell does settings (did log) (given_of jobs replies does settings (did log) ends) farewell ps ns) (whole ∙ sym (ap (λ v. v.items) c.of-3.ensures)) counts
+    (bids_farewell jobs replies does settings (did log) ends l.ends.items l.last.value l.own.passes l.own.handed_back l.own.front farewell t.ensures.ends c.requires.over last own t.ensures.farewell))

@@ -16,7 +16,7 @@ use Rattle.engine_threads.proofs.queued.serve_hired.Goals as goal
 pub invariant_of-parts : goal.invariant_of-parts
 invariant_of-parts g c =
     let r = c.in_ok-parts.parts.reader in
-    record { seated = r.seated; some_part = r.some_part; takes_none = r.takes_none; counted = r.counted; numbered = r.numbered }
+    record { seated = r.seated; some_part = r.some_part; takes_none = r.takes_none; counted = r.counted; numbered = r.numbered; within = r.within }
 
 pub serve_staffed-requires-clause-staff : goal.serve_staffed-requires-clause-staff
 serve_staffed-requires-clause-staff g c κs within =
@@ -34,7 +34,7 @@ returns-clause-writes g c =
 
 pub returns-clause-reads : goal.returns-clause-reads
 returns-clause-reads g c =
-    subst (λ (link : g.row.I.Denot). IfSome c.serve_staffed.result (λ o. ∥ HasReadAll g.I.LinkIn.receives (Some link) o.passed.input (queued_of (view o.passed.read.value).put) (option_map shown o.passed.farewell.value) ∥₁)) c.in_ok-parts.ensures.links.0 c.serve_staffed.ensures.reads
+    subst (λ (link : g.row.I.Denot). IfSome c.serve_staffed.result (λ o. ∥ HasReadAll g.I.LinkIn.receives (Some link) o.passed.input (queued_of (view o.passed.read.value).put) (option_map shown o.passed.farewell.value) o.passed.is_job_handed_back ∥₁)) c.in_ok-parts.ensures.links.0 c.serve_staffed.ensures.reads
 
 pub returns-clause-numbers : goal.returns-clause-numbers
 returns-clause-numbers g c =
@@ -42,10 +42,10 @@ returns-clause-numbers g c =
 
 pub returns-clause-worked : goal.returns-clause-worked
 returns-clause-worked g c =
-    subst₂ (λ (s : Settings) (calls : List g.row.C.Denot). IfSome c.serve_staffed.result (λ o. WorkedEach (does_shared g.C.Calls.gives) s (did o.closed.table.log) calls o.passed.passes.value.items))
+    subst₂ (λ (s : Settings) (calls : List g.row.C.Denot). IfSome c.serve_staffed.result (λ o. WorkedEach (does_shared g.C.Calls.gives) s (did o.closed.table.log) calls o.passed.passes.value.items o.passed.handed_back.items))
     c.in_ok-room.ensures.settings c.in_ok-staff.ensures.given c.serve_staffed.ensures.worked
 
 pub returns-clause-farewell : goal.returns-clause-farewell
 returns-clause-farewell g c =
-    subst₂ (λ (s : Settings) (calls : List g.row.C.Denot). IfSome c.serve_staffed.result (λ o. BidsFarewell (does_shared g.C.Calls.gives) s (did o.closed.table.log) calls o.passed.farewell.value o.passed.passes.value.items))
+    subst₂ (λ (s : Settings) (calls : List g.row.C.Denot). IfSome c.serve_staffed.result (λ o. BidsFarewell (does_shared g.C.Calls.gives) s (did o.closed.table.log) calls o.passed.farewell.value o.passed.passes.value.items o.passed.handed_back.items))
     c.in_ok-room.ensures.settings c.in_ok-staff.ensures.given c.serve_staffed.ensures.farewell

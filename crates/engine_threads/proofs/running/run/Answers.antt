@@ -13,5 +13,5 @@ pub returns-clause-farewell : goal.returns-clause-farewell
 returns-clause-farewell g c =
     let over = c.end_all.result in
     let all : vec_len c.start_staff-handles.result ≡ vec_len c.args.staff = (let a = c.len.ensures in let b = c.len-count.ensures in let d = c.if-not-are_all.false in omega arith) in
-    subst (λ (calls : List g.row.C.Denot). BidsFarewell (does_shared g.C.Calls.gives) c.args.room.starter.settings (did over.closed.table.log) calls over.passed.farewell.value over.passed.passes.value.items)
+    subst (λ (calls : List g.row.C.Denot). BidsFarewell (does_shared g.C.Calls.gives) c.args.room.starter.settings (did over.closed.table.log) calls over.passed.farewell.value over.passed.passes.value.items over.passed.handed_back.items)
     (c.join_all-ended.ensures.given ∙ c.start_staff-handles.ensures.given all) c.end_all.ensures.farewell

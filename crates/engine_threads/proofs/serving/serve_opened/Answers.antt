@@ -46,7 +46,7 @@ returns-clause-numbers g c =
 
 pub returns-clause-reads : goal.returns-clause-reads
 returns-clause-reads g c =
-    some_by (λ (p : Passed). ∥ HasReadAll g.I.LinkIn.receives (Some c.args.links.link_in) p.input (queued_of (view p.read.value).put) (option_map shown p.farewell.value) ∥₁) (λ (a : Account). a.passed) c.in_ok-over.over.passed c.conclude.result c.conclude.ensures.passed
+    some_by (λ (p : Passed). ∥ HasReadAll g.I.LinkIn.receives (Some c.args.links.link_in) p.input (queued_of (view p.read.value).put) (option_map shown p.farewell.value) p.is_job_handed_back ∥₁) (λ (a : Account). a.passed) c.in_ok-over.over.passed c.conclude.result c.conclude.ensures.passed
     c.in_ok-over.ensures.reads
 
 pub returns-clause-shared : goal.returns-clause-shared

@@ -25,5 +25,6 @@ returns-in-Some-clause-only g c none =
     let p = c.in-Some.account.passed in
     let put = queued_of (view p.read.value).put in
     let farewell = option_map shown p.farewell.value in
-    let reads = subst (λ (input : Option SessionEnd). ∥ HasReadAll g.I.LinkIn.receives (Some c.args.link_in) input put farewell ∥₁) (c.ended_by.ensures.only none) c.in-Some.ensures.reads in
-    absurd (some_input g.I.LinkIn.receives (Some c.args.link_in) ends.NoWorkers put farewell reads refl)
+    let back = p.is_job_handed_back in
+    let reads = subst (λ (input : Option SessionEnd). ∥ HasReadAll g.I.LinkIn.receives (Some c.args.link_in) input put farewell back ∥₁) (c.ended_by.ensures.only none) c.in-Some.ensures.reads in
+    absurd (some_input g.I.LinkIn.receives (Some c.args.link_in) ends.NoWorkers put farewell back reads refl)

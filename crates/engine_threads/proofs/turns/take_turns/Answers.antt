@@ -1,7 +1,7 @@
 use Rattle.std.proofs.Common.{[], ◌∙◌, refl}
 use Rattle.crossbeam_channel.specs.Claims.{view}
 use Rattle.engine_visits.specs.Visits.{on_table_of}
-use Rattle.engine_workers.specs.Turns.{means, standing}
+use Rattle.engine_workers.specs.Turns.{means, outbox, standing}
 use Rattle.engine_threads.specs.Worked.{does_shared}
 use Rattle.engine_threads.proofs.Chains.{works_on}
 use Rattle.engine_threads.proofs.turns.take_turns.Goals as goal
@@ -21,6 +21,6 @@ loop-preserved g c =
       replies = t.ensures.rings.1 ∙ i.replies;
       number = t.ensures.rings.2 ∙ i.number;
       settings = t.ensures.settings ∙ i.settings;
-      worked = works_on (does_shared g.C.Calls.gives) w.session.settings w.number l.worker.session.settings l.worker.number (standing (view w.job_pass) (view w.reply_pass) (means c.args.served.now c.args.kept.now.share (on_table_of c.args.visitor.now.front)))
-          (standing (view l.worker.job_pass) (view l.worker.reply_pass) (means l.served l.kept.share (on_table_of l.visitor.front))) (standing (view t.new.self.job_pass) (view t.new.self.reply_pass) (means t.new.served t.new.share (on_table_of t.new.visitor.front))) one i.settings i.number i.worked (t.ensures.worked one c.in-Worked.is);
+      worked = works_on (does_shared g.C.Calls.gives) w.session.settings w.number l.worker.session.settings l.worker.number (standing (view w.job_pass) (outbox (view w.reply_pass) w.handed_back) (means c.args.served.now c.args.kept.now.share (on_table_of c.args.visitor.now.front)))
+          (standing (view l.worker.job_pass) (outbox (view l.worker.reply_pass) l.worker.handed_back) (means l.served l.kept.share (on_table_of l.visitor.front))) (standing (view t.new.self.job_pass) (outbox (view t.new.self.reply_pass) t.new.self.handed_back) (means t.new.served t.new.share (on_table_of t.new.visitor.front))) one i.settings i.number i.worked (t.ensures.worked one c.in-Worked.is);
     }

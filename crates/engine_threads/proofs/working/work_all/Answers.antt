@@ -1,8 +1,8 @@
-use Rattle.std.proofs.Common.{refl, sym, ap, subst, ◌∙◌}
+use Rattle.std.proofs.Common.{refl, sym, ap, ap₂, subst, ◌∙◌}
 use Rattle.crossbeam_channel.specs.Claims.{view}
 use Rattle.crossbeam_channel.specs.Ends.{sends_on, receives_on}
 use Rattle.engine_visits.specs.Visits.{OnTable, on_table_of}
-use Rattle.engine_workers.specs.Turns.{means}
+use Rattle.engine_workers.specs.Turns.{means, outbox}
 use Rattle.engine_threads.specs.Worked.{IsOver, does_shared}
 use Rattle.engine_threads.proofs.Chains.{Stands, has_begun, is_over, stands_as, stands_on}
 use Rattle.engine_threads.proofs.working.work_all.Goals as goal
@@ -18,7 +18,7 @@ loop-init g c =
       puts_into = refl;
       number_is = refl;
       settings_are = refl;
-      worked = has_begun (does_shared g.C.Calls.gives) w.session.settings w.number s.calls _ (view w.job_pass) (view w.reply_pass) s.kept.share (on_table_of c.new-visitor.result.front) r.hired.takes_none r.hired.puts_none r.share_is (ap on_table_of c.new-visitor.ensures ∙ r.idle_is);
+      worked = has_begun (does_shared g.C.Calls.gives) w.session.settings w.number s.calls _ (view w.job_pass) (outbox (view w.reply_pass) w.handed_back) s.kept.share (on_table_of c.new-visitor.result.front) r.hired.takes_none (ap₂ outbox r.hired.puts_none r.hired.none_back) r.share_is (ap on_table_of c.new-visitor.ensures ∙ r.idle_is);
     }
 
 pub loop-preserved-then-read : goal.loop-preserved-then-read
@@ -53,5 +53,5 @@ returns-clause-over g c =
           (ap (λ v. on_table_of v.front) b.visitor-is)
           (stands_on does (receives_on w.jobs) (sends_on w.replies) w.session.settings w.number c.args.staff.calls l.worker t.new.worker (means l.served l.kept.share (on_table_of l.visitor.front)) (means t.new.served t.new.kept.share (on_table_of t.new.visitor.front)) l.invariant r.0 r.1 r.2 t.ensures.settings t.ensures.worked))
     ] in
-    subst (λ (o : OnTable). IsOver (receives_on w.jobs) (sends_on w.replies) does w.session.settings c.args.staff.calls e.result m.served.calls m.kept.share o) (ap on_table_of (sym c.into_front-front.ensures))
-    (is_over does (receives_on w.jobs) (sends_on w.replies) w.session.settings w.number c.args.staff.calls m.worker m.served m.kept.share (on_table_of m.visitor.front) e.result at e.ensures.number e.ensures.seats.0 e.ensures.seats.1 e.ensures.passes.0 e.ensures.passes.1)
+    subst (λ (o : OnTable). IsOver (receives_on w.jobs) (sends_on w.replies) does w.session.settings c.args.staff.calls e.result m.worker.handed_back m.served.calls m.kept.share o) (ap on_table_of (sym c.into_front-front.ensures))
+    (is_over does (receives_on w.jobs) (sends_on w.replies) w.session.settings w.number c.args.staff.calls m.worker m.served m.kept.share (on_table_of m.visitor.front) e.result m.worker.handed_back at e.ensures.number e.ensures.seats.0 e.ensures.seats.1 e.ensures.passes.0 e.ensures.passes.1 refl)

@@ -1,11 +1,13 @@
-use Rattle.std.proofs.Common.{◌≡◌, [], false, Option, refl, sym, ap, ◌∙◌, subst}
+use Rattle.std.proofs.Common.{◌≡◌, ◌+◌, [], false, Option, refl, sym, ap, ◌∙◌, subst}
 use Rattle.std.specs.Option.{option_or}
 use Rattle.table_steps.specs.Answers.{Settlement}
 use Rattle.engine_queues.proofs.LetterSteps.{posts}
+use Rattle.engine_queues.specs.declared.letters.ReplyLane.{ReplyLane}
+use Rattle.engine_workers.specs.declared.replies.Reply.{Reply}
 use Rattle.engine.specs.Batches.{bytes_of}
 use Rattle.engine_visits.specs.Visits.{left_in, on_table_of, visited_of}
 use Rattle.engine_workers.specs.Slips.{bytes_in}
-use Rattle.engine_workers.specs.Turns.{IsEnded, ended_as, ending, handed_back, is_put, none}
+use Rattle.engine_workers.specs.Turns.{IsEnded, ended_as, ending, handed_back, is_put, none, outbox}
 use Rattle.engine_jobs.specs.declared.left.Left.{Left}
 use Rattle.engine_workers.proofs.Answering.{left_by, none_more}
 use Rattle.engine_workers.proofs.working.Worker.put.Goals as goal
@@ -26,7 +28,7 @@ returns-in-Ok-clause-puts g c =
       on_table = none_more (on_table_of c.args.visitor.now.front);
       so = is_put (bytes_of c.in-Some.bytes) (record { from = c.args.self.now.number; reply = c.reply_to.result }) (ap bytes_in c.in-Some.is)
           (record { from_is = refl; settings_are = r.0; job_is = r.1; bytes_are = ap bytes_of r.2; left_is = r.3 ∙ c.parted-left.ensures.left })
-          c.in-Ok.ensures.rule c.parted-left.ensures.settled refl refl;
+          (ap (λ (l : ReplyLane Reply). outbox l c.args.self.now.handed_back) c.in-Ok.ensures.rule) c.parted-left.ensures.settled refl refl;
     }
 
 pub returns-in-Some-into_inner-clause-puts : goal.returns-in-Some-into_inner-clause-puts
@@ -40,5 +42,5 @@ returns-in-Some-into_inner-clause-puts g c =
       chain = up.chain;
       calls = up.calls;
       on_table = up.on_table;
-      so = handed_back (bytes_of c.in-Some.bytes) (ap bytes_in c.in-Some.is) c.in-Err.ensures.rule.1 (c.or.ensures ∙ (ap (λ (o : Option Settlement). option_or o c.parted-left.result.1) so.settled_is ∙ ap (λ (o : Option Settlement). option_or (ended_as (left_in (visited_of c.args.come_to)) false) o) c.parted-left.ensures.settled)) so.gives_up so.settles;
+      so = handed_back (bytes_of c.in-Some.bytes) (ap bytes_in c.in-Some.is) (ap (λ (l : ReplyLane Reply). outbox l (c.args.self.now.handed_back + 1)) c.in-Err.ensures.rule.1) (c.or.ensures ∙ (ap (λ (o : Option Settlement). option_or o c.parted-left.result.1) so.settled_is ∙ ap (λ (o : Option Settlement). option_or (ended_as (left_in (visited_of c.args.come_to)) false) o) c.parted-left.ensures.settled)) so.gives_up so.settles;
     }

@@ -9,7 +9,7 @@ use Rattle.engine_visits.specs.Visits.{on_table_of, settlement_of}
 use Rattle.engine_visits.proofs.Stepping.{made}
 use Rattle.engine_workers.specs.Turns.{IsEnded, ending}
 use Rattle.engine_workers.proofs.Answering.{none_more}
-use Rattle.engine_workers.proofs.working.settle_left.Goals as goal
+use Rattle.engine_workers.proofs.settling.settle_left.Goals as goal
 
 pub returns-in_default-clause-ends : goal.returns-in_default-clause-ends
 returns-in_default-clause-ends g c = record {

@@ -1,0 +1,81 @@
+//! Short lists of answers.
+
+use crate::compare::Row;
+use backing::{Answer, Bytes, Children, Details, Kind, Time};
+use std::alloc::{AllocError, Global};
+
+/// How many answers are tried for each call.
+const ANSWERS: u32 = 14;
+
+/// How many lists of at most three answers there are.
+pub const LISTS: u32 = 1 + ANSWERS + ANSWERS * ANSWERS + ANSWERS * ANSWERS * ANSWERS;
+
+/// No two numbers are alike.
+const DETAILS: Details = Details {
+    ino: 0x0102030405060708,
+    permissions: 0o4751,
+    links: 9,
+    uid: 1000,
+    gid: 100,
+    accessed: Time {
+        seconds: 11,
+        nanos: 999_999_999,
+    },
+    modified: Time {
+        seconds: 0xffffffffffffffff,
+        nanos: 22,
+    },
+    changed: Time {
+        seconds: 33,
+        nanos: 44,
+    },
+};
+
+/// Something stands there.
+fn stands(kind: Kind, size: u64) -> Answer {
+    Answer::Stat {
+        kind,
+        size,
+        details: DETAILS,
+    }
+}
+
+/// An answer of each kind, of each shape, and of each sort of error number.
+fn answer_of(alloc: Global, number: u32) -> Result<Answer, AllocError> {
+    Ok(match number {
+        0 => Answer::Done,
+        1 => stands(Kind::File, 5),
+        2 => stands(Kind::Folder, 0),
+        3 => stands(Kind::Folder, 5),
+        4 => Answer::Names(Children::from_vec(Vec::new(alloc))),
+        5 => Answer::Bytes(Bytes::from_vec(Vec::from_slice(alloc, b"abcd")?)),
+        6 => Answer::Bytes(Bytes::from_vec(Vec::from_slice(alloc, b"abcde")?)),
+        7 => Answer::Wrote(2),
+        8 => Answer::Wrote(3),
+        9 => Answer::Fault(2),
+        10 => Answer::Fault(0),
+        11 => Answer::Fault(-2),
+        12 => Answer::Fault(4095),
+        _ => Answer::Fault(4096),
+    })
+}
+
+/// The list of answers under that number, after those that come before it: none is the first, then those of one answer, and so on.
+pub fn answers_of(alloc: Global, row: &Row<'_>, number: u32) -> Result<Vec<Answer>, AllocError> {
+    let mut answers = Vec::new(alloc);
+    for _ in 0..row.done {
+        answers.push(Answer::Done)?;
+    }
+    for _ in 0..row.files {
+        answers.push(answer_of(alloc, 1)?)?;
+    }
+    let mut left = number;
+    for _ in 0..3 {
+        if left > 0 {
+            let last = left - 1;
+            answers.push(answer_of(alloc, last % ANSWERS)?)?;
+            left = last / ANSWERS;
+        }
+    }
+    Ok(answers)
+}

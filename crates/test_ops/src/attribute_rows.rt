@@ -1,0 +1,129 @@
+//! Requests that set attributes or make with a mode: the root is open as file 1.
+
+use crate::compare::{Row, compare};
+use crate::rows::OF_THE_ROOT;
+use ledger::Blanks;
+use ops::Settings;
+use std::marker::Brand;
+use std::test::Fail;
+use table::Seeds;
+use wire::Operation::{Create, MakeDir, SetAttr};
+use wire::{NewAttributes, Time};
+
+const FIXED: Settings = Settings::Fixed {
+    uid: 1000,
+    gid: 100,
+};
+
+/// The mode has more than permission bits, and no two numbers are alike.
+const NEW: NewAttributes = NewAttributes {
+    mode: 0o104751,
+    uid: 1001,
+    gid: 101,
+    accessed: Time {
+        seconds: 5,
+        nanos: 999_999_999,
+    },
+    modified: Time {
+        seconds: 0xffffffffffffffff,
+        nanos: 6,
+    },
+};
+
+/// A SETATTR: the settings, its `valid`, and how many calls are done before each list of answers.
+#[derive(Clone, Copy)]
+struct Set(Settings, u32, u32);
+
+const SETS: &[Set] = &[
+    // The size, the owner of a lock, both, and nothing.
+    Set(FIXED, 8, 0),
+    Set(FIXED, 0x200, 0),
+    Set(FIXED, 0x208, 0),
+    Set(FIXED, 0, 0),
+    // By a handle.
+    Set(FIXED, 0x48, 0),
+    // Nothing, and each bit alone.
+    Set(Settings::Host, 0, 0),
+    Set(Settings::Host, 1, 0),
+    Set(Settings::Host, 2, 0),
+    Set(Settings::Host, 4, 0),
+    Set(Settings::Host, 8, 0),
+    Set(Settings::Host, 0x10, 0),
+    Set(Settings::Host, 0x20, 0),
+    Set(Settings::Host, 0x40, 0),
+    Set(Settings::Host, 0x80, 0),
+    Set(Settings::Host, 0x100, 0),
+    Set(Settings::Host, 0x200, 0),
+    Set(Settings::Host, 0x400, 0),
+    // An owner and a group.
+    Set(Settings::Host, 6, 0),
+    // Both times.
+    Set(Settings::Host, 0x30, 0),
+    // The present and a time, of one and of both.
+    Set(Settings::Host, 0x90, 0),
+    Set(Settings::Host, 0x120, 0),
+    Set(Settings::Host, 0x180, 0),
+    Set(Settings::Host, 0x1b0, 0),
+    // The present of one, and a time of the other.
+    Set(Settings::Host, 0xa0, 0),
+    Set(Settings::Host, 0x110, 0),
+    // All at once, from the first call on, and from the third.
+    Set(Settings::Host, 0x7ff, 0),
+    Set(Settings::Host, 0x7ff, 2),
+];
+
+#[test]
+fn what_is_set(rt: HostRuntime) -> Result<(), Fail> {
+    for Set(settings, valid, done) in SETS {
+        let row = Row {
+            operation: SetAttr {
+                valid: *valid,
+                fh: 1,
+                size: 7,
+                attributes: NEW,
+            },
+            settings: *settings,
+            done: *done,
+            ..OF_THE_ROOT
+        };
+        compare::<Brand>(rt.alloc(), Seeds::new(&rt)?, Blanks::new(1), &row)?;
+    }
+    Ok(())
+}
+
+/// A mode and an umask.
+const MODES: &[(u32, u32)] = &[
+    (0o100644, 0o022),
+    (0o1777, 0),
+    (0xffffffff, 0o027),
+    (0o6755, 0xffffffff),
+    (0, 0),
+];
+
+#[test]
+fn what_is_made(rt: HostRuntime) -> Result<(), Fail> {
+    for settings in [FIXED, Settings::Host] {
+        for (mode, umask) in MODES {
+            let (mode, umask) = (*mode, *umask);
+            let name = "a";
+            let makes = [
+                MakeDir { name, mode, umask },
+                Create {
+                    name,
+                    flags: 2,
+                    mode,
+                    umask,
+                },
+            ];
+            for operation in makes {
+                let row = Row {
+                    operation,
+                    settings,
+                    ..OF_THE_ROOT
+                };
+                compare::<Brand>(rt.alloc(), Seeds::new(&rt)?, Blanks::new(1), &row)?;
+            }
+        }
+    }
+    Ok(())
+}

@@ -1,0 +1,168 @@
+//! What a SETATTR is begun with, by its bits.
+
+use errno::EPERM;
+use ops::{Intent, Settings, Wanted, intent_of};
+use std::test::Fail;
+use table_files::Need;
+use table_requests::Handle;
+use wire::{NewAttributes, Operation, ReplyBody, Request, Time};
+
+const FIXED: Settings = Settings::Fixed {
+    uid: 1000,
+    gid: 100,
+};
+
+/// What a SETATTR of node 5 with handle 7 begins with.
+#[derive(Clone, Copy, Debug, PartialEq, Eq)]
+enum Begins {
+    /// It is EPERM.
+    Refused,
+    /// With its node alone.
+    Freely,
+    /// With its handle, which must be open for that.
+    By(Need),
+}
+
+use Begins::{By, Freely, Refused};
+
+/// By the settings and `valid`.
+const ROWS: &[(Settings, u32, Begins)] = &[
+    // Nothing, the size and the owner of a lock.
+    (FIXED, 0, Freely),
+    (FIXED, 8, Freely),
+    (FIXED, 0x200, Freely),
+    (FIXED, 0x208, Freely),
+    // The handle, alone and with these.
+    (FIXED, 0x40, By(Need::Writing)),
+    (FIXED, 0x48, By(Need::Writing)),
+    (FIXED, 0x240, By(Need::Writing)),
+    (FIXED, 0x248, By(Need::Writing)),
+    // Each other bit, alone and with these.
+    (FIXED, 1, Refused),
+    (FIXED, 2, Refused),
+    (FIXED, 4, Refused),
+    (FIXED, 0x10, Refused),
+    (FIXED, 0x20, Refused),
+    (FIXED, 0x80, Refused),
+    (FIXED, 0x100, Refused),
+    (FIXED, 0x400, Refused),
+    (FIXED, 0x800, Refused),
+    (FIXED, 0x1000, Refused),
+    (FIXED, 0x2000, Refused),
+    (FIXED, 0x4000, Refused),
+    (FIXED, 0x8000, Refused),
+    (FIXED, 0x10000, Refused),
+    (FIXED, 0x20000, Refused),
+    (FIXED, 0x40000, Refused),
+    (FIXED, 0x80000, Refused),
+    (FIXED, 0x100000, Refused),
+    (FIXED, 0x200000, Refused),
+    (FIXED, 0x400000, Refused),
+    (FIXED, 0x800000, Refused),
+    (FIXED, 0x1000000, Refused),
+    (FIXED, 0x2000000, Refused),
+    (FIXED, 0x4000000, Refused),
+    (FIXED, 0x8000000, Refused),
+    (FIXED, 0x10000000, Refused),
+    (FIXED, 0x20000000, Refused),
+    (FIXED, 0x40000000, Refused),
+    (FIXED, 0x80000000, Refused),
+    (FIXED, 9, Refused),
+    (FIXED, 0x49, Refused),
+    (FIXED, 0x24c, Refused),
+    (FIXED, 0x448, Refused),
+    (FIXED, 0x648, Refused),
+    // Nothing, each known bit alone, and all but the handle.
+    (Settings::Host, 0, Freely),
+    (Settings::Host, 1, Freely),
+    (Settings::Host, 2, Freely),
+    (Settings::Host, 4, Freely),
+    (Settings::Host, 8, Freely),
+    (Settings::Host, 0x10, Freely),
+    (Settings::Host, 0x20, Freely),
+    (Settings::Host, 0x80, Freely),
+    (Settings::Host, 0x100, Freely),
+    (Settings::Host, 0x200, Freely),
+    (Settings::Host, 0x400, Freely),
+    (Settings::Host, 0x7bf, Freely),
+    // The handle, without the size and with it.
+    (Settings::Host, 0x40, By(Need::Any)),
+    (Settings::Host, 0x41, By(Need::Any)),
+    (Settings::Host, 0x7f7, By(Need::Any)),
+    (Settings::Host, 0x48, By(Need::Writing)),
+    (Settings::Host, 0x49, By(Need::Writing)),
+    (Settings::Host, 0x7ff, By(Need::Writing)),
+    // Each other bit, alone and with known ones.
+    (Settings::Host, 0x800, Refused),
+    (Settings::Host, 0x1000, Refused),
+    (Settings::Host, 0x2000, Refused),
+    (Settings::Host, 0x4000, Refused),
+    (Settings::Host, 0x8000, Refused),
+    (Settings::Host, 0x10000, Refused),
+    (Settings::Host, 0x20000, Refused),
+    (Settings::Host, 0x40000, Refused),
+    (Settings::Host, 0x80000, Refused),
+    (Settings::Host, 0x100000, Refused),
+    (Settings::Host, 0x200000, Refused),
+    (Settings::Host, 0x400000, Refused),
+    (Settings::Host, 0x800000, Refused),
+    (Settings::Host, 0x1000000, Refused),
+    (Settings::Host, 0x2000000, Refused),
+    (Settings::Host, 0x4000000, Refused),
+    (Settings::Host, 0x8000000, Refused),
+    (Settings::Host, 0x10000000, Refused),
+    (Settings::Host, 0x20000000, Refused),
+    (Settings::Host, 0x40000000, Refused),
+    (Settings::Host, 0x80000000, Refused),
+    (Settings::Host, 0x801, Refused),
+    (Settings::Host, 0x848, Refused),
+    (Settings::Host, 0xfff, Refused),
+    (Settings::Host, 0xffffffff, Refused),
+];
+
+/// What is not looked at yet.
+const NOTHING_NEW: NewAttributes = NewAttributes {
+    mode: 0,
+    uid: 0,
+    gid: 0,
+    accessed: Time {
+        seconds: 0,
+        nanos: 0,
+    },
+    modified: Time {
+        seconds: 0,
+        nanos: 0,
+    },
+};
+
+fn begins_with(settings: Settings, valid: u32) -> Option<Begins> {
+    let request = Request {
+        unique: 1,
+        node: 5,
+        operation: Operation::SetAttr {
+            valid,
+            fh: 7,
+            size: 3,
+            attributes: NOTHING_NEW,
+        },
+    };
+    match intent_of(settings, &request) {
+        Intent::Reply(ReplyBody::Failed { errno: EPERM }) => Some(Refused),
+        Intent::Want(Wanted::Node { number: 5, handle }) => match handle {
+            None => Some(Freely),
+            Some(Handle { fh: 7, need }) => Some(By(need)),
+            Some(_) => None,
+        },
+        _ => None,
+    }
+}
+
+#[test]
+fn what_may_be_set(rt: HostRuntime) -> Result<(), Fail> {
+    for (settings, valid, begins) in ROWS {
+        if begins_with(*settings, *valid) != Some(*begins) {
+            return Err(Fail::from(("begins otherwise", *valid)));
+        }
+    }
+    Ok(())
+}

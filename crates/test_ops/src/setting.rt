@@ -1,0 +1,55 @@
+//! What a request sets and makes with, by its numbers: a part of the slow program.
+
+use crate::asks::Ask;
+use backing::{NewTime, Time};
+use ops::Settings;
+use wire::NewAttributes;
+
+/// The value, where all of these bits are set.
+fn part<T: Copy>(valid: u32, bits: u32, value: T) -> Option<T> {
+    if valid & bits == bits {
+        Some(value)
+    } else {
+        None
+    }
+}
+
+/// What a time is set to: the present goes before a time that is told.
+fn new_time(valid: u32, bit: u32, now: u32, time: wire::Time) -> Option<NewTime> {
+    let told = Time {
+        seconds: time.seconds,
+        nanos: time.nanos,
+    };
+    match part(valid, now, NewTime::Now) {
+        Some(present) => Some(present),
+        None => part(valid, bit, NewTime::At(told)),
+    }
+}
+
+/// The calls of a SETATTR before its look, one after another, by the bits of its `valid` as `fuse.h` has them: MODE is 1, UID 2, GID 4, SIZE 8,
+/// ATIME 16, MTIME 32, ATIME_NOW 128 and MTIME_NOW 256.
+pub fn asks_to_set(valid: u32, size: u64, new: NewAttributes) -> [Option<Ask>; 4] {
+    let mode = part(valid, 1, Ask::SetPermissions(new.mode % 4096));
+    let uid = part(valid, 2, new.uid);
+    let gid = part(valid, 4, new.gid);
+    let owner = match (uid, gid) {
+        (None, None) => None,
+        _ => Some(Ask::SetOwner(uid, gid)),
+    };
+    let accessed = new_time(valid, 16, 128, new.accessed);
+    let modified = new_time(valid, 32, 256, new.modified);
+    let times = match (accessed, modified) {
+        (None, None) => None,
+        _ => Some(Ask::SetTimes(accessed, modified)),
+    };
+    [mode, owner, part(valid, 8, Ask::SetLen(size)), times]
+}
+
+/// With which permission bits a file or a folder is made.
+pub fn made_with(settings: Settings, mode: u32, umask: u32) -> Option<u32> {
+    if settings == Settings::Host {
+        Some(mode % 4096 & !umask)
+    } else {
+        None
+    }
+}

@@ -1,0 +1,166 @@
+//! Command lines that say whose attributes are told.
+
+use crate::frames::run_words;
+use engine::Settings;
+use mirrord_programs::{Options, Refusal, read_options};
+use std::alloc::Global;
+use std::test::Fail;
+
+/// A command line, and the settings that it serves by.
+#[derive(Clone, Copy)]
+struct Served(&'static [&'static str], Settings);
+
+const SERVED: &[Served] = &[
+    Served(
+        &["mirrord", "pipe", "--root", "/srv"],
+        Settings::Fixed { uid: 0, gid: 0 },
+    ),
+    Served(
+        &["mirrord", "pipe", "--root", "/srv", "--uid", "5"],
+        Settings::Fixed { uid: 5, gid: 0 },
+    ),
+    Served(
+        &[
+            "mirrord",
+            "pipe",
+            "--root",
+            "/srv",
+            "--attributes",
+            "fixed",
+            "--uid",
+            "5",
+        ],
+        Settings::Fixed { uid: 5, gid: 0 },
+    ),
+    Served(
+        &[
+            "mirrord",
+            "serve",
+            "--gid=7",
+            "--attributes=fixed",
+            "--root=/srv",
+            "--socket=/s",
+        ],
+        Settings::Fixed { uid: 0, gid: 7 },
+    ),
+    Served(
+        &["mirrord", "pipe", "--root", "/srv", "--attributes", "host"],
+        Settings::Host,
+    ),
+    Served(
+        &[
+            "mirrord",
+            "serve",
+            "--attributes=host",
+            "--root=/srv",
+            "--socket=/s",
+        ],
+        Settings::Host,
+    ),
+];
+
+/// The settings of a command line that serves a folder.
+fn settings_of(alloc: Global, words: &[&str]) -> Option<Settings> {
+    match read_options(alloc, words) {
+        Ok(Options::Serve { terms, .. } | Options::Pipe { terms, .. }) => Some(terms.settings),
+        _ => None,
+    }
+}
+
+#[test]
+fn whose_attributes(rt: HostRuntime) -> Result<(), Fail> {
+    let mut row = 0u32;
+    for Served(words, settings) in SERVED {
+        if settings_of(rt.alloc(), words) != Some(*settings) {
+            return Err(Fail::from(("other settings", row)));
+        }
+        row = row.saturating_add(1);
+    }
+    Ok(())
+}
+
+/// A command line that can be read and is refused, why, and what is written on standard error.
+#[derive(Clone, Copy)]
+struct Refused(&'static [&'static str], Refusal, &'static str);
+
+const WITH_OWNER: &str = "mirrord: with --attributes host there is no --uid and no --gid\n";
+
+const NEITHER: &str = "mirrord: --attributes is fixed or host\n";
+
+const REFUSED: &[Refused] = &[
+    Refused(
+        &[
+            "mirrord",
+            "pipe",
+            "--root=/",
+            "--attributes=host",
+            "--uid=1",
+        ],
+        Refusal::Owner,
+        WITH_OWNER,
+    ),
+    // The owner that is told where none is given.
+    Refused(
+        &[
+            "mirrord",
+            "pipe",
+            "--root=/",
+            "--uid=0",
+            "--attributes=host",
+        ],
+        Refusal::Owner,
+        WITH_OWNER,
+    ),
+    Refused(
+        &[
+            "mirrord",
+            "serve",
+            "--root=/",
+            "--socket=/s",
+            "--attributes",
+            "host",
+            "--gid",
+            "1",
+        ],
+        Refusal::Owner,
+        WITH_OWNER,
+    ),
+    Refused(
+        &["mirrord", "pipe", "--root=/", "--attributes", "other"],
+        Refusal::Attributes,
+        NEITHER,
+    ),
+    Refused(
+        &["mirrord", "pipe", "--root=/", "--attributes="],
+        Refusal::Attributes,
+        NEITHER,
+    ),
+    // What is told of attributes comes before what is told of an owner.
+    Refused(
+        &[
+            "mirrord",
+            "serve",
+            "--root=/",
+            "--socket=/s",
+            "--attributes=Host",
+            "--uid=1",
+        ],
+        Refusal::Attributes,
+        NEITHER,
+    ),
+];
+
+#[test]
+fn refused_options(rt: HostRuntime) -> Result<(), Fail> {
+    let mut row = 0u32;
+    for Refused(words, refusal, line) in REFUSED {
+        let is_refused = read_options(rt.alloc(), words)? == Options::Refused(*refusal);
+        let run = run_words(&rt, &rt, words, &["no digits"])?;
+        let is_told = run.faults.as_slice() == line.as_bytes() && run.output.is_empty();
+        if !is_refused || run.status != 2 || !is_told {
+            return Err(Fail::from(("not refused", row)));
+        }
+        row = row.saturating_add(1);
+    }
+    Ok(())
+}

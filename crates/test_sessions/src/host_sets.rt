@@ -1,0 +1,206 @@
+//! SETATTR of attributes of the host: a tree in memory takes what is set, and keeps a size alone.
+
+ghost use Rattle.std.specs.Prelude.{◌≡◌};
+
+use crate::host_stories::HOST;
+use crate::stories::Says::{Attributes, Entry, Failed, Opened};
+use crate::stories::Stands::File;
+use crate::stories::{Story, tell};
+use backing::Fault::{self, After, Before};
+use errno::{EBADF, EFBIG, EIO, ENOSPC, EPERM};
+use ledger::{Blanks, Ledgers};
+use std::alloc::Global;
+use std::marker::Brand;
+use std::random::RandomSource;
+use std::sync::Wait;
+use std::test::Fail;
+use wire::Operation::{self, GetAttr, Lookup, Open, SetAttr};
+use wire::{NewAttributes, Time};
+
+const NEW: NewAttributes = NewAttributes {
+    mode: 0o100640,
+    uid: 1000,
+    gid: 100,
+    accessed: Time {
+        seconds: 5,
+        nanos: 6,
+    },
+    modified: Time {
+        seconds: 7,
+        nanos: 8,
+    },
+};
+
+/// A SETATTR of the file `a`, which has three bytes and is open for reading and writing under handle 1, and for reading alone under
+/// handle 2: what it sets, its `valid`, its handle and its size, and what it is answered.
+#[derive(Clone, Copy)]
+struct Set(&'static str, u32, u64, u64, Result<u64, i32>);
+
+/// Each in a session of its own. Where it is answered well the size is told.
+const SETS: &[Set] = &[
+    Set("nothing", 0, 0, 9, Ok(3)),
+    Set("permission bits", 1, 0, 9, Ok(3)),
+    Set("an owner", 2, 0, 9, Ok(3)),
+    Set("a group", 4, 0, 9, Ok(3)),
+    Set("a size", 8, 0, 4, Ok(4)),
+    Set("when it was read", 0x10, 0, 9, Ok(3)),
+    Set("when it was changed", 0x20, 0, 9, Ok(3)),
+    Set("a handle alone", 0x40, 1, 9, Ok(3)),
+    Set("that it is read now", 0x80, 0, 9, Ok(3)),
+    Set("that it is changed now", 0x100, 0, 9, Ok(3)),
+    Set("the owner of a lock", 0x200, 0, 9, Ok(3)),
+    Set("when its attributes were changed", 0x400, 0, 9, Ok(3)),
+    Set("all at once", 0x7ff, 1, 600, Ok(600)),
+    Set("all but the handle", 0x7bf, 9, 7, Ok(7)),
+    Set("bit 11", 0x800, 0, 9, Err(EPERM)),
+    Set("bit 31", 0x80000000, 0, 9, Err(EPERM)),
+    Set(
+        "bit 11, before a handle that is not open",
+        0xfff,
+        9,
+        9,
+        Err(EPERM),
+    ),
+    Set(
+        "permission bits, by a handle that is not open",
+        0x41,
+        9,
+        9,
+        Err(EBADF),
+    ),
+    Set(
+        "all at once, by a handle that is not open",
+        0x7ff,
+        9,
+        9,
+        Err(EBADF),
+    ),
+    Set(
+        "all but a size, by a handle that is open for reading alone",
+        0x77,
+        2,
+        9,
+        Ok(3),
+    ),
+    Set(
+        "a size, by a handle that is open for reading alone",
+        0x48,
+        2,
+        9,
+        Err(EBADF),
+    ),
+    Set(
+        "all at once, by a handle that is open for reading alone",
+        0x7ff,
+        2,
+        9,
+        Err(EBADF),
+    ),
+    Set("too great a size", 8, 0, 1048577, Err(EFBIG)),
+];
+
+fn set_of(valid: u32, fh: u64, size: u64) -> Operation<'static> {
+    SetAttr {
+        valid,
+        fh,
+        size,
+        attributes: NEW,
+    }
+}
+
+/// Tells a SETATTR in a session of its own, and that nothing else is changed.
+fn tell_set<H: Wait + RandomSource, T: Ledgers>(
+    rt: &H,
+    alloc: Global,
+    blanks: Blanks,
+    set: Set,
+) -> Result<(), Fail>
+    requires names { blanks ≡ T.names }
+    requires shares { T.names.parts ≡ 1 }
+{
+    let Set(sets, valid, fh, size, told) = set;
+    let (says, left) = match told {
+        Ok(size) => (Attributes(2, File(size)), size),
+        Err(errno) => (Failed(errno), 3),
+    };
+    let story = Story {
+        says: sets,
+        asks: &[
+            (1, Lookup { name: "a" }),
+            (2, Open { flags: 2 }),
+            (2, Open { flags: 0 }),
+            (2, set_of(valid, fh, size)),
+            (2, GetAttr),
+        ],
+        replies: &[
+            Entry(2, File(3)),
+            Opened(1),
+            Opened(2),
+            says,
+            Attributes(2, File(left)),
+        ],
+        after: &[(&["a"], File(left)), (&["e"], File(0))],
+        ..HOST
+    };
+    tell::<H, T>(rt, alloc, blanks, &story)
+}
+
+#[test]
+fn set_alone_and_at_once(rt: HostRuntime) -> Result<(), Fail> {
+    for set in SETS {
+        tell_set::<HostRuntime, Brand>(&rt, rt.alloc(), Blanks::new(1), *set)?;
+    }
+    Ok(())
+}
+
+/// Where a SETATTR of all but a handle fails that comes after a LOOKUP and sets a size of 600 bytes: the number of the call, counted from
+/// 1, and its fault. And the size in the end.
+#[derive(Clone, Copy)]
+struct Fails(&'static str, u64, Fault, u64);
+
+const FAILS: &[Fails] = &[
+    Fails("before the permission bits", 2, Before(EIO), 3),
+    Fails("after the permission bits", 2, After(EIO), 3),
+    Fails("before the owner", 3, Before(EIO), 3),
+    Fails("after the owner", 3, After(EIO), 3),
+    Fails("before the size", 4, Before(EIO), 3),
+    Fails("after the size", 4, After(EIO), 600),
+    Fails("before the times", 5, Before(EIO), 600),
+    Fails("after the times", 5, After(EIO), 600),
+    Fails("before the look", 6, Before(EIO), 600),
+    Fails("after the look", 6, After(EIO), 600),
+];
+
+/// Tells that SETATTR. Nothing more is asked for it: the next call is that of the LOOKUP after it, and fails otherwise.
+fn tell_fails<H: Wait + RandomSource, T: Ledgers>(
+    rt: &H,
+    alloc: Global,
+    blanks: Blanks,
+    fails: Fails,
+) -> Result<(), Fail>
+    requires names { blanks ≡ T.names }
+    requires shares { T.names.parts ≡ 1 }
+{
+    let Fails(says, call, fault, size) = fails;
+    let story = Story {
+        says,
+        asks: &[
+            (1, Lookup { name: "a" }),
+            (2, set_of(0x7bf, 0, 600)),
+            (1, Lookup { name: "e" }),
+        ],
+        faults: &[(call, fault), (call.saturating_add(1), Before(ENOSPC))],
+        replies: &[Entry(2, File(3)), Failed(EIO), Failed(ENOSPC)],
+        after: &[(&["a"], File(size))],
+        ..HOST
+    };
+    tell::<H, T>(rt, alloc, blanks, &story)
+}
+
+#[test]
+fn each_call_fails(rt: HostRuntime) -> Result<(), Fail> {
+    for fails in FAILS {
+        tell_fails::<HostRuntime, Brand>(&rt, rt.alloc(), Blanks::new(1), *fails)?;
+    }
+    Ok(())
+}

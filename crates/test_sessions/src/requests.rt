@@ -1,0 +1,83 @@
+//! Requests of stories that bear numbers which `fixed` attributes do not look at: all of these are 0.
+
+use wire::Operation::{self, Create, MakeDir};
+use wire::{NewAttributes, Time};
+
+/// What a SETATTR does not set.
+pub const NOTHING_NEW: NewAttributes = NewAttributes {
+    mode: 0,
+    uid: 0,
+    gid: 0,
+    accessed: Time {
+        seconds: 0,
+        nanos: 0,
+    },
+    modified: Time {
+        seconds: 0,
+        nanos: 0,
+    },
+};
+
+pub const MAKE_M: Operation<'static> = MakeDir {
+    name: "m",
+    mode: 0,
+    umask: 0,
+};
+
+pub const MAKE_N: Operation<'static> = MakeDir {
+    name: "n",
+    mode: 0,
+    umask: 0,
+};
+
+pub const MAKE_D: Operation<'static> = MakeDir {
+    name: "d",
+    mode: 0,
+    umask: 0,
+};
+
+pub const MAKE_A: Operation<'static> = MakeDir {
+    name: "a",
+    mode: 0,
+    umask: 0,
+};
+
+pub const MAKE_X: Operation<'static> = MakeDir {
+    name: "x",
+    mode: 0,
+    umask: 0,
+};
+
+pub const MAKE_C: Operation<'static> = MakeDir {
+    name: "c",
+    mode: 0,
+    umask: 0,
+};
+
+pub const MAKE_RESERVED: Operation<'static> = MakeDir {
+    name: ".fuse_hiddenx",
+    mode: 0,
+    umask: 0,
+};
+
+/// Made for reading and writing.
+pub const CREATE_A: Operation<'static> = Create {
+    name: "a",
+    flags: 2,
+    mode: 0,
+    umask: 0,
+};
+
+pub const CREATE_N: Operation<'static> = Create {
+    name: "n",
+    flags: 2,
+    mode: 0,
+    umask: 0,
+};
+
+pub const CREATE_X: Operation<'static> = Create {
+    name: "x",
+    flags: 2,
+    mode: 0,
+    umask: 0,
+};
