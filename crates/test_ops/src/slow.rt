@@ -60,24 +60,12 @@ fn counts_as(ask: Ask, answer: &Answer) -> Counts {
         (
             Ask::Stat(_),
             Answer::Stat {
-                kind: Kind::Folder,
-                size: 0,
-                details,
-            },
-        ) => Counts::Found(Found {
-            kind: Kind::Folder,
-            size: 0,
-            details: *details,
-        }),
-        (
-            Ask::Stat(_),
-            Answer::Stat {
-                kind: Kind::File,
+                kind,
                 size,
                 details,
             },
-        ) => Counts::Found(Found {
-            kind: Kind::File,
+        ) if *kind == Kind::File || *size == 0 => Counts::Found(Found {
+            kind: *kind,
             size: *size,
             details: *details,
         }),

@@ -1,12 +1,9 @@
 //! Attributes of the host over a pipe: what is set and made is told, and stands there.
 
-use crate::frames::{
-    AGREED, ATTRIBUTES, DESTROY, DESTROYED, FORGET_A, INIT, RELEASE, RENAMED, bytes_of,
-};
+use crate::frames::{AGREED, ATTRIBUTES, DESTROY, DESTROYED, FORGET_A, INIT, RELEASE, RENAMED};
 use crate::host::Host;
 use crate::pipes::run_words;
 use crate::places::{Shown, expect, new_folder, place_of};
-use std::alloc::{AllocError, Global};
 use std::os::unix::fs::MetadataExt;
 use std::test::Fail;
 use std::{fs, io};
@@ -93,7 +90,7 @@ const TOLD: &[&str] = &[
     DESTROYED,
 ];
 
-/// What the system tells of `n`, in digits.
+/// The digits of eight bytes that the system tells of `n`.
 #[derive(Drop)]
 struct Known {
     ino: String,
@@ -112,51 +109,56 @@ fn known_of(rt: &impl Host, root: &str) -> io::Result<Known> {
     })
 }
 
-/// The digits that are waited for. What is not known stays.
-fn digits_of(alloc: Global, told: &[&str], known: &Known) -> Result<Vec<u8>, AllocError> {
-    let mut digits = Vec::new(alloc);
-    let mut inos = known.ino.as_bytes().iter().cycle();
-    let mut owners = known.owner.as_bytes().iter().cycle();
+/// Sixteen letters in a row stand for these digits: the one that is waited for at the letter of that number.
+fn known_at(digits: &str, number: usize) -> Option<u8> {
+    digits.as_bytes().get(number % 16).copied()
+}
+
+/// Whether these are the digits that are waited for.
+fn are_told(digits: &str, told: &[&str], known: &Known) -> bool {
+    let (mut at, mut inos, mut owners) = (0usize, 0usize, 0usize);
     for piece in told {
-        for digit in piece.as_bytes() {
-            match *digit {
-                b' ' => {}
-                b'i' => digits.extend(inos.next().copied())?,
-                b'o' => digits.extend(owners.next().copied())?,
-                other => digits.push(other)?,
+        for wanted in piece.as_bytes() {
+            if *wanted == b' ' {
+                continue;
+            }
+            let digit = digits.as_bytes().get(at).copied();
+            at = at.saturating_add(1);
+            let due = match *wanted {
+                b'.' => digit,
+                b'i' => {
+                    inos = inos.saturating_add(1);
+                    known_at(&known.ino, inos.saturating_sub(1))
+                }
+                b'o' => {
+                    owners = owners.saturating_add(1);
+                    known_at(&known.owner, owners.saturating_sub(1))
+                }
+                other => Some(other),
+            };
+            if digit.is_none() || digit != due {
+                return false;
             }
         }
     }
-    Ok(digits)
+    at == digits.len()
 }
 
-/// Whether the bytes are of these digits.
-fn are_told(alloc: Global, bytes: &[u8], wanted: &[u8]) -> Result<bool, AllocError> {
-    let digits = hex::encode(alloc, bytes)?;
-    let mut are = digits.len() == wanted.len();
-    for (digit, wanted) in digits.as_bytes().iter().zip(wanted) {
-        are = are && (*wanted == b'.' || digit == wanted);
-    }
-    Ok(are)
+/// Runs `pipe` on that folder: its status, whether it was answered so, and whether it wrote nothing on standard error.
+fn told_in(rt: &impl Host, host: &HostRuntime, root: &str) -> Result<(u8, bool, bool), Fail> {
+    let words = ["mirrord", "pipe", "--root", root, "--attributes", "host"];
+    let out = run_words(rt, host, &words, ASKS, Vec::new(rt.alloc()))?;
+    let digits = hex::encode(rt.alloc(), out.output.as_slice())?;
+    let known = known_of(rt, root)?;
+    let is_told = are_told(&digits, TOLD, &known);
+    Ok((out.status, is_told, out.faults.is_empty()))
 }
 
 #[test]
 fn attributes_of_the_host_over_a_pipe(rt: HostRuntime) -> Result<(), Fail> {
     let root = new_folder(&rt, "attributes")?;
-    let words = [
-        "mirrord",
-        "pipe",
-        "--root",
-        root.as_str(),
-        "--attributes",
-        "host",
-    ];
-    let out = run_words(&rt, &rt, &words, ASKS, Vec::new(rt.alloc()))?;
-    let wanted = digits_of(rt.alloc(), TOLD, &known_of(&rt, root.as_str())?)?;
-    let is_told = are_told(rt.alloc(), &out.output, &wanted)?;
-    if !is_told || out.status != 0 || !out.faults.is_empty() {
-        return Err(Fail::from(("it came otherwise", is_told, out.status)));
-    }
+    let told = told_in(&rt, &rt, root.as_str())?;
+    assert_eq!(rt; told, (0, true, true));
     expect(
         &rt,
         root.as_str(),
