@@ -28,7 +28,8 @@ pub(crate) fn open_folders(
     root: &str,
     workers: u8,
 ) -> Result<Vec<HostFolder>, Unserved>
-    ensures { IfOk result (λ folders. folders.items ≡ replicate workers 0) }
+    ensures unused { IfOk result (λ folders. folders.items ≡ replicate workers 0) }
+    ensures len { IfOk result (λ folders. vec_len folders ≡ workers) }
 {
     let Ok(mut folders) = Vec::with_capacity(host.alloc(), usize::from(workers)) else {
         return Err(Unserved::Memory);
