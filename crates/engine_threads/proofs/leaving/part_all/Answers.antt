@@ -14,7 +14,7 @@ pub loop-end-preserved : goal.loop-end-preserved
 loop-end-preserved g c =
     let i = c.loop-end.invariant in
     let b = c.push_reserved in
-    let p = c.push_reserved-2 in
+    let p = c.push_reserved-in-loop-end in
     let s = c.in-Some.ensures.steps in
     let from = into_iter_items c.loop-end.end-iterator in
     let rest = into_iter_items c.next.new.self in

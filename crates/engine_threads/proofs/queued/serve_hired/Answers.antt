@@ -16,7 +16,7 @@ use Rattle.engine_threads.proofs.queued.serve_hired.Goals as goal
 pub invariant_of-parts : goal.invariant_of-parts
 invariant_of-parts g c =
     let r = c.in_ok-parts.parts.reader in
-    record { seated = r.seated; some_part = r.some_part; takes_none = r.takes_none; counted = r.counted; numbered = r.numbered; within = r.within }
+    record { seated = r.seated; some_part = r.some_part; takes_none = r.takes_none; counted = r.counted; numbered = r.numbered; within = r.within; stopped_by = r.stopped_by }
 
 pub serve_staffed-requires-clause-staff : goal.serve_staffed-requires-clause-staff
 serve_staffed-requires-clause-staff g c κs within =

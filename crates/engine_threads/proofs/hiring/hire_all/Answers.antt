@@ -1,0 +1,26 @@
+use Rattle.std.proofs.Common.{◌≡◌, ◌∙◌, ◌++◌, ◌∷◌, [], rules, arith}
+use Rattle.std.proofs.lemmas.List.Elements.{All-push, All-same}
+use Rattle.crossbeam_channel.specs.Ends.{sends_on}
+use Rattle.engine_workers.specs.declared.working.Worker.{Worker}
+use Rattle.engine_threads.specs.Worked.{IsHired}
+use Rattle.engine_threads.proofs.hiring.hire_all.Goals as goal
+
+pub loop-number-preserved : goal.loop-number-preserved
+loop-number-preserved c =
+    let i = c.loop-number.invariant in
+    let p = c.cut_passes-passes in
+    let w = c.push_reserved in
+    let one = c.in_ok-hire.field-0 in
+    let P : Worker → Type 0 = IsHired (sends_on c.args.jobs.now) (sends_on c.args.replies.now) c.args.settings in
+    record {
+      read = p.ensures.read;
+      parts = (let a = p.ensures.parts in let b = i.parts in omega arith);
+      put = p.ensures.reads.0 ∙ i.put;
+      taken = p.ensures.reads.1 ∙ i.taken;
+      written = p.ensures.written;
+      writes = p.ensures.writes;
+      hired = All-same P w.new.self.items (c.loop-number.workers.items ++ one ∷ []) w.ensures.items (All-push P c.loop-number.workers.items one i.hired c.in_ok-hire.ensures.hired);
+      numbers = search rules;
+      len = (let a = w.ensures.len in let b = i.len in omega arith);
+      room = (let a = w.ensures.capacity in let b = i.room in omega arith);
+    }
