@@ -1,5 +1,5 @@
 -- Sessions from a folder of the system.
-use Rattle.std.specs.Prelude.{◌≡◌, ◌≢◌, ◌⊎◌, ◌++◌, List, take, Option, Result, Ok, Err}
+use Rattle.std.specs.Prelude.{ℕ, ◌≡◌, ◌≢◌, ◌⊎◌, ◌++◌, List, take, Option, Result, Ok, Err}
 use Rattle.std.specs.Io.KnownBytes.{Appends, Consumes}
 use Rattle.engine.specs.Serving.{events_of, heard_of, traffic}
 use Rattle.engine.specs.declared.ends.SessionEnd.{SessionEnd}
