@@ -11,7 +11,7 @@ use Rattle.engine_roles.specs.Reads.{HasReadAll}
 use Rattle.engine_streams.specs.Streams.{Streaming, Receives, Sends}
 use Rattle.engine_threads.specs.Ended.{EndsAs, IsShared}
 use Rattle.engine_threads.specs.Served.{HasServed}
-use Rattle.engine_threads.specs.Worked.{numbers_of}
+use Rattle.engine_queues.specs.Gathered.{numbers_of}
 use Rattle.engine_threads.specs.declared.ended.Account.{Account}
 use Rattle.mirrord_server.specs.Sessions.{limits_of}
 use Rattle.mirrord_server.specs.declared.folder.Unserved.{Unserved}
