@@ -46,11 +46,14 @@ const WORKERS: &str =
 
 const SINGLE: &str = "One thread does all, one request after another, whatever --workers says";
 
-const ATTRIBUTES: &str = "Whose attributes are told: fixed (of one owner, without times), or host (those of the folder, which can be set)";
+const ATTRIBUTES: &str =
+    "Whose attributes are told: fixed (of one owner, without times), or host (those of the folder, which can be set)";
 
-const UID: &str = "The user that each file and folder is told to belong to, if not 0; with fixed attributes";
+const UID: &str =
+    "The user that each file and folder is told to belong to, if not 0; with fixed attributes";
 
-const GID: &str = "The group that each file and folder is told to belong to, if not 0; with fixed attributes";
+const GID: &str =
+    "The group that each file and folder is told to belong to, if not 0; with fixed attributes";
 
 const NODES: &str = "How many files and folders the client may know at a time, the root among them";
 

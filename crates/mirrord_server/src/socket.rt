@@ -105,12 +105,9 @@ impl Place {
 
 /// Serves the folder at `root` to the first client that connects to a new socket at `path`, until its session ends. The file of
 /// the socket is then removed, unless something else stands there by then.
-pub fn serve_socket<H: Wait + Net + RandomSource + Files<File = File> + Clock + AllocGlobal + Clone + Drop>(
-    rt: &H,
-    root: &str,
-    path: &str,
-    terms: Terms,
-) -> Result<SessionEnd, Unserved>
+pub fn serve_socket<
+    H: Wait + Net + RandomSource + Files<File = File> + Clock + AllocGlobal + Clone + Drop,
+>(rt: &H, root: &str, path: &str, terms: Terms) -> Result<SessionEnd, Unserved>
     ensures { ServesSocket terms result }
 {
     let folder = open_folder(rt, root)?;
