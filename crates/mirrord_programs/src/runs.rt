@@ -1,6 +1,6 @@
 //! Whole runs of the programs, but for the system around them.
 
-ghost use Rattle.std.specs.Prelude.{◌≡◌, ℕ, List, Option, map};
+ghost use Rattle.std.specs.Prelude.{◌≡◌, map};
 ghost use Rattle.clap.specs.Words.{kind_of};
 ghost use Rattle.mirrord_programs.specs.Runs.{IsRefusedBy, IsUnserved, RunsHex, RunsSeeded, RunsWords, ServesHex, unowned};
 
@@ -145,9 +145,8 @@ fn explain<O: Write + Drop, F: Write>(
 }
 
 /// Says why options cannot be.
-fn refuse<O: Drop, F: Write>(refusal: Refusal, output: O, faults: &mut F) -> Ended<O>
-    ensures output { result.output ≡ output }
-    ensures refused { (out : Option (List ℕ)) → IsRefusedBy refusal out out (F.contents faults.old) (F.contents faults.new) result.status result.told }
+fn refuse<O: Write + Drop, F: Write>(refusal: Refusal, output: O, faults: &mut F) -> Ended<O>
+    ensures { IsRefusedBy refusal (O.contents output) (O.contents result.output) (F.contents faults.old) (F.contents faults.new) result.status result.told }
 {
     let failure = Failure::Refused(refusal);
     Ended {
