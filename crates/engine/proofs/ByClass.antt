@@ -53,7 +53,7 @@ module _ {W L C D : Type 0} (rules : Rules W L) (does : Behaviour C D) where
     turn = silent frame;
     frame_is = refl;
     end_is = refl;
-    meets = met_as Ignored frame (silent frame) old.at old.at refl is (record { no_offer = refl; no_call = refl; no_folder = refl; no_place = refl; not_kept = refl }, refl, record { lives = refl; agreed = refl });
+    meets = met_as Ignored frame (silent frame) old.at old.at refl is (record { no_offer = refl; no_call = refl; no_folder = refl; no_place = refl }, refl, record { lives = refl; agreed = refl });
     draws = record { makes = refl; keeps = refl };
     passes = refl;
   }
@@ -66,7 +66,7 @@ module _ {W L C D : Type 0} (rules : Rules W L) (does : Behaviour C D) where
         turn = turn;
         frame_is = refl;
         end_is = ends;
-        meets = met_as Unexpected frame turn old.at old.at refl is ((Failed EIO, refl, record { offers = refl; no_call = refl; folders_are = refl; same = refl; kept_is = refl }), record { lives = refl; agreed = refl });
+        meets = met_as Unexpected frame turn old.at old.at refl is ((Failed EIO, refl, record { offers = refl; no_call = refl; folders_are = refl; same = refl }), record { lives = refl; agreed = refl });
         draws = record { makes = refl; keeps = refl };
         passes = offer;
       }
@@ -81,7 +81,7 @@ module _ {W L C D : Type 0} (rules : Rules W L) (does : Behaviour C D) where
         turn = turn;
         frame_is = refl;
         end_is = ends;
-        meets = met_as InitFrame frame turn old.at (stand old.at.world now) refl is (refl, inl (q, request, rw (← by) ((w.told.said, w.told.said_is, record { offers = refl; no_call = refl; folders_are = refl; same = refl; kept_is = refl }), w.agreed)));
+        meets = met_as InitFrame frame turn old.at (stand old.at.world now) refl is (refl, inl (q, request, rw (← by) ((w.told.said, w.told.said_is, record { offers = refl; no_call = refl; folders_are = refl; same = refl }), w.agreed)));
         draws = record { makes = refl; keeps = refl };
         passes = w.told.offer;
       }
@@ -95,7 +95,7 @@ module _ {W L C D : Type 0} (rules : Rules W L) (does : Behaviour C D) where
         turn = turn;
         frame_is = refl;
         end_is = ends;
-        meets = met_as InitFrame frame turn old.at (stand old.at.world now) refl is (refl, inr (f.fault, f.first, (Failed (fault_errno f.fault), refl, record { offers = refl; no_call = refl; folders_are = refl; same = refl; kept_is = refl }), keeps));
+        meets = met_as InitFrame frame turn old.at (stand old.at.world now) refl is (refl, inr (f.fault, f.first, (Failed (fault_errno f.fault), refl, record { offers = refl; no_call = refl; folders_are = refl; same = refl }), keeps));
         draws = record { makes = refl; keeps = refl };
         passes = f.offer;
       }
@@ -108,7 +108,7 @@ module _ {W L C D : Type 0} (rules : Rules W L) (does : Behaviour C D) where
         turn = turn;
         frame_is = refl;
         end_is = ends ∙ ap (λ d. ending (Some sent) d) w.3;
-        meets = met_as DestroyFrame frame turn old.at old.at refl is (refl, inl (w.0, w.1, (Done, refl, record { offers = refl; no_call = refl; folders_are = refl; same = refl; kept_is = refl }), refl));
+        meets = met_as DestroyFrame frame turn old.at old.at refl is (refl, inl (w.0, w.1, (Done, refl, record { offers = refl; no_call = refl; folders_are = refl; same = refl }), refl));
         draws = record { makes = refl; keeps = refl };
         passes = w.2;
       }
@@ -118,7 +118,7 @@ module _ {W L C D : Type 0} (rules : Rules W L) (does : Behaviour C D) where
         turn = turn;
         frame_is = refl;
         end_is = ends ∙ ap (λ d. ending (Some sent) d) on;
-        meets = met_as DestroyFrame frame turn old.at old.at refl is (refl, inr (f.fault, f.first, (Failed (fault_errno f.fault), refl, record { offers = refl; no_call = refl; folders_are = refl; same = refl; kept_is = refl }), refl));
+        meets = met_as DestroyFrame frame turn old.at old.at refl is (refl, inr (f.fault, f.first, (Failed (fault_errno f.fault), refl, record { offers = refl; no_call = refl; folders_are = refl; same = refl }), refl));
         draws = record { makes = refl; keeps = refl };
         passes = f.offer;
       }

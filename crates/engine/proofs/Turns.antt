@@ -32,11 +32,10 @@ use Rattle.engine.specs.Walks.{Rules, IsAnswered, WorkedOff, RunsScript, RunsOut
 use Rattle.engine.proofs.Runs.{chain_append}
 
 -- a frame with its reply
-abbrev pub acting : List ℕ → Option Place → (kept : Bool) → List Made → List FolderCall → ℕ → ReplyBody → Sent → Turn
-acting frame refused kept made folders unique said sent = record {
+abbrev pub acting : List ℕ → Option Place → List Made → List FolderCall → ℕ → ReplyBody → Sent → Turn
+acting frame refused made folders unique said sent = record {
   frame = frame;
   refused = refused;
-  kept = kept;
   made = made;
   folders = folders;
   offer = Some (record { reply = record { unique = unique; body = said }; sent = sent });
@@ -45,11 +44,11 @@ acting frame refused kept made folders unique said sent = record {
 
 -- the same that makes no call of the open folders
 abbrev pub answering : List ℕ → Option Place → List Made → ℕ → ReplyBody → Sent → Turn
-answering frame refused made unique said sent = acting frame refused false made [] unique said sent
+answering frame refused made unique said sent = acting frame refused made [] unique said sent
 
 -- a frame without one
 abbrev pub silent : List ℕ → Turn
-silent frame = record { frame = frame; refused = None; kept = false; made = []; folders = []; offer = None; destroyed = false }
+silent frame = record { frame = frame; refused = None; made = []; folders = []; offer = None; destroyed = false }
 
 -- the same from the same link
 pub sent_from : {L : Type 0} (sends : L → List ℕ → Sent → L → Type 0) (old mid new : L) (bytes : List ℕ) (sent : Sent) → mid ≡ old → sends mid bytes sent new → sends old bytes sent new
@@ -81,7 +80,7 @@ module _ {W L C D : Type 0} (rules : Rules W L) (does : Behaviour C D) where
         frame_is = refl;
         sent_is = refl;
         lives = refl;
-        asks = inr (fault, is, rw some.0 (Failed (fault_errno fault), refl, record { offers = refl; no_call = refl; folders_are = refl; same = refl; kept_is = refl }));
+        asks = inr (fault, is, rw some.0 (Failed (fault_errno fault), refl, record { offers = refl; no_call = refl; folders_are = refl; same = refl }));
         draws = record { makes = refl; keeps = refl };
         passes = some.1;
       }
@@ -90,7 +89,7 @@ module _ {W L C D : Type 0} (rules : Rules W L) (does : Behaviour C D) where
     frame_is = refl;
     sent_is = refl;
     lives = refl;
-    asks = inr (fault, is, rw none.0 (record { no_offer = refl; no_call = refl; no_folder = refl; no_place = refl; not_kept = refl }, refl));
+    asks = inr (fault, is, rw none.0 (record { no_offer = refl; no_call = refl; no_folder = refl; no_place = refl }, refl));
     draws = record { makes = refl; keeps = refl };
     passes = none.1;
   }
@@ -106,7 +105,7 @@ module _ {W L C D : Type 0} (rules : Rules W L) (does : Behaviour C D) where
         frame_is = refl;
         sent_is = refl;
         lives = refl;
-        asks = inl (q, is, subst (λ (x : Intent). Serves rules.table rules.settings q x old.at turn old.at) i (a.said, a.said_is, record { offers = refl; no_call = refl; folders_are = refl; same = refl; kept_is = refl }));
+        asks = inl (q, is, subst (λ (x : Intent). Serves rules.table rules.settings q x old.at turn old.at) i (a.said, a.said_is, record { offers = refl; no_call = refl; folders_are = refl; same = refl }));
         draws = record { makes = refl; keeps = refl };
         passes = a.offer;
       }
@@ -122,7 +121,7 @@ module _ {W L C D : Type 0} (rules : Rules W L) (does : Behaviour C D) where
         frame_is = refl;
         sent_is = refl;
         lives = refl;
-        asks = inl (q, is, subst (λ (x : Intent). Serves rules.table rules.settings q x old.at turn at) i (file, at, found, (a.said, subst (λ (body : ReplyBody). IsSaid a.refused body a.said) e a.said_is, record { offers = refl; no_call = refl; folders_are = refl; same = refl; kept_is = refl })));
+        asks = inl (q, is, subst (λ (x : Intent). Serves rules.table rules.settings q x old.at turn at) i (file, at, found, (a.said, subst (λ (body : ReplyBody). IsSaid a.refused body a.said) e a.said_is, record { offers = refl; no_call = refl; folders_are = refl; same = refl })));
         draws = record { makes = refl; keeps = refl };
         passes = a.offer;
       }
@@ -135,7 +134,7 @@ module _ {W L C D : Type 0} (rules : Rules W L) (does : Behaviour C D) where
     frame_is = refl;
     sent_is = refl;
     lives = refl;
-    asks = inl (q, is, subst (λ (x : Intent). Serves rules.table rules.settings q x old.at (silent frame) at) i (record { no_offer = refl; no_call = refl; no_folder = refl; no_place = refl; not_kept = refl }, f));
+    asks = inl (q, is, subst (λ (x : Intent). Serves rules.table rules.settings q x old.at (silent frame) at) i (record { no_offer = refl; no_call = refl; no_folder = refl; no_place = refl }, f));
     draws = record { makes = refl; keeps = refl };
     passes = refl;
   }
@@ -149,7 +148,7 @@ module _ {W L C D : Type 0} (rules : Rules W L) (does : Behaviour C D) where
   begun_with frame q fh uses.Sync old new sent is i t = absurd t
   begun_with frame q fh (uses.ReadEntries offset size) old new sent is i t =
       let a = t.runs in
-      let turn = acting frame a.refused a.kept a.made (t.lends.folders ++ a.more) q.unique a.said sent in
+      let turn = acting frame a.refused a.made (t.lends.folders ++ a.more) q.unique a.said sent in
       record {
         turn = turn;
         frame_is = refl;
@@ -166,7 +165,7 @@ module _ {W L C D : Type 0} (rules : Rules W L) (does : Behaviour C D) where
       → WorkedOff rules does frame old (Some sent) new
   used frame q by old new sent is i (inr t) = begun_with frame q by.fh by.usage old new sent is i t
   used frame q by old new sent is i (inl u) =
-      let turn = acting frame u.told.refused false [] u.uses.folders q.unique u.told.said sent in
+      let turn = acting frame u.told.refused [] u.uses.folders q.unique u.told.said sent in
       record {
         turn = turn;
         frame_is = refl;
@@ -183,7 +182,6 @@ module _ {W L C D : Type 0} (rules : Rules W L) (does : Behaviour C D) where
             offers = refl;
             no_call = refl;
             same = u.world_is;
-            not_kept = refl;
           })),
         );
         draws = record { makes = u.calls_are; keeps = u.uses.chain };
@@ -197,7 +195,7 @@ module _ {W L C D : Type 0} (rules : Rules W L) (does : Behaviour C D) where
     frame_is = refl;
     sent_is = refl;
     lives = refl;
-    asks = inl (q, is, subst (λ (x : Intent). Serves rules.table rules.settings q x old.at (silent frame) old.at) i (record { no_offer = refl; no_call = refl; no_folder = refl; no_place = refl; not_kept = refl }, refl));
+    asks = inl (q, is, subst (λ (x : Intent). Serves rules.table rules.settings q x old.at (silent frame) old.at) i (record { no_offer = refl; no_call = refl; no_folder = refl; no_place = refl }, refl));
     draws = record { makes = refl; keeps = refl };
     passes = refl;
   }
@@ -207,7 +205,7 @@ module _ {W L C D : Type 0} (rules : Rules W L) (does : Behaviour C D) where
       → RunsOut rules does (attempt q want [] no_page) old sent new
       → WorkedOff rules does frame old (Some sent) new
   carried frame q want old new sent is i a =
-      let turn = acting frame a.refused a.kept a.made a.more q.unique a.said sent in
+      let turn = acting frame a.refused a.made a.more q.unique a.said sent in
       record {
         turn = turn;
         frame_is = refl;
@@ -228,22 +226,21 @@ module _ {W L C D : Type 0} (rules : Rules W L) (does : Behaviour C D) where
   works_by (Some AtListing) a old turn new meant said is c = c
   works_by (Some AtReply) a old turn new meant said is c = c
 
-  pub goes_on : (a : Attempt) (ticket : Claim) (old new : Environment W L C D) (at : W) (sent : Sent) (kept : Bool) → rules.table.begins old.at kept a.q.unique a.want (Go ticket) at
+  pub goes_on : (a : Attempt) (ticket : Claim) (old new : Environment W L C D) (at : W) (sent : Sent) → rules.table.begins old.at a.q.unique a.want (Go ticket) at
       → (p : RunsScript rules does (begun a.q a.page ticket) (around old.link old.served at) sent new) → rules.table.knows p.concludes.so.answer
       → RunsOwned rules does a old sent new
-  goes_on a ticket old new at sent kept b p known =
+  goes_on a ticket old new at sent b p known =
       let e = p.concludes.so in
       let more = p.concludes.folders in
       record {
         runs = record {
           refused = e.refused;
-          kept = kept;
           made = p.made;
           more = more;
           said = e.said;
           draws = record { makes = p.makes; keeps = p.concludes.chain };
           offer = e.offer;
-          works = λ frame. works_by e.refused a old.at (acting frame e.refused kept p.made (a.lends ++ more) a.q.unique e.said sent) new.at _ e.said e.said_is (record {
+          works = λ frame. works_by e.refused a old.at (acting frame e.refused p.made (a.lends ++ more) a.q.unique e.said sent) new.at _ e.said e.said_is (record {
             ticket = ticket;
             begun = at;
             begins = b;
@@ -268,28 +265,27 @@ module _ {W L C D : Type 0} (rules : Rules W L) (does : Behaviour C D) where
         owned = told_later e.refused _ e.said e.said_is;
       }
 
-  by_refusal : (refused : Option Place) (a : Attempt) (errno : ℤ) (said : ReplyBody) (world world' : W) (turn : Turn) → IsSaid refused (Failed errno) said → rules.table.begins world turn.kept a.q.unique a.want (Refused errno) world' → Says turn.kept a.lends a.q.unique said world' turn world'
+  by_refusal : (refused : Option Place) (a : Attempt) (errno : ℤ) (said : ReplyBody) (world world' : W) (turn : Turn) → IsSaid refused (Failed errno) said → rules.table.begins world a.q.unique a.want (Refused errno) world' → Says a.lends a.q.unique said world' turn world'
       → WorksOff rules.table rules.settings refused a world turn world'
-  by_refusal None a errno said world world' turn is b says = inl (record { errno = errno; begins = b; says = subst (λ (body : ReplyBody). Says turn.kept a.lends a.q.unique body world' turn world') is says })
+  by_refusal None a errno said world world' turn is b says = inl (record { errno = errno; begins = b; says = subst (λ (body : ReplyBody). Says a.lends a.q.unique body world' turn world') is says })
   by_refusal (Some AtBegin) a errno said world world' turn is b says = absurd is
   by_refusal (Some AtScript) a errno said world world' turn is b says = absurd is
   by_refusal (Some AtListing) a errno said world world' turn is b says = absurd is
   by_refusal (Some AtReply) a errno said world world' turn is b says = absurd is.0
 
   -- the table refuses it
-  pub table_refused : (a : Attempt) (errno : ℤ) (old : Environment W L C D) (link : L) (at : W) (sent : Sent) (kept : Bool) → rules.table.begins old.at kept a.q.unique a.want (Refused errno) at
+  pub table_refused : (a : Attempt) (errno : ℤ) (old : Environment W L C D) (link : L) (at : W) (sent : Sent) → rules.table.begins old.at a.q.unique a.want (Refused errno) at
       → IsAnswered rules.sends (refusal a.q.unique errno) old.link sent link
       → RunsOwned rules does a old sent (around link old.served at)
-  table_refused a errno old link at sent kept b w = record {
+  table_refused a errno old link at sent b w = record {
     runs = record {
       refused = w.refused;
-      kept = kept;
       made = [];
       more = [];
       said = w.said;
       draws = record { makes = refl; keeps = refl };
       offer = w.offer;
-      works = λ frame. by_refusal w.refused a errno w.said old.at at (acting frame w.refused kept [] (a.lends ++ []) a.q.unique w.said sent) w.said_is b (record { offers = refl; no_call = refl; folders_are = append-nil a.lends; same = refl; kept_is = refl });
+      works = λ frame. by_refusal w.refused a errno w.said old.at at (acting frame w.refused [] (a.lends ++ []) a.q.unique w.said sent) w.said_is b (record { offers = refl; no_call = refl; folders_are = append-nil a.lends; same = refl });
     };
     owned = said_later w.refused (Failed errno) w.said w.said_is;
   }
@@ -299,11 +295,10 @@ module _ {W L C D : Type 0} (rules : Rules W L) (does : Behaviour C D) where
       → RunsOut rules does a old sent (around link old.served old.at)
   page_unbegun a old link sent named s = record {
     refused = Some AtBegin;
-    kept = false;
     made = [];
     more = [];
     said = Failed ENOMEM;
     draws = record { makes = refl; keeps = refl };
     offer = s;
-    works = λ frame. (named, record { offers = refl; no_call = refl; folders_are = append-nil a.lends; same = refl; kept_is = refl });
+    works = λ frame. (named, record { offers = refl; no_call = refl; folders_are = append-nil a.lends; same = refl });
   }

@@ -34,25 +34,25 @@ pub record Ended (id : ℕ) (a : Answer) (new : World) : Type 0 where
   pub id_is : a.id ≡ id
   pub alone : Alone id new.flights
 
--- A request that is begun in an idle table is not lost.
-pub finishes_one : (old mid fin : World) (unique : ℕ) (want : Want) (claim : Claim) (o : Outcome) (a : Answer) → IsIdle old → Begins old unique want (Go claim) mid → Finishes mid claim.id o a fin → Ended claim.id a fin
-finishes_one old mid fin unique want claim o a idle begins finishes =
+-- A request that is begun in an idle table is not lost. A period may end before its work does.
+pub finishes_one : (old mid renewed fin : World) (unique : ℕ) (want : Want) (claim : Claim) (o : Outcome) (a : Answer) → IsIdle old → Begins old unique want (Go claim) mid → ((k : ℕ) → renewed.flights k ≡ mid.flights k) → Finishes renewed claim.id o a fin → Ended claim.id a fin
+finishes_one old mid renewed fin unique want claim o a idle begins same finishes =
     let goes = begins.begins.1 in
     let work : Work = record { want = want; footprint = begins.footprint; held = goes.held } in
     let f : RequestInFlight = record { unique = unique; stage = Working work; pins = goes.pins } in
-    let now : (k : ℕ) → mid.flights k ≡ with_entry old.flights claim.id (Some f) k = λ k. ap (λ (w : World). w.flights k) goes.new_is in
+    let now : (k : ℕ) → renewed.flights k ≡ with_entry old.flights claim.id (Some f) k = λ k. same k ∙ ap (λ (w : World). w.flights k) goes.new_is in
     let ends = finishes.found f work (record { here = now claim.id ∙ itself claim.id old.flights (Some f); working = refl }) in
-    let then_is : (k : ℕ) → fin.flights k ≡ with_entry mid.flights claim.id (Some (answered f a.given a.opened)) k = λ k. ap (λ (w : World). w.flights k) ends.new_is in
+    let then_is : (k : ℕ) → fin.flights k ≡ with_entry renewed.flights claim.id (Some (answered f a.given a.opened)) k = λ k. ap (λ (w : World). w.flights k) ends.new_is in
     record {
       not_lost = ends.not_lost;
       id_is = ends.answer_id;
       alone = record {
         flight = answered f a.given a.opened;
-        here = then_is claim.id ∙ itself claim.id mid.flights (Some (answered f a.given a.opened));
+        here = then_is claim.id ∙ itself claim.id renewed.flights (Some (answered f a.given a.opened));
         before = length f.pins;
         opened = a.opened;
         stage = refl;
-        others = λ k e. then_is k ∙ another claim.id k mid.flights (Some (answered f a.given a.opened)) e (now k ∙ another claim.id k old.flights (Some f) e (idle k));
+        others = λ k e. then_is k ∙ another claim.id k renewed.flights (Some (answered f a.given a.opened)) e (now k ∙ another claim.id k old.flights (Some f) e (idle k));
       };
     }
 
@@ -61,10 +61,10 @@ gone true id k at e none = ap (λ (b : Bool). if b then None else at k) e
 gone false id k at e none = ap (λ (b : Bool). if b then None else at k) e ∙ none e
 
 -- Once it is settled, the table is idle.
-pub settles_one : (fin new : World) (id : ℕ) (a : Answer) (taken : Bool) (settled : Settlement) → Ended id a fin → Settles fin a taken settled new → IsIdle new
-settles_one fin new id a taken settled ended s = λ k.
-    let ends = s.found ended.not_lost (record { flight = ended.alone.flight; here = ap fin.flights ended.id_is ∙ ended.alone.here; before = ended.alone.before; opened = ended.alone.opened; ended = ended.alone.stage }) in
-    ap (λ (w : World). w.flights k) ends.new_is ∙ gone (a.id == k) a.id k fin.flights refl (λ e. ended.alone.others k (ap (λ n. n == k) (sym ended.id_is) ∙ e))
+pub settles_one : (fin renewed new : World) (id : ℕ) (a : Answer) (taken : Bool) (settled : Settlement) → Ended id a fin → ((k : ℕ) → renewed.flights k ≡ fin.flights k) → Settles renewed a taken settled new → IsIdle new
+settles_one fin renewed new id a taken settled ended same s = λ k.
+    let ends = s.found ended.not_lost (record { flight = ended.alone.flight; here = same a.id ∙ (ap fin.flights ended.id_is ∙ ended.alone.here); before = ended.alone.before; opened = ended.alone.opened; ended = ended.alone.stage }) in
+    ap (λ (w : World). w.flights k) ends.new_is ∙ gone (a.id == k) a.id k renewed.flights refl (λ e. same k ∙ ended.alone.others k (ap (λ n. n == k) (sym ended.id_is) ∙ e))
 
 -- A forget leaves it idle.
 pub forgets_idle : (old new : World) (number n amount : ℕ) → IsIdle old → Forgets old number n amount new → IsIdle new
@@ -77,8 +77,8 @@ forgets_idle old new number n amount idle h = λ id. elim (cases_eq amount 0) [
 ]
 
 -- An error number of the table is written and read as it is.
-pub refused_bits : (old new : World) (kept : Bool) (unique : ℕ) (want : Want) (errno : ℤ) → BeginsAnew old kept unique want (Refused errno) new → BeginsAnew old kept unique want (Refused (to_z w32 (of_z w32 errno))) new
-refused_bits old new kept unique want errno a = record {
+pub refused_bits : (old new : World) (unique : ℕ) (want : Want) (errno : ℤ) → BeginsAnew old unique want (Refused errno) new → BeginsAnew old unique want (Refused (to_z w32 (of_z w32 errno))) new
+refused_bits old new unique want errno a = record {
   renewed = a.renewed;
   renews = a.renews;
   begins = let b = a.begins in record { footprint = b.footprint; footprint_is = b.footprint_is; begins = (refusal_bits a.renewed b.footprint errno b.begins.0, b.begins.1) };

@@ -60,12 +60,10 @@ pub record Offer : Type 0 where
   pub reply : Reply
   pub sent : Sent
 
--- a frame, where memory was refused for it, whether a period of the ledger that was due to end was kept, since memory was refused for
--- that, the calls that it made of the directory and of the open folders with their answers, what was replied, and whether the client ended the session with it
+-- a frame, where memory was refused for it, the calls that it made of the directory and of the open folders with their answers, what was replied, and whether the client ended the session with it
 pub record Turn : Type 0 where
   pub frame : List ℕ
   pub refused : Option Place
-  pub kept : Bool
   pub made : List Made
   pub folders : List FolderCall
   pub offer : Option Offer
@@ -111,17 +109,16 @@ IsTold (Some AtScript) meant said = said ≡ Failed ENOMEM
 IsTold (Some AtListing) meant said = said ≡ Failed ENOMEM
 IsTold refused meant said = IsSaid refused meant said
 
--- a frame that makes no call of the directory, these of the open folders, and changes nothing, but where a request was refused the period may have been kept before
-pub record Says {W : Type 0} (kept : Bool) (folders : List FolderCall) (unique : ℕ) (said : ReplyBody) (old : W) (turn : Turn) (new : W) : Type 0 where
+-- a frame that makes no call of the directory, these of the open folders, and changes nothing
+pub record Says {W : Type 0} (folders : List FolderCall) (unique : ℕ) (said : ReplyBody) (old : W) (turn : Turn) (new : W) : Type 0 where
   pub offers : Offers turn.offer unique said
   pub no_call : turn.made ≡ []
   pub folders_are : turn.folders ≡ folders
   pub same : new ≡ old
-  pub kept_is : turn.kept ≡ kept
 
 -- it is answered at once
 abbrev pub Answers : {W : Type 0} → ℕ → ReplyBody → W → Turn → W → Type 0
-Answers unique meant old turn new = (said : ReplyBody) × IsSaid turn.refused meant said × Says false [] unique said old turn new
+Answers unique meant old turn new = (said : ReplyBody) × IsSaid turn.refused meant said × Says [] unique said old turn new
 
 -- a frame that gets no reply
 pub record IsSilent (turn : Turn) : Type 0 where
@@ -129,7 +126,6 @@ pub record IsSilent (turn : Turn) : Type 0 where
   pub no_call : turn.made ≡ []
   pub no_folder : turn.folders ≡ []
   pub no_place : turn.refused ≡ None
-  pub not_kept : turn.kept ≡ false
 
 -- a request that uses an open folder, is answered at once and changes nothing in the table
 pub record UsesFolder {W : Type 0} (q : Request) (fh : ℕ) (usage : FolderUse) (old : W) (turn : Turn) (new : W) : Type 0 where
@@ -140,7 +136,6 @@ pub record UsesFolder {W : Type 0} (q : Request) (fh : ℕ) (usage : FolderUse) 
   pub offers : Offers turn.offer q.unique said
   pub no_call : turn.made ≡ []
   pub same : new ≡ old
-  pub not_kept : turn.kept ≡ false
 
 -- the listing of an OPENDIR is put, unless there was no memory for it
 abbrev pub Stores : Option Place → ℕ → ScriptResult → List FolderCall → (put : Option ℕ) → Type 0
@@ -226,7 +221,7 @@ module _ {W : Type 0} (table : Table W) (settings : Settings) where
   pub record RunsRequest (a : Attempt) (old : W) (turn : Turn) (new : W) : Type 0 where
     pub ticket : Claim
     pub begun : W
-    pub begins : table.begins old turn.kept a.q.unique a.want (Go ticket) begun
+    pub begins : table.begins old a.q.unique a.want (Go ticket) begun
     pub end : End
     pub script : Plays settings turn.refused a.q.operation ticket turn.made end
     pub answer : Answer
@@ -247,13 +242,13 @@ module _ {W : Type 0} (table : Table W) (settings : Settings) where
   -- the table refuses it
   pub record IsRefused (a : Attempt) (old : W) (turn : Turn) (new : W) : Type 0 where
     pub errno : ℤ
-    pub begins : table.begins old turn.kept a.q.unique a.want (Refused errno) new
-    pub says : Says turn.kept a.lends a.q.unique (Failed errno) new turn new
+    pub begins : table.begins old a.q.unique a.want (Refused errno) new
+    pub says : Says a.lends a.q.unique (Failed errno) new turn new
 
   -- No other request is in flight, so none is in its way. It finds no memory to begin only where names are copied for it.
   abbrev pub WorksOff : Option Place → Attempt → W → Turn → W → Type 0
   WorksOff None a old turn new = IsRefused a old turn new ⊎ RunsRequest a old turn new
-  WorksOff (Some AtBegin) a old turn new = HasNames a.want × Says false a.lends a.q.unique (Failed ENOMEM) old turn new
+  WorksOff (Some AtBegin) a old turn new = HasNames a.want × Says a.lends a.q.unique (Failed ENOMEM) old turn new
   WorksOff (Some AtScript) a old turn new = RunsRequest a old turn new
   WorksOff (Some AtListing) a old turn new = RunsRequest a old turn new
   WorksOff (Some AtReply) a old turn new = RunsRequest a old turn new

@@ -5,18 +5,17 @@ use Rattle.table_files.specs.declared.data.OpenFile.{OpenFile}
 use Rattle.ledger.specs.Shares.{Part}
 use Rattle.table_requests.specs.declared.data.Want.{Want}
 use Rattle.table_steps.specs.Answers.{Answer, Settlement}
-use Rattle.table_steps.specs.Steps.{Finishes, Settles, Forgets}
 use Rattle.table_steps.specs.World.{IsLawfulWorld, World}
 use Rattle.table_steps.specs.declared.data.Begin.{Begin}
 use Rattle.table_steps.specs.declared.data.Outcome.{Outcome}
 use Rattle.table.specs.Leftovers.{AreLeftovers}
 use Rattle.table.specs.Gains.{GainsInAll}
-use Rattle.table.specs.Renewing.{BeginsAnew}
+use Rattle.table.specs.Renewing.{BeginsAnew, FinishesAnew, ForgetsAnew, SettlesAnew}
 
 -- a table whose states are the elements of W
 pub record Table (W : Type 0) : Type 1 where
-  -- the period of the ledger ends first where it is due, unless it is kept, and then the request is taken up
-  pub begins : W → (kept : Bool) → (unique : ℕ) → Want → Begin → W → Type 0
+  -- the period of the ledger ends first where it is due, and then the request is taken up
+  pub begins : W → (unique : ℕ) → Want → Begin → W → Type 0
   pub finishes : W → (id : ℕ) → Outcome → Answer → W → Type 0
   -- an answer, and the handle of the listing that was put for it
   pub settles : W → Answer → (put : Option ℕ) → (taken : Bool) → W → Type 0
@@ -42,10 +41,10 @@ IsIdle w = (id : ℕ) → w.flights id ≡ None
 -- the table that is served: each call leads to a lawful world
 abbrev pub worlds : Table World
 worlds = record {
-  begins = λ old kept unique want told new. BeginsAnew old kept unique want told new × IsLawfulWorld new;
-  finishes = λ old id outcome answer new. Finishes old id outcome answer new × IsLawfulWorld new;
-  settles = λ old answer put taken new. (settled : Settlement) × Settles old answer taken settled new × IsLawfulWorld new;
-  forgets = λ old number n new. (amount : ℕ) × Forgets old number n amount new × IsLawfulWorld new;
+  begins = λ old unique want told new. BeginsAnew old unique want told new × IsLawfulWorld new;
+  finishes = λ old id outcome answer new. FinishesAnew old id outcome answer new × IsLawfulWorld new;
+  settles = λ old answer put taken new. (settled : Settlement) × SettlesAnew old answer taken settled new × IsLawfulWorld new;
+  forgets = λ old number n new. (amount : ℕ) × ForgetsAnew old number n amount new × IsLawfulWorld new;
   finds = λ old fh file new. (file ≡ old.files fh) × (new ≡ old);
   knows = λ answer. answer.lost ≡ false;
   is_free = λ w. Unit {0};

@@ -246,13 +246,12 @@ module _ {W L C D : Type 0} (rules : Rules W L) (does : Behaviour C D) where
   -- a request that is begun, whatever frame it stands in
   pub record RunsOut (a : Attempt) (old : Environment W L C D) (sent : Sent) (new : Environment W L C D) : Type 0 where
     pub refused : Option Place
-    pub kept : Bool
     pub made : List Made
     pub more : List FolderCall
     pub said : ReplyBody
     pub draws : Draws does old.served made more new.served
     pub offer : rules.sends old.link (reply_bytes (record { unique = a.q.unique; body = said })) sent new.link
-    pub works : (frame : List ℕ) → WorksOff rules.table rules.settings refused a old.at (record { frame = frame; refused = refused; kept = kept; made = made; folders = a.lends ++ more; offer = Some (record { reply = record { unique = a.q.unique; body = said }; sent = sent }); destroyed = false }) new.at
+    pub works : (frame : List ℕ) → WorksOff rules.table rules.settings refused a old.at (record { frame = frame; refused = refused; made = made; folders = a.lends ++ more; offer = Some (record { reply = record { unique = a.q.unique; body = said }; sent = sent }); destroyed = false }) new.at
 
   -- the same of a want that has its names already: it was not for want of memory for these that it did not begin
   pub record RunsOwned (a : Attempt) (old : Environment W L C D) (sent : Sent) (new : Environment W L C D) : Type 0 where

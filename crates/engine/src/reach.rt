@@ -32,7 +32,7 @@ pub trait Reach<T: Ledgers> {
     /// Ends the period of the ledger where that is due, and takes up a request. Where another is in its way it may wait for the end of one,
     /// and then answers Busy.
     fn begin(&mut self, unique: u64, want: Want) -> Begin
-        ensures begins { (kept : Bool) × steps.begins (world self.old) kept unique want result (world self.new) }
+        ensures begins { steps.begins (world self.old) unique want result (world self.new) }
         ensures gains { (share : Part) → steps.gains (world self.old) share (world self.new) share };
 
     /// Ends the work on a request.
@@ -62,18 +62,18 @@ pub trait Reach<T: Ledgers> {
     ghost gains_on: { (old mid new : World) (before between after : Part) → steps.gains old before mid between → steps.gains mid between new after → steps.gains old before new after };
 
     /// A request that has to wait changes nothing.
-    ghost waits: { (old new : World) (kept : Bool) (unique : ℕ) (want : Want) → steps.is_idle old → steps.begins old kept unique want Busy new → new ≡ old };
+    ghost waits: { (old new : World) (unique : ℕ) (want : Want) → steps.is_idle old → steps.begins old unique want Busy new → new ≡ old };
 
     /// A request that is refused leaves it idle.
-    ghost refuses: { (old new : World) (kept : Bool) (unique : ℕ) (want : Want) (errno : ℤ) → steps.is_idle old → steps.begins old kept unique want (Refused errno) new
-        → (steps.begins old kept unique want (Refused (to_z w32 (of_z w32 errno))) new) × steps.is_idle new };
+    ghost refuses: { (old new : World) (unique : ℕ) (want : Want) (errno : ℤ) → steps.is_idle old → steps.begins old unique want (Refused errno) new
+        → (steps.begins old unique want (Refused (to_z w32 (of_z w32 errno))) new) × steps.is_idle new };
 
     /// A request that goes on is not finished yet.
-    ghost begins_free: { (old new : World) (kept : Bool) (unique : ℕ) (want : Want) (claim : Claim) → steps.is_free old → steps.begins old kept unique want (Go claim) new → steps.is_free new };
+    ghost begins_free: { (old new : World) (unique : ℕ) (want : Want) (claim : Claim) → steps.is_free old → steps.begins old unique want (Go claim) new → steps.is_free new };
 
     /// A request that is carried from its begin to its settle.
-    ghost completes: { (old mid fin new : World) (kept : Bool) (unique : ℕ) (want : Want) (claim : Claim) (outcome : Outcome) (answer : Answer) (put : Option ℕ) (taken : Bool) → steps.is_idle old
-        → steps.begins old kept unique want (Go claim) mid → steps.finishes mid claim.id outcome answer fin → steps.settles fin answer put taken new → steps.knows answer × steps.is_idle new };
+    ghost completes: { (old mid fin new : World) (unique : ℕ) (want : Want) (claim : Claim) (outcome : Outcome) (answer : Answer) (put : Option ℕ) (taken : Bool) → steps.is_idle old
+        → steps.begins old unique want (Go claim) mid → steps.finishes mid claim.id outcome answer fin → steps.settles fin answer put taken new → steps.knows answer × steps.is_idle new };
 
     /// Lookups that are given back leave it idle.
     ghost forgets_idle: { (old new : World) (number n : ℕ) → steps.is_idle old → steps.forgets old number n new → steps.is_idle new };
@@ -99,7 +99,7 @@ impl<T: Ledgers> Reach<T> for Table<T> {
     }
 
     fn begin(&mut self, unique: u64, want: Want) -> Begin {
-        let _kept = self.renew();
+        self.renew();
         Table::begin(self, unique, want)
     }
 
@@ -126,7 +126,7 @@ impl<T: Ledgers> Reach<T> for Table<T> {
 
     ghost refuses = { laws.refuses };
 
-    ghost begins_free = { λ old new kept unique want claim free begins. tt };
+    ghost begins_free = { λ old new unique want claim free begins. tt };
 
     ghost completes = { laws.completes };
 

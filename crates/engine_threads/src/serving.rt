@@ -30,7 +30,7 @@ use std::alloc::Global;
 use std::marker::Brand;
 use std::sync::Wait;
 use std::thread::Threads;
-use table::{Limits, Seeds, Table};
+use table::{Counts, Limits, Seeds, Table};
 use table_halls::Hall;
 use table_histories::Opened;
 use table_recorded::{Entry, Opening};
@@ -157,6 +157,7 @@ fn serve_table<
     requires names { blanks ≡ T.names }
     requires shares { T.names.parts ≡ vec_len trees + 1 }
     requires root { 1 ≤ limits.nodes }
+    requires free { limits.counts ≡ Counts.Free → limits.nodes ≤ limits.postings }
     requires some { 0 < vec_len trees }
     requires few { vec_len trees ≤ 4 }
     ensures taken { IfSome result (λ a. vec_len a.taken ≡ vec_len trees) }
@@ -193,6 +194,7 @@ pub fn serve_threads<
     settings: Settings,
 ) -> Ended
     requires root { 1 ≤ limits.nodes }
+    requires free { limits.counts ≡ Counts.Free → limits.nodes ≤ limits.postings }
     ensures nobody { ((vec_len calls ≡ 0) ⊎ (4 < vec_len calls)) → (result.end ≡ end.NoWorkers) × (result.account ≡ None) }
     ensures only { result.end ≡ end.NoWorkers → (vec_len calls ≡ 0) ⊎ (4 < vec_len calls) }
     ensures lost { IfNone result.account ((result.end ≡ end.Memory) ⊎ (result.end ≡ end.NoWorkers)) }

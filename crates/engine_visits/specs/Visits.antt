@@ -103,7 +103,7 @@ HasBits (begin.Refused errno) = SFits w32 errno
 -- Each call is the next of those that the thread made. Whether it led on as it must says the history in which all threads' calls stand.
 abbrev pub visits : Table Known
 visits = record {
-  begins = λ old kept unique want told new. HasBits told × (new ≡ record { visited = old.visited; on_table = then_made old.on_table (began kept unique want told) });
+  begins = λ old unique want told new. HasBits told × (new ≡ record { visited = old.visited; on_table = then_made old.on_table (began unique want told) });
   finishes = λ old id outcome answer new. new ≡ record { visited = Given answer; on_table = then_made old.on_table (finished id outcome answer) };
   settles = λ old answer put taken new. new ≡ settling old answer put taken;
   forgets = λ old number n new. (amount : ℕ) × (new ≡ record { visited = old.visited; on_table = then_made old.on_table (forgot number n amount) });

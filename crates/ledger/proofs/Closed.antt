@@ -105,18 +105,15 @@ closed_totals old new alive closes =
     let plain : totals_over new ≡ plus new.totals nothing = ap (plus new.totals) none in
     plain ∙ (plus-nothing new.totals ∙ closes.totals)
 
-pub closed_carried : (old new : Periods) (alive : List (ℕ × ℕ)) → IsNeverNegative old → IsCarriedOver old → AreAllAlive old alive → (totals_over old).born ≤ (totals_over old).entries
-    → sum_by (λ (b : KeptBirths). b.count) new.births ≡ (totals_over old).born → new.totals ≡ totals_over old → new.last ≡ map (opening_of old) alive → IsCarriedOver new
-closed_carried old new alive never carried all entered births totals last =
+-- it begins with all that was left
+pub closed_left : (old new : Periods) (alive : List (ℕ × ℕ)) → IsNeverNegative old → IsCarriedOver old → AreAllAlive old alive → new.totals ≡ totals_over old → new.last ≡ map (opening_of old) alive
+    → new.totals.backs + new.totals.forgotten + sum_by carried_by new.last ≡ new.totals.entries
+closed_left old new alive never carried all totals last =
     let sum = left_all alive old.last all.once (covers old never) all.others in
     let opened : sum_by carried_by new.last ≡ sum_by (left_in old.last) alive = ap (sum_by carried_by) last ∙ openings_carry old alive in
     let given = sum_by-plus (λ p. (totals_by p).backs) (λ p. (totals_by p).forgotten) old.last in
     let entries = sum_by-plus carried_by (λ p. (totals_by p).entries) old.last in
-    record {
-      births = births ∙ ap (λ (t : Totals). t.born) (sym totals);
-      entered = rw totals entered;
-      left = rw totals (omega (arith, sum, opened, given, entries, carried.left));
-    }
+    rw totals (omega (arith, sum, opened, given, entries, carried.left))
 
 -- nothing was given back yet of any
 pub closed_given : (old new : Periods) (alive : List (ℕ × ℕ)) → new.last ≡ map (opening_of old) alive → (n g : ℕ) → given_back_of n g new ≡ 0

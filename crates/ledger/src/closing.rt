@@ -1,110 +1,95 @@
-//! The end of a period: what was left of each number becomes what the next period begins with.
+//! The end of a period: what was left of each number becomes what the next period begins with. It takes no memory, since the
+//! postings of the next period take the places of those of the last.
 
-ghost use Rattle.std.specs.Prelude.{◌≡◌, ◌+◌, ◌<◌, ◌≤◌, ◌^◌, ℕ, [], Some, IfOk, IfErr, OnOk, OnErr, List, length, map, vec_len, vec_capacity};
-ghost use Rattle.indexmap.specs.IndexMap.{get};
-ghost use Rattle.ledger.specs.Closing.{AreAllAlive, AreAllBirths, AreCounted, Closes, HasAll, entered, given, opening_of, pair_eq, pair_of};
-ghost use Rattle.ledger.specs.Periods.{Periods, posted, unclosed};
+ghost use Rattle.std.specs.Prelude.{◌≡◌, ◌≢◌, ◌+◌, ◌<◌, ◌≤◌, [], AllPairs, length, ℕ, sum_by};
+ghost use Rattle.ledger.specs.declared.births.KeptBirths.{KeptBirths as Kept};
+ghost use Rattle.ledger.specs.declared.postings.Posting.TheVariants as posting;
+ghost use Rattle.ledger.specs.Periods.{posted};
 ghost use Rattle.ledger.specs.Shares.{Fits};
-ghost use Rattle.ledger.specs.Sums.{entries_of, totals_over, IsCarriedOver, IsNeverNegative};
+ghost use Rattle.ledger.specs.Sums.{IsCarriedOver, births_closed, births_of, carried_by, totals_over};
 
-use crate::births::{KeptBirths, list_births};
-use crate::postings::{Ledger, LedgerFault, Posting};
+use crate::births::{KeptBirths, keep_births};
+use crate::postings::{Ledger, Posting};
 use crate::shares::Totals;
 use indexmap::IndexMap;
-use std::alloc::{AllocError, Global};
+use std::alloc::Global;
+use std::marker::Model;
 
-/// What is left of each number and generation that lives.
-type Counts = IndexMap<(u64, u64), u64>;
-
-/// Nothing yet of each of these.
-fn start(alloc: Global, alive: &[(u64, u64)]) -> Result<Counts, AllocError>
-    ensures nothing { IfOk result (λ counts. AreCounted counts (unclosed [])) }
-    ensures all { IfOk result (λ counts. HasAll counts alive.now) }
-{
-    let mut counts = IndexMap::new(alloc);
-    for pair in alive {
-        counts.insert(*pair, 0)?;
-    }
-    Ok(counts)
-}
-
-/// Counts one posting more.
-fn note(counts: &mut Counts, posting: &Posting)
-    requires fits { (c : ℕ) → get pair_eq counts.old (pair_of posting.now) ≡ Some c → c + entered posting.now < 2 ^ 64 }
-    requires covered { (c : ℕ) → get pair_eq counts.old (pair_of posting.now) ≡ Some c → given posting.now ≤ c + entered posting.now }
-    ensures counted { (ps : Periods) → AreCounted counts.old ps → AreCounted counts.new (posted ps posting.now) }
-    ensures all { (alive : List (ℕ × ℕ)) → HasAll counts.old alive → HasAll counts.new alive }
-{
-    let (number, generation) = (posting.number(), posting.generation());
-    let key = (number, generation);
-    let before = match counts.get(&key) {
-        Some(before) => *before,
-        None => return,
-    };
-    let left = before + posting.entered(number, generation) - posting.given(number, generation);
-    match counts.insert(key, left) {
-        Ok(_) => {}
-        Err(_) => unreachable!(),
-    }
-}
-
-/// What is left of each of these after the postings.
-fn count_left(
+/// A ledger whose last period is closed, and the next one as it begins. Contracts see it as a ledger that has only this one to come.
+#[derive(Drop)]
+pub struct NextPeriod {
     alloc: Global,
-    postings: &[Posting],
-    alive: &[(u64, u64)],
-) -> Result<Counts, AllocError>
-    requires never_negative { IsNeverNegative (unclosed postings.now) }
-    requires few { (n g : ℕ) → entries_of n g (unclosed postings.now) < 2 ^ 64 }
-    ensures counted { IfOk result (λ counts. AreCounted counts (unclosed postings.now)) }
-    ensures all { IfOk result (λ counts. HasAll counts alive.now) }
-{
-    let mut counts = start(alloc, alive)?;
-    for posting in postings {
-        note(&mut counts, posting);
-    }
-    Ok(counts)
-}
-
-/// What is left of that number and generation.
-fn left_of(counts: &Counts, pair: (u64, u64)) -> u64
-    requires { (c : ℕ) × (get pair_eq counts.now pair ≡ Some c) }
-    ensures { get pair_eq counts.now pair ≡ Some result }
-{
-    match counts.get(&pair) {
-        Some(left) => *left,
-        None => unreachable!(),
-    }
-}
-
-/// The postings that a period begins with, and room for so many more.
-fn openings(
-    alloc: Global,
-    counts: &Counts,
-    alive: &[(u64, u64)],
+    /// What the period begins with, so far.
+    opened: Vec<Posting>,
+    /// How often each number was born in the periods that are closed.
+    closed_births: Vec<KeptBirths>,
+    /// The same, by number.
+    births: IndexMap<u64, u64>,
+    /// What was posted in them.
+    closed: Totals,
+    limit: usize,
     room: usize,
-) -> Result<Vec<Posting>, AllocError>
-    requires all { HasAll counts.now alive.now }
-    requires short { length alive.now + room < 2 ^ 64 }
-    ensures openings { IfOk result (λ made. (ps : Periods) → AreCounted counts.now ps → made.items ≡ map (opening_of ps) alive.now) }
-    ensures room { IfOk result (λ made. vec_len made + room ≤ vec_capacity made) }
-{
-    let mut made = Vec::with_capacity(alloc, alive.len() + room)?;
-    for &(number, generation) in alive {
-        made.push_reserved(Posting::Opening {
+    places: usize,
+}
+
+impl Model for NextPeriod {
+    ghost use Rattle.ledger.specs.Postings.{Postings};
+
+    ghost Value = { Postings };
+
+    ghost use Rattle.ledger.specs.Kept.{IsNextPeriod};
+
+    ghost view = { λ n. record { made = record { births = n.closed_births.items; totals = n.closed; last = n.opened.items }; limit = n.limit; room = n.room; places = n.places } };
+
+    ghost invariant = { λ n. IsNextPeriod (record { births = n.closed_births.items; totals = n.closed; last = n.opened.items }) n.opened n.closed_births n.births n.limit n.room n.places };
+}
+
+impl NextPeriod {
+    /// So many entries of the number were left when the period began.
+    pub fn open(&mut self, number: u64, generation: u64, count: u64)
+        requires { 0 < self.old.room }
+        ensures made { self.new.made ≡ posted self.old.made (posting.Opening number generation count) }
+        ensures limit { self.new.limit ≡ self.old.limit }
+        ensures room { self.new.room + 1 ≡ self.old.room }
+        ensures places { self.new.places ≡ self.old.places }
+    {
+        self.room -= 1;
+        self.opened.push_reserved(Posting::Opening {
             number,
             generation,
-            count: left_of(counts, (number, generation)),
+            count,
         });
     }
-    Ok(made)
-}
 
-/// What the next period begins with, and the births that are kept then.
-#[derive(Drop)]
-struct Next {
-    postings: Vec<Posting>,
-    births: Vec<KeptBirths>,
+    /// The ledger, once the period has all that was left.
+    pub fn begin(self) -> Ledger
+        requires left { self.made.totals.backs + self.made.totals.forgotten + sum_by carried_by self.made.last ≡ self.made.totals.entries }
+        requires entered { self.made.totals.born ≤ self.made.totals.entries }
+        ensures same { result ≡ self }
+        ensures carried { IsCarriedOver result.made }
+    {
+        let NextPeriod {
+            alloc,
+            opened,
+            closed_births,
+            births,
+            closed,
+            limit,
+            room,
+            places,
+        } = self;
+        Ledger {
+            alloc,
+            postings: opened,
+            closed_births,
+            closed,
+            births,
+            totals: closed,
+            limit,
+            room,
+            places,
+        }
+    }
 }
 
 impl Ledger {
@@ -137,40 +122,40 @@ impl Ledger {
         self.totals
     }
 
-    /// Ends a period, of which `alive` are all numbers with their generations of which something may be left, and answers by
-    /// how many postings the ledger became shorter. Its one refusal is Memory, which changes nothing.
-    pub fn close(&mut self, alive: &[(u64, u64)]) -> Result<u64, LedgerFault>
-        requires alive { AreAllAlive self.old.made alive.now }
-        requires few { length alive.now ≤ length self.old.made.last }
-        requires entered { (totals_over self.old.made).born ≤ (totals_over self.old.made).entries }
-        ensures closed { OnOk result (Closes self.old.made alive.now self.new.made) }
-        ensures carried { OnOk result (IsCarriedOver self.new.made) }
-        ensures shorter { IfOk result (λ n. n + length self.new.made.last ≡ length self.old.made.last) }
-        ensures limit { self.new.limit ≡ self.old.limit }
-        ensures room { self.new.room ≡ self.old.room }
-        ensures err { OnErr result (self.new ≡ self.old) }
-        ensures memory { IfErr result (λ fault. fault ≡ LedgerFault.Memory) }
+    /// Closes the last period: births and totals are kept, and the next one has nothing yet. All room that there was for
+    /// postings is its own.
+    pub fn close(self) -> NextPeriod
+        ensures births { (n : ℕ) → births_closed n result.made.births ≡ births_of n self.made }
+        ensures births_once { AllPairs (λ (b c : Kept). b.number ≢ c.number) result.made.births }
+        ensures totals { result.made.totals ≡ totals_over self.made }
+        ensures last { result.made.last ≡ [] }
+        ensures limit { result.limit ≡ self.limit }
+        ensures room { result.room ≡ self.room + length self.made.last }
+        ensures places { result.places ≡ self.places }
     {
-        let Ok(Next { postings, births }) = self.next(alive) else {
-            return Err(LedgerFault::Memory);
-        };
-        let shorter = self.postings.len() - postings.len();
-        self.postings = postings;
-        self.closed_births = births;
-        self.closed = self.totals;
-        Ok(shorter as u64)
-    }
-
-    /// What the next period begins with.
-    fn next(&self, alive: &[(u64, u64)]) -> Result<Next, AllocError>
-        requires few { length alive.now ≤ length self.now.made.last }
-        ensures postings { IfOk result (λ next. next.postings.items ≡ map (opening_of self.now.made) alive.now) }
-        ensures room { IfOk result (λ next. vec_len next.postings + self.now.room ≤ vec_capacity next.postings) }
-        ensures births { IfOk result (λ next. AreAllBirths self.now.made next.births.items) }
-    {
-        let counts = count_left(self.alloc, &self.postings, alive)?;
-        let postings = openings(self.alloc, &counts, alive, self.room)?;
-        let births = list_births(self.alloc, &self.births)?;
-        Ok(Next { postings, births })
+        let Ledger {
+            alloc,
+            mut postings,
+            mut closed_births,
+            closed: _,
+            births,
+            totals,
+            limit,
+            room,
+            places,
+        } = self;
+        let room = room + postings.len();
+        postings.clear();
+        keep_births(&mut closed_births, &births);
+        NextPeriod {
+            alloc,
+            opened: postings,
+            closed_births,
+            births,
+            closed: totals,
+            limit,
+            room,
+            places,
+        }
     }
 }

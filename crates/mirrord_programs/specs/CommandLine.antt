@@ -12,6 +12,9 @@ use Rattle.mirrord_programs.specs.declared.options.Options.{Options}
 use Rattle.mirrord_programs.specs.declared.options.Options.TheVariants.{Serve, Pipe, Hex, Refused}
 use Rattle.mirrord_programs.specs.declared.refusals.Refusal.{Refusal}
 use Rattle.mirrord_programs.specs.declared.refusals.Refusal.TheVariants.{Attributes, Owner}
+use Rattle.mirrord_programs.specs.declared.refusals.Refusal.TheVariants as refusals
+use Rattle.table_steps.specs.declared.data.Counts.{Counts}
+use Rattle.table_steps.specs.declared.data.Counts.TheVariants.{Bounded, Free}
 
 -- ---- what may be written
 
@@ -33,6 +36,10 @@ number_rule id least most default = record (new_rule id) {
 abbrev pub user : Text → Rule
 user id = record (new_rule id) { long = Some id; action = Some Set; value_names = 1; parser = Some (Signed (pos 0) (pos 4294967295)) }
 
+-- an option that takes a word, and has a default
+abbrev pub word_rule : Text → (default : Text) → Rule
+word_rule id default = record (new_rule id) { long = Some id; action = Some Set; value_names = 1; defaults = default ∷ [] }
+
 -- whose attributes are told
 abbrev pub attributes_rule : Rule
 attributes_rule = record (new_rule (codes "attributes")) { long = Some (codes "attributes"); action = Some Set; value_names = 1; defaults = codes "fixed" ∷ [] }
@@ -53,6 +60,10 @@ bounded app = with_rule app (number_rule (codes "postings") 1 4294967295 (codes 
 abbrev pub limited : App → App
 limited app = with_rule (with_rule (with_rule app (number_rule (codes "nodes") 2 16777216 (codes "65536"))) (number_rule (codes "files") 1 1048576 (codes "4096"))) (number_rule (codes "requests") 1 65536 (codes "64"))
 
+-- told what bounds the lookup counts, too
+abbrev pub counted : App → App
+counted app = with_rule app (word_rule (codes "counts") (codes "bounded"))
+
 -- the subcommands
 abbrev pub hex_app : App
 hex_app = bounded (with_rule (new_app (codes "hex")) (flag_rule (codes "sample")))
@@ -62,14 +73,14 @@ abbrev pub owned : App → App
 owned app = with_rule (with_rule (with_rule app attributes_rule) (user (codes "uid"))) (user (codes "gid"))
 
 abbrev pub pipe_app : App
-pipe_app = bounded (limited (owned (with_rule (new_app (codes "pipe")) (text_rule (codes "root")))))
+pipe_app = bounded (counted (limited (owned (with_rule (new_app (codes "pipe")) (text_rule (codes "root"))))))
 
 -- told how many threads work on requests, too
 abbrev pub staffed : App → App
 staffed app = with_rule (with_rule app (number_rule (codes "workers") 1 4 (codes "2"))) single_rule
 
 abbrev pub serve_app : App
-serve_app = bounded (limited (owned (staffed (with_rule (with_rule (new_app (codes "serve")) (text_rule (codes "root"))) (text_rule (codes "socket"))))))
+serve_app = bounded (counted (limited (owned (staffed (with_rule (with_rule (new_app (codes "serve")) (text_rule (codes "root"))) (text_rule (codes "socket")))))))
 
 -- the program, whose version can be asked for, without its subcommands
 abbrev pub bare_app : App
@@ -110,12 +121,18 @@ FlagReads (Some text) flag = (text ≡ codes "true" → flag ≡ true) × (text 
 abbrev pub IsFlag : Text → List Row → Bool → Type 0
 IsFlag id rows = FlagReads (one_of id rows)
 
+-- what bounds the lookup counts
+abbrev pub AreCounts : List Row → Counts → Type 0
+AreCounts rows Bounded = IsText (codes "counts") rows (codes "bounded")
+AreCounts rows Free = IsText (codes "counts") rows (codes "free")
+
 -- how far the table may grow
 pub record AreBounds (rows : List Row) (bounds : Bounds) : Type 0 where
   pub nodes : IsNumber 32 (codes "nodes") rows bounds.nodes
   pub files : IsNumber 32 (codes "files") rows bounds.files
   pub requests : IsNumber 32 (codes "requests") rows bounds.requests
   pub postings : IsNumber 32 (codes "postings") rows bounds.postings
+  pub counts : AreCounts rows bounds.counts
 
 -- whether an option was given that has no default
 abbrev pub is_given : Text → List Row → Bool
@@ -126,9 +143,10 @@ abbrev pub AreSettings : List Row → Settings → Type 0
 AreSettings rows (Fixed uid gid) = IsText (codes "attributes") rows (codes "fixed") × IsNumber 32 (codes "uid") rows uid × IsNumber 32 (codes "gid") rows gid
 AreSettings rows Host = IsText (codes "attributes") rows (codes "host") × (is_given (codes "uid") rows ≡ false) × (is_given (codes "gid") rows ≡ false)
 
--- why no settings can be: the attributes are neither, or an owner is given beside those of the host
+-- why nothing can be served so: attributes or counts are neither of their words, or an owner is given beside attributes of the host
 abbrev pub AreRefused : List Row → Refusal → Type 0
 AreRefused rows Attributes = (text : Text) × IsText (codes "attributes") rows text × (text ≢ codes "fixed") × (text ≢ codes "host")
+AreRefused rows refusals.Counts = (text : Text) × IsText (codes "counts") rows text × (text ≢ codes "bounded") × (text ≢ codes "free")
 AreRefused rows Owner = IsText (codes "attributes") rows (codes "host") × ((is_given (codes "uid") rows ≡ true) ⊎ (is_given (codes "gid") rows ≡ true))
 
 -- what a session is served by

@@ -6,7 +6,7 @@ use Rattle.mirrord_programs.specs.declared.faults.Fault.TheVariants.{FrameLength
 use Rattle.mirrord_programs.specs.declared.faults.Failure.{Failure}
 use Rattle.mirrord_programs.specs.declared.faults.Failure.TheVariants.{Stopped, NoFolder, NoSocket, Refused}
 use Rattle.mirrord_programs.specs.declared.refusals.Refusal.{Refusal}
-use Rattle.mirrord_programs.specs.declared.refusals.Refusal.TheVariants.{Attributes, Owner}
+use Rattle.mirrord_programs.specs.declared.refusals.Refusal.TheVariants.{Attributes, Counts, Owner}
 
 -- the exit status after a failure
 abbrev pub status_of : Failure → ℕ
@@ -31,6 +31,7 @@ fault_message Workers = codes "1 to 4 workers can serve"
 
 abbrev pub refusal_message : Refusal → List ℕ
 refusal_message Attributes = codes "--attributes is fixed or host"
+refusal_message Counts = codes "--counts is bounded or free"
 refusal_message Owner = codes "with --attributes host there is no --uid and no --gid"
 
 abbrev pub message : Failure → List ℕ

@@ -25,12 +25,13 @@ use Rattle.mirrord_programs.specs.declared.faults.Fault.TheVariants.{Memory, See
 use Rattle.mirrord_programs.specs.declared.options.Options.{Options}
 use Rattle.mirrord_programs.specs.declared.refusals.Refusal.{Refusal}
 use Rattle.mirrord_programs.specs.declared.options.Options.TheVariants.{Serve, Pipe, Hex, Refused}
+use Rattle.table_steps.specs.declared.data.Counts.TheVariants.{Bounded}
 
 -- ---- the program `hex`
 
 -- nobody owns what is mirrored
 abbrev pub unowned : (postings : ℕ) → Terms
-unowned postings = record { settings = Fixed 0 0; bounds = record { nodes = 65536; files = 4096; requests = 64; postings = postings } }
+unowned postings = record { settings = Fixed 0 0; bounds = record { nodes = 65536; files = 4096; requests = 64; postings = postings; counts = Bounded } }
 
 -- how often calls of a memory tree have failed
 abbrev pub failed_in : MemTree → ℕ

@@ -3,7 +3,7 @@
 ghost use Rattle.std.specs.Prelude.{◌≡◌, codes, false, IfOk, pos};
 ghost use Rattle.clap.specs.Words.{app_of, rule_of};
 ghost use Rattle.clap.specs.declared.builder.command.Command.TheViews.{out-Command as fields_of};
-ghost use Rattle.mirrord_programs.specs.CommandLine.{attributes_rule, bare_app, bounded, flag_rule, hex_app, limited, mirrord_app, owned, number_rule, pipe_app, serve_app, single_rule, staffed, text_rule, user};
+ghost use Rattle.mirrord_programs.specs.CommandLine.{attributes_rule, bare_app, bounded, counted, flag_rule, hex_app, limited, mirrord_app, owned, number_rule, pipe_app, serve_app, single_rule, staffed, text_rule, user, word_rule};
 
 use clap::builder::ValueParser;
 use clap::{Arg, ArgAction, Command};
@@ -60,6 +60,9 @@ const NODES: &str = "How many files and folders the client may know at a time, t
 const FILES: &str = "How many files may be open at a time";
 
 const REQUESTS: &str = "How many requests may be in flight at a time";
+
+const COUNTS: &str =
+    "What bounds the lookup counts: bounded (by --postings), or free (by nothing; a period has two postings a node or more)";
 
 const POSTINGS: &str =
     "How many entries of the ledger a period may have; the next begins where half of them are made";
@@ -118,6 +121,25 @@ fn owner_option<'a>(alloc: Global, name: &'a str, help: &'a str) -> Arg<'a>
         .help(help)
 }
 
+/// An option whose value is a word.
+fn word_option<'a>(
+    alloc: Global,
+    name: &'a str,
+    value: &'a str,
+    default: &'a str,
+    help: &'a str,
+) -> Arg<'a>
+    ensures rule { rule_of result ≡ word_rule name.entry.now default.entry.now }
+    ensures local { result.global ≡ false }
+{
+    Arg::new(alloc, name)
+        .long(name)
+        .value_name(value)
+        .default_value(default)
+        .action(ArgAction::Set)
+        .help(help)
+}
+
 /// The option that says whose attributes are told.
 fn attributes_option<'a>(alloc: Global) -> Arg<'a>
     ensures rule { rule_of result ≡ attributes_rule }
@@ -169,13 +191,22 @@ fn with_limits<'a>(alloc: Global, command: Command<'a>) -> Result<Command<'a>, A
         .arg(number_option(alloc, "requests", 1, 65_536, "64", REQUESTS))
 }
 
+/// A command that is also told what bounds the lookup counts.
+fn with_counts<'a>(alloc: Global, command: Command<'a>) -> Result<Command<'a>, AllocError>
+    ensures app { IfOk result (λ c. app_of c ≡ counted (app_of command.entry)) }
+    ensures local { (fields_of command.entry).has_globals ≡ false → IfOk result (λ c. (fields_of c).has_globals ≡ false) }
+{
+    command.arg(word_option(alloc, "counts", "HOW", "bounded", COUNTS))
+}
+
 /// A command that is also told how far the table may grow.
 fn with_bounds<'a>(alloc: Global, command: Command<'a>) -> Result<Command<'a>, AllocError>
-    ensures app { IfOk result (λ c. app_of c ≡ bounded (limited (app_of command.entry))) }
+    ensures app { IfOk result (λ c. app_of c ≡ bounded (counted (limited (app_of command.entry)))) }
     ensures local { (fields_of command.entry).has_globals ≡ false → IfOk result (λ c. (fields_of c).has_globals ≡ false) }
 {
     let limited = with_limits(alloc, command)?;
-    with_postings(alloc, limited)
+    let counted = with_counts(alloc, limited)?;
+    with_postings(alloc, counted)
 }
 
 fn hex_command<'a>(alloc: Global) -> Result<Command<'a>, AllocError>

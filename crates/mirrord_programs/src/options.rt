@@ -3,7 +3,7 @@
 ghost use Rattle.std.specs.Prelude.{◌≡◌, ◌⊎◌, codes, true, map, IfErr, IfOk};
 ghost use Rattle.clap.specs.Words.{fault_of, found_of, kind_of, rows_of, subcommand_of, subcommand_rows_of, takes, FailsBy};
 ghost use Rattle.clap.specs.declared.error.kind.ErrorKind.TheVariants.{OutOfMemory};
-ghost use Rattle.mirrord_programs.specs.CommandLine.{mirrord_app, AreBounds, AreRefused, AreSettings, AreTerms, IsAsked, IsAskedBy, IsFlag, IsNumber, IsText, NumberReads, is_given};
+ghost use Rattle.mirrord_programs.specs.CommandLine.{mirrord_app, AreBounds, AreCounts, AreRefused, AreSettings, AreTerms, IsAsked, IsAskedBy, IsFlag, IsNumber, IsText, NumberReads, is_given};
 
 use crate::command::{DEFAULT_POSTINGS, command};
 use crate::refusals::Refusal;
@@ -12,6 +12,7 @@ use engine::Settings;
 use mirrord_server::{Bounds, Terms};
 use std::alloc::Global;
 use std::convert::AsStr;
+use table::Counts;
 
 /// What a command line asks for.
 #[derive(Clone, Copy, Debug, PartialEq, Eq)]
@@ -95,16 +96,34 @@ fn flag_in(matches: &ArgMatches<'_>, name: &str) -> bool
     matches.get_flag(name)
 }
 
-/// How far the table may grow.
-fn bounds_in(matches: &ArgMatches<'_>) -> Bounds
-    ensures { AreBounds (rows_of (found_of matches.now)) result }
+/// What bounds the lookup counts.
+fn counts_in(matches: &ArgMatches<'_>) -> Result<Counts, Refusal>
+    ensures ok { IfOk result (AreCounts (rows_of (found_of matches.now))) }
+    ensures err { IfErr result (AreRefused (rows_of (found_of matches.now))) }
 {
-    Bounds {
+    let counts = text_in(matches, "counts");
+    if counts == "bounded" {
+        return Ok(Counts::Bounded);
+    }
+    if counts != "free" {
+        return Err(Refusal::Counts);
+    }
+    Ok(Counts::Free)
+}
+
+/// How far the table may grow.
+fn bounds_in(matches: &ArgMatches<'_>) -> Result<Bounds, Refusal>
+    ensures ok { IfOk result (AreBounds (rows_of (found_of matches.now))) }
+    ensures err { IfErr result (AreRefused (rows_of (found_of matches.now))) }
+{
+    let counts = counts_in(matches)?;
+    Ok(Bounds {
         nodes: number_in(matches, "nodes"),
         files: number_in(matches, "files"),
         requests: number_in(matches, "requests"),
         postings: number_in(matches, "postings"),
-    }
+        counts,
+    })
 }
 
 /// Whether an option was given that has no default.
@@ -140,7 +159,7 @@ fn terms_in(matches: &ArgMatches<'_>) -> Result<Terms, Refusal>
     ensures err { IfErr result (AreRefused (rows_of (found_of matches.now))) }
 {
     let settings = settings_in(matches)?;
-    let bounds = bounds_in(matches);
+    let bounds = bounds_in(matches)?;
     Ok(Terms { settings, bounds })
 }
 

@@ -8,6 +8,8 @@ use std::fmt::Display;
 pub enum Refusal {
     /// `--attributes` is neither `fixed` nor `host`.
     Attributes,
+    /// `--counts` is neither `bounded` nor `free`.
+    Counts,
     /// An owner is given, and attributes are to be the host's, which tell the owners.
     Owner,
 }
@@ -21,6 +23,7 @@ impl Display for Refusal {
     fn fmt<W: fmt::Write>(&self, f: &mut fmt::Formatter<W>) -> fmt::Result {
         match self {
             Refusal::Attributes => f.write_str("--attributes is fixed or host"),
+            Refusal::Counts => f.write_str("--counts is bounded or free"),
             Refusal::Owner => f.write_str("with --attributes host there is no --uid and no --gid"),
         }
     }

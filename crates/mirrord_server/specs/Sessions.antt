@@ -1,5 +1,5 @@
 -- A session with a table of its own.
-use Rattle.std.specs.Prelude.{max, ◌≡◌, ◌⊎◌, List}
+use Rattle.std.specs.Prelude.{max, ◌≡◌, ◌⊎◌, List, ℕ, ◌*◌}
 use Rattle.std.specs.Borrow.{Bor}
 use Rattle.backing.specs.Calls.{Asked}
 use Rattle.backing.specs.declared.call.Answer.{Answer}
@@ -13,10 +13,23 @@ use Rattle.mirrord_server.specs.declared.terms.Bounds.{Bounds}
 use Rattle.mirrord_server.specs.declared.terms.Terms.{Terms}
 use Rattle.table_steps.specs.World.{World, opened_world}
 use Rattle.table_steps.specs.declared.data.Limits.{Limits}
+use Rattle.table_steps.specs.declared.data.Counts.{Counts}
+use Rattle.table_steps.specs.declared.data.Counts.TheVariants.{Bounded, Free}
+
+-- where counts are free a period may have at least two postings a node
+abbrev pub postings_of : Counts → (nodes postings : ℕ) → ℕ
+postings_of Bounded nodes postings = postings
+postings_of Free nodes postings = max postings (2 * nodes)
 
 -- how far a table may grow; the root always has room
 abbrev pub limits_of : Bounds → Limits
-limits_of bounds = record { nodes = max bounds.nodes 1; postings = bounds.postings; flights = bounds.requests; files = bounds.files }
+limits_of bounds = record {
+  nodes = max bounds.nodes 1;
+  postings = postings_of bounds.counts (max bounds.nodes 1) bounds.postings;
+  counts = bounds.counts;
+  flights = bounds.requests;
+  files = bounds.files;
+}
 
 -- how far the open folders may grow (own)
 abbrev pub folder_limits : FolderLimits

@@ -1,18 +1,20 @@
 -- The end of a period leaves the book, and what requests rest on.
-use Rattle.std.proofs.Common.{ℕ, ◌≡◌, Bool, true, false, Ok, Err, IfOk, OnErr, Result, inl, inr, refl, sym, ap, subst}
-use Rattle.std.specs.declared.alloc.AllocError.{AllocError}
+use Rattle.std.proofs.Common.{ℕ, ◌≡◌, ◌⊎◌, inl, inr, refl, sym, ap, ◌∙◌, subst}
+use Rattle.ledger.specs.declared.shares.Totals.{Totals}
+use Rattle.ledger.specs.Shares.{Part, plus}
 use Rattle.ledger.specs.Sums.{totals_over}
+use Rattle.table_steps.specs.declared.data.Counts.TheVariants.{Bounded, Free}
 use Rattle.table_steps.specs.declared.state.State.{State}
 use Rattle.table_steps.specs.Kept.{IsKept, IsWhole, world_of}
-use Rattle.table_steps.specs.Steps.{ClosesPeriod}
+use Rattle.table_steps.specs.Steps.{ClosesPeriod, MakesRoom}
 use Rattle.table_steps.specs.World.{AreUndisturbed, World}
 use Rattle.table_steps.proofs.PeriodSums.{period_totals}
-use Rattle.table.specs.Renewing.{Renews}
+use Rattle.table.specs.Gains.{Gains, GainsInAll}
+use Rattle.table.proofs.Gaining.{gains_in_all}
 
 module _ (old new : State) where
-  pub book_closed : (result : Result ℕ AllocError) → IfOk result (λ fewer. ClosesPeriod (world_of old) fewer (world_of new)) → OnErr result (new ≡ old) → totals_over old.ledger.made ≡ totals_over new.ledger.made
-  book_closed (Ok fewer) closes same = sym (period_totals (world_of old) (world_of new) fewer closes)
-  book_closed (Err e) closes same = ap (λ (s : State). totals_over s.ledger.made) (sym same)
+  pub book_closed : (fewer : ℕ) → ClosesPeriod (world_of old) fewer (world_of new) → totals_over old.ledger.made ≡ totals_over new.ledger.made
+  book_closed fewer closes = sym (period_totals (world_of old) (world_of new) fewer closes)
 
   pub whole_closed : IsWhole old → new ≡ record old { ledger = new.ledger } → IsKept new → IsWhole new
   whole_closed whole rest kept = record {
@@ -20,27 +22,40 @@ module _ (old new : State) where
     undisturbed = subst (λ (s : State). AreUndisturbed (world_of s).at (world_of s).files (world_of s).flights) (sym rest) whole.undisturbed;
   }
 
--- the totals of all periods stay, whether it ended or not
-pub totals_closed : (old new : World) (result : Result ℕ AllocError) → IfOk result (λ fewer. ClosesPeriod old fewer new) → OnErr result (new ≡ old) → totals_over new.postings ≡ totals_over old.postings
-totals_closed old new (Ok fewer) closes same = period_totals old new fewer closes
-totals_closed old new (Err e) closes same = ap (λ (w : World). totals_over w.postings) same
+-- ---- a period that ends where it is due, or where there is no room
 
--- ---- a period that ends where it is due
+module _ (old new : World) {Why : Type 0} (ends : ((Why → ⊥) × (new ≡ old)) ⊎ (Why × ((fewer : ℕ) × ClosesPeriod old fewer new))) where
+  -- the totals of all periods stay
+  pub totals_renewed : totals_over new.postings ≡ totals_over old.postings
+  totals_renewed = elim ends [
+    | inl none ↦ ap (λ (w : World). totals_over w.postings) none.1
+    | inr due ↦ period_totals old new due.1.0 due.1.1
+  ]
 
-pub totals_renewed : (old new : World) (kept : Bool) → Renews old kept new → totals_over new.postings ≡ totals_over old.postings
-totals_renewed old new true r = ap (λ (w : World). totals_over w.postings) r.1
-totals_renewed old new false r = elim r [
-  | inl none ↦ ap (λ (w : World). totals_over w.postings) none.1
-  | inr due ↦ period_totals old new due.1.0 due.1.1
+  -- and all but the ledger
+  pub renewed_is : new ≡ record old { postings = new.postings }
+  renewed_is = elim ends [
+    | inl none ↦ subst (λ (w : World). w ≡ record old { postings = w.postings }) (sym none.1) refl
+    | inr due ↦ due.1.1.new_is
+  ]
+
+  pub flights_renewed : (id : ℕ) → new.flights id ≡ old.flights id
+  flights_renewed id = ap (λ (w : World). w.flights id) renewed_is
+
+-- where counts are bounded no period ends for want of room
+pub bounded_stays : (old new : World) (n : ℕ) → old.limits.counts ≡ Bounded → MakesRoom old n new → new ≡ old
+bounded_stays old new n bounded room = elim room [
+  | inl none ↦ none.1
+  | inr short ↦ let bad : Bounded ≡ Free = sym bounded ∙ short.0.0 in cc
 ]
 
--- all but the ledger stays
-renewed_is : (old new : World) (kept : Bool) → Renews old kept new → new ≡ record old { postings = new.postings }
-renewed_is old new true r = subst (λ (w : World). w ≡ record old { postings = w.postings }) (sym r.1) refl
-renewed_is old new false r = elim r [
-  | inl none ↦ subst (λ (w : World). w ≡ record old { postings = w.postings }) (sym none.1) refl
-  | inr due ↦ due.1.1.new_is
-]
-
-pub flights_renewed : (old new : World) (kept : Bool) → Renews old kept new → (id : ℕ) → new.flights id ≡ old.flights id
-flights_renewed old new kept r id = ap (λ (w : World). w.flights id) (renewed_is old new kept r)
+-- what is gained after it is gained in all
+pub gains_renewed : (old mid new : World) (n : ℕ) (before after : Part) → MakesRoom old n mid → Gains mid before new after → GainsInAll old before new after
+gains_renewed old mid new n before after room gains =
+    let all = gains_in_all mid new before after gains in
+    record {
+      lawful = all.lawful;
+      more = all.more;
+      ledger = all.ledger ∙ ap (λ (t : Totals). plus t all.more) (totals_renewed old mid room);
+      share = all.share;
+    }

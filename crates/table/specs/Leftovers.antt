@@ -2,16 +2,26 @@
 use Rattle.std.specs.Prelude.{ℕ, ◌<◌, ◌≡◌, ◌↔◌, true, List, Some, All, AllPairs, Contains}
 use Rattle.std.specs.List.{AllZip}
 use Rattle.paths.specs.Prefixes.{Names}
+use Rattle.hidden_names.specs.Hidden.{is_reserved}
+use Rattle.tree.specs.declared.nodes.Key.{Key}
 use Rattle.tree.specs.declared.nodes.Node.{Node}
+use Rattle.tree.specs.declared.nodes.Place.TheVariants.{Named}
 use Rattle.tree.specs.Places.{Lookup, IsPathOf}
 
--- a node with a hidden mark bears the number
+-- a file that was hidden: it has a hidden mark, and stands under a name that the server keeps for itself
+pub record IsHidden (x : Node) : Type 0 where
+  pub mark : x.hidden ≡ true
+  pub key : Key
+  pub named : x.place ≡ Named key
+  pub reserved : is_reserved key.name ≡ true
+
+-- such a node bears the number
 pub record IsMarked (at : Lookup) (n : ℕ) : Type 0 where
   pub node : Node
   pub here : at n ≡ Some node
-  pub mark : node.hidden ≡ true
+  pub hidden : IsHidden node
 
--- the paths of all nodes with a hidden mark, by rising number
+-- the paths of all files that were hidden, by rising number
 pub record AreLeftovers (at : Lookup) (paths : List Names) : Type 0 where
   pub numbers : List ℕ
   pub rising : AllPairs (λ (m n : ℕ). m < n) numbers

@@ -1,11 +1,13 @@
--- The end of a period that is due.
-use Rattle.std.specs.Prelude.{ℕ, ◌≡◌, ◌⊎◌, Bool, true, false}
+-- The end of a period that is due, and of one that has no room for a call.
+use Rattle.std.specs.Prelude.{ℕ, ◌≡◌, ◌⊎◌, Bool}
 use Rattle.table.specs.Made.{IsDueBy, IsMade}
 use Rattle.table.specs.declared.periods.Made.{Made}
 use Rattle.table_requests.specs.declared.data.Want.{Want}
-use Rattle.table_steps.specs.Steps.{Begins, ClosesPeriod}
-use Rattle.table_steps.specs.World.{World}
+use Rattle.table_steps.specs.Answers.{Answer, Settlement}
+use Rattle.table_steps.specs.Steps.{Begins, ClosesPeriod, Finishes, Forgets, MakesRoom, Settles}
+use Rattle.table_steps.specs.World.{World, most_posted}
 use Rattle.table_steps.specs.declared.data.Begin.{Begin}
+use Rattle.table_steps.specs.declared.data.Outcome.{Outcome}
 
 -- the last period of the ledger is due to end
 pub record IsDue (w : World) : Type 0 where
@@ -13,13 +15,30 @@ pub record IsDue (w : World) : Type 0 where
   pub is_made : IsMade w made
   pub due : IsDueBy made
 
--- a period that is due ends, unless it is kept since there is no memory for its end
-abbrev pub Renews : World → (kept : Bool) → World → Type 0
-Renews old true new = IsDue old × (new ≡ old)
-Renews old false new = ((IsDue old → ⊥) × (new ≡ old)) ⊎ (IsDue old × ((fewer : ℕ) × ClosesPeriod old fewer new))
+-- a period that is due ends
+abbrev pub Renews : World → World → Type 0
+Renews old new = ((IsDue old → ⊥) × (new ≡ old)) ⊎ (IsDue old × ((fewer : ℕ) × ClosesPeriod old fewer new))
 
--- a period that is due ends, or is kept, and then a request is taken up
-pub record BeginsAnew (old : World) (kept : Bool) (unique : ℕ) (want : Want) (told : Begin) (new : World) : Type 0 where
+-- a period that is due ends, and then a request is taken up
+pub record BeginsAnew (old : World) (unique : ℕ) (want : Want) (told : Begin) (new : World) : Type 0 where
   pub renewed : World
-  pub renews : Renews old kept renewed
+  pub renews : Renews old renewed
   pub begins : Begins renewed unique want told new
+
+-- a period ends that has no room for the call, and then the work on a request ends
+pub record FinishesAnew (old : World) (id : ℕ) (outcome : Outcome) (answer : Answer) (new : World) : Type 0 where
+  pub renewed : World
+  pub room : MakesRoom old (most_posted old.flights id) renewed
+  pub finishes : Finishes renewed id outcome answer new
+
+-- or a request ends whose reply was taken, or was not
+pub record SettlesAnew (old : World) (answer : Answer) (taken : Bool) (settled : Settlement) (new : World) : Type 0 where
+  pub renewed : World
+  pub room : MakesRoom old (most_posted old.flights answer.id) renewed
+  pub settles : Settles renewed answer taken settled new
+
+-- or lookups of a node are forgotten
+pub record ForgetsAnew (old : World) (number n amount : ℕ) (new : World) : Type 0 where
+  pub renewed : World
+  pub room : MakesRoom old 1 renewed
+  pub forgets : Forgets renewed number n amount new

@@ -1,32 +1,41 @@
 //! What is left of files that were hidden.
 
-ghost use Rattle.std.specs.Prelude.{◌+◌, IfOk, OnOk};
-ghost use Rattle.table_image.specs.Law.{AreMarksNamed};
+ghost use Rattle.std.specs.Prelude.{◌+◌, ◌↔◌, IfOk, IsTrue, OnOk};
 ghost use Rattle.table_steps.specs.Kept.{IsKept, world_of};
-ghost use Rattle.table.specs.Leftovers.{AreLeftBelow, AreLeftovers};
+ghost use Rattle.table.specs.Leftovers.{AreLeftBelow, AreLeftovers, IsHidden};
 ghost use Rattle.tree.specs.Places.{at_in};
 
+use hidden_names::is_reserved;
 use holds::Paths;
 use paths::Path;
 use std::alloc::{AllocError, Global};
 use table_steps::State;
-use tree::Tree;
+use tree::{Node, Place, Tree};
 
-/// Adds the path of the node, if it has a hidden mark.
+/// Whether it is a file that was hidden: it has a hidden mark, and stands under a name that the server keeps for itself.
+fn is_hidden(node: &Node) -> bool
+    ensures { IsTrue result ↔ IsHidden node.now }
+{
+    match &node.place {
+        Place::Named(key) => node.hidden && is_reserved(key.name.as_str()),
+        Place::Root | Place::Cut => false,
+    }
+}
+
+/// Adds the path of the node, if it is a file that was hidden.
 fn add_leftover(
     alloc: Global,
     paths: &mut Vec<Path>,
     tree: &Tree,
     number: u64,
 ) -> Result<(), AllocError>
-    requires marks { AreMarksNamed (at_in tree.now) }
-    requires below { AreLeftBelow (at_in tree.now) number paths.old.items }
+    requires { AreLeftBelow (at_in tree.now) number paths.old.items }
     ensures { OnOk result (AreLeftBelow (at_in tree.now) (number + 1) paths.new.items) }
 {
     let Some(node) = tree.at(number) else {
         return Ok(());
     };
-    if !node.hidden {
+    if !is_hidden(node) {
         return Ok(());
     }
     let Some(path) = tree.whole_path(alloc, number)? else {
@@ -36,7 +45,7 @@ fn add_leftover(
     Ok(())
 }
 
-/// The paths of all nodes with a hidden mark, by rising number.
+/// The paths of all files that were hidden, by rising number.
 pub fn leftover(state: &State) -> Result<Paths, AllocError>
     requires { IsKept state.now }
     ensures { IfOk result (AreLeftovers (world_of state.now).at) }

@@ -12,4 +12,6 @@ pub use periods::Made;
 pub use table::Table;
 pub use table_files::{Access, Need, OpenFile};
 pub use table_requests::{Given, Handle, Names, Want};
-pub use table_steps::{Answered, Begin, FoundNames, Limits, Outcome, Seeds, Settled, Ticket};
+pub use table_steps::{
+    Answered, Begin, Counts, FoundNames, Limits, Outcome, Seeds, Settled, Ticket,
+};

@@ -30,18 +30,14 @@ impl Made {
 }
 
 impl<T: Ledgers> Table<T> {
-    /// Ends the period where it is due. True says that it was, and that there was no memory for its end: then nothing has changed.
-    pub fn renew(&mut self) -> bool
-        ensures renews { Renews (world_of self.old) result (world_of self.new) }
+    /// Ends the period where it is due. It takes no memory.
+    pub fn renew(&mut self)
+        ensures renews { Renews (world_of self.old) (world_of self.new) }
         ensures lawful { IsLawfulWorld (world_of self.new) }
     {
         self.attest(); // proof: its law
-        if !self.made().is_due() {
-            return false;
-        }
-        match self.close_period() {
-            Ok(_) => false,
-            Err(_) => true,
+        if self.made().is_due() {
+            self.close_period();
         }
     }
 }

@@ -1,16 +1,18 @@
 //! The table, with the book that shows what each worker posted.
 
-ghost use Rattle.std.specs.Prelude.{◌≡◌, ◌≤◌, ◌<◌, ◌↔◌, ℕ, IfOk, IsErr, OnErr, map, vec_len, length, take, drop};
+ghost use Rattle.std.specs.Prelude.{◌≡◌, ◌≤◌, ◌<◌, ◌↔◌, IfOk, IsErr, map, vec_len, length, take, drop};
 ghost use Rattle.std.specs.List.{range_with_len};
 ghost use Rattle.ledger.specs.Shares.{nothing, plus, sum_of};
-ghost use Rattle.ledger.specs.Periods.{continued, up_to};
+ghost use Rattle.ledger.specs.Periods.{up_to};
 ghost use Rattle.ledger.specs.Sums.{totals_of, totals_over};
 ghost use Rattle.table.specs.Made.{IsMade};
 ghost use Rattle.table_image.specs.Law.{IsLawfulImage};
 ghost use Rattle.table.specs.Exports.{Exports};
 ghost use Rattle.table.specs.Leftovers.{AreLeftovers};
 ghost use Rattle.table_steps.specs.Kept.{world_of};
-ghost use Rattle.table_steps.specs.Steps.{Begins, ClosesPeriod, Finishes, Forgets, Settles, gained};
+ghost use Rattle.table_steps.specs.Steps.{Begins, ClosesPeriod};
+ghost use Rattle.table.specs.Gains.{GainsInAll};
+ghost use Rattle.table.specs.Renewing.{FinishesAnew, ForgetsAnew, SettlesAnew};
 ghost use Rattle.table_steps.specs.World.{IsLawfulWorld, opened_world};
 
 use crate::export::export;
@@ -23,7 +25,7 @@ use std::marker::Model;
 use table_files::OpenFile;
 use table_image::Image;
 use table_requests::Want;
-use table_steps::{Answered, Begin, Limits, Outcome, Seeds, Settled, State, Ticket};
+use table_steps::{Answered, Begin, Counts, Limits, Outcome, Seeds, Settled, State, Ticket};
 
 /// The state that all workers share, under one lock. Its type parameter names the four ledgers of its book.
 #[derive(Drop)]
@@ -77,6 +79,7 @@ impl<T: Ledgers> Table<T> {
         requires names { blanks ≡ T.names }
         requires shares { workers ≡ T.names.parts }
         requires root { 1 ≤ limits.nodes }
+        requires free { limits.counts ≡ Counts.Free → limits.nodes ≤ limits.postings }
         ensures opened { IfOk result (λ (table, _). world_of table ≡ opened_world limits) }
         ensures lawful { IfOk result (λ (table, _). IsLawfulWorld (world_of table)) }
         ensures shares { IfOk result (λ (_, shares). shares.items ≡ map (λ index. record { index = index; totals = nothing }) (range_with_len 0 workers)) }
@@ -104,14 +107,14 @@ impl<T: Ledgers> Table<T> {
         begin
     }
 
-    /// Ends the work on a request. Of a page an entry is given for each name that was found, in order, but for those that another
+    /// Ends the work on a request. Before it the period ends, where counts are free and there is no room for its postings. Of a page an entry is given for each name that was found, in order, but for those that another
     /// request holds exclusively. It takes no memory.
     pub fn finish(&mut self, share: &mut Share<T>, ticket: Ticket, outcome: Outcome) -> Answered
-        ensures finishes { Finishes (world_of self.old) ticket.id outcome result (world_of self.new) }
+        ensures finishes { FinishesAnew (world_of self.old) ticket.id outcome result (world_of self.new) }
         ensures lawful { IsLawfulWorld (world_of self.new) }
-        ensures grows { (world_of self.new).postings ≡ continued (world_of self.old).postings (gained (world_of self.old) (world_of self.new)) }
-        ensures share { share.new ≡ record share.old { totals = plus share.old.totals (totals_of (gained (world_of self.old) (world_of self.new))) } }
+        ensures gains { GainsInAll (world_of self.old) share.old (world_of self.new) share.new }
     {
+        self.state.make_room_for(ticket.id());
         let made = self.state.ledger.made();
         let answered = self.state.finish(ticket, outcome);
         self.state.attest(); // proof: its law
@@ -119,13 +122,13 @@ impl<T: Ledgers> Table<T> {
         answered
     }
 
-    /// Ends a request whose reply was taken, or was not. It takes no memory.
+    /// Ends a request whose reply was taken, or was not. Before it the period may end, as before `finish`. It takes no memory.
     pub fn settle(&mut self, share: &mut Share<T>, answered: Answered, taken: bool) -> Settled
-        ensures settles { Settles (world_of self.old) answered taken result (world_of self.new) }
+        ensures settles { SettlesAnew (world_of self.old) answered taken result (world_of self.new) }
         ensures lawful { IsLawfulWorld (world_of self.new) }
-        ensures grows { (world_of self.new).postings ≡ continued (world_of self.old).postings (gained (world_of self.old) (world_of self.new)) }
-        ensures share { share.new ≡ record share.old { totals = plus share.old.totals (totals_of (gained (world_of self.old) (world_of self.new))) } }
+        ensures gains { GainsInAll (world_of self.old) share.old (world_of self.new) share.new }
     {
+        self.state.make_room_for(answered.id());
         let made = self.state.ledger.made();
         let settled = self.state.settle(answered, taken);
         self.state.attest(); // proof: its law
@@ -133,13 +136,14 @@ impl<T: Ledgers> Table<T> {
         settled
     }
 
-    /// The client gives `n` lookups of a node back: the smaller of `n` and its count is taken, and told. It takes no memory.
+    /// The client gives `n` lookups of a node back: the smaller of `n` and its count is taken, and told. Before it
+    /// the period may end, as before `finish`. It takes no memory.
     pub fn forget(&mut self, share: &mut Share<T>, number: u64, n: u64) -> u64
-        ensures forgets { Forgets (world_of self.old) number n result (world_of self.new) }
+        ensures forgets { ForgetsAnew (world_of self.old) number n result (world_of self.new) }
         ensures lawful { IsLawfulWorld (world_of self.new) }
-        ensures grows { (world_of self.new).postings ≡ continued (world_of self.old).postings (gained (world_of self.old) (world_of self.new)) }
-        ensures share { share.new ≡ record share.old { totals = plus share.old.totals (totals_of (gained (world_of self.old) (world_of self.new))) } }
+        ensures gains { GainsInAll (world_of self.old) share.old (world_of self.new) share.new }
     {
+        self.state.make_room(1);
         let made = self.state.ledger.made();
         let amount = self.state.forget(number, n);
         self.state.attest(); // proof: its law
@@ -148,10 +152,9 @@ impl<T: Ledgers> Table<T> {
     }
 
     /// Ends a period of the ledger: births and totals are kept, and the next one begins with the count of each node but the root.
-    /// It answers by how many postings the ledger became shorter, and touches no share. A refused growth changes nothing.
-    pub fn close_period(&mut self) -> Result<u64, AllocError>
-        ensures closes { IfOk result (λ fewer. ClosesPeriod (world_of self.old) fewer (world_of self.new)) }
-        ensures err { OnErr result (world_of self.new ≡ world_of self.old) }
+    /// It answers by how many postings the ledger became shorter, and touches no share. It takes no memory.
+    pub fn close_period(&mut self) -> u64
+        ensures closes { ClosesPeriod (world_of self.old) result (world_of self.new) }
         ensures lawful { IsLawfulWorld (world_of self.new) }
     {
         let closed = self.state.close_period();
@@ -177,7 +180,8 @@ impl<T: Ledgers> Table<T> {
         self.state.files.get(handle)
     }
 
-    /// The paths of all nodes with a hidden mark, by rising number: of files that were hidden and are still there.
+    /// The paths of all nodes with a hidden mark that stand under a name of the server's own, by rising number: of files that were hidden
+    /// and are still there.
     pub fn leftover(&self) -> Result<Paths, AllocError>
         ensures { IfOk result (AreLeftovers (world_of self.now).at) }
     {

@@ -110,7 +110,7 @@ impl<T: Ledgers, O: Opening> Hall<T, O> {
         unique: u64,
         want: Want,
     ) -> Begin
-        ensures { (kept : Bool) × Makes (opened_world O.limits) (Call.began kept unique want result) me.old me.new }
+        ensures { Makes (opened_world O.limits) (Call.began unique want result) me.old me.new }
     {
         let mut table = self.table.lock(rt);
         let begin = table.begin(&self.history, me, unique, want);

@@ -7,7 +7,7 @@ use Rattle.std.specs.Prelude.{cond}
 use Rattle.table_requests.specs.declared.data.Given.{Given}
 use Rattle.ledger.specs.declared.postings.Posting.{Posting}
 use Rattle.ledger.specs.declared.postings.Posting.TheVariants.{Back, Born, Entry, Forget}
-use Rattle.ledger.specs.Shares.{Part, plus}
+use Rattle.ledger.specs.Shares.{Part}
 use Rattle.ledger.specs.declared.shares.Totals.{Totals}
 use Rattle.ledger.specs.Periods.{Periods, continued, posted}
 use Rattle.ledger.specs.Sums.{totals_of, totals_over}
@@ -17,8 +17,11 @@ use Rattle.tree.specs.declared.nodes.Key.{Key}
 use Rattle.tree.specs.Places.{Lookup}
 use Rattle.table_steps.specs.Answers.{Answer, Settlement, entries_in}
 use Rattle.table_steps.specs.Entries.{Enters, TakesAllBack, untaken_of}
-use Rattle.table_steps.specs.Steps.{EntersAll, IsAnswered, Finishes, Settles, Forgets, act_of, gained}
-use Rattle.table_steps.specs.World.{Answered, RequestInFlight, RequestsInFlight, IsAtWork, Stage, Work, Working, World}
+use Rattle.table.specs.Gains.{GainsInAll}
+use Rattle.table.specs.Renewing.{FinishesAnew, ForgetsAnew, SettlesAnew}
+use Rattle.table.proofs.Closing.{totals_renewed}
+use Rattle.table_steps.specs.Steps.{EntersAll, IsAnswered, Finishes, MakesRoom, Settles, Forgets, act_of}
+use Rattle.table_steps.specs.World.{most_posted, Answered, RequestInFlight, RequestsInFlight, IsAtWork, Stage, Work, Working, World}
 use Rattle.table_steps.specs.declared.data.Outcome.{Outcome}
 
 abbrev pub listed : Periods → ℕ
@@ -60,10 +63,6 @@ enters_all flights at at' ps ps' (key ∷ keys) [] given h = absurd h
 enters_all flights at at' ps ps' (key ∷ keys) (true ∷ found) [] h = absurd h
 enters_all flights at at' ps ps' (key ∷ keys) (false ∷ found) [] h = absurd h
 
--- what a step gained
-pub gained_of : (old new : World) → new.postings ≡ continued old.postings (gained old new) → listed new.postings ≡ listed old.postings + (totals_of (gained old new)).entries
-gained_of old new grows = ap listed grows ∙ listed_more old.postings (gained old new)
-
 -- a request is worked on, or none is
 at_work : (flights : RequestsInFlight) (id : ℕ) (o : Option RequestInFlight) → flights id ≡ o → ((f : RequestInFlight) (work : Work) → IsAtWork flights id f work → ⊥) ⊎ ((f : RequestInFlight) × (work : Work) × IsAtWork flights id f work)
 at_work flights id None e = inl (λ f work w. absurd (none-some f (sym e ∙ w.here)))
@@ -72,7 +71,7 @@ at_work flights id (Some f) e = by_stage f.stage refl where
   by_stage (Working work) s = inr (f, work, record { here = e; working = s })
   by_stage (Answered before opened) s = inl (λ f' work w. let h = w.here in let k = w.working in absurd cc)
 
-pub finished_lists : (old new : World) (id : ℕ) (outcome : Outcome) (answer : Answer) → Finishes old id outcome answer new → listed new.postings ≡ listed old.postings + entries_in answer.given
+finished_lists : (old new : World) (id : ℕ) (outcome : Outcome) (answer : Answer) → Finishes old id outcome answer new → listed new.postings ≡ listed old.postings + entries_in answer.given
 finished_lists old new id outcome answer finishes = elim (at_work old.flights id (old.flights id) refl) [
   | inl none ↦ (let lost = finishes.lost none in let p : listed new.postings ≡ listed old.postings = ap (λ (w : World). listed w.postings) lost.1 in let e : entries_in answer.given ≡ 0 = ap (λ (a : Answer). entries_in a.given) lost.0 in omega arith)
   | inr (f, work, here) ↦ (let ends = finishes.found f work here in enters_all _ old.at ends.entered old.postings new.postings work.footprint.entries (act_of work.footprint outcome).found answer.given ends.enters)
@@ -85,7 +84,7 @@ backs_all at at' ps ps' (n ∷ ns) (mid, qs, inl back, rest) =
 backs_all at at' ps ps' (n ∷ ns) (mid, qs, inr none, rest) = backs_all mid at' qs ps' ns rest ∙ ap listed none.postings
 
 -- what goes back and what is forgotten lists no entry
-pub settled_lists : (old new : World) (answer : Answer) (taken : Bool) (settled : Settlement) → Settles old answer taken settled new → listed new.postings ≡ listed old.postings
+settled_lists : (old new : World) (answer : Answer) (taken : Bool) (settled : Settlement) → Settles old answer taken settled new → listed new.postings ≡ listed old.postings
 settled_lists old new answer taken settled s = elim (cases_eq_bool answer.lost) [
   | inl lost ↦ ap (λ (w : World). listed w.postings) (s.lost lost)
   | inr kept ↦ elim (answered_or (old.flights answer.id) refl) [
@@ -104,7 +103,7 @@ settled_lists old new answer taken settled s = elim (cases_eq_bool answer.lost) 
     by_stage (Answered before opened) is = inr (record { flight = f; here = e; before = before; opened = opened; ended = is })
     by_stage (Working work) is = inl (λ k. let h = k.here in let m = k.ended in absurd cc)
 
-pub forgot_lists : (old new : World) (number n amount : ℕ) → Forgets old number n amount new → listed new.postings ≡ listed old.postings
+forgot_lists : (old new : World) (number n amount : ℕ) → Forgets old number n amount new → listed new.postings ≡ listed old.postings
 forgot_lists old new number n amount h = elim (cases_eq amount 0) [
   | inl none ↦ ap (λ (w : World). listed w.postings) (h.nothing none)
   | inr some ↦ elim (cases_option (old.at number)) [
@@ -113,9 +112,23 @@ forgot_lists old new number n amount h = elim (cases_eq amount 0) [
   ]
 ]
 
+-- a period that ends before it lists nothing
+module _ (old mid : World) (n : ℕ) (room : MakesRoom old n mid) where
+  room_lists : listed mid.postings ≡ listed old.postings
+  room_lists = ap (λ (t : Totals). t.entries) (totals_renewed old mid room)
+
+pub finished_anew : (old new : World) (id : ℕ) (outcome : Outcome) (answer : Answer) → FinishesAnew old id outcome answer new → listed new.postings ≡ listed old.postings + entries_in answer.given
+finished_anew old new id outcome answer f = omega (arith, finished_lists f.renewed new id outcome answer f.finishes, room_lists old f.renewed (most_posted old.flights id) f.room)
+
+pub settled_anew : (old new : World) (answer : Answer) (taken : Bool) (settled : Settlement) → SettlesAnew old answer taken settled new → listed new.postings ≡ listed old.postings
+settled_anew old new answer taken settled s = settled_lists s.renewed new answer taken settled s.settles ∙ room_lists old s.renewed (most_posted old.flights answer.id) s.room
+
+pub forgot_anew : (old new : World) (number n amount : ℕ) → ForgetsAnew old number n amount new → listed new.postings ≡ listed old.postings
+forgot_anew old new number n amount h = forgot_lists h.renewed new number n amount h.forgets ∙ room_lists old h.renewed 1 h.room
+
 -- the share gains what the ledger does
-pub gains_posted : (old new : World) (before after : Part) → new.postings ≡ continued old.postings (gained old new) → after ≡ record before { totals = plus before.totals (totals_of (gained old new)) } → after.totals.entries + listed old.postings ≡ before.totals.entries + listed new.postings
-gains_posted old new before after grows is =
-    let a : after.totals.entries ≡ before.totals.entries + (totals_of (gained old new)).entries = ap (λ (p : Part). p.totals.entries) is in
-    let b = gained_of old new grows in
-    omega arith
+pub gains_posted : (old new : World) (before after : Part) → GainsInAll old before new after → after.totals.entries + listed old.postings ≡ before.totals.entries + listed new.postings
+gains_posted old new before after gains =
+    let a : after.totals.entries ≡ before.totals.entries + gains.more.entries = ap (λ (p : Part). p.totals.entries) gains.share in
+    let b : listed new.postings ≡ listed old.postings + gains.more.entries = ap (λ (t : Totals). t.entries) gains.ledger in
+    omega (arith, a, b)

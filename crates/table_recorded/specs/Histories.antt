@@ -25,9 +25,9 @@ last_world start (made ∷ history) = last_world made.after history
 
 -- A begin that had to wait is made anew, and is not told. It may have ended a period of the ledger and changed nothing else.
 abbrev pub unless_busy : Call → List Call
-unless_busy (began kept unique want (begin.Go claim)) = began kept unique want (begin.Go claim) ∷ []
-unless_busy (began kept unique want begin.Busy) = []
-unless_busy (began kept unique want (begin.Refused errno)) = began kept unique want (begin.Refused errno) ∷ []
+unless_busy (began unique want (begin.Go claim)) = began unique want (begin.Go claim) ∷ []
+unless_busy (began unique want begin.Busy) = []
+unless_busy (began unique want (begin.Refused errno)) = began unique want (begin.Refused errno) ∷ []
 unless_busy (finished id outcome told) = finished id outcome told ∷ []
 unless_busy (settled answer taken told) = settled answer taken told ∷ []
 unless_busy (forgot number n told) = forgot number n told ∷ []

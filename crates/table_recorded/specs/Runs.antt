@@ -6,8 +6,7 @@ use Rattle.table_steps.specs.Answers.{Answer, Settlement}
 use Rattle.table_steps.specs.declared.data.Begin.{Begin}
 use Rattle.table_steps.specs.declared.data.Outcome.{Outcome}
 use Rattle.table_steps.specs.Kept.{world_of}
-use Rattle.table.specs.Renewing.{BeginsAnew}
-use Rattle.table_steps.specs.Steps.{Finishes, Forgets, Settles}
+use Rattle.table.specs.Renewing.{BeginsAnew, FinishesAnew, ForgetsAnew, SettlesAnew}
 use Rattle.table_steps.specs.World.{IsLawfulWorld, World}
 use Rattle.table_histories.specs.declared.views.View.{View}
 use Rattle.table_recorded.specs.declared.entries.Entry.{Entry}
@@ -18,8 +17,7 @@ use Rattle.table_recorded.specs.declared.entries.Event.TheVariants as event
 
 -- which call it was, with what it was given and what it answered
 pub data Call : Type 0 where
-  -- whether a period of the ledger that was due to end was kept, and then the request
-  began : (kept : Bool) (unique : ℕ) (want : Want) (told : Begin) → Call
+  began : (unique : ℕ) (want : Want) (told : Begin) → Call
   finished : (id : ℕ) (outcome : Outcome) (told : Answer) → Call
   settled : (answer : Answer) (taken : Bool) (told : Settlement) → Call
   forgot : (number n told : ℕ) → Call
@@ -27,7 +25,7 @@ pub data Call : Type 0 where
   looked : (fh : ℕ) (told : Option OpenFile) → Call
 
 abbrev pub call_of : Event → Call
-call_of (event.Begin kept unique want told) = began kept unique want.value told.value
+call_of (event.Begin unique want told) = began unique want.value told.value
 call_of (event.Finish id outcome told) = finished id outcome.value told.value
 call_of (event.Settle answered taken told) = settled answered.value taken told.value
 call_of (event.Forget number n told) = forgot number n told
@@ -35,10 +33,10 @@ call_of (event.Look fh told) = looked fh told.value
 
 -- it led from one world to the other
 abbrev pub IsStep : World → Call → World → Type 0
-IsStep old (began kept unique want told) new = BeginsAnew old kept unique want told new
-IsStep old (finished id outcome told) new = Finishes old id outcome told new
-IsStep old (settled answer taken told) new = Settles old answer taken told new
-IsStep old (forgot number n told) new = Forgets old number n told new
+IsStep old (began unique want told) new = BeginsAnew old unique want told new
+IsStep old (finished id outcome told) new = FinishesAnew old id outcome told new
+IsStep old (settled answer taken told) new = SettlesAnew old answer taken told new
+IsStep old (forgot number n told) new = ForgetsAnew old number n told new
 IsStep old (looked fh told) new = (told ≡ old.files fh) × (new ≡ old)
 
 -- ---- all calls of a log

@@ -12,8 +12,6 @@ use table_requests::Want;
 #[derive(Drop)]
 pub enum Event {
     Begin {
-        /// Whether a period of the ledger that was due to end was kept, since there was no memory for its end.
-        kept: bool,
         unique: u64,
         want: Snapshot<Want>,
         told: Snapshot<Begin>,
@@ -62,10 +60,11 @@ pub trait Opening {
 
 impl Opening for Brand {
     ghost use Rattle.std.specs.Prelude.{[]};
+    ghost use Rattle.table_steps.specs.declared.data.Counts.TheVariants.{Bounded};
 
     ghost history = { record { words = 0; slots = 0; views_name = 0; atom = 0; block = 0; offset = 0; slot_names = [] } };
 
-    ghost limits = { record { nodes = 0; postings = 0; flights = 0; files = 0 } };
+    ghost limits = { record { nodes = 0; postings = 0; counts = Bounded; flights = 0; files = 0 } };
 
     ghost threads = { 0 };
 }

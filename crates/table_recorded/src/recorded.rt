@@ -6,7 +6,7 @@ ghost use Rattle.ledger.specs.Sums.{totals_of};
 ghost use Rattle.table_histories.specs.Views.{front, own};
 ghost use Rattle.table_steps.specs.Answers.{entries_in};
 ghost use Rattle.table_steps.specs.Kept.{world_of};
-ghost use Rattle.table_steps.specs.Steps.{gained};
+ghost use Rattle.table.specs.Gains.{GainsInAll};
 ghost use Rattle.table_steps.specs.World.{opened_world};
 ghost use Rattle.table_recorded.specs.Runs as Call;
 ghost use Rattle.table_recorded.specs.Runs.{IsRun, IsStep, Makes, call_of, end_of};
@@ -72,14 +72,13 @@ impl<T: Ledgers, O: Opening> Recorded<T, O> {
         unique: u64,
         want: Want,
     ) -> Begin
-        ensures makes { (kept : Bool) × Makes (opened_world O.limits) (Call.began kept unique want result) me.old me.new }
+        ensures makes { Makes (opened_world O.limits) (Call.began unique want result) me.old me.new }
         ensures log { self.new.log ≡ me.new.seen }
     {
         let asked = Snapshot::of(&want);
-        let kept = self.table.renew();
+        self.table.renew();
         let begin = self.table.begin(unique, want);
         let event = Event::Begin {
-            kept,
             unique,
             want: asked,
             told: Snapshot::of(&begin),
@@ -99,7 +98,7 @@ impl<T: Ledgers, O: Opening> Recorded<T, O> {
     ) -> Answered
         ensures makes { Makes (opened_world O.limits) (Call.finished ticket.id outcome result) me.old me.new }
         ensures log { self.new.log ≡ me.new.seen }
-        ensures share { share.new ≡ record share.old { totals = plus share.old.totals (totals_of (gained (end_of (opened_world O.limits) self.old.log) (end_of (opened_world O.limits) self.new.log))) } }
+        ensures gains { GainsInAll (end_of (opened_world O.limits) self.old.log) share.old (end_of (opened_world O.limits) self.new.log) share.new }
         ensures entries { share.new.totals.entries ≡ share.old.totals.entries + entries_in result.given }
     {
         let id = ticket.id();
@@ -125,7 +124,7 @@ impl<T: Ledgers, O: Opening> Recorded<T, O> {
     ) -> Settled
         ensures makes { Makes (opened_world O.limits) (Call.settled answered taken result) me.old me.new }
         ensures log { self.new.log ≡ me.new.seen }
-        ensures share { share.new ≡ record share.old { totals = plus share.old.totals (totals_of (gained (end_of (opened_world O.limits) self.old.log) (end_of (opened_world O.limits) self.new.log))) } }
+        ensures gains { GainsInAll (end_of (opened_world O.limits) self.old.log) share.old (end_of (opened_world O.limits) self.new.log) share.new }
         ensures entries { share.new.totals.entries ≡ share.old.totals.entries }
         ensures settled { result ≡ record { id = answered.id; entries = entries_in answered.given; taken = taken } }
     {
@@ -151,7 +150,7 @@ impl<T: Ledgers, O: Opening> Recorded<T, O> {
     ) -> u64
         ensures makes { Makes (opened_world O.limits) (Call.forgot number n result) me.old me.new }
         ensures log { self.new.log ≡ me.new.seen }
-        ensures share { share.new ≡ record share.old { totals = plus share.old.totals (totals_of (gained (end_of (opened_world O.limits) self.old.log) (end_of (opened_world O.limits) self.new.log))) } }
+        ensures gains { GainsInAll (end_of (opened_world O.limits) self.old.log) share.old (end_of (opened_world O.limits) self.new.log) share.new }
         ensures entries { share.new.totals.entries ≡ share.old.totals.entries }
     {
         let amount = self.table.forget(share, number, n);

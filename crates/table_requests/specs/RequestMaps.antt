@@ -1,5 +1,5 @@
 -- The requests in flight, as contracts see them: by their ids.
-use Rattle.std.specs.Prelude.{ℕ, ◌+◌, ◌-◌, ◌≡◌, ◌==◌, ◌||◌, ◌↔◌, Bool, true, false, if◌then◌else◌, [], ◌∷◌, ◌++◌, Option, Some, None, Contains, length}
+use Rattle.std.specs.Prelude.{ℕ, ◌+◌, ◌-◌, ◌≡◌, ◌==◌, ◌||◌, ◌↔◌, Bool, true, false, if◌then◌else◌, List, [], ◌∷◌, ◌++◌, Option, Some, None, Contains, drop, length}
 use Rattle.std.specs.List.{list_any}
 use Rattle.paths.specs.Prefixes.{Names}
 use Rattle.holds.specs.Conflicts.{Conflict, is_among}
@@ -43,6 +43,15 @@ postings_promised (Answered before opened) = 0
 abbrev pub files_promised : Stage → ℕ
 files_promised (Working work) = work.promise.files
 files_promised (Answered before opened) = 0
+
+-- the most postings that the next call on a request makes: those that are promised to its work, or one back for each number that it gave
+abbrev pub most_posted : Stage → List ℕ → ℕ
+most_posted (Working work) pins = work.promise.postings
+most_posted (Answered before opened) pins = length (drop before pins)
+
+abbrev pub most_posted_by : Option RequestInFlight → ℕ
+most_posted_by None = 0
+most_posted_by (Some f) = most_posted f.stage f.pins.numbers
 
 -- what the request holds while it is worked on conflicts with these names
 abbrev pub IsInTheWay : Stage → Held → Type 0

@@ -5,7 +5,7 @@ ghost use Rattle.std.specs.List.{remove};
 ghost use Rattle.table_requests.specs.declared.data.RequestInFlight.{RequestInFlight};
 ghost use Rattle.table_requests.specs.declared.data.Stage.TheVariants as Stage;
 ghost use Rattle.table_requests.specs.HeldPaths.{HaveSameHolders, LoseHolder};
-ghost use Rattle.table_requests.specs.RequestMaps.{is_working, answered, opening, pinning, HasNoneWorking, HasNoneAnswered, Answers, Notes, PinsMore, Goes};
+ghost use Rattle.table_requests.specs.RequestMaps.{is_working, answered, opening, pinning, HasNoneWorking, HasNoneAnswered, Answers, Notes, PinsMore, Goes, most_posted_by};
 ghost use Rattle.table_requests.specs.Listed.{flight_in, in_flight, requests_of, AreBelow, HaveOwnIds};
 ghost use Rattle.table_requests.specs.PinCounts.{pins_in, times};
 
@@ -182,6 +182,23 @@ pub fn take_answered(flights: &mut Vec<RequestInFlight>, id: u64) -> Option<Ende
 {
     let i = index_of(flights.as_slice(), id)?;
     take_at(flights, i)
+}
+
+/// The most postings that the next call on the request makes: those that are promised to its work, or one back for each number that it gave.
+pub fn most_posted(flights: &[RequestInFlight], id: u64) -> u64
+    requires { HaveOwnIds flights.now }
+    ensures { result ≡ most_posted_by (flight_in flights.now id) }
+{
+    let Some(i) = index_of(flights, id) else {
+        return 0;
+    };
+    let flight = &flights[i];
+    match &flight.stage {
+        Stage::Working(work) => work.promise.postings,
+        Stage::Answered { before, opened: _ } => {
+            flight.pins.as_slice().len().saturating_sub(*before) as u64
+        }
+    }
 }
 
 /// A number above this one and above the id, but for the greatest number, which says that none is known.

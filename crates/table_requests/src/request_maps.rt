@@ -2,12 +2,14 @@
 
 ghost use Rattle.std.specs.Prelude.{true, false, ◌≡◌, ◌≢◌, ◌<◌, ◌≤◌, ◌+◌, ◌^◌, ◌++◌, ◌∷◌, [], ℕ, None, Some, IfNone, IfSome, IsOk, OnErr, OnOk, IsTrue, AllPairs, ◌↔◌, option_copied, count_by, length};
 ghost use Rattle.table_requests.specs.declared.data.RequestInFlight.{RequestInFlight};
-ghost use Rattle.table_requests.specs.RequestMaps.{files_promised, no_requests, nodes_promised, postings_promised, AreLawfulRequests, IsTallied, HasNoneWorking, HasNoneAnswered, Adds, Answers, Notes, PinsMore, Goes, HoldsUp, HasExclusiveHolder, has_exclusive, has_shared};
+ghost use Rattle.table_requests.specs.RequestMaps.{files_promised, no_requests, nodes_promised, postings_promised, AreLawfulRequests, IsTallied, HasNoneWorking, HasNoneAnswered, Adds, Answers, Notes, PinsMore, Goes, HoldsUp, HasExclusiveHolder, has_exclusive, has_shared, most_posted_by};
 ghost use Rattle.table_requests.specs.Listed.{requests_of, flight_in, pinned_in};
 
 use crate::data::{Ended, Promise, RequestInFlight, Work};
 use crate::held_paths::count_held;
-use crate::listed::{end_work, least_free, next_after, note_for, pin_for, take_answered};
+use crate::listed::{
+    end_work, least_free, most_posted, next_after, note_for, pin_for, take_answered,
+};
 use crate::pin_counts::{PinCounts, count, count_all, count_of, make_room, no_pins, uncount_all};
 use holds::{Held, HoldNumbers};
 use paths::{Name, Path};
@@ -66,6 +68,14 @@ impl RequestsInFlight {
         ensures law { AreLawfulRequests (requests_of self.now) }
     {
         self.flights.len()
+    }
+
+    /// The most postings that the next call on the request makes: those that are promised to its work, or one back for each node
+    /// that it gave.
+    pub fn most_posted(&self, id: u64) -> u64
+        ensures { result ≡ most_posted_by ((requests_of self.now).at id) }
+    {
+        most_posted(self.flights.as_slice(), id)
     }
 
     /// What is promised to all of them together.

@@ -5,9 +5,11 @@ use Rattle.std.proofs.lemmas.Option.{same_Some}
 use Rattle.paths.specs.Prefixes.{Names as Path}
 use Rattle.table_files.specs.Handles.{Files, IsOpen}
 use Rattle.table_footprints.specs.Footprints.{Footprint}
-use Rattle.table_image.specs.Law.{HasReason}
+use Rattle.table_image.specs.Law.{HasReason, HaveReasons}
 use Rattle.table_runs.specs.Laws.{AreForgottenGone, IsKeptByCount}
 use Rattle.table_steps.specs.Steps.{Forgets, Takes}
+use Rattle.table.specs.Renewing.{ForgetsAnew}
+use Rattle.table.proofs.Closing.{renewed_is}
 use Rattle.table_steps.specs.World.{AreKept, IsLawfulWorld, IsPinned, RequestsInFlight, World}
 use Rattle.tree.proofs.LookupLemmas.{with_same, with_some}
 use Rattle.tree.specs.declared.nodes.Node.{Node}
@@ -31,13 +33,14 @@ child_before at new n x y stood place kept (c, name, (z, here, named)) = elim (w
   | inr (ne, was) ↦ (c, name, (z, was, named))
 ]
 
-module _ (old mid : World) (number n amount : ℕ) (x : Node) (lawful : IsLawfulWorld old) (only : IsKeptByCount old number x) (all : x.count ≤ n) (forgets : Forgets old number n amount mid) where
+-- each node but the root has a reason, one of them its count alone
+module _ (old mid : World) (number n amount : ℕ) (x : Node) (kept : ℕ → Bool) (keeps : AreKept old.flights old.files kept) (reasons : HaveReasons old.at kept) (only : IsKeptByCount old number x) (all : x.count ≤ n) (forgets : Forgets old number n amount mid) where
   took : amount ≡ x.count
   took = let least : amount ≡ min n x.count = forgets.smaller x only.here in omega (arith, least, all)
 
   counted : 0 < amount
   counted = elim (cases_eq x.count 0) [
-    | inl none ↦ absurd (no_reason old.at old.flights old.files lawful.kept lawful.keeps number x none only.unmarked only.unpinned only.closed only.childless (lawful.law.reasons number x only.here only.not_root))
+    | inl none ↦ absurd (no_reason old.at old.flights old.files kept keeps number x none only.unmarked only.unpinned only.closed only.childless (reasons number x only.here only.not_root))
     | inr some ↦ omega (arith, took)
   ]
 
@@ -59,10 +62,19 @@ module _ (old mid : World) (number n amount : ℕ) (x : Node) (lawful : IsLawful
       (λ child. only.childless (child_before old.at mid.at number x less only.here refl takes.sweeps.swept.kept child))
       (takes.sweeps.reasons number y here only.not_root)
 
+-- a period that ends before it leaves all nodes
+module _ (old mid : World) (number n amount : ℕ) (x : Node) (lawful : IsLawfulWorld old) (only : IsKeptByCount old number x) (all : x.count ≤ n) (forgets : ForgetsAnew old number n amount mid) where
+  gone_anew : IsAlive mid.at number → ⊥
+  gone_anew =
+      let w : World = record old { postings = forgets.renewed.postings } in
+      let still : IsKeptByCount w number x = record { here = only.here; not_root = only.not_root; unmarked = only.unmarked; unpinned = only.unpinned; closed = only.closed; childless = only.childless } in
+      gone w mid number n amount x lawful.kept lawful.keeps lawful.law.reasons still all
+      (subst (λ (v : World). Forgets v number n amount mid) (renewed_is old forgets.renewed forgets.room) forgets.forgets)
+
 pub forgotten_gone : AreForgottenGone
 forgotten_gone old new hand hand' number n amount unique want x lawful only all names runs =
     let puts = runs.4.2 in
     let is = puts.begins.footprint_is in
     let given : Contains puts.begins.footprint.given number = subst (λ (d : Footprint). Contains d.given number) (sym is.footprint) (names is.case) in
-    let lost = λ (leads : Leads runs.0.at number). gone old runs.0 number n amount x lawful only all runs.2.0 (stands runs.0.at number leads.names only.not_root leads.climb) in
+    let lost = λ (leads : Leads runs.0.at number). gone_anew old runs.0 number n amount x lawful only all runs.2.0 (stands runs.0.at number leads.names only.not_root leads.climb) in
     puts.begins.begins.0.sound.not_stale (record { number = number; named = given; lost = lost })

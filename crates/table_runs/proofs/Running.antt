@@ -23,6 +23,8 @@ use Rattle.table_footprints.proofs.FootprintLemmas.{are_grounded}
 use Rattle.table_steps.specs.declared.data.Outcome.{Outcome}
 use Rattle.table_steps.specs.Answers.{Answer, Claim, Settlement}
 use Rattle.table_steps.specs.Steps.{ClosesPeriod, Finishes, Forgets, IsTicket, Settles}
+use Rattle.table.specs.Renewing.{FinishesAnew, ForgetsAnew, SettlesAnew}
+use Rattle.table.proofs.Closing.{flights_renewed}
 use Rattle.table_steps.specs.World.{Answered, RequestInFlight, RequestsInFlight, IsAtWork, IsLawfulWorld, Stage, Work, Working, World, with_entry}
 use Rattle.table.specs.Gains.{GainsInAll}
 use Rattle.table.proofs.Gaining.{gains_in_all, gains_same, in_all_on}
@@ -145,6 +147,19 @@ forgets_stays old number n amount new h k f work it = elim (cases_eq amount 0) [
   ]
 ]
 
+-- a period that ends before it touches none of them
+after_renewed : (old mid new : World) → ((id : ℕ) → mid.flights id ≡ old.flights id) → (k : ℕ) → StaysAtWork mid new k → StaysAtWork old new k
+after_renewed old mid new same k stays f work it = stays f work (record { here = same k ∙ it.here; working = it.working })
+
+finishes_anew : (old : World) (id : ℕ) (o : Outcome) (answer : Answer) (new : World) → FinishesAnew old id o answer new → (k : ℕ) → id ≢ k → StaysAtWork old new k
+finishes_anew old id o answer new fin k ne = after_renewed old fin.renewed new (flights_renewed old fin.renewed fin.room) k (finishes_other fin.renewed id o answer new fin.finishes k ne)
+
+settles_anew : (old : World) (answer : Answer) (taken : Bool) (settled : Settlement) (new : World) → SettlesAnew old answer taken settled new → (k : ℕ) → StaysAtWork old new k
+settles_anew old answer taken settled new s k = after_renewed old s.renewed new (flights_renewed old s.renewed s.room) k (settles_stays s.renewed answer taken settled new s.settles k)
+
+forgets_anew : (old : World) (number n amount : ℕ) (new : World) → ForgetsAnew old number n amount new → (k : ℕ) → StaysAtWork old new k
+forgets_anew old number n amount new h k = after_renewed old h.renewed new (flights_renewed old h.renewed h.room) k (forgets_stays h.renewed number n amount new h.forgets k)
+
 closes_stays : (old : World) (fewer : ℕ) (new : World) → ClosesPeriod old fewer new → (k : ℕ) → StaysAtWork old new k
 closes_stays old fewer new closes k f work it = ap (λ (w : World). w.flights k) closes.new_is ∙ it.here
 
@@ -211,7 +226,7 @@ current_finish : (old : World) (hand : Outstanding) (place : ℕ) (o : Outcome) 
 current_finish old hand place o new hand' was is spends id current =
     let s = spends.spent in
     let left = others old id hand.tickets place s spends.within spends.here current.once current.current in
-    let other = finishes_other old s.ticket.id o spends.answer new spends.finishes in
+    let other = finishes_anew old s.ticket.id o spends.answer new spends.finishes in
     subst (λ h. IsCurrentAt new h id) (sym spends.hand_is) (record {
       once = all_pairs_remove (NotBoth id) hand.tickets place spends.within current.once;
       current = All-weaker (IsLeft old id s) (IsIfBorne new id) (λ c it borne. current_kept old new c was is (other c.ticket.id (λ same. (it borne).1 (same ∙ borne))) (it borne).0) (remove hand.tickets place) left;
@@ -242,7 +257,7 @@ current_step old hand (call.Finish place o) (told.Settled settled) new hand' was
 current_step old hand (call.Finish place o) (told.Forgot amount) new hand' was is bad id current = absurd bad
 current_step old hand (call.Finish place o) (told.Closed fewer) new hand' was is bad id current = absurd bad
 current_step old hand (call.Settle place taken) (told.Settled settled) new hand' was is spends id current =
-    same_tickets old new hand hand' was is (settles_stays old spends.spent taken settled new spends.settles) (ap (λ (h : Outstanding). h.tickets) spends.hand_is) id current
+    same_tickets old new hand hand' was is (settles_anew old spends.spent taken settled new spends.settles) (ap (λ (h : Outstanding). h.tickets) spends.hand_is) id current
 current_step old hand (call.Settle place taken) told.Nothing new hand' was is (none, same) id current = current_same old new hand hand' same.world same.hand_is id current
 current_step old hand (call.Settle place taken) told.Begun new hand' was is bad id current = absurd bad
 current_step old hand (call.Settle place taken) told.Busy new hand' was is bad id current = absurd bad
@@ -251,7 +266,7 @@ current_step old hand (call.Settle place taken) told.Finished new hand' was is b
 current_step old hand (call.Settle place taken) (told.Forgot amount) new hand' was is bad id current = absurd bad
 current_step old hand (call.Settle place taken) (told.Closed fewer) new hand' was is bad id current = absurd bad
 current_step old hand (call.Forget number n) (told.Forgot amount) new hand' was is (forgets, same) id current =
-    same_tickets old new hand hand' was is (forgets_stays old number n amount new forgets) (ap (λ (h : Outstanding). h.tickets) same) id current
+    same_tickets old new hand hand' was is (forgets_anew old number n amount new forgets) (ap (λ (h : Outstanding). h.tickets) same) id current
 current_step old hand (call.Forget number n) told.Nothing new hand' was is bad id current = absurd bad
 current_step old hand (call.Forget number n) told.Begun new hand' was is bad id current = absurd bad
 current_step old hand (call.Forget number n) told.Busy new hand' was is bad id current = absurd bad

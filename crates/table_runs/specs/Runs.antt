@@ -5,7 +5,8 @@ use Rattle.table_requests.specs.declared.data.Want.{Want}
 use Rattle.table_steps.specs.declared.data.Begin.TheVariants as begin
 use Rattle.table_steps.specs.declared.data.Outcome.{Outcome}
 use Rattle.table_steps.specs.Answers.{Answer, Claim, Settlement}
-use Rattle.table_steps.specs.Steps.{Begins, ClosesPeriod, Finishes, Forgets, IsTicket, Settles}
+use Rattle.table.specs.Renewing.{FinishesAnew, ForgetsAnew, SettlesAnew}
+use Rattle.table_steps.specs.Steps.{Begins, ClosesPeriod, IsTicket}
 use Rattle.table_steps.specs.World.{RequestInFlight, IsAtWork, IsLawfulWorld, Work, World}
 use Rattle.table_runs.specs.declared.calls.Call.{Call}
 use Rattle.table_runs.specs.declared.calls.Call.TheVariants as call
@@ -52,7 +53,7 @@ pub record SpendsTicket (old : World) (hand : Outstanding) (place : ℕ) (outcom
   pub spent : Started
   pub here : slice_index_or hand.tickets place spent ≡ spent
   pub answer : Answer
-  pub finishes : Finishes old spent.ticket.id outcome answer new
+  pub finishes : FinishesAnew old spent.ticket.id outcome answer new
   pub hand_is : hand' ≡ record { tickets = remove hand.tickets place; answers = hand.answers ++ answer ∷ [] }
 
 -- the answer at that place is spent
@@ -60,7 +61,7 @@ pub record SpendsAnswer (old : World) (hand : Outstanding) (place : ℕ) (taken 
   pub within : place < length hand.answers
   pub spent : Answer
   pub here : slice_index_or hand.answers place spent ≡ spent
-  pub settles : Settles old spent taken settled new
+  pub settles : SettlesAnew old spent taken settled new
   pub hand_is : hand' ≡ record hand { answers = remove hand.answers place }
 
 -- one call, by what it told
@@ -72,7 +73,7 @@ IsStep old hand (call.Finish place outcome) told.Finished new hand' = SpendsTick
 IsStep old hand (call.Finish place outcome) told.Nothing new hand' = (length hand.tickets ≤ place) × ChangesNothing old hand new hand'
 IsStep old hand (call.Settle place taken) (told.Settled settled) new hand' = SpendsAnswer old hand place taken settled new hand'
 IsStep old hand (call.Settle place taken) told.Nothing new hand' = (length hand.answers ≤ place) × ChangesNothing old hand new hand'
-IsStep old hand (call.Forget number n) (told.Forgot amount) new hand' = Forgets old number n amount new × (hand' ≡ hand)
+IsStep old hand (call.Forget number n) (told.Forgot amount) new hand' = ForgetsAnew old number n amount new × (hand' ≡ hand)
 IsStep old hand call.ClosePeriod (told.Closed fewer) new hand' = ClosesPeriod old fewer new × (hand' ≡ hand)
 IsStep old hand c t new hand' = ⊥
 

@@ -1,13 +1,10 @@
 //! Lists of calls, and what each told.
 
 ghost use Rattle.std.specs.Prelude.{ℕ, ◌≡◌, ◌+◌, ◌++◌, List, OnOk, OnErr, IfOk, length, drop, take};
-ghost use Rattle.ledger.specs.Periods.{continued};
-ghost use Rattle.ledger.specs.Shares.{plus};
-ghost use Rattle.ledger.specs.Sums.{totals_of, totals_over};
+ghost use Rattle.ledger.specs.Sums.{totals_over};
 ghost use Rattle.table.specs.Gains.{GainsInAll};
 ghost use Rattle.table_steps.specs.Answers.{Answer};
 ghost use Rattle.table_steps.specs.Kept.{world_of};
-ghost use Rattle.table_steps.specs.Steps.{gained};
 ghost use Rattle.table_steps.specs.World.{IsLawfulWorld};
 ghost use Rattle.table_runs.specs.declared.calls.Call.TheVariants as Call;
 ghost use Rattle.table_runs.specs.Outstanding.{Outstanding};
@@ -90,8 +87,7 @@ fn finish<T: Ledgers>(
     ensures finishes { IfOk result (λ told. IsStep (world_of table.old) pending.old (Call.Finish place outcome) told (world_of table.new) pending.new) }
     ensures refused { OnErr result (ChangesNothing (world_of table.old) pending.old (world_of table.new) pending.new) }
     ensures lawful { IsLawfulWorld (world_of table.new) }
-    ensures grows { (world_of table.new).postings ≡ continued (world_of table.old).postings (gained (world_of table.old) (world_of table.new)) }
-    ensures share { share.new ≡ record share.old { totals = plus share.old.totals (totals_of (gained (world_of table.old) (world_of table.new))) } }
+    ensures gains { GainsInAll (world_of table.old) share.old (world_of table.new) share.new }
 {
     table.attest(); // proof: its law
     if pending.tickets.len() <= place {
@@ -114,8 +110,7 @@ fn settle<T: Ledgers>(
 ) -> Told
     ensures settles { IsStep (world_of table.old) pending.old (Call.Settle place taken) result (world_of table.new) pending.new }
     ensures lawful { IsLawfulWorld (world_of table.new) }
-    ensures grows { (world_of table.new).postings ≡ continued (world_of table.old).postings (gained (world_of table.old) (world_of table.new)) }
-    ensures share { share.new ≡ record share.old { totals = plus share.old.totals (totals_of (gained (world_of table.old) (world_of table.new))) } }
+    ensures gains { GainsInAll (world_of table.old) share.old (world_of table.new) share.new }
 {
     table.attest(); // proof: its law
     if pending.answers.len() <= place {
@@ -126,14 +121,12 @@ fn settle<T: Ledgers>(
 }
 
 /// Ends a period of the ledger.
-fn close_period<T: Ledgers>(table: &mut Table<T>) -> Result<Told, AllocError>
-    ensures closes { IfOk result (λ told. (hand : Outstanding) → IsStep (world_of table.old) hand Call.ClosePeriod told (world_of table.new) hand) }
-    ensures refused { OnErr result (world_of table.new ≡ world_of table.old) }
+fn close_period<T: Ledgers>(table: &mut Table<T>) -> Told
+    ensures closes { (hand : Outstanding) → IsStep (world_of table.old) hand Call.ClosePeriod result (world_of table.new) hand }
     ensures lawful { IsLawfulWorld (world_of table.new) }
     ensures totals { totals_over (world_of table.new).postings ≡ totals_over (world_of table.old).postings }
 {
-    let fewer = table.close_period()?;
-    Ok(Told::Closed(fewer))
+    Told::Closed(table.close_period())
 }
 
 /// Makes one call.
@@ -153,7 +146,7 @@ fn step<T: Ledgers>(
         Call::Finish { place, outcome } => finish(table, share, pending, place, outcome),
         Call::Settle { place, taken } => Ok(settle(table, share, pending, place, taken)),
         Call::Forget { number, n } => Ok(Told::Forgot(table.forget(share, number, n))),
-        Call::ClosePeriod => close_period(table),
+        Call::ClosePeriod => Ok(close_period(table)),
     }
 }
 

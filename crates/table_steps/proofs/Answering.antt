@@ -1,5 +1,5 @@
 -- The end of the work on a request: it holds nothing any more, and what it was promised is free for its end.
-use Rattle.std.proofs.Common.{ℕ, ◌≡◌, ◌==◌, Bool, true, List, [], append-nil, length, Some, None, refl, sym, ap, ◌∙◌, subst, inl, inr, arith}
+use Rattle.std.proofs.Common.{ℕ, ◌≡◌, ◌==◌, Bool, true, List, [], append-nil, length, Some, None, refl, sym, ap, ◌∙◌, subst, inl, inr, arith, ◌≤◌}
 use Rattle.std.proofs.lemmas.Bool.{cond-true, eq-eqb, true≢false}
 use Rattle.std.proofs.lemmas.Option.{same_Some}
 use Rattle.tree.specs.Places.{at_in}
@@ -21,6 +21,9 @@ use Rattle.table_steps.specs.World.{Answered, AreReady, RequestInFlight, Request
 use Rattle.table_steps.proofs.Ends.{ends_answered}
 use Rattle.table_steps.proofs.Filing.{kept_same}
 use Rattle.table_steps.proofs.Viewed.{IsFewer, at_work, fewer_at_work, fewer_held, fewer_idle, fewer_provided, fewer_ready, flights_with, recorded_at}
+use Rattle.table_steps.proofs.Few.{few_with, none_dropped}
+use Rattle.table_steps.specs.declared.data.Counts.TheVariants.{Free}
+use Rattle.table_requests.specs.declared.data.Stage.{Stage as Recording}
 
 -- ---- none is worked on
 
@@ -54,11 +57,20 @@ module _ (s : State) (kept : IsKept s) (flights : InFlight) (id : ℕ) (work : R
     held = fewer_held (requests_of s.flights) (requests_of flights) fewer (at_in s.tree) kept.held;
     ready = still_ready;
     provided = fewer_provided (requests_of s.flights) (requests_of flights) fewer kept.provided;
-    reserved = record { nodes = omega (arith, a.nodes, kept.reserved.nodes); postings = omega (arith, a.postings, kept.reserved.postings); files = omega (arith, a.files, kept.reserved.files) };
+    few = few_with s.limits (requests_of s.flights) (requests_of flights) id (flying.answered a.flight) a.at kept.few (λ f. let few = kept.few f id a.flight a.here in let none = none_dropped a.flight.pins.numbers in omega (arith, few, none));
+    reserved = record {
+      nodes = omega (arith, a.nodes, kept.reserved.nodes);
+      births = omega (arith, a.nodes, kept.reserved.births);
+      postings = λ b. omega (arith, a.postings, kept.reserved.postings b);
+      whole = kept.reserved.whole;
+      files = omega (arith, a.files, kept.reserved.files);
+    };
     limited = record {
       nodes = omega (arith, a.nodes, kept.limited.nodes);
-      postings = omega (arith, a.postings, kept.limited.postings);
+      postings = λ b. omega (arith, a.postings, kept.limited.postings b);
+      begun_within = λ f. omega (arith, a.postings, kept.limited.begun_within f);
       entries = omega (arith, a.postings, kept.limited.entries);
+      counted = kept.limited.counted;
       births = kept.limited.births;
       begun = kept.limited.begun;
       flights = omega (arith, a.many, kept.limited.flights);
@@ -94,8 +106,8 @@ module _ (s : State) (kept : IsKept s) (flights : InFlight) (id : ℕ) (work : R
       kept.held.apart up.id id up.flight (flight_of a.flight) up.work (work_of work) was was_at_work other up.conflict
 
   -- and what it was promised is free for its end
-  abbrev pub ending : IsEnding (record s { flights = flights }) id work
-  ending = record {
+  abbrev pub ending : (s.limits.counts ≡ Free → flying.most_posted_by ((requests_of s.flights).at id) ≤ s.ledger.room) → IsEnding (record s { flights = flights }) id work
+  ending room = record {
     flight = flying.answered a.flight;
     here = here_now;
     answered = refl;
@@ -112,14 +124,17 @@ module _ (s : State) (kept : IsKept s) (flights : InFlight) (id : ℕ) (work : R
     clear = clear;
     room = record {
       nodes = omega (arith, a.nodes, kept.reserved.nodes);
-      postings = omega (arith, a.postings, kept.reserved.postings);
+      births = omega (arith, a.nodes, kept.reserved.births);
+      postings = λ b. omega (arith, a.postings, kept.reserved.postings b);
+      at_once = λ f. let enough = room f in let is = ap flying.most_posted_by a.here in let most = ap (λ (st : Recording). flying.most_posted st a.flight.pins.numbers) a.working in omega (arith, enough, is, most);
       nodes_within = omega (arith, a.nodes, kept.limited.nodes);
-      postings_within = omega (arith, a.postings, kept.limited.postings);
+      postings_within = λ b. omega (arith, a.postings, kept.limited.postings b);
       entries = omega (arith, a.postings, kept.limited.entries);
       files = omega (arith, a.files, kept.reserved.files);
       files_within = omega (arith, a.files, kept.limited.files);
       handles = omega (arith, a.files, kept.limited.handles);
     };
+    few = λ f. let few = kept.few f id a.flight a.here in let is = ap (λ (st : Recording). flying.most_posted st a.flight.pins.numbers) a.working in omega (arith, few, is);
   }
 
   -- the world in which it is answered

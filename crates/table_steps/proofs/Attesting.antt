@@ -21,7 +21,7 @@ kept_lawful s census totals kept undisturbed = record {
   within = record {
     tally = tally_of s;
     tallied = tallied s census totals kept.provided kept.filed;
-    room = record { nodes = omega (arith, kept.limited.nodes); postings = omega (arith, kept.limited.postings); entries = omega (arith, kept.limited.entries); files = omega (arith, kept.limited.files); handles = omega (arith, kept.limited.handles) };
+    room = record { nodes = omega (arith, kept.limited.nodes); postings = λ b. omega (arith, kept.limited.postings b); begun = λ f. omega (arith, kept.limited.begun_within f); entries = omega (arith, kept.limited.entries); files = omega (arith, kept.limited.files); handles = omega (arith, kept.limited.handles) };
     flights = kept.limited.flights;
   };
   files = record { nodes = kept.files; given = kept.filed.given };

@@ -45,7 +45,7 @@ among_at (m ∷ ns) zero n within is = inl (sym is)
 among_at (m ∷ ns) (suc i) n within is = inr (among_at ns i n (omega arith) is)
 
 pub IsTakenBack-refl : (t : Nodes) (l : Postings) → IsTakenBack t l t l
-IsTakenBack-refl t l = record { living = refl; room = refl; limit = refl; postings = omega arith; grows = omega arith; entries = refl; births = refl; posting_room = omega arith; posting_limit = refl }
+IsTakenBack-refl t l = record { living = refl; room = refl; limit = refl; postings = omega arith; grows = omega arith; entries = refl; births = refl; posting_room = omega arith; whole = omega arith; places = refl; posting_limit = refl }
 
 pub IsTakenBack-trans : (a b c : Nodes) (l m n : Postings) → IsTakenBack a l b m → IsTakenBack b m c n → IsTakenBack a l c n
 IsTakenBack-trans a b c l m n first then = record {
@@ -57,5 +57,7 @@ IsTakenBack-trans a b c l m n first then = record {
   entries = then.entries ∙ first.entries;
   births = then.births ∙ first.births;
   posting_room = omega (arith, first.posting_room, then.posting_room);
+  whole = omega (arith, first.whole, then.whole);
+  places = then.places ∙ first.places;
   posting_limit = then.posting_limit ∙ first.posting_limit;
 }

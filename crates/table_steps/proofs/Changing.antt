@@ -127,7 +127,7 @@ module _ (s : State) (kept : IsKept s) (change : footprints.Change) (may : MayAl
         (ready_swept (at_in mid) (at_in new) s.flights s.files kept.flying kept.filed tree' swept mid_ready)
         (nodes_swept s.flights s.files kept.filed (at_in mid) (at_in new) swept (nodes_altered (files_of s.files).at (at_in s.tree) (at_in mid) it kept.files))
         (omega (arith, same.room, room)) (omega (arith, same.fewer, living)) (same.limit ∙ limit)
-        (omega (arith, same.counts, counts)) (omega (arith, same.counts, counts)) (totals_same s.ledger.made) refl
+        (omega (arith, same.counts, counts)) (omega arith) (omega arith) (omega (arith, same.counts, counts)) (totals_same s.ledger.made) refl
         (omega (arith, kept.counts, same.counts, counts))
 
     pub changes_names : ChangesNames (world_of s) change (world_of (record s { tree = new }))

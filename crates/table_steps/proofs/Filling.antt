@@ -185,14 +185,17 @@ module _ (s : State) (id : ℕ) (key : Key) (rest : List Key) (fill : MayFill s 
     postings = refl;
     room = record {
       nodes = omega (arith, fill.room.nodes);
-      postings = omega (arith, fill.room.postings);
+      births = omega (arith, fill.room.births);
+      postings = λ b. omega (arith, fill.room.postings b);
+      at_once = λ f. omega (arith, fill.room.at_once f);
       nodes_within = omega (arith, fill.room.nodes_within);
-      postings_within = omega (arith, fill.room.postings_within);
+      postings_within = λ b. omega (arith, fill.room.postings_within b);
       entries = omega (arith, fill.room.entries);
       files = omega (arith, fill.room.files);
       files_within = omega (arith, fill.room.files_within);
       handles = omega (arith, fill.room.handles);
     };
+    few = λ f. omega (arith, fill.few f);
   }
 
   pub fill_less : MayFill s id rest
@@ -204,14 +207,17 @@ module _ (s : State) (id : ℕ) (key : Key) (rest : List Key) (fill : MayFill s 
     leads = λ k h. fill.leads k (later_in key rest k h);
     room = record {
       nodes = omega (arith, fill.room.nodes);
-      postings = omega (arith, fill.room.postings);
+      births = omega (arith, fill.room.births);
+      postings = λ b. omega (arith, fill.room.postings b);
+      at_once = λ f. omega (arith, fill.room.at_once f);
       nodes_within = omega (arith, fill.room.nodes_within);
-      postings_within = omega (arith, fill.room.postings_within);
+      postings_within = λ b. omega (arith, fill.room.postings_within b);
       entries = omega (arith, fill.room.entries);
       files = omega (arith, fill.room.files);
       files_within = omega (arith, fill.room.files_within);
       handles = omega (arith, fill.room.handles);
     };
+    few = λ f. omega (arith, fill.few f);
   }
 
 -- the names of a page and their copies come one by one

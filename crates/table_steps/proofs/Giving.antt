@@ -8,7 +8,7 @@ use Rattle.tree.specs.Places.{Nodes, at_in, IsAlive, IsFree}
 use Rattle.table_files.specs.OpenEntry.{files_of}
 use Rattle.table_requests.specs.declared.data.RequestInFlight.{RequestInFlight as Recorded}
 use Rattle.table_requests.specs.declared.data.Given.{Given}
-use Rattle.table_requests.specs.RequestMaps.{RequestsInFlight as Recordeds, AreLawfulRequests, PinsMore, pinning}
+use Rattle.table_requests.specs.RequestMaps.{RequestsInFlight as Recordeds, AreLawfulRequests, PinsMore, pinning, most_posted}
 use Rattle.table_requests.specs.Listed.{InFlight, requests_of}
 use Rattle.table_steps.specs.Upheld.{IsUpheld}
 use Rattle.table_steps.specs.Keeping.{kept_by}
@@ -25,15 +25,16 @@ use Rattle.table_steps.proofs.Guarding.{entered_path, entered_way}
 use Rattle.table_steps.proofs.Kept.{held_ready, ready_where}
 use Rattle.table_steps.proofs.Lawful.{lawful_pins}
 use Rattle.table_steps.proofs.Viewed.{IsFewer, fewer_held, fewer_idle, fewer_provided, fewer_ready, flights_with}
+use Rattle.table_steps.proofs.Few.{few_with, one_pinned}
 
 module _ (s : State) (id : ℕ) (key : Key) (may : MayEnter s id (key ∷ [])) where
   mine : Contains (key ∷ []) key
   mine = first_in key []
 
   -- where no node stands at the name, one was promised
-  pub room_to_bear : IsFree (at_in s.tree) key.parent key.name → 0 < s.tree.room
+  pub room_to_bear : IsFree (at_in s.tree) key.parent key.name → (0 < s.tree.room) × (0 < s.ledger.places)
   room_to_bear free = elim may.births [
-    | inl one ↦ omega (arith, one, may.room.nodes)
+    | inl one ↦ (omega (arith, one, may.room.nodes), omega (arith, one, may.room.births))
     | inr named ↦ let it = named key mine in absurd (free it.0 it.1)
   ]
 
@@ -82,15 +83,20 @@ module _ (s : State) (id : ℕ) (key : Key) (may : MayEnter s id (key ∷ [])) w
           held = held_ready (at_in s.tree) (at_in tree) (flights_in (requests_of flights)) still_ready (fewer_held all (requests_of flights) fewer (at_in s.tree) kept.held);
           ready = still_ready;
           provided = fewer_provided all (requests_of flights) fewer kept.provided;
+          few = few_with s.limits all (requests_of flights) id (pinning may.flight g.number) pins.at kept.few (λ f. let one = one_pinned may.flight.stage may.flight.pins.numbers g.number may.answered in omega (arith, may.few f, one));
           reserved = record {
             nodes = omega (arith, pins.nodes, may.room.nodes, more.room, born_promised);
-            postings = omega (arith, pins.postings, may.room.postings, may.postings, more.counts, more.posting_room, entered.one);
+            births = omega (arith, pins.nodes, may.room.births, more.places, born_promised);
+            postings = λ b. omega (arith, pins.postings, may.room.postings b, may.postings, more.counts, more.posting_room, entered.one);
+            whole = λ f. omega (arith, kept.reserved.whole f, more.postings, more.posting_room);
             files = omega (arith, pins.files, kept.reserved.files);
           };
           limited = record {
             nodes = omega (arith, pins.nodes, may.room.nodes_within, more.living, born_promised);
-            postings = omega (arith, pins.postings, may.room.postings_within, may.postings, more.counts, more.postings, entered.one);
+            postings = λ b. omega (arith, pins.postings, may.room.postings_within b, may.postings, more.counts, more.postings, entered.one);
+            begun_within = λ f. omega (arith, pins.postings, kept.limited.begun_within f);
             entries = omega (arith, pins.postings, may.room.entries, may.postings, more.entries);
+            counted = omega (arith, kept.limited.counted, more.counts, more.entries);
             births = omega (arith, kept.limited.births, more.entries, more.births, entered.one);
             begun = omega (arith, kept.limited.begun, more.living, more.postings);
             flights = omega (arith, pins.many, kept.limited.flights);
@@ -137,12 +143,18 @@ module _ (s : State) (id : ℕ) (key : Key) (may : MayEnter s id (key ∷ [])) w
               record { names = up.names; climb = entered_way (at_in s.tree) s.ledger.made key.parent key.name g (at_in tree) ledger.made enters k.parent up.names up.climb };
           room = record {
             nodes = omega (arith, pins.nodes, fill.room.nodes, more.room, entered.one);
-            postings = omega (arith, pins.postings, fill.room.postings, more.counts, more.posting_room, entered.one);
+            births = omega (arith, pins.nodes, fill.room.births, more.places, entered.one);
+            postings = λ b. omega (arith, pins.postings, fill.room.postings b, more.counts, more.posting_room, entered.one);
+            at_once = λ f. omega (arith, fill.room.at_once f, more.posting_room, entered.one);
             nodes_within = omega (arith, pins.nodes, fill.room.nodes_within, more.living, entered.one);
-            postings_within = omega (arith, pins.postings, fill.room.postings_within, more.counts, more.postings, entered.one);
+            postings_within = λ b. omega (arith, pins.postings, fill.room.postings_within b, more.counts, more.postings, entered.one);
             entries = omega (arith, pins.postings, fill.room.entries, more.entries);
             files = omega (arith, pins.files, fill.room.files);
             files_within = omega (arith, pins.files, fill.room.files_within);
             handles = omega (arith, pins.files, fill.room.handles);
           };
+          few = λ f.
+              let one = one_pinned may.flight.stage may.flight.pins.numbers g.number may.answered in
+              let is = ap (λ (r : Recorded). most_posted r.stage r.pins.numbers) same in
+              omega (arith, fill.few f, one, is);
         }

@@ -106,19 +106,28 @@ paths_written at n x c stood m q h = reaches_now at n x (record x { count = c })
 pub kept_changed : (s : State) (tree : Nodes) (ledger : Postings) (counts : ℕ) → IsKept s
     → IsUpheld (at_in tree) ledger.made (kept_by s.flights s.files) → AreReady (at_in tree) (flights_in (requests_of s.flights)) → HaveNodes (at_in tree) (files_of s.files).at
     → s.tree.room ≤ tree.room → tree.living ≤ s.tree.living → tree.limit ≡ s.tree.limit
-    → s.ledger.room + tree.counts ≤ ledger.room + s.tree.counts → length ledger.made.last + tree.counts ≤ length s.ledger.made.last + s.tree.counts → IsSameTotals s.ledger.made ledger.made → ledger.limit ≡ s.ledger.limit → counts ≡ tree.counts
+    → s.ledger.room + tree.counts ≤ ledger.room + s.tree.counts → length s.ledger.made.last + s.ledger.room ≤ length ledger.made.last + ledger.room → s.ledger.places ≤ ledger.places → length ledger.made.last + tree.counts ≤ length s.ledger.made.last + s.tree.counts → IsSameTotals s.ledger.made ledger.made → ledger.limit ≡ s.ledger.limit → counts ≡ tree.counts
     → IsKept (record s { tree = tree; ledger = ledger; counts = counts })
-kept_changed s tree ledger counts kept law ready nodes room living limit posting_room made totals posting_limit same = record {
+kept_changed s tree ledger counts kept law ready nodes room living limit posting_room whole places made totals posting_limit same = record {
   law = law;
   flying = kept.flying;
   held = held_ready (at_in s.tree) (at_in tree) (flights_in (requests_of s.flights)) ready kept.held;
   ready = ready;
   provided = kept.provided;
-  reserved = record { nodes = omega (arith, kept.reserved.nodes); postings = omega (arith, kept.reserved.postings); files = kept.reserved.files };
+  few = kept.few;
+  reserved = record {
+    nodes = omega (arith, kept.reserved.nodes);
+    births = omega (arith, kept.reserved.births, places);
+    postings = λ b. omega (arith, kept.reserved.postings b);
+    whole = λ f. omega (arith, kept.reserved.whole f, whole);
+    files = kept.reserved.files;
+  };
   limited = record {
     nodes = omega (arith, kept.limited.nodes);
-    postings = omega (arith, kept.limited.postings, made);
+    postings = λ b. omega (arith, kept.limited.postings b, made);
+    begun_within = kept.limited.begun_within;
     entries = omega (arith, kept.limited.entries, totals.entries);
+    counted = omega (arith, kept.limited.counted, totals.entries, made, totals.grows);
     births = omega (arith, kept.limited.births, totals.entries, totals.births);
     begun = omega (arith, kept.limited.begun, totals.grows);
     flights = kept.limited.flights;
@@ -146,9 +155,9 @@ module _ (s : State) (kept : IsKept s) (number : ℕ) (x : Node) (stood : at_in 
   }
 
   module _ (ledger : Postings) (new : Nodes) (made : ledger.made ≡ posted s.ledger.made (Forget number x.generation amount)) (swept : IsSwept (kept_by s.flights s.files) (at_in tree) (at_in new)) where
-    pub forget_kept : ledger.limit ≡ s.ledger.limit → s.ledger.room ≤ ledger.room + 1 → IsPruned (at_in new) (kept_by s.flights s.files) [] → IsSameRest tree new
+    pub forget_kept : ledger.limit ≡ s.ledger.limit → ledger.room + 1 ≡ s.ledger.room → s.ledger.places ≤ ledger.places → IsPruned (at_in new) (kept_by s.flights s.files) [] → IsSameRest tree new
         → IsKept (record s { tree = new; ledger = ledger; counts = s.counts - amount })
-    forget_kept limit room pruned rest =
+    forget_kept limit room places pruned rest =
         let all = requests_of s.flights in
         let w = written s.tree tree number x (record x { count = x.count - amount }) writes in
         let one = posts_one s.ledger.made ledger.made (Forget number x.generation amount) made in
@@ -163,7 +172,7 @@ module _ (s : State) (kept : IsKept s) (number : ℕ) (x : Node) (stood : at_in 
         (ready_swept (at_in tree) (at_in new) s.flights s.files kept.flying kept.filed pruned.tree swept left)
         (nodes_swept s.flights s.files kept.filed (at_in tree) (at_in new) swept nodes)
         (omega (arith, rest.room, w.room)) (omega (arith, rest.fewer, w.living)) (rest.limit ∙ w.limit)
-        (omega (arith, writes.counts, rest.counts)) (omega (arith, writes.counts, rest.counts, one.count)) (record { grows = omega (arith, one.count); entries = omega (arith, one.entries); births = omega (arith, one.births) }) limit
+        (omega (arith, writes.counts, rest.counts)) (omega (arith, room, one.count)) places (omega (arith, writes.counts, rest.counts, one.count)) (record { grows = omega (arith, one.count); entries = omega (arith, one.entries); births = omega (arith, one.births) }) limit
         (omega (arith, writes.counts, rest.counts, kept.counts))
 
     pub takes : HaveReasons (at_in new) (kept_by s.flights s.files) → Takes (world_of s) number amount x (world_of (record s { tree = new; ledger = ledger; counts = s.counts - amount }))

@@ -1,4 +1,5 @@
 pub mod Remaining
+mod Few
 mod Filing
 pub mod Staying
 mod Following

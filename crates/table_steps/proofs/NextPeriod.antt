@@ -1,6 +1,6 @@
 -- The law after the end of a period.
 use Rattle.std.proofs.Common.{ℕ, suc, zero, ◌+◌, ◌<◌, ◌≤◌, ◌≡◌, ◌≢◌, ◌⊎◌, inl, inr, Bool, true, false, List, [], ◌∷◌, Option, Some, None, is_some, All, AllPairs, Contains, length, get_or, map, take, refl, sym, ap, ◌∙◌, subst, length-take, arith}
-use Rattle.std.specs.Prelude.{option_map, sum_by, unwrap_or}
+use Rattle.std.specs.Prelude.{option_map, sum_by, unwrap_or, nat_eq}
 use Rattle.std.proofs.lemmas.Bool.{cases_eq, false≢true}
 use Rattle.std.proofs.lemmas.List.{get_or-map, get_or-take, length-map, take-map}
 use Rattle.std.proofs.lemmas.List.Elements.{All-contains, All-head, All-map, All-same, All-tail, Contains-get_or}
@@ -22,9 +22,13 @@ use Rattle.tree.specs.declared.nodes.Node.{Node}
 use Rattle.tree.specs.Places.{Lookup, IsAlive, IsCensus}
 use Rattle.tree.proofs.LookupLemmas.{cases_option}
 use Rattle.table_image.specs.Law.{IsBegun, IsOrdered, MayOpen, MayStand}
-use Rattle.table_steps.specs.Living.{AreLiving, IsLivingUpTo}
+use Rattle.table_steps.specs.Living.{AreLiving, IsLivingUpTo, AreLivingUpTo, opening_at}
 use Rattle.table_steps.specs.Steps.{AreOpenings, IsOpeningOf}
 use Rattle.table_steps.specs.Upheld.{IsBooked, IsUpheld}
+use Rattle.std.specs.Set.{is_member}
+use Rattle.std.specs.Cmp.{nat_eq_equiv}
+use Rattle.std.proofs.lemmas.Bool.Decides.{Decides-eqb}
+use Rattle.std.proofs.lemmas.Map.Made.{IsDistinct-from_AllPairs, is_member-Decides, length-le_from_is_member}
 
 module _ (at : Lookup) (pairs : List (ℕ × ℕ)) (living : AreLiving at pairs) where
   -- each number once
@@ -66,6 +70,19 @@ module _ (at : Lookup) where
       let one = weighs_one a.0 first.node first.here in
       omega (arith, one, weigh_all last pairs (All-tail (IsLivingUpTo at last) a pairs each), sum_by-cons weight a.0 (map number_in pairs))
 
+  abbrev one_if_alive : Option Node → ℕ
+  one_if_alive o = unwrap_or (option_map (λ (x : Node). 1) o) 0
+
+  weighs_alive : (o : Option Node) → is_some o ≡ true → one_if_alive o ≡ 1
+  weighs_alive None some = absurd (false≢true some)
+  weighs_alive (Some x) some = refl
+
+  weigh_keys : (ks : List ℕ) → All (λ k. is_some (at k) ≡ true) ks → sum_by weight ks ≡ length ks
+  weigh_keys [] each = refl
+  weigh_keys (k ∷ ks) each =
+      let one = weighs_alive (at k) (All-head (λ j. is_some (at j) ≡ true) k ks each) in
+      omega (arith, one, weigh_keys ks (All-tail (λ j. is_some (at j) ≡ true) k ks each), sum_by-cons weight k ks)
+
 number_at : (pairs : List (ℕ × ℕ)) (i d : ℕ) → i < length pairs → get_or (map number_in pairs) i d ≡ (get_or pairs i (0, 0)).0
 number_at pairs i d within = get_or-map number_in pairs i (0, 0) d within
 
@@ -77,7 +94,7 @@ pair_of pairs n (k, within, is) =
     let inside : k < length pairs = omega (arith, within, length-map pairs number_in) in
     (get_or pairs k (0, 0), Contains-get_or pairs k (0, 0) inside, sym (number_at pairs k n inside) ∙ is)
 
-module _ (at : Lookup) (pairs : List (ℕ × ℕ)) (living : AreLiving at pairs) (root : IsAlive at 1) where
+module _ (at : Lookup) (last : ℕ) (pairs : List (ℕ × ℕ)) (up_to : AreLivingUpTo at last pairs) (root : IsAlive at 1) where
   abbrev keys : List ℕ
   keys = 1 ∷ map number_in pairs
 
@@ -85,11 +102,11 @@ module _ (at : Lookup) (pairs : List (ℕ × ℕ)) (living : AreLiving at pairs)
   keys_apart = AllPairs-cons (λ (j k : ℕ). j ≢ k) 1 (map number_in pairs)
       (λ i d within same.
       let inside : i < length pairs = omega (arith, within, length-map pairs number_in) in
-      let it = living.up_to.each i (0, 0) inside in
+      let it = up_to.each i (0, 0) inside in
       omega (arith, it.not_root, same, number_at pairs i d inside))
       (λ i j d before within same.
       let inside : j < length pairs = omega (arith, within, length-map pairs number_in) in
-      let less = living.up_to.rising i j (0, 0) before inside in
+      let less = up_to.rising i j (0, 0) before inside in
       omega (arith, less, same, number_at pairs i d (omega arith), number_at pairs j d inside))
 
   key_lives : (k : ℕ) → Contains keys k → IsAlive at k
@@ -97,22 +114,35 @@ module _ (at : Lookup) (pairs : List (ℕ × ℕ)) (living : AreLiving at pairs)
     | inl first ↦ subst (IsAlive at) first root
     | inr later ↦
         let it = pair_of pairs k later in
-        let lives = living_node at pairs living it.0.0 it.0.1 it.1 in
+        let lives = All-contains (IsLivingUpTo at last) pairs it.0 up_to.each it.1 in
         subst (IsAlive at) it.2 (lives.node, lives.here)
   ]
 
-  key_there : (k : ℕ) (x : Node) → at k ≡ Some x → Contains keys k
+  is_alive : (k : ℕ) → Contains keys k → is_some (at k) ≡ true
+  is_alive k there = let it = key_lives k there in ap (λ (o : Option Node). is_some o) it.1
+
+  -- no more than all nodes but the root
+  pub up_to_count : (total counts : ℕ) → IsCensus at total counts → length pairs + 1 ≤ total
+  up_to_count total counts census =
+      let all = census.living_is in
+      let member : (q : ℕ) → is_member nat_eq keys q ≡ true → is_member nat_eq all.keys q ≡ true = λ q h. (is_member-Decides Decides-eqb all.keys q).1 ((all.exact q).1 (is_alive q ((is_member-Decides Decides-eqb keys q).0 h))) in
+      let fewer : length keys ≤ length all.keys = length-le_from_is_member nat_eq_equiv keys all.keys (IsDistinct-from_AllPairs Decides-eqb keys keys_apart) member in
+      let each : All (λ k. is_some (at k) ≡ true) all.keys = λ i d within. (all.exact (get_or all.keys i d)).0 (Contains-get_or all.keys i d within) in
+      omega (arith, fewer, all.total_is, weigh_keys at all.keys each, length-map pairs number_in)
+
+module _ (at : Lookup) (pairs : List (ℕ × ℕ)) (living : AreLiving at pairs) (root : IsAlive at 1) where
+  key_there : (k : ℕ) (x : Node) → at k ≡ Some x → Contains (keys at living.last pairs living.up_to root) k
   key_there k x here = elim (cases_eq k 1) [
-    | inl e ↦ subst (Contains keys) (sym e) (first_in 1 (map number_in pairs))
+    | inl e ↦ subst (Contains (keys at living.last pairs living.up_to root)) (sym e) (first_in 1 (map number_in pairs))
     | inr other ↦ later_in 1 (map number_in pairs) k (numbered pairs k x.generation (living_there at pairs living k x here other))
   ]
 
   living_sum : IsSum at (λ (x : Node). 1) (length pairs + 1)
   living_sum = record {
-    keys = keys;
-    apart = keys_apart;
+    keys = keys at living.last pairs living.up_to root;
+    apart = keys_apart at living.last pairs living.up_to root;
     exact = λ k. (
-      λ there. let it = key_lives k there in ap (λ (o : Option Node). is_some o) it.1,
+      λ there. is_alive at living.last pairs living.up_to root k there,
       λ some. elim (cases_option (at k)) [
         | inl none ↦ absurd (false≢true (sym (ap (λ (o : Option Node). is_some o) none) ∙ some))
         | inr (x, here) ↦ key_there k x here
@@ -148,6 +178,19 @@ module _ (at : Lookup) (old : Periods) (kept : ℕ → Bool) (pairs : List (ℕ 
 
   pub all_alive : AreAllAlive old pairs
   all_alive = record { once = living_once at pairs living; others = others_settled }
+
+  opened_where : (rest : List (ℕ × ℕ)) → All (IsLivingUpTo at living.last) rest → map (opening_at at) rest ≡ map (opening_of old) rest
+  opened_where [] each = refl
+  opened_where (a ∷ rest) each =
+      let it = All-head (IsLivingUpTo at living.last) a rest each in
+      let count : unwrap_or (option_map (λ (x : Node). x.count) (at a.0)) 0 ≡ it.node.count = ap (λ (o : Option Node). unwrap_or (option_map (λ (x : Node). x.count) o) 0) it.here in
+      let was = law.booked.counted.counts a.0 it.node it.here in
+      let left : it.node.count ≡ count_of a.0 a.1 old = subst (λ (g : ℕ). it.node.count ≡ count_of a.0 g old) it.generation (omega (arith, was)) in
+      ap (λ (k : ℕ). Opening a.0 a.1 k ∷ map (opening_at at) rest) (count ∙ left) ∙ ap (λ (ps : List Posting). opening_of old a ∷ ps) (opened_where rest (All-tail (IsLivingUpTo at living.last) a rest each))
+
+  -- the nodes have what is left
+  pub opened_same : map (opening_at at) pairs ≡ map (opening_of old) pairs
+  opened_same = opened_where pairs living.up_to.each
 
   module _ (new : Periods) (closes : Closes old pairs new) (carried : IsCarriedOver new) where
     count_stays : (n : ℕ) (x : Node) → at n ≡ Some x → n ≢ 1 → count_of n x.generation old ≡ x.count

@@ -38,11 +38,20 @@ module _ (s : State) (kept : IsKept s) (handle : Option ℕ) (tree : Nodes) (fil
     held = held_ready (at_in s.tree) (at_in tree) (flights_in (requests_of s.flights)) still_ready kept.held;
     ready = still_ready;
     provided = kept.provided;
-    reserved = record { nodes = omega (arith, kept.reserved.nodes, rest.room); postings = omega (arith, kept.reserved.postings, rest.counts); files = omega (arith, kept.reserved.files, closed.room) };
+    few = kept.few;
+    reserved = record {
+      nodes = omega (arith, kept.reserved.nodes, rest.room);
+      births = kept.reserved.births;
+      postings = λ b. omega (arith, kept.reserved.postings b, rest.counts);
+      whole = kept.reserved.whole;
+      files = omega (arith, kept.reserved.files, closed.room);
+    };
     limited = record {
       nodes = omega (arith, kept.limited.nodes, rest.fewer);
-      postings = omega (arith, kept.limited.postings, rest.counts);
+      postings = λ b. omega (arith, kept.limited.postings b, rest.counts);
+      begun_within = kept.limited.begun_within;
       entries = kept.limited.entries;
+      counted = omega (arith, kept.limited.counted, rest.counts);
       births = kept.limited.births;
       begun = omega (arith, kept.limited.begun, rest.fewer);
       flights = kept.limited.flights;

@@ -1,5 +1,5 @@
 -- A file is opened: what is kept, and what the end of a request is with it.
-use Rattle.std.proofs.Common.{ℕ, ◌+◌, ◌≡◌, ◌==◌, ◌||◌, Bool, true, false, Option, Some, None, refl, sym, ap, ◌∙◌, subst, inl, inr, arith}
+use Rattle.std.proofs.Common.{ℕ, ◌+◌, ◌≡◌, ◌==◌, ◌||◌, Bool, true, false, Option, Some, None, refl, sym, ap, ◌∙◌, subst, inl, inr, arith, ◌≤◌}
 use Rattle.std.proofs.lemmas.Bool.{cases_Bool, cases_eq, cond-false, cond-true, eq-eqb, eqb-true, ne_eqb, or_cases, or_left, or_right, true≢false}
 use Rattle.std.proofs.lemmas.Option.{none-some, same_Some}
 use Rattle.table_files.specs.declared.data.Access.{Access}
@@ -15,7 +15,7 @@ use Rattle.std.proofs.Common.{Contains, List}
 use Rattle.table_requests.specs.declared.data.RequestInFlight.{RequestInFlight as Recorded}
 use Rattle.table_requests.specs.declared.data.Stage.{Stage as Recording}
 use Rattle.table_requests.specs.declared.data.Stage.TheVariants as recorded
-use Rattle.table_requests.specs.RequestMaps.{AreLawfulRequests, Notes, is_working, opening, with_opened}
+use Rattle.table_requests.specs.RequestMaps.{AreLawfulRequests, Notes, is_working, opening, with_opened, most_posted}
 use Rattle.table_requests.specs.Listed.{InFlight, requests_of}
 use Rattle.table_footprints.specs.Asked.{IsThere}
 use Rattle.table_footprints.specs.Footprints.{Opening}
@@ -32,6 +32,7 @@ use Rattle.table_steps.proofs.Filing.{cases_kept, keeps_open, keeps_pinned, kept
 use Rattle.table_steps.proofs.Lawful.{lawful_pins}
 use Rattle.table_steps.proofs.Reasons.{reasons_kept}
 use Rattle.table_steps.proofs.Viewed.{IsFewer, fewer_held, fewer_idle, fewer_provided, fewer_ready}
+use Rattle.table_steps.proofs.Few.{few_with}
 
 -- ---- one file more
 
@@ -72,11 +73,14 @@ module _ (s : State) (files : Filing) (number : ℕ) (node : Node) (access : Acc
     held = kept.held;
     ready = kept.ready;
     provided = kept.provided;
-    reserved = record { nodes = kept.reserved.nodes; postings = kept.reserved.postings; files = omega (arith, room.room, ap (λ (o : Opened). o.room) is) };
+    few = kept.few;
+    reserved = record { nodes = kept.reserved.nodes; births = kept.reserved.births; postings = kept.reserved.postings; whole = kept.reserved.whole; files = omega (arith, room.room, ap (λ (o : Opened). o.room) is) };
     limited = record {
       nodes = kept.limited.nodes;
       postings = kept.limited.postings;
+      begun_within = kept.limited.begun_within;
       entries = kept.limited.entries;
+      counted = kept.limited.counted;
       births = kept.limited.births;
       begun = kept.limited.begun;
       flights = kept.limited.flights;
@@ -93,11 +97,15 @@ module _ (s : State) (files : Filing) (number : ℕ) (node : Node) (access : Acc
 
 -- ---- who opened it notes it
 
+posted_noted : (st : Recording) (pins : List ℕ) (handle : ℕ) → most_posted (with_opened st handle) pins ≡ most_posted st pins
+posted_noted (recorded.Working work) pins handle = refl
+posted_noted (recorded.Answered before opened) pins handle = refl
+
 working_noted : (st : Recording) (handle : ℕ) → is_working (with_opened st handle) ≡ is_working st
 working_noted (recorded.Working work) handle = refl
 working_noted (recorded.Answered before opened) handle = refl
 
-module _ (s : State) (kept : IsKept s) (flights : InFlight) (id handle : ℕ) (x : Recorded) (ended : is_working x.stage ≡ false) (notes : Notes (requests_of s.flights) id x handle (requests_of flights)) (law : AreLawfulRequests (requests_of flights)) where
+module _ (s : State) (kept : IsKept s) (flights : InFlight) (id handle : ℕ) (x : Recorded) (here : (requests_of s.flights).at id ≡ Some x) (ended : is_working x.stage ≡ false) (notes : Notes (requests_of s.flights) id x handle (requests_of flights)) (law : AreLawfulRequests (requests_of flights)) where
   fewer : IsFewer (requests_of s.flights) (requests_of flights)
   fewer = fewer_idle (requests_of s.flights) (requests_of flights) id (opening x handle) notes.at (working_noted x.stage handle ∙ ended)
 
@@ -108,11 +116,20 @@ module _ (s : State) (kept : IsKept s) (flights : InFlight) (id handle : ℕ) (x
     held = fewer_held (requests_of s.flights) (requests_of flights) fewer (at_in s.tree) kept.held;
     ready = fewer_ready (requests_of s.flights) (requests_of flights) fewer (at_in s.tree) kept.ready;
     provided = fewer_provided (requests_of s.flights) (requests_of flights) fewer kept.provided;
-    reserved = record { nodes = omega (arith, notes.nodes, kept.reserved.nodes); postings = omega (arith, notes.postings, kept.reserved.postings); files = omega (arith, notes.files, kept.reserved.files) };
+    few = few_with s.limits (requests_of s.flights) (requests_of flights) id (opening x handle) notes.at kept.few (λ free. subst (λ (k : ℕ). s.limits.nodes + k ≤ s.limits.postings) (sym (posted_noted x.stage x.pins.numbers handle)) (kept.few free id x here));
+    reserved = record {
+      nodes = omega (arith, notes.nodes, kept.reserved.nodes);
+      births = omega (arith, notes.nodes, kept.reserved.births);
+      postings = λ b. omega (arith, notes.postings, kept.reserved.postings b);
+      whole = kept.reserved.whole;
+      files = omega (arith, notes.files, kept.reserved.files);
+    };
     limited = record {
       nodes = omega (arith, notes.nodes, kept.limited.nodes);
-      postings = omega (arith, notes.postings, kept.limited.postings);
+      postings = λ b. omega (arith, notes.postings, kept.limited.postings b);
+      begun_within = λ f. omega (arith, notes.postings, kept.limited.begun_within f);
       entries = omega (arith, notes.postings, kept.limited.entries);
+      counted = kept.limited.counted;
       births = kept.limited.births;
       begun = kept.limited.begun;
       flights = omega (arith, notes.many, kept.limited.flights);

@@ -1,5 +1,5 @@
 -- What a request whose work has ended may do: each node that it names has a path, and no other holds its names exclusively.
-use Rattle.std.proofs.Common.{ℕ, ◌*◌, ◌≡◌, ◌==◌, if◌then◌else◌, Bool, true, false, List, [], ◌∷◌, All, Contains, Option, Some, None, length, reverse, refl, sym, ap, ◌∙◌, subst, ◌⊎◌, inl, inr, arith}
+use Rattle.std.proofs.Common.{ℕ, ◌*◌, ◌≡◌, ◌==◌, if◌then◌else◌, Bool, true, false, List, [], ◌∷◌, All, Contains, Option, Some, None, length, reverse, refl, sym, ap, ◌∙◌, subst, ◌⊎◌, inl, inr, arith, ◌≤◌, ◌+◌}
 use Rattle.std.specs.Prelude.{map, option_map}
 use Rattle.std.proofs.lemmas.Bool.{false≢true, true≢false}
 use Rattle.std.proofs.lemmas.List.{length-map}
@@ -19,7 +19,7 @@ use Rattle.table_requests.specs.declared.data.Want.{Want}
 use Rattle.table_requests.specs.declared.data.Want.TheVariants as wants
 use Rattle.table_requests.specs.declared.data.Work.{Work as RecordedWork}
 use Rattle.table_requests.specs.Listed.{requests_of}
-use Rattle.table_requests.specs.RequestMaps.{is_working}
+use Rattle.table_requests.specs.RequestMaps.{is_working, most_posted}
 use Rattle.tree.specs.declared.nodes.Key.{Key}
 use Rattle.tree.specs.Places.{Lookup, IsNamed, IsPathOf, Leads, at_in}
 use Rattle.table_footprints.specs.Asked.{Holds, IsPrefixAt, promise_of}
@@ -37,6 +37,9 @@ use Rattle.table_steps.specs.Steps.{HoldsUp, HasExclusiveHolder, opened_alone}
 use Rattle.table_steps.specs.World.{RequestsInFlight, IsStanding}
 use Rattle.table_steps.proofs.Guarding.{not_empty}
 use Rattle.table_steps.proofs.Viewed.{are_kept}
+use Rattle.table_steps.proofs.Few.{none_dropped}
+use Rattle.table_steps.specs.declared.data.Counts.TheVariants.{Free}
+use Rattle.table_requests.specs.declared.data.Stage.{Stage as Recording}
 
 -- ---- footprints
 
@@ -204,6 +207,13 @@ module _ (s : State) (id : ℕ) (work : RecordedWork) (kept : IsKept s) (e : IsE
     | inr all ↦ inr (λ key h. let it = All-contains (IsStanding (at_in s.tree) (flight_of e.flight)) footprint.entries key all h in (it.number, it.named))
   ]
 
+  -- none was given yet, and three postings were promised for each
+  pub entries_few : s.limits.counts ≡ Free → s.limits.nodes + most_posted e.flight.stage e.flight.pins.numbers + length footprint.entries ≤ s.limits.postings
+  entries_few f =
+      let postings : work.promise.postings ≡ 3 * length footprint.entries = ap (λ (p : Promise). p.postings) promised in
+      let none : most_posted e.flight.stage e.flight.pins.numbers ≡ 0 = ap (λ (st : Recording). most_posted st e.flight.pins.numbers) e.answered ∙ none_dropped e.flight.pins.numbers in
+      omega (arith, e.few f, postings, none)
+
   abbrev pub may_enter : MayEnter s id footprint.entries
   may_enter = record {
     flight = e.flight;
@@ -215,6 +225,7 @@ module _ (s : State) (id : ℕ) (work : RecordedWork) (kept : IsKept s) (e : IsE
     births = elim entries_standing [ inl one ↦ inl (ap (λ (p : Promise). p.nodes) promised ∙ one) | inr all ↦ inr all ];
     postings = ap (λ (p : Promise). p.postings) promised;
     room = e.room;
+    few = entries_few;
   }
 
   pub are_unowned : footprint.page ≡ false → AreUnowned s footprint.entries
@@ -232,14 +243,17 @@ module _ (s : State) (id : ℕ) (work : RecordedWork) (kept : IsKept s) (e : IsE
         leads = λ key h. given_leads (at_in s.tree) footprint work.held e.ready.holds key.parent (entries_under work.want work.case key h);
         room = record {
           nodes = omega (arith, nodes, e.room.nodes);
-          postings = omega (arith, postings, e.room.postings);
+          births = omega (arith, nodes, e.room.births);
+          postings = λ b. omega (arith, postings, e.room.postings b);
+          at_once = λ f. omega (arith, postings, e.room.at_once f);
           nodes_within = omega (arith, nodes, e.room.nodes_within);
-          postings_within = omega (arith, postings, e.room.postings_within);
+          postings_within = λ b. omega (arith, postings, e.room.postings_within b);
           entries = omega (arith, postings, e.room.entries);
           files = omega (arith, e.room.files);
           files_within = omega (arith, e.room.files_within);
           handles = omega (arith, e.room.handles);
         };
+        few = entries_few;
       }
 
   pub folder_leads : (n : ℕ) → Contains (folders_of footprint) n → LeadsTo (at_in s.tree) work.held.given n

@@ -1,5 +1,5 @@
 -- What the end of a request leaves.
-use Rattle.std.proofs.Common.{ℕ, ◌-◌, ◌≡◌, ◌==◌, Bool, true, false, List, [], ◌∷◌, drop, Option, None, sym, ap, ◌∙◌, subst, ◌⊎◌, inl, inr, arith}
+use Rattle.std.proofs.Common.{ℕ, ◌-◌, ◌≡◌, ◌==◌, Bool, true, false, List, [], ◌∷◌, drop, Option, None, sym, ap, ◌∙◌, subst, ◌⊎◌, inl, inr, arith, ◌+◌, ◌≤◌, length, refl}
 use Rattle.std.specs.Prelude.{option_map}
 use Rattle.std.specs.List.{list_any}
 use Rattle.std.proofs.lemmas.Option.{same_Some}
@@ -15,7 +15,7 @@ use Rattle.table_requests.specs.Roomy.{Pinned}
 use Rattle.table_files.specs.OpenEntry.{Filing, files_of}
 use Rattle.table_files.specs.Handles.{Files}
 use Rattle.table_requests.specs.declared.data.Given.{Given}
-use Rattle.table_requests.specs.RequestMaps.{RequestMaps, AreLawfulRequests, Goes, HasNoneAnswered, is_working}
+use Rattle.table_requests.specs.RequestMaps.{RequestMaps, AreLawfulRequests, Goes, HasNoneAnswered, is_working, most_posted, most_posted_by}
 use Rattle.table_requests.specs.Listed.{InFlight, requests_of}
 use Rattle.table_steps.specs.Keeping.{kept_by}
 use Rattle.table_steps.specs.declared.state.State.{State}
@@ -33,6 +33,10 @@ use Rattle.table_steps.proofs.Kept.{KeepsAllPaths, held_ready, paths_written, re
 use Rattle.table_steps.proofs.Lawful.{booked_of, lawful_swept}
 use Rattle.table_steps.proofs.Reasons.{HaveReasons-none, HaveReasons-some, HaveReasons-unpin, IsSwept-trans, IsSameRest-trans}
 use Rattle.table_steps.proofs.Viewed.{IsFewer, are_kept, fewer_held, fewer_provided, fewer_ready, fewer_without, flights_without, found_in}
+use Rattle.table_steps.proofs.Few.{few_without}
+use Rattle.std.proofs.lemmas.List.{length-drop}
+use Rattle.table_steps.specs.declared.data.Counts.{Counts}
+use Rattle.table_steps.specs.declared.data.Counts.TheVariants.{Bounded, Free}
 
 -- what a stage says of a request that is answered
 abbrev before_in : Stage → ℕ
@@ -57,6 +61,14 @@ paths_back [] at new ps qs h n q leads = subst (λ a. IsPathOf a n q) (sym h.0) 
 paths_back (m ∷ ns) at new ps qs (mid, ms, inl back, rest) n q leads =
     paths_back ns mid new ms qs rest n q (subst (λ a. IsPathOf a n q) (sym back.nodes) (paths_written at m back.node (back.node.count - 1) back.here n q leads))
 paths_back (m ∷ ns) at new ps qs (mid, ms, inr none, rest) n q leads = paths_back ns mid new ms qs rest n q (subst (λ a. IsPathOf a n q) (sym none.nodes) leads)
+
+cases_counts : (counts : Counts) → (counts ≡ Bounded) ⊎ (counts ≡ Free)
+cases_counts Bounded = inl refl
+cases_counts Free = inr refl
+
+untaken_within : (taken : Bool) (given : List ℕ) → length (untaken_of taken given) ≤ length given
+untaken_within true given = omega arith
+untaken_within false given = omega arith
 
 module _ (s : State) (kept : IsKept s) (flights : InFlight) (id : ℕ) (ended : Ended) (goes : Goes (requests_of s.flights) id ended (requests_of flights)) (law : AreLawfulRequests (requests_of flights)) where
   abbrev pins : List ℕ
@@ -83,6 +95,20 @@ module _ (s : State) (kept : IsKept s) (flights : InFlight) (id : ℕ) (ended : 
           reasons = HaveReasons-unpin (at_in s.tree) old new [] pins gone (λ m h. absurd h) (HaveReasons-some (at_in s.tree) old [] kept.law.reasons);
         };
       }
+
+  -- there is room for what goes back: for all counts, or for what it gave
+  pub settle_room : (from : ℕ) (taken : Bool) → drop from pins ≡ untaken_of taken (drop ended.before pins) → (s.limits.counts ≡ Free → most_posted_by ((requests_of s.flights).at id) ≤ s.ledger.room)
+      → (s.tree.counts ≤ s.ledger.room) ⊎ (length pins ≤ s.ledger.room + from)
+  settle_room from taken some room = elim (cases_counts s.limits.counts) [
+    | inl bounded ↦ inl (omega (arith, kept.reserved.postings bounded))
+    | inr free ↦
+        let enough = room free in
+        let is : most_posted_by ((requests_of s.flights).at id) ≡ most_posted goes.flight.stage goes.flight.pins.numbers = ap most_posted_by goes.here in
+        let most : most_posted goes.flight.stage goes.flight.pins.numbers ≡ length (drop ended.before goes.flight.pins.numbers) = ap (λ (st : Recording). most_posted st goes.flight.pins.numbers) goes.answered in
+        let same : length (drop ended.before pins) ≡ length (drop ended.before goes.flight.pins.numbers) = ap (λ (p : Pinned). length (drop ended.before p.numbers)) goes.pins in
+        let left : length pins - from ≡ length (untaken_of taken (drop ended.before pins)) = sym (length-drop from pins) ∙ ap length some in
+        inr (omega (arith, enough, is, most, same, left, untaken_within taken (drop ended.before pins)))
+  ]
 
   fewer : IsFewer (requests_of s.flights) (requests_of flights)
   fewer = fewer_without (requests_of s.flights) (requests_of flights) id goes.at
@@ -118,11 +144,20 @@ module _ (s : State) (kept : IsKept s) (flights : InFlight) (id : ℕ) (ended : 
           held = held_ready (at_in s.tree) (at_in new) (flights_in (requests_of flights)) still_ready (fewer_held all (requests_of flights) fewer (at_in s.tree) kept.held);
           ready = still_ready;
           provided = fewer_provided all (requests_of flights) fewer kept.provided;
-          reserved = record { nodes = omega (arith, kept.reserved.nodes, goes.nodes, rest.room, after.room); postings = omega (arith, kept.reserved.postings, goes.postings, rest.posting_room, after.counts); files = omega (arith, kept.reserved.files, goes.files, closed.room) };
+          few = few_without s.limits all (requests_of flights) id goes.at kept.few;
+          reserved = record {
+            nodes = omega (arith, kept.reserved.nodes, goes.nodes, rest.room, after.room);
+            births = omega (arith, kept.reserved.births, goes.nodes, rest.places);
+            postings = λ b. omega (arith, kept.reserved.postings b, goes.postings, rest.posting_room, after.counts);
+            whole = λ f. omega (arith, kept.reserved.whole f, rest.whole);
+            files = omega (arith, kept.reserved.files, goes.files, closed.room);
+          };
           limited = record {
             nodes = omega (arith, kept.limited.nodes, goes.nodes, rest.living, after.fewer);
-            postings = omega (arith, kept.limited.postings, goes.postings, rest.postings, after.counts);
+            postings = λ b. omega (arith, kept.limited.postings b, goes.postings, rest.postings, after.counts);
+            begun_within = λ f. omega (arith, goes.postings, kept.limited.begun_within f);
             entries = omega (arith, kept.limited.entries, goes.postings, rest.entries);
+            counted = omega (arith, kept.limited.counted, rest.entries, rest.postings, rest.grows, after.counts);
             births = omega (arith, kept.limited.births, rest.entries, rest.births);
             begun = omega (arith, kept.limited.begun, rest.living, rest.grows, after.fewer);
             flights = omega (arith, kept.limited.flights, goes.many);

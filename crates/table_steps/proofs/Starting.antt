@@ -45,6 +45,7 @@ use Rattle.table_steps.proofs.Booked.{IsBooked-pins}
 use Rattle.table_steps.proofs.Filing.{cases_kept, keeps_open, keeps_pinned, kept_more}
 use Rattle.table_steps.proofs.Staying.{given_path}
 use Rattle.table_steps.proofs.Viewed.{flights_with, in_any_of}
+use Rattle.table_steps.proofs.Few.{few_with}
 
 -- ---- more pins
 
@@ -260,9 +261,11 @@ module _ (s mid : State) (unique id : ℕ) (new_request : NewRequest) (is : IsNe
     all_limited = record {
       nodes = omega (arith, adds.nodes, allows.nodes, ap (λ (t : Nodes). t.living) same.tree, ap (λ (x : RequestMaps). x.nodes) same.flights, ap (λ (l : Limits). l.nodes) same.limits);
       entries = omega (arith, adds.postings, allows.entries, ap {B = ℕ} (λ (ps : Periods). (totals_over ps).entries) same.made, ap (λ (x : RequestMaps). x.postings) same.flights);
+      counted = kept.limited.counted;
       births = kept.limited.births;
       begun = kept.limited.begun;
-      postings = omega (arith, adds.postings, allows.postings, ap {B = ℕ} (λ (ps : Periods). length ps.last) same.made, ap (λ (t : Nodes). t.counts) same.tree, ap (λ (x : RequestMaps). x.postings) same.flights, ap (λ (l : Limits). l.postings) same.limits);
+      postings = λ b. omega (arith, adds.postings, allows.postings.bounded (sym (ap (λ (l : Limits). l.counts) same.limits) ∙ b), ap {B = ℕ} (λ (ps : Periods). length ps.last) same.made, ap (λ (t : Nodes). t.counts) same.tree, ap (λ (x : RequestMaps). x.postings) same.flights, ap (λ (l : Limits). l.postings) same.limits);
+      begun_within = λ f. omega (arith, adds.postings, allows.postings.begun (sym (ap (λ (l : Limits). l.counts) same.limits) ∙ f), ap (λ (x : RequestMaps). x.postings) same.flights, ap (λ (l : Limits). l.nodes) same.limits, ap (λ (l : Limits). l.postings) same.limits);
       flights = omega (arith, adds.many, allows.flights, ap (λ (x : RequestMaps). x.many) same.flights, ap (λ (l : Limits). l.flights) same.limits);
       files = omega (arith, adds.files, allows.handles.files, same_file (λ x. x.many), ap (λ (x : RequestMaps). x.files) same.flights, ap (λ (l : Limits). l.files) same.limits);
       handles = omega (arith, adds.files, allows.handles.handles, same_file (λ x. x.last), ap (λ (x : RequestMaps). x.files) same.flights);
@@ -278,7 +281,14 @@ module _ (s mid : State) (unique id : ℕ) (new_request : NewRequest) (is : IsNe
       held = all_held;
       ready = all_ready;
       provided = all_provided;
-      reserved = record { nodes = omega (arith, adds.nodes, room.nodes); postings = omega (arith, adds.postings, room.postings); files = omega (arith, adds.files, room.files) };
+      few = few_with mid.limits (requests_of mid.flights) (requests_of flights) id begun adds.at kept.few (λ f. omega (arith, allows.postings.begun (sym (ap (λ (l : Limits). l.counts) same.limits) ∙ f), ap (λ (l : Limits). l.nodes) same.limits, ap (λ (l : Limits). l.postings) same.limits));
+      reserved = record {
+        nodes = omega (arith, adds.nodes, room.nodes);
+        births = omega (arith, adds.nodes, room.births);
+        postings = λ b. omega (arith, adds.postings, room.postings b);
+        whole = kept.reserved.whole;
+        files = omega (arith, adds.files, room.files);
+      };
       limited = all_limited;
       counts = kept.counts;
       filed = kept.filed;

@@ -10,6 +10,7 @@ use Rattle.tree.specs.Places.{at_in}
 use Rattle.table_footprints.specs.declared.data.NewRequest.{NewRequest}
 use Rattle.table_footprints.specs.Asked.{promise_of}
 use Rattle.table_footprints.specs.NewRequests.{IsNewRequest, footprint_in}
+use Rattle.table_steps.specs.declared.data.Counts.TheVariants.{Bounded, Free}
 use Rattle.table_steps.specs.declared.state.State.{State}
 use Rattle.table_steps.specs.Beginning.{Allows, Forbids, IsTooMuch}
 use Rattle.table_steps.specs.Kept.{flights_in, tally_of, world_of}
@@ -22,22 +23,23 @@ use Rattle.table_steps.proofs.Apart.{held_up_recorded, held_up_same, held_up_see
 
 module _ (s : State) (p : Promise) where
   room_of : Allows s p → HasRoom (world_of s) (tally_of s) p
-  room_of allows = record { nodes = allows.nodes; postings = allows.postings; entries = allows.entries; files = allows.handles.files; handles = allows.handles.handles }
+  room_of allows = record { nodes = allows.nodes; postings = allows.postings.bounded; begun = allows.postings.begun; entries = allows.entries; files = allows.handles.files; handles = allows.handles.handles }
 
   no_room : IsTooMuch s p → HasRoom (world_of s) (tally_of s) p → ⊥
   no_room (inl much) room = omega (arith, room.nodes)
-  no_room (inr (inl much)) room = omega (arith, room.postings)
+  no_room (inr (inl none)) room = none (record { bounded = room.postings; begun = room.begun })
   no_room (inr (inr (inl much))) room = omega (arith, much, room.entries)
   no_room (inr (inr (inr none))) room = none (record { files = room.files; handles = room.handles })
 
   room_from : (IsTooMuch s p → ⊥) → HasRoom (world_of s) (tally_of s) p
   room_from fits =
       let nodes : s.limits.nodes < s.tree.living + (requests_of s.flights).nodes + p.nodes → ⊥ = λ h. fits (inl h) in
-      let postings : s.limits.postings < length s.ledger.made.last + s.tree.counts + (requests_of s.flights).postings + p.postings → ⊥ = λ h. fits (inr (inl h)) in
+      let postings : (s.limits.counts ≡ Bounded) → s.limits.postings < length s.ledger.made.last + s.tree.counts + (requests_of s.flights).postings + p.postings → ⊥ = λ b over. fits (inr (inl (λ h. let enough = h.bounded b in omega arith))) in
+      let begun : (s.limits.counts ≡ Free) → s.limits.postings < s.limits.nodes + (requests_of s.flights).postings + p.postings → ⊥ = λ f over. fits (inr (inl (λ h. let enough = h.begun f in omega arith))) in
       let entries : 3 * 2 ^ 64 ≤ 3 * (totals_over s.ledger.made).entries + (requests_of s.flights).postings + p.postings → ⊥ = λ h. fits (inr (inr (inl h))) in
       let files : s.limits.files < (files_of s.files).many + (requests_of s.flights).files + p.files → ⊥ = λ less. fits (inr (inr (inr (λ h. let enough = h.files in omega arith)))) in
       let handles : 2 ^ 64 ≤ (files_of s.files).last + (requests_of s.flights).files + p.files → ⊥ = λ over. fits (inr (inr (inr (λ h. let enough = h.handles in omega arith)))) in
-      record { nodes = omega (arith, nodes); postings = omega (arith, postings); entries = omega (arith, entries); files = omega (arith, files); handles = omega (arith, handles) }
+      record { nodes = omega (arith, nodes); postings = λ b. omega (arith, postings b); begun = λ f. omega (arith, begun f); entries = omega (arith, entries); files = omega (arith, files); handles = omega (arith, handles) }
 
 -- ---- tests of a plan
 

@@ -7,6 +7,7 @@ use Rattle.table_requests.specs.declared.data.Case.{Case}
 use Rattle.table_requests.specs.declared.data.Handle.{Handle}
 use Rattle.table_requests.specs.declared.data.Promise.{Promise}
 use Rattle.table_requests.specs.Listed.{requests_of}
+use Rattle.table_steps.specs.declared.data.Counts.TheVariants.{Bounded, Free}
 use Rattle.table_steps.specs.declared.state.State.{State}
 use Rattle.table_requests.specs.declared.data.Want.{Want}
 use Rattle.table_footprints.specs.Cases.{IsFootprint}
@@ -20,10 +21,15 @@ pub record HasHandles (s : State) (p : Promise) : Type 0 where
   pub files : (files_of s.files).many + (requests_of s.flights).files + p.files ≤ s.limits.files
   pub handles : (files_of s.files).last + (requests_of s.flights).files + p.files < 2 ^ 64
 
+-- the period has postings left for it, where counts are bounded, or one that has just begun has
+pub record HasPostings (s : State) (p : Promise) : Type 0 where
+  pub bounded : s.limits.counts ≡ Bounded → length s.ledger.made.last + s.tree.counts + (requests_of s.flights).postings + p.postings ≤ s.limits.postings
+  pub begun : s.limits.counts ≡ Free → s.limits.nodes + (requests_of s.flights).postings + p.postings ≤ s.limits.postings
+
 -- the limits allow one request more that is promised so much
 pub record Allows (s : State) (p : Promise) : Type 0 where
   pub nodes : s.tree.living + (requests_of s.flights).nodes + p.nodes ≤ s.limits.nodes
-  pub postings : length s.ledger.made.last + s.tree.counts + (requests_of s.flights).postings + p.postings ≤ s.limits.postings
+  pub postings : HasPostings s p
   pub entries : 3 * (totals_over s.ledger.made).entries + (requests_of s.flights).postings + p.postings < 3 * 2 ^ 64
   pub flights : (requests_of s.flights).many + 1 ≤ s.limits.flights
   pub handles : HasHandles s p
@@ -32,7 +38,7 @@ pub record Allows (s : State) (p : Promise) : Type 0 where
 abbrev pub IsTooMuch : State → Promise → Type 0
 IsTooMuch s p =
     (s.limits.nodes < s.tree.living + (requests_of s.flights).nodes + p.nodes)
-    ⊎ ((s.limits.postings < length s.ledger.made.last + s.tree.counts + (requests_of s.flights).postings + p.postings)
+    ⊎ ((HasPostings s p → ⊥)
     ⊎ ((3 * 2 ^ 64 ≤ 3 * (totals_over s.ledger.made).entries + (requests_of s.flights).postings + p.postings)
     ⊎ (HasHandles s p → ⊥)))
 
@@ -64,7 +70,8 @@ pub record ClosesFile (old : World) (handle : Option ℕ) (new : World) : Type 0
 -- there is room for one request more that is promised so much
 pub record IsRoomForOne (s : State) (promise : Promise) : Type 0 where
   pub nodes : (requests_of s.flights).nodes + promise.nodes ≤ s.tree.room
-  pub postings : s.tree.counts + (requests_of s.flights).postings + promise.postings ≤ s.ledger.room
+  pub births : (requests_of s.flights).nodes + promise.nodes ≤ s.ledger.places
+  pub postings : s.limits.counts ≡ Bounded → s.tree.counts + (requests_of s.flights).postings + promise.postings ≤ s.ledger.room
   pub flights : 0 < (requests_of s.flights).room
   pub files : (requests_of s.flights).files + promise.files ≤ (files_of s.files).room
 

@@ -9,7 +9,7 @@ use Rattle.table_requests.specs.declared.data.Promise.{Promise}
 use Rattle.table_requests.specs.declared.data.Stage.TheVariants as recorded
 use Rattle.table_requests.specs.declared.data.Work.{Work as RecordedWork}
 use Rattle.table_requests.specs.Listed.{requests_of}
-use Rattle.table_requests.specs.RequestMaps.{Notes, is_working}
+use Rattle.table_requests.specs.RequestMaps.{Notes, is_working, most_posted}
 use Rattle.holds.specs.declared.held.GivenPath.{GivenPath}
 use Rattle.holds.specs.declared.held.Held.{Held}
 use Rattle.tree.specs.declared.nodes.Key.{Key}
@@ -27,6 +27,7 @@ use Rattle.table_steps.specs.declared.keys.Keys.{Keys}
 use Rattle.table_steps.specs.declared.keys.FolderKeys.{FolderKeys}
 use Rattle.table_steps.specs.declared.acts.Opens.{Opens}
 use Rattle.table_steps.specs.declared.acts.Opens.TheVariants as opens
+use Rattle.table_steps.specs.declared.data.Counts.TheVariants.{Free}
 use Rattle.table_steps.specs.declared.state.State.{State}
 use Rattle.table_steps.specs.Entries.{Enters}
 use Rattle.table_steps.specs.Keeping.{kept_by}
@@ -157,6 +158,7 @@ pub record IsEnding (s : State) (id : ℕ) (work : RecordedWork) : Type 0 where
   -- no request that is still worked on is in its way
   pub clear : HoldsUp (flights_in (requests_of s.flights)) work.held → ⊥
   pub room : IsRoomFor s work.promise
+  pub few : s.limits.counts ≡ Free → s.limits.nodes + work.promise.postings ≤ s.limits.postings
 
 -- an entry may be given for each name
 pub record MayEnter (s : State) (id : ℕ) (keys : List Key) : Type 0 where
@@ -170,6 +172,7 @@ pub record MayEnter (s : State) (id : ℕ) (keys : List Key) : Type 0 where
   pub births : (promise.nodes ≡ length keys) ⊎ ((key : Key) → Contains keys key → (n : ℕ) × IsNamed (at_in s.tree) n key.parent key.name)
   pub postings : promise.postings ≡ 3 * length keys
   pub room : IsRoomFor s promise
+  pub few : s.limits.counts ≡ Free → s.limits.nodes + most_posted flight.stage flight.pins.numbers + length keys ≤ s.limits.postings
 
 -- no request that is worked on holds one of the names alone
 abbrev pub AreUnowned : State → List Key → Type 0
@@ -183,6 +186,7 @@ pub record MayFill (s : State) (id : ℕ) (keys : List Key) : Type 0 where
   pub pin_room : length keys ≤ flight.pins.room
   pub leads : (key : Key) → Contains keys key → Leads (at_in s.tree) key.parent
   pub room : IsRoomFor s (record { nodes = length keys; postings = 3 * length keys; files = 0 })
+  pub few : s.limits.counts ≡ Free → s.limits.nodes + most_posted flight.stage flight.pins.numbers + length keys ≤ s.limits.postings
 
 -- the request named that node alone, by its path
 pub record LeadsTo (at : Lookup) (given : List GivenPath) (number : ℕ) : Type 0 where

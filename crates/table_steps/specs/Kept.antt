@@ -8,12 +8,15 @@ use Rattle.table_requests.specs.declared.data.Stage.{Stage as Recording}
 use Rattle.table_requests.specs.declared.data.Stage.TheVariants as recorded
 use Rattle.table_requests.specs.declared.data.Work.{Work as RecordedWork}
 use Rattle.table_requests.specs.RequestMaps.{RequestMaps, AreLawfulRequests}
+use Rattle.table_requests.specs.RequestMaps as maps
 use Rattle.table_requests.specs.Listed.{requests_of}
 use Rattle.table_steps.specs.Upheld.{IsUpheld}
 use Rattle.ledger.specs.Postings.{Postings}
 use Rattle.ledger.specs.Sums.{totals_over}
 use Rattle.tree.specs.Places.{Nodes, at_in}
 use Rattle.table_footprints.specs.NewRequests.{IsProvided, footprint_in}
+use Rattle.table_steps.specs.declared.data.Counts.TheVariants.{Bounded, Free}
+use Rattle.table_steps.specs.declared.data.Limits.{Limits}
 use Rattle.table_steps.specs.declared.state.State.{State}
 use Rattle.table_steps.specs.Keeping.{kept_by}
 use Rattle.table_steps.specs.World.{AreHeld, AreReady, AreUndisturbed, Answered, RequestInFlight, RequestsInFlight, HaveNodes, Stage, Tally, Work, Working, World}
@@ -61,17 +64,21 @@ abbrev pub AreProvided : RequestMaps → Type 0
 AreProvided all = (id : ℕ) (f : Recorded) (work : RecordedWork) → all.at id ≡ Some f → f.stage ≡ recorded.Working work → IsProvided work f.pins
 
 -- there is room for all that may still come, so that only a begin takes memory
-pub record IsReserved (tree : Nodes) (ledger : Postings) (flying : RequestMaps) (filed : Opened) : Type 0 where
+pub record IsReserved (limits : Limits) (tree : Nodes) (ledger : Postings) (flying : RequestMaps) (filed : Opened) : Type 0 where
   pub nodes : flying.nodes ≤ tree.room
-  pub postings : tree.counts + flying.postings ≤ ledger.room
+  pub births : flying.nodes ≤ ledger.places
+  pub postings : limits.counts ≡ Bounded → tree.counts + flying.postings ≤ ledger.room
+  pub whole : limits.counts ≡ Free → limits.postings ≤ length ledger.made.last + ledger.room
   pub files : flying.files ≤ filed.room
 
 -- what stands and what is promised keeps within the limits
 pub record IsLimited (s : State) : Type 0 where
   pub nodes : s.tree.living + (requests_of s.flights).nodes ≤ s.limits.nodes
-  pub postings : length s.ledger.made.last + s.tree.counts + (requests_of s.flights).postings ≤ s.limits.postings
+  pub postings : s.limits.counts ≡ Bounded → length s.ledger.made.last + s.tree.counts + (requests_of s.flights).postings ≤ s.limits.postings
+  pub begun_within : s.limits.counts ≡ Free → s.limits.nodes + (requests_of s.flights).postings ≤ s.limits.postings
   pub entries : 3 * (totals_over s.ledger.made).entries + (requests_of s.flights).postings < 3 * 2 ^ 64
-  -- each birth came with an entry, and each life was begun by a posting of the last period
+  -- each count is of an entry, each birth came with one, and each life was begun by a posting of the last period
+  pub counted : s.tree.counts ≤ (totals_over s.ledger.made).entries
   pub births : (totals_over s.ledger.made).born ≤ (totals_over s.ledger.made).entries
   pub begun : s.tree.living ≤ length s.ledger.made.last + 1
   pub flights : (requests_of s.flights).many ≤ s.limits.flights
@@ -82,6 +89,10 @@ pub record IsLimited (s : State) : Type 0 where
   pub posting_limit : s.ledger.limit ≡ s.limits.postings
   pub short : (s.limits.nodes < 2 ^ 64) × (s.limits.postings < 2 ^ 64) × (s.limits.files < 2 ^ 64)
 
+-- where counts are free, a period that has just begun has room for the next call on each request
+abbrev pub AreFew : Limits → RequestMaps → Type 0
+AreFew limits all = limits.counts ≡ Free → (id : ℕ) (f : Recorded) → all.at id ≡ Some f → limits.nodes + maps.most_posted f.stage f.pins.numbers ≤ limits.postings
+
 -- the parts fit each other
 pub record IsKept (s : State) : Type 0 where
   pub law : IsUpheld (at_in s.tree) s.ledger.made (kept_by s.flights s.files)
@@ -89,7 +100,8 @@ pub record IsKept (s : State) : Type 0 where
   pub held : AreHeld (at_in s.tree) (flights_in (requests_of s.flights))
   pub ready : AreReady (at_in s.tree) (flights_in (requests_of s.flights))
   pub provided : AreProvided (requests_of s.flights)
-  pub reserved : IsReserved s.tree s.ledger (requests_of s.flights) (files_of s.files)
+  pub few : AreFew s.limits (requests_of s.flights)
+  pub reserved : IsReserved s.limits s.tree s.ledger (requests_of s.flights) (files_of s.files)
   pub limited : IsLimited s
   pub counts : s.counts ≡ s.tree.counts
   pub filed : AreOpenEntries (files_of s.files)
@@ -103,9 +115,11 @@ pub record IsWhole (s : State) : Type 0 where
 -- beside what is promised to others there is room for this promise
 pub record IsRoomFor (s : State) (promise : Promise) : Type 0 where
   pub nodes : (requests_of s.flights).nodes + promise.nodes ≤ s.tree.room
-  pub postings : s.tree.counts + (requests_of s.flights).postings + promise.postings ≤ s.ledger.room
+  pub births : (requests_of s.flights).nodes + promise.nodes ≤ s.ledger.places
+  pub postings : s.limits.counts ≡ Bounded → s.tree.counts + (requests_of s.flights).postings + promise.postings ≤ s.ledger.room
+  pub at_once : s.limits.counts ≡ Free → promise.postings ≤ s.ledger.room
   pub nodes_within : s.tree.living + (requests_of s.flights).nodes + promise.nodes ≤ s.limits.nodes
-  pub postings_within : length s.ledger.made.last + s.tree.counts + (requests_of s.flights).postings + promise.postings ≤ s.limits.postings
+  pub postings_within : s.limits.counts ≡ Bounded → length s.ledger.made.last + s.tree.counts + (requests_of s.flights).postings + promise.postings ≤ s.limits.postings
   pub entries : 3 * (totals_over s.ledger.made).entries + (requests_of s.flights).postings + promise.postings < 3 * 2 ^ 64
   pub files : (requests_of s.flights).files + promise.files ≤ (files_of s.files).room
   pub files_within : (files_of s.files).many + (requests_of s.flights).files + promise.files ≤ s.limits.files

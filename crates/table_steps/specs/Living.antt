@@ -1,5 +1,8 @@
 -- The nodes that live, as a period's end lists them.
-use Rattle.std.specs.Prelude.{ℕ, ◌<◌, ◌≤◌, ◌≡◌, List, Some, All, AllPairs, Contains}
+use Rattle.std.specs.Prelude.{ℕ, ◌<◌, ◌≤◌, ◌≡◌, List, Some, All, AllPairs, Contains, option_map, unwrap_or}
+use Rattle.ledger.specs.declared.postings.Posting.{Posting}
+use Rattle.ledger.specs.declared.postings.Posting.TheVariants.{Opening}
+use Rattle.ledger.specs.Sums.{generation_of, number_of}
 use Rattle.tree.specs.declared.nodes.Node.{Node}
 use Rattle.tree.specs.Places.{Lookup}
 
@@ -22,3 +25,11 @@ pub record AreLiving (at : Lookup) (pairs : List (ℕ × ℕ)) : Type 0 where
   pub last : ℕ
   pub up_to : AreLivingUpTo at last pairs
   pub no_more : (n : ℕ) (x : Node) → at n ≡ Some x → (0 < n) × (n ≤ last)
+
+-- the number and the generation of a posting
+abbrev pub life_of : Posting → ℕ × ℕ
+life_of p = (number_of p, generation_of p)
+
+-- what a period begins with, of the node that bears the number
+abbrev pub opening_at : Lookup → ℕ × ℕ → Posting
+opening_at at a = Opening a.0 a.1 (unwrap_or (option_map (λ (x : Node). x.count) (at a.0)) 0)

@@ -1,5 +1,5 @@
 -- The steps of a table. Each says the whole new world.
-use Rattle.std.specs.Prelude.{ℕ, ℤ, is_some, ◌+◌, ◌-◌, ◌%◌, ◌^◌, ◌<◌, ◌≡◌, ◌≢◌, ◌==◌, ◌&&◌, ◌↔◌, not, if◌then◌else◌, Bool, true, false, List, [], ◌∷◌, ◌++◌, Option, Some, None, AllPairs, Contains, length, drop, map, min}
+use Rattle.std.specs.Prelude.{ℕ, ℤ, is_some, ◌+◌, ◌-◌, ◌%◌, ◌^◌, ◌<◌, ◌≡◌, ◌≢◌, ◌⊎◌, ◌==◌, ◌&&◌, ◌↔◌, not, if◌then◌else◌, Bool, true, false, List, [], ◌∷◌, ◌++◌, Option, Some, None, AllPairs, Contains, length, drop, map, min}
 use Rattle.errno.specs.declared.TheConstants.{EAGAIN, EBADF, ENFILE}
 use Rattle.std.specs.List.{slice_get}
 use Rattle.table_files.specs.declared.data.OpenFile.{OpenFile}
@@ -22,6 +22,7 @@ use Rattle.tree.specs.Places.{Lookup, with_node}
 use Rattle.table_footprints.specs.Asked.{ArePaths, HasPath, Holds, IsPin, IsSound, IsThere, IsUnsound, promise_of}
 use Rattle.table_footprints.specs.Cases.{IsFootprint}
 use Rattle.table_footprints.specs.Footprints.{AtName, AtNode, Change, Footprint, Location, Opening, Used, cuts, exchanges, hides, is_same, moves, replaces, stays}
+use Rattle.table_steps.specs.declared.data.Counts.TheVariants.{Free}
 use Rattle.table_steps.specs.declared.data.Begin.{Begin}
 use Rattle.table_steps.specs.declared.data.Begin.TheVariants.{Go, Busy, Refused}
 use Rattle.table_steps.specs.declared.data.Outcome.{Outcome}
@@ -409,7 +410,7 @@ pub record Settles (old : World) (answer : Answer) (taken : Bool) (settled : Set
   pub unknown : (IsAnswered old.flights answer.id → ⊥) → new ≡ old
   pub found : answer.lost ≡ false → (a : IsAnswered old.flights answer.id) → EndsFor old answer.id a taken new
 
--- ---- the end of a period
+-- ---- the end of a period, and room for a call
 
 -- what a period begins with, of one node
 pub record IsOpeningOf (at : Lookup) (p : Posting) : Type 0 where
@@ -433,3 +434,11 @@ pub record ClosesPeriod (old : World) (fewer : ℕ) (new : World) : Type 0 where
   pub openings : AreOpenings old.at new.postings.last
   pub fewer_is : fewer + length new.postings.last ≡ length old.postings.last
   pub new_is : new ≡ record old { postings = new.postings }
+
+-- counts are free, and the period has no room for so many postings more
+abbrev pub IsShort : World → ℕ → Type 0
+IsShort w n = (w.limits.counts ≡ Free) × (w.limits.postings < length w.postings.last + n)
+
+-- a period ends that has no room for them
+abbrev pub MakesRoom : World → ℕ → World → Type 0
+MakesRoom old n new = ((IsShort old n → ⊥) × (new ≡ old)) ⊎ (IsShort old n × ((fewer : ℕ) × ClosesPeriod old fewer new))

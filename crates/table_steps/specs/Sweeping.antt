@@ -82,6 +82,7 @@ pub record IsOneMore (born : ℕ) (old : Nodes) (made : Postings) (new : Nodes) 
   pub entries : (totals_over more.made).entries ≡ (totals_over made.made).entries + 1
   pub births : (totals_over more.made).born ≡ (totals_over made.made).born + born
   pub posting_room : made.room ≤ more.room + 1 + born
+  pub places : made.places ≤ more.places + born
   pub posting_limit : more.limit ≡ made.limit
 
 -- a node is born at most, and none where one is named so
@@ -101,4 +102,6 @@ pub record IsTakenBack (old : Nodes) (made : Postings) (new : Nodes) (more : Pos
   pub entries : (totals_over more.made).entries ≡ (totals_over made.made).entries
   pub births : (totals_over more.made).born ≡ (totals_over made.made).born
   pub posting_room : made.room + new.counts ≤ more.room + old.counts
+  pub whole : length made.made.last + made.room ≤ length more.made.last + more.room
+  pub places : more.places ≡ made.places
   pub posting_limit : more.limit ≡ made.limit

@@ -1,6 +1,6 @@
 -- All that a table keeps, and the law of it. No number stands here that the rest already fixes: what the limits are judged
 -- by is added up over what stands.
-use Rattle.std.specs.Prelude.{ℕ, ℤ, ◌+◌, ◌*◌, ◌^◌, ◌<◌, ◌≤◌, ◌≡◌, ◌≢◌, ◌==◌, ◌↔◌, ◌⊎◌, ◌&&◌, Bool, true, not, if◌then◌else◌, List, [], ◌∷◌, Option, Some, None, All, Contains, length}
+use Rattle.std.specs.Prelude.{ℕ, ℤ, ◌+◌, ◌*◌, ◌^◌, ◌<◌, ◌≤◌, ◌≡◌, ◌≢◌, ◌==◌, ◌↔◌, ◌⊎◌, ◌&&◌, Bool, true, not, if◌then◌else◌, List, [], ◌∷◌, Option, Some, None, All, Contains, drop, length}
 use Rattle.holds.specs.declared.held.Held.{Held}
 use Rattle.holds.specs.Conflicts.{Conflict}
 use Rattle.ledger.specs.Periods.{Periods, unclosed}
@@ -17,6 +17,7 @@ use Rattle.tree.specs.Places.{Lookup, IsNamed, no_nodes, root_node, with_node}
 use Rattle.table_image.specs.Law.{HasNode, IsGivenPath}
 use Rattle.table_steps.specs.Upheld.{IsUpheld}
 use Rattle.sums.specs.Sum.{IsSum}
+use Rattle.table_steps.specs.declared.data.Counts.TheVariants.{Bounded, Free}
 use Rattle.table_steps.specs.declared.data.Limits.{Limits}
 use Rattle.table_footprints.specs.Asked.{Holds, IsMisplaced, IsThere, promise_of}
 use Rattle.table_footprints.specs.Cases.{Seen}
@@ -112,14 +113,28 @@ pub record IsTally (w : World) (t : Tally) : Type 0 where
   pub opening : IsSum w.flights (λ f. (promised_to f.stage).files) t.promised.files
   pub files : IsSum w.files (λ f. 1) t.files
 
--- beside what stands and what is promised there is room for this: each lookup count may be forgotten one by one, all entries ever keep
--- within 64 bits, three postings being promised for each, and a handle is a number of 64 bits that is never given again
+-- beside what stands and what is promised there is room for this: where counts are bounded each of them may be forgotten one by one, where they
+-- are free a period that has just begun has room for all nodes and for it; all entries ever keep within 64 bits, three postings being promised for each, and a
+-- handle is a number of 64 bits that is never given again
 pub record HasRoom (w : World) (t : Tally) (p : Promise) : Type 0 where
   pub nodes : t.living + t.promised.nodes + p.nodes ≤ w.limits.nodes
-  pub postings : length w.postings.last + t.counts + t.promised.postings + p.postings ≤ w.limits.postings
+  pub postings : w.limits.counts ≡ Bounded → length w.postings.last + t.counts + t.promised.postings + p.postings ≤ w.limits.postings
+  pub begun : w.limits.counts ≡ Free → w.limits.nodes + t.promised.postings + p.postings ≤ w.limits.postings
   pub entries : 3 * (totals_over w.postings).entries + t.promised.postings + p.postings < 3 * 2 ^ 64
   pub files : t.files + t.promised.files + p.files ≤ w.limits.files
   pub handles : w.last_handle + t.promised.files + p.files < 2 ^ 64
+
+-- the most postings that the next call on a request makes: those that are promised to its work, or one back for each entry that it gave
+abbrev pub most_of : Option RequestInFlight → ℕ
+most_of None = 0
+most_of (Some f) = most_in f.stage f.pins
+  where
+    most_in : Stage → List ℕ → ℕ
+    most_in (Working work) pins = (promise_of work.footprint).postings
+    most_in (Answered before opened) pins = length (drop before pins)
+
+abbrev pub most_posted : RequestsInFlight → ℕ → ℕ
+most_posted flights id = most_of (flights id)
 
 -- what stands and what is promised keeps within the limits
 pub record IsWithin (w : World) : Type 0 where

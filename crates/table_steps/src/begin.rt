@@ -3,7 +3,7 @@
 ghost use Rattle.std.specs.Prelude.{ℕ, ◌≡◌, ◌≤◌, ◌<◌, ◌+◌, ◌*◌, ◌%◌, ◌^◌, if◌then◌else◌, ◌==◌, not, length, ◌↔◌, true, IfErr, IsTrue, OnOk};
 ghost use Rattle.ledger.specs.Sums.{totals_over};
 ghost use Rattle.table_files.specs.OpenEntry.{files_of};
-ghost use Rattle.table_steps.specs.Beginning.{Allows, Forbids, HasHandles, IsHandleUsable, IsRefusedHandle, IsRoomForOne, IsSameButRoom, used_in};
+ghost use Rattle.table_steps.specs.Beginning.{Allows, Forbids, HasHandles, HasPostings, IsHandleUsable, IsRefusedHandle, IsRoomForOne, IsSameButRoom, used_in};
 ghost use Rattle.table_requests.specs.Listed.{requests_of};
 ghost use Rattle.table_steps.specs.Kept.{IsKept, tally_of, world_of};
 ghost use Rattle.table_steps.specs.Steps.{Begins, IsUsable, is_cut, is_last};
@@ -12,7 +12,7 @@ ghost use Rattle.table_footprints.specs.NewRequests.{IsNewRequest};
 ghost use Rattle.table_footprints.specs.Cases.{seen_of};
 ghost use Rattle.table_footprints.specs.Footprints.{AtName, are_same, closed_change, is_same, footprint_of};
 
-use crate::data::{Begin, Ticket};
+use crate::data::{Begin, Counts, Ticket};
 use crate::state::State;
 use errno::{EAGAIN, EBADF, ENFILE, ENOMEM};
 use paths::Name;
@@ -247,13 +247,11 @@ impl State {
         ensures tally { IsTally (world_of self.now) (tally_of self.now) }
     {
         let promised = self.flights.promised();
-        let made = self.ledger.made() as u64;
         let free_nodes = self.limits.nodes - self.tree.len() - promised.nodes;
-        let free_postings = self.limits.postings - made - self.counts - promised.postings;
         if free_nodes < promise.nodes {
             return Err(ENFILE);
         }
-        if free_postings < promise.postings {
+        if !self.has_postings(promise) {
             return Err(ENFILE);
         }
         if !self.has_entries(promise) {
@@ -266,6 +264,22 @@ impl State {
             return Err(EAGAIN);
         }
         Ok(())
+    }
+
+    /// Whether the period has postings left for it, or one that has just begun, where counts are free.
+    fn has_postings(&self, promise: &Promise) -> bool
+        requires { IsKept self.now }
+        ensures { IsTrue result ↔ HasPostings self.now promise.now }
+    {
+        let promised = self.flights.promised().postings;
+        let left = match self.limits.counts {
+            Counts::Bounded => {
+                let made = self.ledger.made() as u64;
+                self.limits.postings - made - self.counts - promised
+            }
+            Counts::Free => self.limits.postings - self.limits.nodes - promised,
+        };
+        promise.postings <= left
     }
 
     /// Whether all entries ever, with those that are promised, keep within 64 bits. Three postings are promised for each.
@@ -300,12 +314,19 @@ impl State {
     {
         let promised = self.flights.promised();
         let nodes = promised.nodes + promise.nodes;
-        let postings = self.counts + promised.postings + promise.postings;
+        let postings = match self.limits.counts {
+            Counts::Bounded => self.counts + promised.postings + promise.postings,
+            Counts::Free => 0,
+        };
         let files = promised.files + promise.files;
         if self.tree.reserve(nodes as usize).is_err() {
             return Err(AllocError);
         }
-        if self.ledger.reserve(postings as usize).is_err() {
+        if self
+            .ledger
+            .reserve(postings as usize, nodes as usize)
+            .is_err()
+        {
             return Err(AllocError);
         }
         if self.files.reserve(files as usize).is_err() {

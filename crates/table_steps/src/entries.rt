@@ -52,6 +52,7 @@ fn bear(
     requires free { IsFree (at_in tree.old) keys.key.parent keys.key.name }
     requires above { Leads (at_in tree.old) keys.key.parent }
     requires node_room { 0 < tree.old.room }
+    requires places { 0 < ledger.old.places }
     requires room { 2 ≤ ledger.old.room }
     requires short { (totals_over ledger.old.made).entries + 1 < 2 ^ 64 }
     requires births { (totals_over ledger.old.made).born ≤ (totals_over ledger.old.made).entries }
@@ -79,7 +80,7 @@ pub(crate) fn enter(
 ) -> Given
     requires law { IsUpheld (at_in tree.old) ledger.old.made (kept_by flights.now files.now) }
     requires above { Leads (at_in tree.old) keys.key.parent }
-    requires node_room { IsFree (at_in tree.old) keys.key.parent keys.key.name → 0 < tree.old.room }
+    requires node_room { IsFree (at_in tree.old) keys.key.parent keys.key.name → (0 < tree.old.room) × (0 < ledger.old.places) }
     requires room { 2 ≤ ledger.old.room }
     requires short { (totals_over ledger.old.made).entries + 1 < 2 ^ 64 }
     requires births { (totals_over ledger.old.made).born ≤ (totals_over ledger.old.made).entries }

@@ -1,13 +1,15 @@
 //! The end of the work on a request.
 
-ghost use Rattle.std.specs.Prelude.{◌≡◌};
+ghost use Rattle.std.specs.Prelude.{◌≡◌, ◌≤◌};
 ghost use Rattle.table_steps.specs.Ending.{ChangesNames, IsEnding, MayAlter, change_in};
 ghost use Rattle.table_steps.specs.Kept.{IsKept, flight_of, world_of};
 ghost use Rattle.table_steps.specs.Steps.{Ends, Finishes, act_of};
 ghost use Rattle.table_footprints.specs.NewRequests.{footprint_in};
+ghost use Rattle.table_requests.specs.Listed.{requests_of};
+ghost use Rattle.table_requests.specs.RequestMaps.{most_posted_by};
 
 use crate::acts::{Acts, Change, acts_of};
-use crate::data::{Answered, Outcome, Ticket};
+use crate::data::{Answered, Counts, Outcome, Ticket};
 use crate::give::give_none;
 use crate::hiding::{hide, replace};
 use crate::places::{alter, losing};
@@ -99,7 +101,8 @@ impl State {
 
     /// Ends the work on a request: the client is given entries of its names, or its names change, or nothing is done.
     pub fn finish(&mut self, ticket: Ticket, outcome: Outcome) -> Answered
-        requires { IsKept self.old }
+        requires kept { IsKept self.old }
+        requires room { self.old.limits.counts ≡ Counts.Free → most_posted_by ((requests_of self.old.flights).at ticket.id) ≤ self.old.ledger.room }
         ensures finishes { Finishes (world_of self.old) ticket.id outcome result (world_of self.new) }
         ensures kept { IsKept self.new }
     {

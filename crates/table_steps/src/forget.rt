@@ -1,9 +1,10 @@
 //! FORGET: the client gives lookups of a node back.
 
-ghost use Rattle.std.specs.Prelude.{◌≡◌};
+ghost use Rattle.std.specs.Prelude.{◌≡◌, ◌<◌};
 ghost use Rattle.table_steps.specs.Steps.{Forgets};
 ghost use Rattle.table_steps.specs.Kept.{IsKept, world_of};
 
+use crate::data::Counts;
 use crate::state::State;
 use crate::sweep::sweep;
 use ledger::Posting;
@@ -11,7 +12,8 @@ use ledger::Posting;
 impl State {
     /// Takes the smaller of `n` and the node's count from it, and says how much.
     pub fn forget(&mut self, number: u64, n: u64) -> u64
-        requires { IsKept self.old }
+        requires kept { IsKept self.old }
+        requires room { self.old.limits.counts ≡ Counts.Free → 0 < self.old.ledger.room }
         ensures forgets { Forgets (world_of self.old) number n result (world_of self.new) }
         ensures kept { IsKept self.new }
     {

@@ -22,7 +22,7 @@ mod settle;
 mod state;
 mod sweep;
 
-pub use data::{Answered, Begin, Limits, Outcome, Seeds, Settled, Ticket};
+pub use data::{Answered, Begin, Counts, Limits, Outcome, Seeds, Settled, Ticket};
 pub use found::FoundNames;
 pub use laws::{
     acts_are_own, begun_are_ready, ends_are_harmless, entries_are_harmless, ledgers_are_grown,

@@ -1,55 +1,99 @@
-//! The end of a period of the ledger.
+//! The end of a period of the ledger, and the room that a call's postings need.
 
-ghost use Rattle.std.specs.Prelude.{◌≡◌, Some, IfOk, OnErr};
+ghost use Rattle.std.specs.Prelude.{◌≡◌, ◌<◌, ◌≤◌, ◌+◌, [], Some, length, map};
 ghost use Rattle.table_steps.specs.Kept.{IsKept, world_of};
-ghost use Rattle.table_steps.specs.Living.{AreLiving};
-ghost use Rattle.table_steps.specs.Steps.{ClosesPeriod};
-ghost use Rattle.tree.specs.declared.nodes.Node.{Node};
-ghost use Rattle.tree.specs.Places.{at_in, IsAlive};
+ghost use Rattle.table_steps.specs.Living.{AreLiving, life_of, opening_at};
+ghost use Rattle.table_steps.specs.Steps.{ClosesPeriod, MakesRoom};
+ghost use Rattle.table_steps.specs.World.{most_posted};
+ghost use Rattle.table_requests.specs.Listed.{requests_of};
+ghost use Rattle.table_requests.specs.RequestMaps.{most_posted_by};
+ghost use Rattle.tree.specs.Places.{IsAlive, at_in};
 
+use crate::data::Counts;
 use crate::state::State;
-use std::alloc::{AllocError, Global};
-use tree::Tree;
+use ledger::{Ledger, NextPeriod};
+use std::mem;
+use tree::{Node, Tree};
 
-/// The generation of the node that bears the number.
-fn generation_of(tree: &Tree, number: u64) -> u64
+/// The node that bears the number.
+fn node_at(tree: &Tree, number: u64) -> &Node
     requires { IsAlive (at_in tree.now) number }
-    ensures { (x : Node) → at_in tree.now number ≡ Some x → result ≡ x.generation }
+    ensures { at_in tree.now number ≡ Some result.now }
 {
-    let Some(node) = tree.at(number) else {
-        unreachable!();
-    };
-    node.generation
+    match tree.at(number) {
+        Some(node) => node,
+        None => unreachable!(),
+    }
 }
 
-/// The numbers of all nodes but the root, with their generations, by rising number.
-fn list_living(alloc: Global, tree: &Tree) -> Result<Vec<(u64, u64)>, AllocError>
-    ensures { IfOk result (λ pairs. AreLiving (at_in tree.now) pairs.items) }
+/// What is left of each node but the root is what the period begins with, by rising number.
+fn open_living(tree: &Tree, next: &mut NextPeriod)
+    requires none { next.old.made.last ≡ [] }
+    requires room { tree.now.living ≤ next.old.room + 1 }
+    requires root { IsAlive (at_in tree.now) 1 }
+    ensures living { AreLiving (at_in tree.now) (map life_of next.new.made.last) }
+    ensures opened { next.new.made.last ≡ map (opening_at (at_in tree.now)) (map life_of next.new.made.last) }
+    ensures closed { next.new.made ≡ record next.old.made { last = next.new.made.last } }
+    ensures room { next.new.room + length next.new.made.last ≡ next.old.room }
+    ensures rest { next.new ≡ record next.old { made = next.new.made; room = next.new.room } }
 {
-    let mut pairs = Vec::new(alloc);
+    let _nodes = tree.len(); // proof: its census
     let mut number = 1;
-    while let Some(next) = tree.after(number) {
-        pairs.push((next, generation_of(tree, next)))?;
-        number = next;
+    while let Some(alive) = tree.after(number) {
+        let node = node_at(tree, alive);
+        next.open(alive, node.generation, node.count);
+        number = alive;
     }
-    Ok(pairs)
 }
 
 impl State {
     /// Ends a period: births and totals are kept, and what is left of each node becomes what the next one begins with. Answers by
-    /// how many postings the ledger became shorter. A refused growth changes nothing.
-    pub fn close_period(&mut self) -> Result<u64, AllocError>
+    /// how many postings the ledger became shorter. It takes no memory.
+    pub fn close_period(&mut self) -> u64
         requires { IsKept self.old }
-        ensures closes { IfOk result (λ fewer. ClosesPeriod (world_of self.old) fewer (world_of self.new)) }
+        ensures closes { ClosesPeriod (world_of self.old) result (world_of self.new) }
         ensures rest { self.new ≡ record self.old { ledger = self.new.ledger } }
-        ensures err { OnErr result (self.new ≡ self.old) }
+        ensures living { length self.new.ledger.made.last + 1 ≡ self.old.tree.living }
+        ensures room { self.new.ledger.room + length self.new.ledger.made.last ≡ self.old.ledger.room + length self.old.ledger.made.last }
         ensures kept { IsKept self.new }
     {
         let _nodes = self.tree.len(); // proof: its census
-        let living = list_living(self.alloc, &self.tree)?;
-        match self.ledger.close(&living) {
-            Ok(fewer) => Ok(fewer),
-            Err(_) => Err(AllocError),
+        let made = self.ledger.made();
+        let ledger = mem::replace(&mut self.ledger, Ledger::new(self.alloc, 0));
+        let mut next = ledger.close();
+        open_living(&self.tree, &mut next);
+        self.ledger = next.begin();
+        (made - self.ledger.made()) as u64
+    }
+
+    /// Makes room for so many postings of a call: where counts are free and there is none, the period ends. It takes no memory.
+    pub fn make_room(&mut self, n: u64)
+        requires kept { IsKept self.old }
+        requires few { self.old.limits.counts ≡ Counts.Free → self.old.tree.living + n ≤ self.old.limits.postings + 1 }
+        ensures makes { MakesRoom (world_of self.old) n (world_of self.new) }
+        ensures room { self.old.limits.counts ≡ Counts.Free → n ≤ self.new.ledger.room }
+        ensures rest { self.new ≡ record self.old { ledger = self.new.ledger } }
+        ensures kept { IsKept self.new }
+    {
+        if self.limits.counts == Counts::Bounded {
+            return;
         }
+        if n <= self.ledger.room() as u64 {
+            return;
+        }
+        self.close_period();
+    }
+
+    /// Makes room for the postings of the next call on the request: the end of its work, or its settle.
+    pub fn make_room_for(&mut self, id: u64)
+        requires kept { IsKept self.old }
+        ensures makes { MakesRoom (world_of self.old) (most_posted (world_of self.old).flights id) (world_of self.new) }
+        ensures room { self.old.limits.counts ≡ Counts.Free → most_posted_by ((requests_of self.old.flights).at id) ≤ self.new.ledger.room }
+        ensures rest { self.new ≡ record self.old { ledger = self.new.ledger } }
+        ensures kept { IsKept self.new }
+    {
+        let _nodes = self.tree.len(); // proof: its law
+        let n = self.flights.most_posted(id);
+        self.make_room(n);
     }
 }

@@ -1,6 +1,8 @@
 //! The end of a request whose reply was sent, or was not.
 
-ghost use Rattle.std.specs.Prelude.{◌≡◌, ◌≤◌, ◌+◌, ◌⊎◌, drop};
+ghost use Rattle.std.specs.Prelude.{◌≡◌, ◌<◌, ◌≤◌, ◌+◌, ◌⊎◌, drop, length};
+ghost use Rattle.table_requests.specs.Listed.{requests_of};
+ghost use Rattle.table_requests.specs.RequestMaps.{most_posted_by};
 ghost use Rattle.table_steps.specs.Entries.{TakesAllBack, TakesBack, TakesNone, untaken_of};
 ghost use Rattle.table_steps.specs.Keeping.{kept_by};
 ghost use Rattle.table_steps.specs.Steps.{Settles, untaken_file};
@@ -9,7 +11,7 @@ ghost use Rattle.table_steps.specs.Kept.{IsKept, world_of};
 ghost use Rattle.tree.specs.Places.{at_in};
 
 use crate::closing::close;
-use crate::data::{Answered, Settled};
+use crate::data::{Answered, Counts, Settled};
 use crate::state::State;
 use crate::sweep::sweep_pins;
 use ledger::{Ledger, Posting};
@@ -30,10 +32,11 @@ fn take_back(
     requires counts { counts.old ≡ tree.old.counts }
     requires nearly { IsNearly (at_in tree.old) ledger.old.made (kept_by _flights.now _files.now) _pins.now }
     requires suspect { IsAmong number _pins.now }
-    requires room { tree.old.counts ≤ ledger.old.room }
+    requires room { (tree.old.counts ≤ ledger.old.room) ⊎ (0 < ledger.old.room) }
     ensures back { TakesBack (at_in tree.old) ledger.old.made number (at_in tree.new) ledger.new.made ⊎ TakesNone (at_in tree.old) ledger.old.made number (at_in tree.new) ledger.new.made }
     ensures nearly { IsNearly (at_in tree.new) ledger.new.made (kept_by _flights.now _files.now) _pins.now }
     ensures rest { IsTakenBack tree.old ledger.old tree.new ledger.new }
+    ensures one { ledger.old.room ≤ ledger.new.room + 1 }
     ensures counts { counts.new ≡ tree.new.counts }
 {
     let Some(node) = tree.at(number) else {
@@ -61,7 +64,7 @@ fn take_all_back(
 )
     requires counts { counts.old ≡ tree.old.counts }
     requires nearly { IsNearly (at_in tree.old) ledger.old.made (kept_by flights.now files.now) pins.now }
-    requires room { tree.old.counts ≤ ledger.old.room }
+    requires room { (tree.old.counts ≤ ledger.old.room) ⊎ (length pins.now ≤ ledger.old.room + from) }
     ensures back { TakesAllBack (at_in tree.old) ledger.old.made (drop from pins.now) (at_in tree.new) ledger.new.made }
     ensures nearly { IsNearly (at_in tree.new) ledger.new.made (kept_by flights.now files.now) pins.now }
     ensures rest { IsTakenBack tree.old ledger.old tree.new ledger.new }
@@ -90,7 +93,8 @@ impl State {
     /// Ends a request: its record goes, and what it gave and opened is taken back if the reply was not taken. What that is
     /// its record says, not the answer.
     pub fn settle(&mut self, answered: Answered, taken: bool) -> Settled
-        requires { IsKept self.old }
+        requires kept { IsKept self.old }
+        requires room { self.old.limits.counts ≡ Counts.Free → most_posted_by ((requests_of self.old.flights).at answered.id) ≤ self.old.ledger.room }
         ensures settles { Settles (world_of self.old) answered taken result (world_of self.new) }
         ensures kept { IsKept self.new }
     {

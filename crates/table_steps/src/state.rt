@@ -1,10 +1,11 @@
 //! The parts of a table.
 
-ghost use Rattle.std.specs.Prelude.{◌≡◌, ◌≤◌, IfOk};
+ghost use Rattle.std.specs.Prelude.{◌≡◌, ◌≤◌, [], IfOk};
+ghost use Rattle.ledger.specs.Periods.{unclosed};
 ghost use Rattle.table_steps.specs.Kept.{IsKept, IsWhole, world_of};
 ghost use Rattle.table_steps.specs.World.{IsLawfulWorld, opened_world};
 
-use crate::data::{Limits, Seeds};
+use crate::data::{Counts, Limits, Seeds};
 use ledger::Ledger;
 use std::alloc::{AllocError, Global};
 use table_files::Files;
@@ -27,18 +28,36 @@ pub struct State {
     pub counter: u32,
 }
 
+/// A ledger without postings, with the room that it has from the start.
+fn open_ledger(alloc: Global, limits: &Limits) -> Result<Ledger, AllocError>
+    ensures made { IfOk result (λ ledger. ledger.made ≡ unclosed []) }
+    ensures limit { IfOk result (λ ledger. ledger.limit ≡ limits.now.postings) }
+    ensures free { IfOk result (λ ledger. limits.now.counts ≡ Counts.Free → limits.now.postings ≤ ledger.room) }
+{
+    let mut ledger = Ledger::new(alloc, limits.postings as usize);
+    match limits.counts {
+        Counts::Bounded => Ok(ledger),
+        Counts::Free => match ledger.reserve(limits.postings as usize, 0) {
+            Ok(()) => Ok(ledger),
+            Err(_) => Err(AllocError),
+        },
+    }
+}
+
 impl State {
-    /// The root alone.
+    /// The root alone. Where counts are free, all room for a period's postings is made here.
     pub fn open(alloc: Global, limits: Limits, seeds: Seeds) -> Result<State, AllocError>
-        requires { 1 ≤ limits.nodes }
+        requires root { 1 ≤ limits.nodes }
+        requires free { limits.counts ≡ Counts.Free → limits.nodes ≤ limits.postings }
         ensures opened { IfOk result (λ s. world_of s ≡ opened_world limits) }
         ensures kept { IfOk result IsKept }
     {
         let tree = Tree::new(alloc, limits.nodes, seeds.index)?;
+        let ledger = open_ledger(alloc, &limits)?;
         Ok(State {
             alloc,
             tree,
-            ledger: Ledger::new(alloc, limits.postings as usize),
+            ledger,
             flights: RequestsInFlight::new(alloc, seeds.holds),
             limits,
             counts: 0,

@@ -11,7 +11,7 @@ use ledger::{Blanks, Ledgers, Share};
 use std::alloc::{AllocError, Global};
 use std::random::RandomSource;
 use std::sync::Wait;
-use table::{Limits, Seeds, Table};
+use table::{Counts, Limits, Seeds, Table};
 use table_image::Image;
 use test_clients::Handles;
 
@@ -127,6 +127,7 @@ fn open_one<T: Ledgers>(
     requires names { blanks ≡ T.names }
     requires shares { T.names.parts ≡ 1 }
     requires root { 1 ≤ limits.nodes }
+    requires free { limits.counts ≡ Counts.Free → limits.nodes ≤ limits.postings }
     ensures opened { IfOk result (λ (table, _). world_of table ≡ opened_world limits) }
 {
     let (table, mut shares) = Table::<T>::open(alloc, limits, seeds, blanks, 1)?;

@@ -30,7 +30,7 @@ const FORGET: Posting = Posting::Forget {
 /// A ledger of a birth, two entries and a forget, for which it has just room.
 fn posted(alloc: Global) -> Result<Ledger, LedgerFault> {
     let mut ledger = Ledger::new(alloc, 4);
-    ledger.reserve(4)?;
+    ledger.reserve(4, 1)?;
     ledger.post(BORN);
     ledger.post(ENTRY);
     ledger.post(ENTRY);
@@ -41,7 +41,7 @@ fn posted(alloc: Global) -> Result<Ledger, LedgerFault> {
 #[test]
 fn one_of_two_entries_is_left(rt: HostRuntime) -> Result<(), Fail> {
     let mut empty = Ledger::new(rt.alloc(), 4);
-    let reserved = [empty.reserve(5), empty.reserve(4)];
+    let reserved = [empty.reserve(5, 0), empty.reserve(4, 0)];
     assert_eq!(rt; reserved, [Err(LedgerFault::Full), Ok(())]);
     let ledger = posted(rt.alloc())?;
     let counts = [

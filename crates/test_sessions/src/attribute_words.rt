@@ -87,6 +87,8 @@ const WITH_OWNER: &str = "mirrord: with --attributes host there is no --uid and 
 
 const NEITHER: &str = "mirrord: --attributes is fixed or host\n";
 
+const NO_COUNTS: &str = "mirrord: --counts is bounded or free\n";
+
 const REFUSED: &[Refused] = &[
     Refused(
         &[
@@ -147,6 +149,29 @@ const REFUSED: &[Refused] = &[
         ],
         Refusal::Attributes,
         NEITHER,
+    ),
+    Refused(
+        &["mirrord", "pipe", "--root=/", "--counts", "Free"],
+        Refusal::Counts,
+        NO_COUNTS,
+    ),
+    Refused(
+        &["mirrord", "serve", "--root=/", "--socket=/s", "--counts="],
+        Refusal::Counts,
+        NO_COUNTS,
+    ),
+    // What is told of attributes comes before what is told of counts.
+    Refused(
+        &[
+            "mirrord",
+            "pipe",
+            "--root=/",
+            "--counts=all",
+            "--attributes=host",
+            "--gid=1",
+        ],
+        Refusal::Owner,
+        WITH_OWNER,
     ),
 ];
 

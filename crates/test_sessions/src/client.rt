@@ -154,8 +154,8 @@ pub fn serve_client<H: Wait + RandomSource, T: Ledgers, D: Folders>(
     requires names { blanks ≡ T.names }
     requires shares { T.names.parts ≡ 1 }
 {
-    // The root is a node.
-    if limits.nodes == 0 {
+    // The root is a node, and a period has room for all nodes.
+    if limits.nodes == 0 || limits.postings < limits.nodes {
         return Err(AllocError);
     }
     let Ok(seeds) = Seeds::new(rt) else {

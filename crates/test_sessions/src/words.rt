@@ -5,6 +5,7 @@ use engine::Settings;
 use mirrord_programs::{Options, read_options};
 use mirrord_server::{Bounds, Terms};
 use std::test::Fail;
+use table::Counts;
 
 /// How far a table may grow if nothing else is said.
 const DEFAULT: Bounds = Bounds {
@@ -12,6 +13,7 @@ const DEFAULT: Bounds = Bounds {
     files: 4_096,
     requests: 64,
     postings: 1_048_576,
+    counts: Counts::Bounded,
 };
 
 fn terms(uid: u32, gid: u32, bounds: Bounds) -> Terms {
@@ -58,12 +60,14 @@ fn serve_and_pipe(rt: HostRuntime) -> Result<(), Fail> {
         "1048576",
         "--requests=65536",
         "--postings=4294967295",
+        "--counts=free",
     ];
     let most = Bounds {
         nodes: 16_777_216,
         files: 1_048_576,
         requests: 65_536,
         postings: 4_294_967_295,
+        counts: Counts::Free,
     };
     let given = Options::Serve {
         root: "/srv",
@@ -94,12 +98,15 @@ fn serve_and_pipe(rt: HostRuntime) -> Result<(), Fail> {
         "--files=1",
         "--requests=1",
         "--postings=1",
+        "--counts",
+        "bounded",
     ];
     let least = Bounds {
         nodes: 2,
         files: 1,
         requests: 1,
         postings: 1,
+        counts: Counts::Bounded,
     };
     let pipe = Options::Pipe {
         root: "/srv",

@@ -16,8 +16,9 @@ mod event;
 #[cfg(test)]
 mod exchange_rows;
 #[cfg(test)]
-mod givings_back;
+mod free_rows;
 #[cfg(test)]
+mod givings_back;
 mod handle_rows;
 #[cfg(test)]
 mod hidden_rows;

@@ -1,7 +1,7 @@
 //! Stories: the calls of a table, what each must tell, and what the table must show between them.
 
 use ledger::Totals;
-use table::Limits;
+use table::{Counts, Limits};
 use table_image::Stage;
 
 /// The number of the root.
@@ -11,6 +11,7 @@ pub const ROOT: u64 = 1;
 pub const DEFAULT: Limits = Limits {
     nodes: 65_536,
     postings: 1_048_576,
+    counts: Counts::Bounded,
     flights: 64,
     files: 4_096,
 };

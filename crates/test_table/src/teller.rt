@@ -12,7 +12,7 @@ use std::alloc::{AllocError, Global};
 use std::marker::Brand;
 use std::random::RandomSource;
 use std::test::Fail;
-use table::{Limits, Seeds, Table};
+use table::{Counts, Limits, Seeds, Table};
 use table_image::Image;
 
 /// The unique number of each LOOKUP that is one step.
@@ -130,7 +130,7 @@ impl<T: Ledgers> TestTable<T> {
             Step::Finish(unique, outcome, _) => self.finish(unique, outcome),
             Step::Settle(unique, reply, _) => Ok(self.settle(unique, reply)),
             Step::Forget(number, n, _) => Ok(self.forget(number, n)),
-            Step::ClosePeriod(_) => Ok(Told::Closed(self.table.close_period()?)),
+            Step::ClosePeriod(_) => Ok(Told::Closed(self.table.close_period())),
             Step::LookUp(parent, name, _) => self.look_up(parent, name),
             Step::Stranger(unique) => self.take_stranger(unique),
             Step::StrangersAnswer(unique, after) => self.take_answer(unique, after),
@@ -182,6 +182,7 @@ fn play_on<T: Ledgers, P: Play>(
     play: &mut P,
 ) -> Result<Sum, Fail>
     requires root { 1 ≤ limits.nodes }
+    requires free { limits.counts ≡ Counts.Free → limits.nodes ≤ limits.postings }
     requires names { blanks ≡ T.names }
     requires shares { T.names.parts ≡ 2 }
 {
@@ -201,6 +202,9 @@ pub fn play_new<R: RandomSource + AllocGlobal, P: Play>(
 ) -> Result<Sum, Fail> {
     if limits.nodes == 0 {
         return Err(Fail::from("a table has at least one node"));
+    }
+    if limits.counts == Counts::Free && limits.postings < limits.nodes {
+        return Err(Fail::from("a period has room for all nodes"));
     }
     let seeds = Seeds::new(rt)?;
     play_on::<Brand, P>(rt.alloc(), limits, seeds, Blanks::new(2), play)

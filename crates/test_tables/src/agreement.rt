@@ -6,7 +6,7 @@ use crate::words::{Way, add_once};
 use ledger::Posting;
 use paths::{Name, Path};
 use std::alloc::AllocError;
-use table::Given;
+use table::{Counts, Given};
 use table_image::{Image, Record, Stage};
 use tree::{Node, Place};
 
@@ -98,7 +98,8 @@ impl Pairs {
         Ok(posted(other, list.bearer()) == Some(list) && self.are(list.bearer(), bearer))
     }
 
-    /// Whether the postings after those that were seen are the same.
+    /// Whether the postings after those that were seen are the same: the last ones of the other table, which knows periods. Where it
+    /// bounds its counts none of these ended, and else a period keeps within its limit.
     pub fn take_postings(
         &mut self,
         list: &ListTable,
@@ -106,13 +107,20 @@ impl Pairs {
         seen: usize,
     ) -> Result<bool, AllocError> {
         let others = image.postings.as_slice();
-        let (new, news) = (list.postings.iter().skip(seen), others.iter().skip(seen));
+        let more = list.postings.len().saturating_sub(seen);
+        let Some(before) = others.len().checked_sub(more) else {
+            return Ok(false);
+        };
+        let (new, news) = (list.postings.iter().skip(seen), others.iter().skip(before));
         for (posting, other) in new.zip(news) {
             if !self.take_posting(*posting, *other)? {
                 return Ok(false);
             }
         }
-        Ok(list.postings.len() == others.len())
+        match list.limits.counts {
+            Counts::Bounded => Ok(before == seen),
+            Counts::Free => Ok(others.len() as u64 <= list.limits.postings),
+        }
     }
 
     /// Whether the node is the same in both: its pair, its mark and its count.

@@ -14,7 +14,7 @@ use std::alloc::{AllocError, AllocFailed, Global};
 use std::marker::Brand;
 use std::random::RandomSource;
 use std::test::Fail;
-use table::{Limits, Outcome, Seeds, Table};
+use table::{Counts, Limits, Outcome, Seeds, Table};
 
 /// What is drawn.
 #[derive(Clone, Copy, PartialEq, Eq)]
@@ -174,6 +174,7 @@ fn drive_on<T: Ledgers>(
     blanks: Blanks,
 ) -> Result<(), Fail>
     requires root { 1 ≤ drive.limits.nodes }
+    requires free { drive.limits.counts ≡ Counts.Free → drive.limits.nodes ≤ drive.limits.postings }
     requires names { blanks ≡ T.names }
     requires shares { T.names.parts ≡ 2 }
 {
@@ -195,6 +196,9 @@ fn drive_on<T: Ledgers>(
 pub fn drive_both<R: RandomSource + AllocGlobal>(rt: &R, drive: Drive) -> Result<(), Fail> {
     if drive.limits.nodes == 0 {
         return Err(Fail::from("a table has at least one node"));
+    }
+    if drive.limits.counts == Counts::Free && drive.limits.postings < drive.limits.nodes {
+        return Err(Fail::from("a period has room for all nodes"));
     }
     let seeds = Seeds::new(rt)?;
     drive_on::<Brand>(rt.alloc(), drive, seeds, Blanks::new(2))

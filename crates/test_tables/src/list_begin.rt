@@ -6,7 +6,7 @@ use crate::list_table::{ListRequest, ListTable, Plan};
 use crate::words::{Way, is_among};
 use errno::{EAGAIN, EBADF, EINVAL, ENAMETOOLONG, ENFILE, ENOTEMPTY, ESTALE};
 use std::alloc::AllocError;
-use table::{Access, Need};
+use table::{Access, Counts, Need};
 
 /// The counter of hidden names rises by so many where a file may be hidden.
 const ADVANCE: u32 = 10;
@@ -120,9 +120,12 @@ impl ListTable {
         let promised = self.promised(plan);
         let nodes = (self.nodes.len() as u64).saturating_add(promised.births);
         let files = (self.files.len() as u64).saturating_add(promised.files);
-        let postings = (self.postings.len() as u64)
-            .saturating_add(self.sums().count())
-            .saturating_add(promised.entries.saturating_mul(3));
+        let before = match self.limits.counts {
+            Counts::Bounded => { (self.postings.len() as u64).saturating_add(self.sums().count()) }
+            // A period that has just begun may have a posting for each node.
+            Counts::Free => self.limits.nodes,
+        };
+        let postings = before.saturating_add(promised.entries.saturating_mul(3));
         nodes > self.limits.nodes
             || postings > self.limits.postings
             || files > self.limits.files

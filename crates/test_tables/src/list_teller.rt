@@ -6,7 +6,7 @@ use crate::list_table::{ListNode, ListTable, Posted};
 use crate::words::Word;
 use std::alloc::Global;
 use std::test::Fail;
-use table::Limits;
+use table::{Counts, Limits};
 
 pub const A: Word = Word::Plain {
     letter: 'a',
@@ -107,6 +107,7 @@ pub const UNTAKEN: Told = Told::Settled {
 pub const DEFAULT: Limits = Limits {
     nodes: 65_536,
     postings: 1_048_576,
+    counts: Counts::Bounded,
     flights: 64,
     files: 4_096,
 };

@@ -5,7 +5,7 @@ use crate::draws::Draws;
 use crate::tallies::Came;
 use errno::{EAGAIN, EBADF, EINVAL, ENAMETOOLONG, ENFILE, ENOTEMPTY, ESTALE};
 use std::test::Fail;
-use table::Limits;
+use table::{Counts, Limits};
 
 const STEPS: usize = 10_000;
 
@@ -13,6 +13,7 @@ const STEPS: usize = 10_000;
 const DEFAULT: Limits = Limits {
     nodes: 65_536,
     postings: 1_048_576,
+    counts: Counts::Bounded,
     flights: 64,
     files: 4_096,
 };
@@ -118,6 +119,25 @@ fn biased_steps_with_few_postings(rt: HostRuntime) -> Result<(), Fail> {
             draws: short(3),
             steps: 3_000,
             expected: &[Came::Refused(ENFILE), Came::Untaken],
+        },
+    )
+}
+
+/// Counts that are free, in periods so short that they end for want of room.
+#[test]
+fn biased_steps_with_free_counts(rt: HostRuntime) -> Result<(), Fail> {
+    drive_both(
+        &rt,
+        Drive {
+            limits: Limits {
+                postings: 30,
+                counts: Counts::Free,
+                ..FEW
+            },
+            manner: Manner::Biased,
+            draws: short(4),
+            steps: 3_000,
+            expected: &[Came::Refused(ENFILE), Came::Untaken, Came::Forgotten],
         },
     )
 }

@@ -10,7 +10,7 @@ serve-end-requires g c = record { fresh = opened_idle _ (world_of c.in-Ok-opened
 pub returns : goal.returns
 returns g c = inl (record {
   world = world_of c.in-Ok-opened.table;
-  opened = c.in-Ok-opened.ensures.opened ∙ ap opened_world c.limits.ensures;
+  opened = c.in-Ok-opened.ensures.opened ∙ ap opened_world c.limits.ensures.limits;
   last = world_of c.serve-end.new.table;
   dirs = _;
   limits_are = c.in-Ok.ensures;

@@ -11,4 +11,4 @@ pub returns : goal.returns
 returns g c =
     let e = c.serve_threads-ended in
     served_by c.args.terms (vec_len c.args.folders) c.args.folders.items _ c.new-link_out.result e.result.account e.result.end c.requires e.ensures.only e.ensures.lost e.ensures.end e.ensures.numbers e.ensures.reads e.ensures.shared
-    (subst (λ (l : Limits). IfSome e.result.account (λ a. ∥ ((history : List Made) × HasServed Tells Sends l c.args.terms.settings c.args.folders.items c.new-link_out.result a.passed a.sums.totals history) ∥₁)) c.limits.ensures e.ensures.served)
+    (subst (λ (l : Limits). IfSome e.result.account (λ a. ∥ ((history : List Made) × HasServed Tells Sends l c.args.terms.settings c.args.folders.items c.new-link_out.result a.passed a.sums.totals history) ∥₁)) c.limits.ensures.limits e.ensures.served)

@@ -12,8 +12,8 @@ loop-next-init c none =
     let at = at_in c.args.state.now.tree in
     rw c.new-paths.ensures.items (left_skip at 0 1 [] (omega arith) (λ n le less mark. none-some mark.node (sym (subst (λ k. at k ≡ None) (zero_is n less) none) ∙ mark.here)) (left_none at))
 
-pub add_leftover-requires-clause-below : goal.add_leftover-requires-clause-below
-add_leftover-requires-clause-below c =
+pub add_leftover-requires : goal.add_leftover-requires
+add_leftover-requires c =
     let at = at_in c.args.state.now.tree in
     let next = c.in-Some.ensures.some in
     left_skip at (c.loop-next.number + 1) c.in-Some.next c.loop-next.paths.items (omega (arith, next.above)) (λ n le less mark. none-some mark.node (sym (next.least n (omega (arith, le)) less) ∙ mark.here)) (c.loop-next.invariant c.in-Some.ensures.positive)

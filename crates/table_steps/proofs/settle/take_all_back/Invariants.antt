@@ -1,4 +1,4 @@
-use Rattle.std.proofs.Common.{◌≡◌, ◌≤◌, drop}
+use Rattle.std.proofs.Common.{◌≡◌, ◌≤◌, ◌+◌, ◌⊎◌, drop, length}
 use Rattle.tree.specs.Places.{at_in}
 use Rattle.table_steps.specs.Keeping.{kept_by}
 use Rattle.table_steps.specs.Sweeping.{IsNearly, IsTakenBack}
@@ -11,5 +11,5 @@ invariant-loop-i l = record {
   nearly : IsNearly (at_in l.tree) l.ledger.made (kept_by l.flights l.files) l.pins;
   back : Continues (at_in l.fn.tree) l.fn.ledger.made (drop l.from l.pins) (at_in l.tree) l.ledger.made (drop l.i l.pins);
   rest : IsTakenBack l.fn.tree l.fn.ledger l.tree l.ledger;
-  room : l.tree.counts ≤ l.ledger.room;
+  room : (l.tree.counts ≤ l.ledger.room) ⊎ (length l.pins ≤ l.ledger.room + l.i);
 }

@@ -8,5 +8,4 @@ use Rattle.engine_visits.proofs.visits.VisitorReach.begin.Goals as goal
 pub returns-clause-begins : goal.returns-clause-begins
 returns-clause-begins g c =
     let old = c.args.self.now in
-    let kept = c.begin-begin.ensures.0 in
-    (kept, (c.has_bits.ensures, ap (λ (on : OnTable). record { visited = visited_of old.come_to; on_table = on }) (made (opened_world g.O.Opening.limits) (began kept c.args.unique c.args.want c.begin-begin.result) old.front c.begin-begin.new.me c.begin-begin.ensures.1)))
+    (c.has_bits.ensures, ap (λ (on : OnTable). record { visited = visited_of old.come_to; on_table = on }) (made (opened_world g.O.Opening.limits) (began c.args.unique c.args.want c.begin-begin.result) old.front c.begin-begin.new.me c.begin-begin.ensures))

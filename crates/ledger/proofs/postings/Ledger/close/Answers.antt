@@ -1,58 +1,44 @@
-use Rattle.std.proofs.Common.{◌≡◌, ◌≤◌, ◌+◌, length, map, sym, ap, ◌∙◌, subst, arith}
-use Rattle.std.proofs.lemmas.List.{length-map}
-use Rattle.std.specs.Vec.{vec_len, vec_capacity}
-use Rattle.ledger.specs.Closing.{AreAllAlive, AreAllBirths, Closes, opening_of}
+use Rattle.std.proofs.Common.{◌≡◌, ℕ, List, [], sym, ap, ◌∙◌, subst, arith}
+use Rattle.std.specs.Prelude.{sum_by}
+use Rattle.ledger.specs.Births.{listed_births}
 use Rattle.ledger.specs.Periods.{Periods}
 use Rattle.ledger.specs.Postings.{Postings}
 use Rattle.ledger.specs.Shares.{Fits}
-use Rattle.ledger.specs.Sums.{IsCarriedOver, totals_over}
-use Rattle.ledger.proofs.Closed.{closed_births, closed_carried, closed_never, closed_totals, periods_of}
+use Rattle.ledger.specs.Sums.{births_closed, births_of}
+use Rattle.ledger.specs.declared.births.KeptBirths.{KeptBirths}
+use Rattle.ledger.specs.declared.shares.Totals.{Totals}
+use Rattle.ledger.proofs.Closed.{periods_of}
+use Rattle.ledger.proofs.Listed.{births_listed, listed_apart, sum_listed}
 use Rattle.ledger.proofs.postings.Ledger.close.Goals as goal
 
-new_carried : (c : goal.After-self-2-1) → IsCarriedOver (periods_of c.in-Ok.field-0.births.items c.self.inside.totals c.in-Ok.field-0.postings.items)
-new_carried c =
-    let ps = periods_of c.self.inside.closed_births.items c.self.inside.closed c.self.inside.postings.items in
-    let made : ps ≡ c.args.self.now.made = ap (λ (v : Postings). v.made) c.self.view_is in
+pub invariant_of-result : goal.invariant_of-result
+invariant_of-result c =
     let old = c.self.invariant in
-    let new = periods_of c.in-Ok.field-0.births.items c.self.inside.totals c.in-Ok.field-0.postings.items in
-    let last : new.last ≡ map (opening_of ps) c.args.alive.now = rw made c.in-Ok.ensures.postings in
-    let births : AreAllBirths ps new.births = rw made c.in-Ok.ensures.births in
-    let all : AreAllAlive ps c.args.alive.now = rw made c.requires.alive in
-    let entered : (totals_over ps).born ≤ (totals_over ps).entries = subst (λ (v : Periods). (totals_over v).born ≤ (totals_over v).entries) (sym made) c.requires.entered in
-    closed_carried ps new c.args.alive.now old.never_negative old.carried all entered births.whole old.totals_are last
-
-pub returns-clause-carried : goal.returns-clause-carried
-returns-clause-carried c = new_carried c
-
-pub invariant_of-self : goal.invariant_of-self
-invariant_of-self c =
-    let ps = periods_of c.self.inside.closed_births.items c.self.inside.closed c.self.inside.postings.items in
-    let made : ps ≡ c.args.self.now.made = ap (λ (v : Postings). v.made) c.self.view_is in
-    let old = c.self.invariant in
-    let alive = c.args.alive.now in
-    let new = periods_of c.in-Ok.field-0.births.items c.self.inside.totals c.in-Ok.field-0.postings.items in
-    let last : new.last ≡ map (opening_of ps) alive = rw made c.in-Ok.ensures.postings in
-    let births : AreAllBirths ps new.births = rw made c.in-Ok.ensures.births in
-    let few : length alive ≤ length ps.last = subst (λ (v : Periods). length alive ≤ length v.last) (sym made) c.requires.few in
-    let count : length new.last ≡ length alive = ap length last ∙ length-map alive (opening_of ps) in
-    let closes : Closes ps alive new = record { births = births.each; births_once = births.once; totals = old.totals_are; last = last } in
-    let room_left : vec_len c.in-Ok.field-0.postings + c.self.inside.room ≤ vec_capacity c.in-Ok.field-0.postings = rw (ap (λ (v : Postings). v.room) c.self.view_is) c.in-Ok.ensures.room in
-    let same : totals_over new ≡ totals_over ps = closed_totals ps new alive closes in
+    let es = c.self.inside.births.entries in
+    let listed : c.keep_births.new.kept.items ≡ listed_births es = c.keep_births.ensures.listed in
+    let none : c.clear.new.self.items ≡ [] = c.clear.ensures.items in
     record {
-      never_negative = closed_never ps new alive last;
-      carried = new_carried c;
-      tallied = λ n. old.tallied n ∙ sym (closed_births ps new alive closes n);
-      summed = old.summed ∙ ap (λ t. t.born) (sym same);
-      totals_are = old.totals_are ∙ sym same;
-      small = subst (λ t. Fits t) (sym same) old.small;
-      within = omega (arith, old.within, few, count);
-      fits = room_left;
-      places = old.places;
+      openings = λ k d within. absurd (omega (arith, within, c.clear.ensures.len));
+      tallied = λ n. let was = births_listed n es c.keep_births.ensures.unique in rw (listed, none) (omega (arith, was));
+      summed = old.summed ∙ ap (λ (t : Totals). t.born) (sym old.totals_are);
+      kept = rw listed (sum_listed es ∙ (old.summed ∙ ap (λ (t : Totals). t.born) (sym old.totals_are)));
+      small = subst (λ (t : Totals). Fits t) (sym old.totals_are) old.small;
+      roomy = record {
+        within = omega (arith, old.roomy.within, c.len.ensures, c.clear.ensures.len);
+        fits = omega (arith, old.roomy.fits, c.len.ensures, c.clear.ensures.len, c.clear.ensures.capacity);
+        spares = old.roomy.spares;
+        keeps = omega (arith, old.roomy.keeps, c.keep_births.ensures.capacity);
+      };
     }
 
-pub returns-clause-closed : goal.returns-clause-closed
-returns-clause-closed c =
+pub returns-clause-births : goal.returns-clause-births
+returns-clause-births c = λ n.
     let ps = periods_of c.self.inside.closed_births.items c.self.inside.closed c.self.inside.postings.items in
-    let made : ps ≡ c.args.self.now.made = ap (λ (v : Postings). v.made) c.self.view_is in
-    let births = c.in-Ok.ensures.births in
-    record { births = births.each; births_once = births.once; totals = rw (← made) c.self.invariant.totals_are; last = c.in-Ok.ensures.postings }
+    let es = c.self.inside.births.entries in
+    let listed : c.keep_births.new.kept.items ≡ listed_births es = c.keep_births.ensures.listed in
+    let tallied = c.self.invariant.tallied n in
+    let made : ps ≡ c.args.self.made = ap (λ (v : Postings). v.made) c.self.view_is in
+    ap (births_closed n) listed ∙ (births_listed n es c.keep_births.ensures.unique ∙ (tallied ∙ ap (births_of n) made))
+
+pub returns-clause-births_once : goal.returns-clause-births_once
+returns-clause-births_once c = rw c.keep_births.ensures.listed (listed_apart c.self.inside.births.entries c.keep_births.ensures.unique)

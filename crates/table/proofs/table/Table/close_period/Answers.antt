@@ -12,4 +12,4 @@ invariant_of-self g c =
     let closed = c.close_period-closed.ensures in
     let old = c.self.inside.state in
     let new = c.close_period-closed.new.self in
-    (whole_closed old new c.self.invariant.0 closed.rest closed.kept, c.self.invariant.1 ∙ book_closed old new c.close_period-closed.result closed.closes closed.err)
+    (whole_closed old new c.self.invariant.0 closed.rest closed.kept, c.self.invariant.1 ∙ book_closed old new c.close_period-closed.result closed.closes)

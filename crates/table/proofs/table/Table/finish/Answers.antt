@@ -1,33 +1,50 @@
+use Rattle.std.proofs.Common.{ℕ, ◌≡◌, ◌∙◌, subst, sym}
+use Rattle.ledger.specs.Shares.{plus}
+use Rattle.ledger.specs.Sums.{totals_of, totals_over}
 use Rattle.table_steps.proofs.StillUndisturbed.{finish_calm}
 use Rattle.table_steps.proofs.Growing.{ledgers_grown}
 use Rattle.table_steps.specs.Kept.{world_of}
+use Rattle.table_steps.specs.Steps.{MakesRoom, gained}
+use Rattle.table_steps.specs.World.{most_posted}
+use Rattle.table.proofs.Closing.{gains_renewed, totals_renewed, whole_closed}
 use Rattle.table.proofs.Longer.{length_longer, totals_longer, gained_longer}
 use Rattle.table.proofs.table.Table.finish.Goals as goal
 
 pub post_since-requires-clause-within : goal.post_since-requires-clause-within
 post_since-requires-clause-within g c =
-    rw c.made-made.ensures (length_longer (world_of c.self.inside.state) (world_of c.finish-answered.new.self) (ledgers_grown.finish (world_of c.self.inside.state) c.args.ticket.id c.args.outcome c.finish-answered.result (world_of c.finish-answered.new.self) c.finish-answered.ensures.finishes))
+    rw c.made-made.ensures (length_longer (world_of c.make_room_for.new.self) (world_of c.finish-answered.new.self) (ledgers_grown.finish (world_of c.make_room_for.new.self) c.args.ticket.id c.args.outcome c.finish-answered.result (world_of c.finish-answered.new.self) c.finish-answered.ensures.finishes))
 
 pub post_since-requires-clause-so_far : goal.post_since-requires-clause-so_far
 post_since-requires-clause-so_far g c =
-    rw c.made-made.ensures (totals_longer (world_of c.self.inside.state) (world_of c.finish-answered.new.self) (ledgers_grown.finish (world_of c.self.inside.state) c.args.ticket.id c.args.outcome c.finish-answered.result (world_of c.finish-answered.new.self) c.finish-answered.ensures.finishes) c.self.inside.book c.self.invariant.1)
+    rw c.made-made.ensures (totals_longer (world_of c.make_room_for.new.self) (world_of c.finish-answered.new.self) (ledgers_grown.finish (world_of c.make_room_for.new.self) c.args.ticket.id c.args.outcome c.finish-answered.result (world_of c.finish-answered.new.self) c.finish-answered.ensures.finishes) c.self.inside.book
+    (c.self.invariant.1 ∙ sym (totals_renewed (world_of c.self.inside.state) (world_of c.make_room_for.new.self) c.make_room_for.ensures.makes)))
 
-pub returns-clause-grows : goal.returns-clause-grows
-returns-clause-grows g c =
-    rw (← c.self.view_is) (gained_longer (world_of c.self.inside.state) (world_of c.finish-answered.new.self) (ledgers_grown.finish (world_of c.self.inside.state) c.args.ticket.id c.args.outcome c.finish-answered.result (world_of c.finish-answered.new.self) c.finish-answered.ensures.finishes))
+pub returns-clause-finishes : goal.returns-clause-finishes
+returns-clause-finishes g c = rw (← c.self.view_is) (record { renewed = world_of c.make_room_for.new.self; room = (subst (λ (k : ℕ). MakesRoom (world_of c.self.inside.state) (most_posted (world_of c.self.inside.state).flights k) (world_of c.make_room_for.new.self)) c.id.ensures c.make_room_for.ensures.makes); finishes = c.finish-answered.ensures.finishes })
+
+pub returns-clause-gains : goal.returns-clause-gains
+returns-clause-gains g c =
+    rw (← c.self.view_is) (gains_renewed (world_of c.self.inside.state) (world_of c.make_room_for.new.self) (world_of c.finish-answered.new.self) (most_posted (world_of c.self.inside.state).flights c.args.ticket.id) c.args.share.now c.post_since.new.share (subst (λ (k : ℕ). MakesRoom (world_of c.self.inside.state) (most_posted (world_of c.self.inside.state).flights k) (world_of c.make_room_for.new.self)) c.id.ensures c.make_room_for.ensures.makes)
+    (record {
+      lawful = c.attest.ensures;
+      grows = gained_longer (world_of c.make_room_for.new.self) (world_of c.finish-answered.new.self) (ledgers_grown.finish (world_of c.make_room_for.new.self) c.args.ticket.id c.args.outcome c.finish-answered.result (world_of c.finish-answered.new.self) c.finish-answered.ensures.finishes);
+      share = rw c.made-made.ensures at c.post_since.ensures.share;
+    }))
 
 pub attest-requires : goal.attest-requires
 attest-requires g c =
+    let mid = whole_closed c.self.inside.state c.make_room_for.new.self c.self.invariant.0 c.make_room_for.ensures.rest c.make_room_for.ensures.kept in
     record {
       kept = c.finish-answered.ensures.kept;
-      undisturbed = finish_calm c.self.inside.state c.finish-answered.new.self c.self.invariant.0.kept c.finish-answered.ensures.kept c.self.invariant.0.undisturbed c.args.ticket.id c.args.outcome c.finish-answered.result c.finish-answered.ensures.finishes;
+      undisturbed = finish_calm c.make_room_for.new.self c.finish-answered.new.self mid.kept c.finish-answered.ensures.kept mid.undisturbed c.args.ticket.id c.args.outcome c.finish-answered.result c.finish-answered.ensures.finishes;
     }
 
 pub invariant_of-self : goal.invariant_of-self
-invariant_of-self g c = (
-  record {
-    kept = c.finish-answered.ensures.kept;
-    undisturbed = finish_calm c.self.inside.state c.finish-answered.new.self c.self.invariant.0.kept c.finish-answered.ensures.kept c.self.invariant.0.undisturbed c.args.ticket.id c.args.outcome c.finish-answered.result c.finish-answered.ensures.finishes;
-  },
-  c.post_since.ensures.book,
-)
+invariant_of-self g c =
+    let mid = whole_closed c.self.inside.state c.make_room_for.new.self c.self.invariant.0 c.make_room_for.ensures.rest c.make_room_for.ensures.kept in (
+      record {
+        kept = c.finish-answered.ensures.kept;
+        undisturbed = finish_calm c.make_room_for.new.self c.finish-answered.new.self mid.kept c.finish-answered.ensures.kept mid.undisturbed c.args.ticket.id c.args.outcome c.finish-answered.result c.finish-answered.ensures.finishes;
+      },
+      c.post_since.ensures.book,
+    )

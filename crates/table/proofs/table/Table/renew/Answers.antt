@@ -4,7 +4,7 @@ use Rattle.table.specs.Made.{IsDueBy}
 use Rattle.table.proofs.Renewing.{not_due}
 use Rattle.table.proofs.table.Table.renew.Goals as goal
 
-pub returns-then-not-is_due-clause-renews : goal.returns-then-not-is_due-clause-renews
-returns-then-not-is_due-clause-renews g c =
-    let none : IsDueBy c.made.result → ⊥ = λ due. let bad : false ≡ true = sym c.if-not-is_due.true ∙ c.is_due.ensures.1 due in cc in
+pub returns-else-is_due-clause-renews : goal.returns-else-is_due-clause-renews
+returns-else-is_due-clause-renews g c =
+    let none : IsDueBy c.made.result → ⊥ = λ due. let bad : false ≡ true = sym c.if-is_due.false ∙ c.is_due.ensures.1 due in cc in
     inl (not_due (world_of c.args.self.now) c.made.result c.made.ensures none, refl)
