@@ -19,6 +19,7 @@ mod exchange_rows;
 mod free_rows;
 #[cfg(test)]
 mod givings_back;
+#[cfg(test)]
 mod handle_rows;
 #[cfg(test)]
 mod hidden_rows;
