@@ -6,7 +6,7 @@ use Rattle.std.specs.Cmp.Lexicographic.{bytes_decides, pointwise_decides}
 use Rattle.std.proofs.lemmas.Bool.{cases_Bool, cond-false, cond-true, false≢true}
 use Rattle.std.proofs.lemmas.List.Folds.{list_any-append}
 use Rattle.paths.specs.Prefixes.{Names, is_prefix}
-use Rattle.steady_map.specs.Living.{found, joined, live, living, weight}
+use Rattle.steady_map.specs.Living.{found, joined, live, living}
 use Rattle.steady_map.proofs.Entries.{none_living}
 use Rattle.indexmap.specs.IndexMap.{IndexMap}
 use Rattle.holds.specs.declared.held.Held.{Held}
@@ -126,9 +126,20 @@ module _ (f g : Names → Option Holders) (key : Names) (o : Option Holders) (wr
     | inr miss ↦ old p h (sym (at_other p miss) ∙ there)
   ]
 
+-- of two writes of one key the last counts
+pub rewritten : (f g h : Names → Option Holders) (key : Names) (o p : Option Holders) → ((q : Names) → g q ≡ (if is_same_path key q then o else f q)) → ((q : Names) → h q ≡ (if is_same_path key q then p else g q)) → (q : Names) → h q ≡ (if is_same_path key q then p else f q)
+rewritten f g h key o p first last q = elim (cases_Bool (is_same_path key q)) [
+  | inl hit ↦ at_key g h key p last q hit ∙ sym (cond-true (is_same_path key q) p (f q) hit)
+  | inr miss ↦ at_other g h key p last q miss ∙ (at_other f g key o first q miss ∙ sym (cond-false (is_same_path key q) p (f q) miss))
+]
+
 -- a path that is put is as good as its copy
 pub put_at : (f g : Names → Option Holders) (o : Option Holders) {key copy : Names} → copy ≡ key → ((q : Names) → g q ≡ (if is_same_path copy q then o else f q)) → (q : Names) → g q ≡ (if is_same_path key q then o else f q)
 put_at f g o is written = subst (λ (k : Names). (q : Names) → g q ≡ (if is_same_path k q then o else f q)) is written
+
+-- what is told of its copy is found at it
+pub told_at : (f : Names → Option Holders) (told o : Option Holders) {key copy : Names} → copy ≡ key → told ≡ f copy → told ≡ o → f key ≡ o
+told_at f told o is from same = ap f (sym is) ∙ (sym from ∙ same)
 
 -- where no path has numbers
 pub none_found : {S : Type 0} → (m : IndexMap Names (Option Holders) S) → live m ≡ 0 → (p : Names) → found is_same_path m p ≡ None
@@ -159,11 +170,6 @@ none_held_up numbers wanted law none held =
       | inl h ↦ let s = ap (λ (x : Holders). x.shared) (empty h.1) in let e = ap (λ (x : Holders). x.exclusive) (empty h.1) in let bad = h.4 in omega (arith, bad, s, e)
       | inr h ↦ let e = ap (λ (x : Holders). x.exclusive) (empty h.1) in let bad = h.4 in omega (arith, bad, e)
     ]
-
--- a path that is held has numbers
-pub weight_one : (o : Option Holders) → 0 < (unwrap_or o no_holders).shared + (unwrap_or o no_holders).exclusive → weight o ≡ 1
-weight_one None h = absurd (omega (arith, h))
-weight_one (Some x) h = refl
 
 -- both numbers are the same
 pub same_holders : (a b : Holders) → a.shared ≡ b.shared → a.exclusive ≡ b.exclusive → a ≡ b

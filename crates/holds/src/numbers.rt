@@ -16,7 +16,7 @@ use indexmap::IndexMap;
 use paths::{Name, Path};
 use std::alloc::{AllocError, Global};
 use std::hash::RandomState;
-use steady_map::{make_places, put, set, take_out, value_by, value_of};
+use steady_map::{make_places, put_back, replace, set, take, value_by, value_of};
 
 /// How many requests hold a path.
 #[derive(Clone, Copy)]
@@ -179,7 +179,8 @@ fn raise(numbers: &mut HoldNumbers, path: &Path, one: Holders) -> Result<(), All
     ensures places { places numbers.old.by_path ≤ places numbers.new.by_path }
     ensures law { AreNumbers numbers.new }
 {
-    match value_of(&numbers.by_path, path) {
+    let copy = path.copy()?;
+    match replace(&mut numbers.by_path, copy, one) {
         Some(holders) => {
             let more = Holders {
                 shared: holders.shared + one.shared,
@@ -187,11 +188,7 @@ fn raise(numbers: &mut HoldNumbers, path: &Path, one: Holders) -> Result<(), All
             };
             set(&mut numbers.by_path, path, more);
         }
-        None => {
-            let copy = path.copy()?;
-            put(&mut numbers.by_path, copy, one);
-            numbers.paths += 1;
-        }
+        None => numbers.paths += 1,
     }
     Ok(())
 }
@@ -206,16 +203,17 @@ fn lower(numbers: &mut HoldNumbers, path: &Path, one: Holders)
     ensures exclusive { (p : Names) → (holders_on numbers.new p).exclusive + (if is_same_path path.now p then one.exclusive else 0) ≡ (holders_on numbers.old p).exclusive }
     ensures law { AreNumbers numbers.new }
 {
-    let holders = numbers.holders_on(path);
+    let Some(holders) = take(&mut numbers.by_path, path) else {
+        return;
+    };
     let less = Holders {
         shared: holders.shared - one.shared,
         exclusive: holders.exclusive - one.exclusive,
     };
     if less.shared == 0 && less.exclusive == 0 {
-        take_out(&mut numbers.by_path, path);
         numbers.paths -= 1;
     } else {
-        set(&mut numbers.by_path, path, less);
+        put_back(&mut numbers.by_path, path, less);
     }
 }
 
