@@ -54,14 +54,15 @@ impl Model for Cutter {
 }
 
 /// Drops the bytes before `start`. No more bytes are moved than are dropped, so over the life of a cutter at most one byte
-/// is moved to the front for each byte that it takes.
+/// is moved to the front for each byte that it takes, and all at once, since the two places do not overlap.
 fn compact(buffer: &mut Vec<u8>, start: usize)
     requires within { start ≤ length buffer.old.items }
     requires cheap { length buffer.old.items - start ≤ start }
     ensures { buffer.new.items ≡ drop start buffer.old.items }
 {
     let left = buffer.len() - start;
-    buffer.copy_within(start.., 0);
+    let (front, back) = buffer.split_at_mut(start);
+    front[..left].copy_from_slice(back);
     buffer.truncate(left);
 }
 
