@@ -6,6 +6,7 @@ ghost use Rattle.wire.specs.Stream.{HandsOut, BeginsBadly, IsPartial, Splits};
 ghost use Rattle.wire.specs.declared.cutter.CutFault.TheVariants.{Memory};
 
 use crate::standing::{NextFrame, standing_in};
+use crate::window::Window;
 use smallvec::SmallVec;
 use std::alloc::{AllocError, Global};
 use std::marker::Model;
@@ -34,36 +35,21 @@ impl From<AllocError> for CutFault {
 #[derive(Drop)]
 pub struct Cutter {
     alloc: Global,
-    /// The bytes from `start` on are in no frame that was handed out.
-    buffer: Vec<u8>,
-    start: usize,
+    /// The bytes that are in no frame that was handed out.
+    kept: Window,
     stopped: Option<u32>,
 }
 
 impl Model for Cutter {
-    ghost use Rattle.std.specs.Prelude.{◌≤◌, length, drop};
     ghost use Rattle.wire.specs.Stream.{Cutting};
 
     ghost Value = { Cutting };
 
-    ghost view = { λ c. record { kept = drop c.start c.buffer.items; stopped = c.stopped } };
+    ghost view = { λ c. record { kept = c.kept; stopped = c.stopped } };
 
     ghost use Rattle.wire.specs.Stream.{StoppedBy};
 
-    ghost invariant = { λ c. (c.start ≤ length c.buffer.items) × StoppedBy (drop c.start c.buffer.items) c.stopped };
-}
-
-/// Drops the bytes before `start`. No more bytes are moved than are dropped, so over the life of a cutter at most one byte
-/// is moved to the front for each byte that it takes, and all at once, since the two places do not overlap.
-fn compact(buffer: &mut Vec<u8>, start: usize)
-    requires within { start ≤ length buffer.old.items }
-    requires cheap { length buffer.old.items - start ≤ start }
-    ensures { buffer.new.items ≡ drop start buffer.old.items }
-{
-    let left = buffer.len() - start;
-    let (front, back) = buffer.split_at_mut(start);
-    front[..left].copy_from_slice(back);
-    buffer.truncate(left);
+    ghost invariant = { λ c. StoppedBy c.kept c.stopped };
 }
 
 impl Cutter {
@@ -72,8 +58,7 @@ impl Cutter {
     {
         Cutter {
             alloc,
-            buffer: Vec::new(alloc),
-            start: 0,
+            kept: Window::new(alloc),
             stopped: None,
         }
     }
@@ -82,7 +67,7 @@ impl Cutter {
     pub fn rest(&self) -> usize
         ensures { result ≡ length self.now.kept }
     {
-        self.buffer.len() - self.start
+        self.kept.len()
     }
 
     /// Takes the next piece. An `Err` changes nothing.
@@ -94,11 +79,7 @@ impl Cutter {
         if let Some(len) = self.stopped {
             return Err(CutFault::BadLength { len });
         }
-        if self.start > 0 && self.start >= self.buffer.len() - self.start {
-            compact(&mut self.buffer, self.start);
-            self.start = 0;
-        }
-        self.buffer.extend_from_slice(piece)?;
+        self.kept.push(piece)?;
         Ok(())
     }
 
@@ -116,16 +97,15 @@ impl Cutter {
         if let Some(len) = self.stopped {
             return Err(CutFault::BadLength { len });
         }
-        match standing_in(&self.buffer[self.start..]) {
+        match standing_in(self.kept.as_slice()) {
             NextFrame::Partial => Ok(None),
             NextFrame::Bad(len) => {
                 self.stopped = Some(len);
                 Err(CutFault::BadLength { len })
             }
             NextFrame::Whole(len) => {
-                let end = self.start + len;
-                let frame = SmallVec::from_slice(self.alloc, &self.buffer[self.start..end])?;
-                self.start = end;
+                let frame = SmallVec::from_slice(self.alloc, &self.kept.as_slice()[..len])?;
+                self.kept.skip(len);
                 Ok(Some(frame))
             }
         }
