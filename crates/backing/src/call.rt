@@ -2,8 +2,8 @@
 
 ghost use Rattle.std.specs.Prelude.{◌≡◌, List};
 
-use crate::bytes::Bytes;
 use paths::{Name, Path};
+use payload::Payload;
 use std::marker::Model;
 
 /// No file of a memory tree may be longer, in bytes (own).
@@ -185,7 +185,7 @@ pub enum Answer {
         details: Details,
     },
     Names(Children),
-    Bytes(Bytes),
+    Bytes(Payload),
     /// How many bytes were written.
     Wrote(usize),
     /// Refused or failed, by an error number.

@@ -13,6 +13,7 @@ use crate::entries::{Entry, Item};
 use crate::lookups::{child_of, index_of};
 use crate::refusal::Refusal;
 use paths::{Name, Path};
+use payload::Payload;
 use std::alloc::{AllocError, Global};
 
 /// What stands at the path.
@@ -47,7 +48,10 @@ pub fn read(
     let entry = &entries[i];
     match &entry.item {
         Item::Folder => unreachable!(),
-        Item::File(bytes) => Ok(Answer::Bytes(bytes.read(alloc, offset, size)?)),
+        Item::File(bytes) => {
+            let piece = bytes.read(alloc, offset, size)?;
+            Ok(Answer::Bytes(Payload::new(piece.into_vec())))
+        }
     }
 }
 

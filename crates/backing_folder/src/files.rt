@@ -13,9 +13,10 @@ use crate::kept::{Access, Kept, OpenFiles};
 use crate::parts::{read_all, write_all};
 use crate::walk::{Found, Identity, Walk, expect_present};
 use crate::ways::Ways;
-use backing::{Answer, Bytes, Details, Kind};
+use backing::{Answer, Details, Kind};
 use errno::EIO;
 use paths::Path;
+use payload::{HEADER_ROOM, Payload};
 use std::fs::File;
 
 /// What stands at the path. At the root that takes one `lstat`, since the way to it takes none.
@@ -76,13 +77,12 @@ pub fn read<D: Disk + Drop>(
 ) -> Result<Answer, HostError>
     ensures { IfOk result (Suits (AskRead path.now offset size)) }
 {
-    let identity = find_file(ways, walk, path)?;
-    let i = open_found(ways.disk(), files, walk.path(), &identity, Access::Read)?;
+    let (i, identity) = open_file(ways, files, walk, path, Access::Read)?;
     let size = u64::from(size).min(identity.size.saturating_sub(offset)) as usize;
-    let mut buffer = vec![in ways.disk().alloc(); 0u8; size]?;
-    let count = read_all(files.file(i), buffer.as_mut_slice(), offset)?;
-    buffer.truncate(count);
-    Ok(Answer::Bytes(Bytes::from_vec(buffer)))
+    let mut buffer = vec![in ways.disk().alloc(); 0u8; HEADER_ROOM + size]?;
+    let count = read_all(files.file(i), &mut buffer[HEADER_ROOM..], offset)?;
+    buffer.truncate(HEADER_ROOM + count);
+    Ok(Answer::Bytes(Payload::behind(HEADER_ROOM, buffer)))
 }
 
 /// Writes the piece at `offset`: `pwrite` until all is written. A file that is not kept open is opened. No bytes need none of these.
@@ -96,11 +96,11 @@ pub fn write<D: Disk + Drop>(
 ) -> Result<Answer, HostError>
     ensures { IfOk result (Suits (AskWrite path.now offset piece.now)) }
 {
-    let identity = find_file(ways, walk, path)?;
     if piece.is_empty() {
+        find_file(ways, walk, path)?;
         return Ok(Answer::Wrote(0));
     }
-    let i = open_found(ways.disk(), files, walk.path(), &identity, Access::Write)?;
+    let (i, _identity) = open_file(ways, files, walk, path, Access::Write)?;
     let Some(_end) = offset.checked_add(piece.len() as u64) else {
         return Err(HostError::Failed(EIO));
     };
@@ -118,8 +118,7 @@ pub fn set_len<D: Disk + Drop>(
 ) -> Result<Answer, HostError>
     ensures { IfOk result (Suits (AskSetLen path.now size)) }
 {
-    let identity = find_file(ways, walk, path)?;
-    let i = open_found(ways.disk(), files, walk.path(), &identity, Access::Write)?;
+    let (i, _identity) = open_file(ways, files, walk, path, Access::Write)?;
     files.file(i).set_len(size)?;
     Ok(Answer::Done)
 }
@@ -168,6 +167,27 @@ pub fn find_folder<D: Disk + Drop>(
         Found::File(_) => Err(HostError::Refused(Reason::NoFolder)),
         Found::Nothing | Found::Hidden => Err(HostError::Refused(Reason::Nothing)),
     }
+}
+
+/// Which of the open files stands at the path, and what a look told of it. One look shows a file that is kept, whatever stands above it;
+/// else the folders above it are looked at too.
+fn open_file<D: Disk + Drop>(
+    ways: &mut Ways<D>,
+    files: &mut OpenFiles,
+    walk: &mut Walk,
+    path: &Path,
+    access: Access,
+) -> Result<(usize, Identity), HostError>
+    ensures { IfOk result (λ opened. IsKeptAt files.new opened.0 opened.1 access) }
+{
+    if let Ok(Found::File(identity)) = ways.glance(walk, path.names()) {
+        if let Some(i) = files.index_of(&identity, access) {
+            return Ok((i, identity));
+        }
+    }
+    let identity = find_file(ways, walk, path)?;
+    let i = open_found(ways.disk(), files, walk.path(), &identity, access)?;
+    Ok((i, identity))
 }
 
 /// Which of the open files is the one that was found: one that is kept, or else `open` and `fstat`.

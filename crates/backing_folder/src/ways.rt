@@ -14,8 +14,8 @@ use std::marker::Model;
 
 /// A disk, and folders that were walked to on it. Contracts see the disk.
 ///
-/// A folder that is remembered is looked at again, by its whole path, each time that it is used. It is the one that was
-/// walked to if it has the same device and inode number; else it is walked to anew.
+/// A folder that is remembered is looked at again, by its whole path, each time that it is used to reach what is not known. It is the
+/// one that was walked to if it has the same device and inode number; else it is walked to anew.
 #[derive(Drop)]
 pub struct Ways<D: Disk + Drop> {
     disk: D,
@@ -57,13 +57,27 @@ impl<D: Disk + Drop> Ways<D> {
         ensures walked { OnOk result (IsWalked (D.root self.new) (D.folders self.new) walk.new names.now) }
         ensures folder { IfOk result (λ found. IsFolder found → D.folders self.new walk.new) }
     {
-        if names.len() < 3 {
+        if names.len() < 2 {
             return walk.find(&self.disk, names);
         }
         let Some((name, parent)) = names.split_last() else {
             return walk.find(&self.disk, names);
         };
         self.go_to_folder(walk, parent)?;
+        walk.enter(name)?;
+        self.disk.look(walk.path())
+    }
+
+    /// What stands there, by one look, where its folder is remembered. Others may have put another folder, or a link, into the place of
+    /// one above it meanwhile: so it is of use only where that very file is known, by device and inode number.
+    pub fn glance(&self, walk: &mut Walk, names: &[Name]) -> Result<Found, HostError> {
+        let Some((name, parent)) = names.split_last() else {
+            return Ok(Found::Nothing);
+        };
+        let Some(place) = self.place(parent) else {
+            return Ok(Found::Nothing);
+        };
+        walk.start(place.path.as_str())?;
         walk.enter(name)?;
         self.disk.look(walk.path())
     }

@@ -92,22 +92,15 @@ each_append : (fs gs : List (List ℕ)) → AllByRecursion IsFramed fs → AllBy
 each_append [] gs a b = b
 each_append (f ∷ fs) gs a b = (a.0, each_append fs gs a.1 b)
 
--- a whole frame that stands first is one of them
-some_dropped : (bytes : List ℕ) (frames : List (List ℕ)) (rest : List ℕ) → Splits bytes frames rest → (len : ℕ) → IsWhole bytes len → frames ≢ []
-some_dropped bytes frames rest splits len whole none =
-    let front = handed bytes (take len bytes) len whole refl in
-    let all : rest ≡ bytes = sym (splits.whole ∙ ap (λ (fs : List (List ℕ)). joined fs ++ rest) none) in
-    splits.ends (take len bytes) (drop len bytes) front.1 (all ∙ front.0)
-
 -- ---- the end of a session that a frame did not end for want of memory
 
-lacks_none : (end : SessionEnd) (steps : List Step) (dropped : List (List ℕ)) → end ≢ ends.Memory → LacksMemory end steps dropped
-lacks_none (ends.Closed len) steps dropped other = tt
-lacks_none ends.Destroyed steps dropped other = tt
-lacks_none (ends.BadLength len) steps dropped other = tt
-lacks_none ends.LinkBroken steps dropped other = tt
-lacks_none ends.Memory steps dropped other = absurd (other refl)
-lacks_none ends.NoWorkers steps dropped other = tt
+lacks_none : (end : SessionEnd) (steps : List Step) → end ≢ ends.Memory → LacksMemory end steps
+lacks_none (ends.Closed len) steps other = tt
+lacks_none ends.Destroyed steps other = tt
+lacks_none (ends.BadLength len) steps other = tt
+lacks_none ends.LinkBroken steps other = tt
+lacks_none ends.Memory steps other = absurd (other refl)
+lacks_none ends.NoWorkers steps other = tt
 
 ends_otherwise : (broken destroyed : Bool) → (if broken then Some ends.LinkBroken else (if destroyed then Some ends.Destroyed else None)) ≢ Some ends.Memory
 ends_otherwise true destroyed e = cc
@@ -197,7 +190,7 @@ module _ {W L C D : Type 0} (table : Table W) (settings : Settings) (over : Traf
   closing : (start s : Side W L C D) (last : List Step) (new : Environment (At W) L C D) (kept : List ℕ) (stop : Option Stop) (dropped : List (List ℕ)) (rest : List ℕ) (end : SessionEnd) (world : W)
       → start.at ≡ starting world → start.kept ≡ [] → table.is_idle world
       → (walks : Walks table settings over does start s) → Tells s last new kept (option_to_list stop)
-      → Splits kept dropped rest → Closes new.at.end end stop dropped rest → LacksMemory end (walks.steps ++ last) dropped
+      → Splits kept dropped rest → Closes new.at.end end stop dropped rest → LacksMemory end (walks.steps ++ last)
       → IsClientRun table settings over does (around start.link start.served world) (around new.link new.served new.at.world) end
   closing start s last new kept stop dropped rest end world begins empty fresh walks t splits closes lacks =
       let all = tells_on walks.steps last start s new kept (option_to_list stop) walks.chain t in
@@ -237,7 +230,7 @@ module _ {W L C D : Type 0} (table : Table W) (settings : Settings) (over : Traf
 
   module _ (old : Environment W L C D) (mid : Environment (Stand W) L C D) (kept : List ℕ) (fresh : table.is_idle old.at) (partial : IsPartial kept) (walks : Walks table settings over does (beginning old) (side mid kept)) where
     -- hearing ends
-    by_heard : (heard : Heard) (link : L) (now : List ℕ) (stop : Option Stop) (dropped : List (List ℕ)) (rest : List ℕ) (end : SessionEnd) → over.receives mid.link heard link → now ≡ kept ++ bytes_of heard → stop_in heard ++ [] ≡ option_to_list stop → Splits now dropped rest → Closes None end stop dropped rest → LacksMemory end (walks.steps ++ Hears heard ∷ []) dropped
+    by_heard : (heard : Heard) (link : L) (now : List ℕ) (stop : Option Stop) (dropped : List (List ℕ)) (rest : List ℕ) (end : SessionEnd) → over.receives mid.link heard link → now ≡ kept ++ bytes_of heard → stop_in heard ++ [] ≡ option_to_list stop → Splits now dropped rest → Closes None end stop dropped rest → LacksMemory end (walks.steps ++ Hears heard ∷ [])
         → IsClientRun table settings over does old (around link mid.served mid.at.world) end
     by_heard heard link now stop dropped rest end r is stops splits closes lacks =
         let new = around link mid.served (side mid kept).at in
@@ -254,9 +247,9 @@ module _ {W L C D : Type 0} (table : Table W) (settings : Settings) (over : Traf
     pub unfed : (link : L) (piece : List ℕ) → over.receives mid.link (Piece piece) link → IsClientRun table settings over does old (around link mid.served mid.at.world) ends.Memory
     unfed link piece r =
         let all = splits_all (kept ++ piece) in
-        by_heard (Piece piece) link (kept ++ piece) None all.frames all.rest ends.Memory r refl refl all.splits refl (inl (walks.steps, piece, refl))
+        by_heard (Piece piece) link (kept ++ piece) None all.frames all.rest ends.Memory r refl refl all.splits refl (walks.steps, piece, refl)
 
-  -- the session ended by a frame, a bad length or want of memory
+  -- the session ended by a frame or a bad length
   by_stop : (old : Environment W L C D) (new : Environment (Stand W) L C D) (kept : List ℕ) (reached : Option SessionEnd) (end : SessionEnd) → table.is_idle old.at → Walks table settings over does (beginning old) (reaching (side new kept) reached) → Stops reached (Some end) kept
       → IsClientRun table settings over does old (around new.link new.served new.at.world) end
   by_stop old new kept (Some reached) end fresh walks stops =
@@ -266,17 +259,14 @@ module _ {W L C D : Type 0} (table : Table W) (settings : Settings) (over : Traf
       let other = never_short (turns_of (walks.steps ++ [])) (beginning old).at last.at (none-some ends.Memory) told.run in
       closing (beginning old) last [] (around new.link new.served last.at) kept None all.frames all.rest end old.at refl refl fresh walks
       (tells_none last) all.splits (same_Some end reached stops, refl)
-      (lacks_none end (walks.steps ++ []) all.frames (λ e. other (ap Some (sym (same_Some end reached stops) ∙ e))))
+      (lacks_none end (walks.steps ++ []) (λ e. other (ap Some (sym (same_Some end reached stops) ∙ e))))
   by_stop old new kept None (ends.Closed len) fresh walks stops = absurd stops
   by_stop old new kept None ends.Destroyed fresh walks stops = absurd stops
   by_stop old new kept None (ends.BadLength len) fresh walks stops =
       closing (beginning old) (side new kept) [] (around new.link new.served (side new kept).at) kept None [] kept (ends.BadLength len) old.at refl refl fresh walks
       (tells_none (side new kept)) (no_frame kept (bad_ends kept len stops)) (refl, refl, stops) tt
   by_stop old new kept None ends.LinkBroken fresh walks stops = absurd stops
-  by_stop old new kept None ends.Memory fresh walks stops =
-      let all = splits_all kept in
-      closing (beginning old) (side new kept) [] (around new.link new.served (side new kept).at) kept None all.frames all.rest ends.Memory old.at refl refl fresh walks
-      (tells_none (side new kept)) all.splits refl (inr (some_dropped kept all.frames all.rest all.splits stops.0 stops.1))
+  by_stop old new kept None ends.Memory fresh walks stops = absurd stops
   by_stop old new kept None ends.NoWorkers fresh walks stops = absurd stops
 
   pub drained_end : (old : Environment W L C D) (mid new : Environment (Stand W) L C D) (fed kept : List ℕ) (result : Option SessionEnd) (end : SessionEnd) (now : Settings) → now ≡ settings → table.is_idle old.at → Walks table settings over does (beginning old) (side mid fed) → result ≡ Some end

@@ -1,7 +1,6 @@
 -- What the code of a session has done goes on by a frame and by a piece.
 use Rattle.std.proofs.Common.{ℕ, ◌≡◌, List, [], ◌∷◌, ◌++◌, Option, Some, None, refl, sym, subst, ap, ◌∙◌}
 use Rattle.wire.specs.Requests.{IsFramed}
-use Rattle.wire.specs.NextFrame.{IsWhole}
 use Rattle.wire.specs.Stream.{BeginsBadly, IsPartial}
 use Rattle.engine.specs.declared.ends.SessionEnd.{SessionEnd}
 use Rattle.engine.specs.declared.ends.SessionEnd.TheVariants as ends
@@ -71,15 +70,6 @@ module _ {W L C D : Type 0} (table : Table W) (settings : Settings) (over : Traf
     reached = None;
     walks = subst (λ (k : List ℕ). Walks table settings over does start (side old k)) same walks;
     stops = subst (λ (k : List ℕ). BeginsBadly k len) same bad;
-  }
-
-  -- there is no memory for the frame that stands next
-  pub short_stop : (start : Side W L C D) (old : Environment (Stand W) L C D) (kept now : List ℕ) → Walks table settings over does start (side old kept) → kept ≡ now → (len : ℕ) × IsWhole kept len
-      → WorksOffFrames table settings over does start (side old now) (Some ends.Memory)
-  short_stop start old kept now walks same whole = record {
-    reached = None;
-    walks = subst (λ (k : List ℕ). Walks table settings over does start (side old k)) same walks;
-    stops = subst (λ (k : List ℕ). (len : ℕ) × IsWhole k len) same whole;
   }
 
   -- nothing was heard yet

@@ -135,11 +135,10 @@ around link served at = record { link = link; served = served; at = at }
 
 -- ---- what serving promises
 
--- A session ends for want of memory only where a piece was heard last, for which there may have been no room, or where a whole frame is
--- dropped, of which there may have been no copy.
-abbrev pub LacksMemory : SessionEnd → List Step → (dropped : List (List ℕ)) → Type 0
-LacksMemory ends.Memory steps dropped = ((before : List Step) × (bytes : List ℕ) × (steps ≡ before ++ Hears (Piece bytes) ∷ [])) ⊎ (dropped ≢ [])
-LacksMemory end steps dropped = Unit {0}
+-- A session ends for want of memory only where a piece was heard last, for which there may have been no room.
+abbrev pub LacksMemory : SessionEnd → List Step → Type 0
+LacksMemory ends.Memory steps = (before : List Step) × (bytes : List ℕ) × (steps ≡ before ++ Hears (Piece bytes) ∷ [])
+LacksMemory end steps = Unit {0}
 
 -- The client was served as it ought to be: the bytes are those that the link gave; its replies were offered, and the calls made, each once
 -- and in order.
@@ -152,7 +151,7 @@ pub record IsClientRun {W L C D : Type 0} (table : Table W) (settings : Settings
   pub stop : Option Stop
   pub stopped : stops_of steps ≡ option_to_list stop
   pub session : IsSession table settings old.at (heard_of steps) stop (turns_of steps) new.at end
-  pub memory : LacksMemory end steps session.dropped
+  pub memory : LacksMemory end steps
 
 -- At the end of a session each file that is still hidden is removed by one call, whatever its answer. That there was no memory for the
 -- list of them is an input: then nothing is removed.

@@ -10,7 +10,6 @@ use Rattle.ops.specs.declared.findings.ScriptResult.TheVariants as findings
 use Rattle.table_steps.specs.Answers.{Claim, Answer as Given}
 use Rattle.wire.specs.Faults.{IsFirstFault, fault_errno}
 use Rattle.wire.specs.Requests.{IsFramed, IsRequest, opcode_in, unique_in}
-use Rattle.wire.specs.NextFrame.{IsWhole}
 use Rattle.wire.specs.Stream.{BeginsBadly, IsPartial}
 use Rattle.wire.specs.Written.{reply_bytes}
 use Rattle.wire.specs.declared.fault.WireFault.{WireFault}
@@ -96,7 +95,7 @@ module _ {W L C D : Type 0} (table : Table W) (settings : Settings) (over : Traf
     pub steps : List Step
     pub chain : Chain IsStep old steps new
 
--- why no further frame is worked off: none is there whole, or the session is over; memory is wanted only for a frame that stands whole
+-- why no further frame is worked off: none is there whole, or the session is over
 abbrev pub Stops : Option SessionEnd → Option SessionEnd → List ℕ → Type 0
 Stops (Some reached) end kept = end ≡ Some reached
 Stops None None kept = IsPartial kept
@@ -104,7 +103,7 @@ Stops None (Some (ends.Closed len)) kept = ⊥
 Stops None (Some ends.Destroyed) kept = ⊥
 Stops None (Some (ends.BadLength len)) kept = BeginsBadly kept len
 Stops None (Some ends.LinkBroken) kept = ⊥
-Stops None (Some ends.Memory) kept = (len : ℕ) × IsWhole kept len
+Stops None (Some ends.Memory) kept = ⊥
 Stops None (Some ends.NoWorkers) kept = ⊥
 
 -- the frames that stand whole are worked off

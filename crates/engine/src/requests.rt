@@ -30,8 +30,8 @@ use std::sync::Wait;
 use table::{Begin, Ticket};
 use table_requests::Want;
 use wire::{
-    HEADER_LEN, Reply, ReplyBody, Request, WireFault, decode, encode_reply, error_frame, has_reply,
-    header_of, split_pair,
+    HEADER_LEN, Reply, ReplyBody, Request, WireFault, decode, error_frame, has_reply, header_of,
+    split_pair, write_reply,
 };
 
 /// Whether the client has the reply.
@@ -112,8 +112,7 @@ impl Session {
             ReplyBody::Done => return Some(reply_done(link, reply.unique)),
             _ => {}
         }
-        self.buffer.clear();
-        match encode_reply(&reply, &mut self.buffer) {
+        match write_reply(reply, &mut self.buffer) {
             Ok(()) => Some(link.buffered(&mut self.buffer)),
             Err(_) => None,
         }

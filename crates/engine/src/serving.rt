@@ -46,16 +46,19 @@ fn work_off_frames<H: Wait, T: Ledgers, L: Link, C: Calls, D: Folders>(
 {
     table.attest(); // proof: its law
     loop {
-        match cutter.next() {
+        let (len, over) = match cutter.peek() {
             Ok(None) => return None,
             Ok(Some(frame)) => {
-                match session.handle_frame(rt, link, served, table, share, frame.as_slice()) {
-                    None => {}
-                    Some(end) => return Some(end),
-                }
+                let over = session.handle_frame(rt, link, served, table, share, frame);
+                (frame.len(), over)
             }
             Err(CutFault::BadLength { len }) => return Some(SessionEnd::BadLength { len }),
-            Err(CutFault::Memory) => return Some(SessionEnd::Memory),
+            Err(CutFault::Memory) => unreachable!(),
+        };
+        cutter.skip(len);
+        match over {
+            None => {}
+            Some(end) => return Some(end),
         }
     }
 }

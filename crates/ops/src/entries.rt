@@ -15,10 +15,11 @@ use crate::replies::entry_of;
 use backing::Child;
 use handles::Page;
 use paths::Name;
+use payload::Payload;
 use std::alloc::{AllocError, Global};
 use std::marker::Model;
 use table_requests::{Given, Names, Want};
-use wire::{Data, ReplyBody, encode_plus_dirent};
+use wire::{ReplyBody, encode_plus_dirent};
 
 /// A page with entries of its own, which outlives its listing.
 #[derive(Drop)]
@@ -193,5 +194,5 @@ pub fn entries_reply(
     let mut entries = Vec::new(alloc);
     let from = page.from;
     put_entries(&mut entries, settings, from, &page.entries, founds, givens)?;
-    Ok(ReplyBody::Data(Data::new(entries)))
+    Ok(ReplyBody::Data(Payload::new(entries)))
 }

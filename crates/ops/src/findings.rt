@@ -4,7 +4,8 @@ ghost use Rattle.std.specs.Prelude.{◌≡◌};
 ghost use Rattle.ops.specs.Ahead.{outcome_of, IsOfNoPage};
 
 use crate::looks::Looked;
-use backing::{Bytes, Children, Details, Kind};
+use backing::{Children, Details, Kind};
+use payload::Payload;
 use table::Outcome;
 
 /// What stands at a path.
@@ -32,7 +33,7 @@ pub enum ScriptResult {
     /// A file stands there, and is to be opened.
     Opening,
     /// Bytes of a file.
-    Bytes(Bytes),
+    Bytes(Payload),
     /// So many bytes were written.
     Written { size: u32 },
     /// A folder has these names. A listing is made of them yet; where they are lawless, that is an error, EIO (own).

@@ -8,8 +8,9 @@ use crate::attributes::kind_of;
 use backing::Child;
 use errno::EINVAL;
 use handles::{Listing, PageFault};
+use payload::Payload;
 use std::alloc::{AllocError, Global};
-use wire::{Data, NO_INO, ReplyBody, encode_dirent};
+use wire::{NO_INO, ReplyBody, encode_dirent};
 
 /// Puts entries at the end of a vector. The first stands at index `from`.
 fn put_names(out: &mut Vec<u8>, from: u64, children: &[Child]) -> Result<(), AllocError>
@@ -41,5 +42,5 @@ pub fn names_reply(
     };
     let mut names = Vec::new(alloc);
     put_names(&mut names, page.from, page.entries)?;
-    Ok(ReplyBody::Data(Data::new(names)))
+    Ok(ReplyBody::Data(Payload::new(names)))
 }

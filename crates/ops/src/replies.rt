@@ -11,7 +11,7 @@ use errno::{EBADF, EIO, ENFILE};
 use table::Answered;
 use table_files::OpenFile;
 use table_requests::Given;
-use wire::{Data, Entry, ReplyBody};
+use wire::{Entry, ReplyBody};
 
 /// What was given for the first name of a request, if anything.
 fn first_given(answered: &Answered) -> Option<Given>
@@ -119,7 +119,7 @@ pub fn reply_to(
             ReplyBody::Attributes(attributes_of(settings, node, found))
         }
         ScriptResult::Opening => handle_reply(answered.opened(), EIO),
-        ScriptResult::Bytes(bytes) => ReplyBody::Data(Data::new(bytes.into_vec())),
+        ScriptResult::Bytes(bytes) => ReplyBody::Data(bytes),
         ScriptResult::Written { size } => ReplyBody::Wrote { size },
         ScriptResult::Listed(_) => opened_reply(put),
         ScriptResult::Looked(_) => unreachable!(),

@@ -5,8 +5,9 @@ use crate::asks::Ask;
 use crate::items::{Item, Told};
 use crate::world::{Listed, SlowNode, World};
 use errno::EBADF;
+use payload::Payload;
 use std::alloc::{AllocError, Global};
-use wire::{Data, ReplyBody, encode_plus_dirent};
+use wire::{ReplyBody, encode_plus_dirent};
 
 /// The names that stand in the root, without those that the server keeps for itself.
 fn names_of(alloc: Global, items: &[Item]) -> Result<Vec<&'static str>, AllocError> {
@@ -120,7 +121,7 @@ impl World {
         }
         Ok(Answer {
             given,
-            ..plain(alloc, ReplyBody::Data(Data::new(page)))
+            ..plain(alloc, ReplyBody::Data(Payload::new(page)))
         })
     }
 

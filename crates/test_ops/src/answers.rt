@@ -1,7 +1,8 @@
 //! Short lists of answers.
 
 use crate::compare::Row;
-use backing::{Answer, Bytes, Children, Details, Kind, Time};
+use backing::{Answer, Children, Details, Kind, Time};
+use payload::Payload;
 use std::alloc::{AllocError, Global};
 
 /// How many answers are tried for each call.
@@ -48,8 +49,8 @@ fn answer_of(alloc: Global, number: u32) -> Result<Answer, AllocError> {
         2 => stands(Kind::Folder, 0),
         3 => stands(Kind::Folder, 5),
         4 => Answer::Names(Children::from_vec(Vec::new(alloc))),
-        5 => Answer::Bytes(Bytes::from_vec(Vec::from_slice(alloc, b"abcd")?)),
-        6 => Answer::Bytes(Bytes::from_vec(Vec::from_slice(alloc, b"abcde")?)),
+        5 => Answer::Bytes(Payload::new(Vec::from_slice(alloc, b"abcd")?)),
+        6 => Answer::Bytes(Payload::new(Vec::from_slice(alloc, b"abcde")?)),
         7 => Answer::Wrote(2),
         8 => Answer::Wrote(3),
         9 => Answer::Fault(2),

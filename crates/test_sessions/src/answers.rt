@@ -2,9 +2,10 @@
 
 use crate::stories::{Says, Stands};
 use ops::Settings;
+use payload::Payload;
 use std::alloc::{AllocError, Global};
 use wire::{
-    Attributes, Data, Details, Entry, InitOut, NO_INO, Reply, ReplyBody, Time, encode_dirent,
+    Attributes, Details, Entry, InitOut, NO_INO, Reply, ReplyBody, Time, encode_dirent,
     encode_plus_dirent, encode_reply,
 };
 
@@ -59,7 +60,7 @@ fn names_of(alloc: Global, from: u64, names: &[(&str, Stands)]) -> Result<ReplyB
         next = next.saturating_add(1);
         encode_dirent(&mut bytes, NO_INO, next, kind_of(*stands), name)?;
     }
-    Ok(ReplyBody::Data(Data::new(bytes)))
+    Ok(ReplyBody::Data(Payload::new(bytes)))
 }
 
 fn entries_of(
@@ -79,7 +80,7 @@ fn entries_of(
         };
         encode_plus_dirent(&mut bytes, entry, next, kind_of(*stands), name)?;
     }
-    Ok(ReplyBody::Data(Data::new(bytes)))
+    Ok(ReplyBody::Data(Payload::new(bytes)))
 }
 
 /// Nothing, where it gets no reply.
@@ -97,7 +98,7 @@ fn body_of(alloc: Global, settings: Settings, says: Says) -> Result<Option<Reply
             entry: entry_of(settings, node, Stands::File(0)),
             fh,
         },
-        Says::Bytes(bytes) => ReplyBody::Data(Data::new(Vec::from_slice(alloc, bytes)?)),
+        Says::Bytes(bytes) => ReplyBody::Data(Payload::new(Vec::from_slice(alloc, bytes)?)),
         Says::Wrote(size) => ReplyBody::Wrote { size },
         Says::Names(from, names) => names_of(alloc, from, names)?,
         Says::Entries(from, entries) => entries_of(alloc, settings, from, entries)?,

@@ -28,6 +28,49 @@ fn frame_cut_anywhere(rt: HostRuntime) -> Result<(), Fail> {
 }
 
 #[test]
+fn frame_stays_until_it_is_skipped(rt: HostRuntime) -> Result<(), Fail> {
+    let mut cutter = Cutter::new(rt.alloc());
+    let (front, back) = LOOKUP_A.split_at(30);
+    cutter.feed(&LOOKUP_A)?;
+    cutter.feed(front)?;
+    for _ in 0..2 {
+        assert_eq!(rt; cutter.peek()?, Some(LOOKUP_A.as_slice()));
+        assert_eq!(rt; cutter.rest(), 72);
+    }
+    cutter.skip(42);
+    assert_eq!(rt; cutter.peek()?, None);
+    assert_eq!(rt; cutter.rest(), 30);
+    cutter.feed(back)?;
+    assert_eq!(rt; cutter.peek()?, Some(LOOKUP_A.as_slice()));
+    cutter.skip(42);
+    cutter.feed(&[0x27, 0, 0, 0])?;
+    for _ in 0..2 {
+        assert_eq!(rt; cutter.peek().err(), Some(CutFault::BadLength { len: 39 }));
+    }
+    Ok(())
+}
+
+#[test]
+fn many_frames_in_pieces_of_a_hundred_bytes(rt: HostRuntime) -> Result<(), Fail> {
+    let mut cutter = Cutter::new(rt.alloc());
+    let mut stream = Vec::new(rt.alloc());
+    for _ in 0..100 {
+        stream.extend_from_slice(&LOOKUP_A)?;
+    }
+    let mut frames = 0;
+    for piece in stream.chunks(100) {
+        cutter.feed(piece)?;
+        while let Some(frame) = cutter.next()? {
+            assert_eq!(rt; frame.as_slice(), LOOKUP_A.as_slice());
+            frames += 1;
+        }
+    }
+    assert_eq!(rt; frames, 100);
+    assert_eq!(rt; cutter.rest(), 0);
+    Ok(())
+}
+
+#[test]
 fn bad_length(rt: HostRuntime) -> Result<(), Fail> {
     for (first, len) in [([0x27, 0, 0, 0], 39), ([0x01, 0x10, 0x01, 0], 69633)] {
         let mut cutter = Cutter::new(rt.alloc());

@@ -2,10 +2,11 @@
 
 use crate::bytes::{SIXTEEN, bytes_of};
 use crate::replies::OF_A_FILE;
+use payload::Payload;
 use std::alloc::Global;
 use std::test::Fail;
 use wire::{
-    Attributes, Data, Entry, Forgotten, Kind, NO_INO, Reply, ReplyBody, encode_dirent,
+    Attributes, Entry, Forgotten, Kind, NO_INO, Reply, ReplyBody, encode_dirent,
     encode_plus_dirent, encode_reply, split_pair,
 };
 
@@ -125,7 +126,7 @@ fn first_dirent(rt: HostRuntime) -> Result<(), Fail> {
     encode_dirent(&mut page, NO_INO, 1, Kind::Folder, ".")?;
     let reply = Reply {
         unique: 7,
-        body: ReplyBody::Data(Data::new(page)),
+        body: ReplyBody::Data(Payload::new(page)),
     };
     let mut out = Vec::new(rt.alloc());
     encode_reply(&reply, &mut out)?;

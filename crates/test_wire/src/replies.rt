@@ -3,10 +3,12 @@
 use crate::bytes::{SIXTEEN, bytes_of};
 use crate::greeting::{AGREED, OFFERED};
 use Says::{Attr, Created, Done, Failed, Given, Init, Opened, Sizes, Wrote};
+use payload::Payload;
 use std::alloc::Global;
 use std::test::Fail;
 use wire::{
     Attributes, Details, Entry, InitOut, Kind, Reply, ReplyBody, Time, encode_reply, error_frame,
+    write_reply,
 };
 
 /// The number of the request that is answered, what the reply says, and its bytes in digits.
@@ -250,4 +252,31 @@ pub fn are_told(alloc: Global, rows: &[Row]) -> Result<(), Fail> {
 #[test]
 fn bytes_of_replies(rt: HostRuntime) -> Result<(), Fail> {
     are_told(rt.alloc(), REPLIES)
+}
+
+/// The reply to unique 7 that carries the bytes `abc`.
+const ABC: [u8; 19] = [19, 0, 0, 0, 0, 0, 0, 0, 7, 0, 0, 0, 0, 0, 0, 0, b'a', b'b', b'c'];
+
+/// The reply to unique 7 that three bytes were written.
+const THREE_WRITTEN: [u8; 24] = [
+    24, 0, 0, 0, 0, 0, 0, 0, 7, 0, 0, 0, 0, 0, 0, 0, // len, error, unique
+    3, 0, 0, 0, 0, 0, 0, 0, // size, and what is not read
+];
+
+#[test]
+fn bytes_behind_any_room(rt: HostRuntime) -> Result<(), Fail> {
+    let alloc = rt.alloc();
+    for room in [0, 15, 16, 17] {
+        let mut buffer = vec![in alloc; 9u8; room]?;
+        buffer.extend_from_slice(b"abc")?;
+        let body = ReplyBody::Data(Payload::behind(room, buffer));
+        let mut out = Vec::from_slice(alloc, b"what stood there")?;
+        write_reply(Reply { unique: 7, body }, &mut out)?;
+        assert_eq!(rt; out.as_slice(), ABC.as_slice());
+    }
+    let body = ReplyBody::Wrote { size: 3 };
+    let mut out = Vec::from_slice(alloc, b"what stood there")?;
+    write_reply(Reply { unique: 7, body }, &mut out)?;
+    assert_eq!(rt; out.as_slice(), THREE_WRITTEN.as_slice());
+    Ok(())
 }

@@ -1,5 +1,5 @@
 -- A stream cut into frames, each as long as its first four bytes say.
-use Rattle.std.specs.Prelude.{◌≡◌, ℕ, ◌<◌, ◌≤◌, ◌⊎◌, List, [], ◌∷◌, ◌++◌, length, Option, Some, None}
+use Rattle.std.specs.Prelude.{◌≡◌, ℕ, ◌<◌, ◌≤◌, ◌⊎◌, List, [], ◌∷◌, ◌++◌, drop, length, Option, Some, None}
 use Rattle.std.specs.List.{AllByRecursion}
 use Rattle.byteorder.specs.Endian.{little_number}
 use Rattle.wire.specs.declared.request.TheConstants.{HEADER_LEN, MAX_FRAME_LEN}
@@ -30,6 +30,12 @@ pub record HandsOut (old : Cutting) (frame : List ℕ) (new : Cutting) : Type 0 
   pub front : old.kept ≡ frame ++ new.kept
   pub framed : IsFramed frame
   pub stopped : new.stopped ≡ old.stopped
+
+-- a whole frame stands at the front
+pub record StandsFirst (old : Cutting) (frame : List ℕ) : Type 0 where
+  pub front : old.kept ≡ frame ++ drop (length frame) old.kept
+  pub framed : IsFramed frame
+  pub going : old.stopped ≡ None
 
 -- neither a whole frame stands next, nor a length that no frame has
 abbrev pub IsPartial : List ℕ → Type 0

@@ -1,8 +1,8 @@
 //! A stream of bytes, cut into frames.
 
-ghost use Rattle.std.specs.Prelude.{◌≡◌, ℕ, List, ◌+◌, ◌-◌, ◌≤◌, ◌↔◌, ◌++◌, [], length, drop, OnOk, OnErr, IfOk, IfSome, IfNone, Some, None, Err};
+ghost use Rattle.std.specs.Prelude.{◌≡◌, ℕ, List, ◌+◌, ◌-◌, ◌≤◌, ◌↔◌, ◌++◌, [], length, drop, OnOk, OnErr, IfOk, IfErr, IfSome, IfNone, Some, None, Err};
 ghost use Rattle.wire.specs.NextFrame.{IsWhole};
-ghost use Rattle.wire.specs.Stream.{HandsOut, BeginsBadly, IsPartial, Splits};
+ghost use Rattle.wire.specs.Stream.{HandsOut, BeginsBadly, IsPartial, Splits, StandsFirst};
 ghost use Rattle.wire.specs.declared.cutter.CutFault.TheVariants.{Memory};
 
 use crate::standing::{NextFrame, standing_in};
@@ -83,7 +83,33 @@ impl Cutter {
         Ok(())
     }
 
-    /// The next whole frame, if it is there.
+    /// The next whole frame, if it is there. It stays.
+    pub fn peek(&self) -> Result<Option<&[u8]>, CutFault>
+        ensures frame { IfOk result (λ o. IfSome o (λ f. StandsFirst self.now f.now)) }
+        ensures none { IfOk result (λ o. IfNone o (IsPartial self.now.kept)) }
+        ensures bad { IfErr result (λ fault. (len : ℕ) × (fault ≡ CutFault.BadLength len) × BeginsBadly self.now.kept len) }
+    {
+        if let Some(len) = self.stopped {
+            return Err(CutFault::BadLength { len });
+        }
+        let kept = self.kept.as_slice();
+        match standing_in(kept) {
+            NextFrame::Partial => Ok(None),
+            NextFrame::Bad(len) => Err(CutFault::BadLength { len }),
+            NextFrame::Whole(len) => Ok(Some(&kept[..len])),
+        }
+    }
+
+    /// Lets go of the frame that stands first, which has that length.
+    pub fn skip(&mut self, len: usize)
+        requires within { len ≤ length self.old.kept }
+        requires going { self.old.stopped ≡ None }
+        ensures { self.new ≡ record self.old { kept = drop len self.old.kept } }
+    {
+        self.kept.skip(len);
+    }
+
+    /// The next whole frame, if it is there, as a frame of its own.
     pub fn next(&mut self) -> Result<Option<Frame>, CutFault>
         ensures frame { IfOk result (λ o. IfSome o (λ f. HandsOut self.old f.items self.new)) }
         ensures none { IfOk result (λ o. IfNone o (IsPartial self.old.kept × (self.new ≡ self.old))) }

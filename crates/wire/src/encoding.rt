@@ -10,7 +10,7 @@ ghost use Rattle.wire.specs.Rows.{parts_bytes};
 ghost use Rattle.wire.specs.Written.{operation_bytes, request_bytes, reply_bytes, body_bytes, error_word, negated as negated_of};
 
 use crate::bodies::{body_len, put_body};
-use crate::put::{put_low_u32, put_reply_header, put_u32, put_u64, put_zeros};
+use crate::put::{put_low_u32, put_reply_header, put_u32, put_u64, put_zeros, reply_header};
 use crate::reply::{REPLY_HEADER_LEN, Reply, ReplyBody};
 use crate::request::{HEADER_LEN, Request};
 use crate::writing::{Row, put_parts, request_len, row_of};
@@ -91,6 +91,30 @@ pub fn encode_reply(reply: &Reply, out: &mut Vec<u8>) -> Result<(), AllocError>
     out.reserve(len)?;
     put_reply(out, reply, len);
     Ok(())
+}
+
+/// Writes a reply into the vector, in the place of what stood there. The bytes that it carries are not copied where there is just room
+/// for a header before them.
+#[tactic(auto, using(crate::proofs::Lengths::lengths), unfolding(crate::specs::Written::le, crate::specs::Written::body_bytes, crate::specs::Written::reply_bytes))]
+pub fn write_reply(reply: Reply, out: &mut Vec<u8>) -> Result<(), AllocError>
+    ensures { OnOk result (out.new.items ≡ reply_bytes reply) }
+{
+    let Reply { unique, body } = reply;
+    let body = match body {
+        ReplyBody::Data(data) => {
+            let len = REPLY_HEADER_LEN + data.as_slice().len();
+            match data.headed(&reply_header(len, 0, unique)) {
+                Ok(frame) => {
+                    *out = frame;
+                    return Ok(());
+                }
+                Err(data) => ReplyBody::Data(data),
+            }
+        }
+        other => other,
+    };
+    out.clear();
+    encode_reply(&Reply { unique, body }, out)
 }
 
 /// The reply that only names an error, or for 0 that the request is done. It takes no memory. Of an `errno` that is no

@@ -82,7 +82,18 @@ pub fn put_four_u32(out: &mut Vec<u8>, m: u32, n: u32, o: u32, p: u32)
     put(out, &[a, b, c, d, e, f, g, h, i, j, k, l, q, r, s, t]);
 }
 
-/// The header of a reply, at once: the lowest four bytes of a length, an error, and the number of a request.
+/// The header of a reply: the lowest four bytes of a length, an error, and the number of a request.
+#[tactic(auto, unfolding(crate::specs::Written::le))]
+pub fn reply_header(len: usize, error: u32, unique: u64) -> [u8; 16]
+    ensures { result ≡ le 4 len ++ (le 4 error ++ le 8 unique) }
+{
+    let [a, b, c, d, ..] = len.to_le_bytes();
+    let [e, f, g, h] = error.to_le_bytes();
+    let [i, j, k, l, p, q, r, s] = unique.to_le_bytes();
+    [a, b, c, d, e, f, g, h, i, j, k, l, p, q, r, s]
+}
+
+/// Puts such a header at once.
 #[tactic(auto, unfolding(crate::specs::Written::le))]
 pub fn put_reply_header(out: &mut Vec<u8>, len: usize, error: u32, unique: u64)
     requires { vec_len out.old + 16 ≤ vec_capacity out.old }
@@ -90,10 +101,7 @@ pub fn put_reply_header(out: &mut Vec<u8>, len: usize, error: u32, unique: u64)
     ensures len { vec_len out.new ≡ vec_len out.old + 16 }
     ensures capacity { vec_capacity out.old ≤ vec_capacity out.new }
 {
-    let [a, b, c, d, ..] = len.to_le_bytes();
-    let [e, f, g, h] = error.to_le_bytes();
-    let [i, j, k, l, p, q, r, s] = unique.to_le_bytes();
-    put(out, &[a, b, c, d, e, f, g, h, i, j, k, l, p, q, r, s]);
+    put(out, &reply_header(len, error, unique));
 }
 
 #[tactic(auto, unfolding(crate::specs::Written::u16s, crate::specs::Written::le))]
