@@ -1,5 +1,5 @@
 -- What a server does: a session as it ought to go, over a link, on a directory and open folders.
-use Rattle.std.specs.Prelude.{ℕ, ◌≡◌, ◌≢◌, ◌⊎◌, List, [], ◌∷◌, ◌++◌, map, Option, Some, None, option_to_list}
+use Rattle.std.specs.Prelude.{ℕ, ◌≡◌, ◌⊎◌, List, [], ◌∷◌, ◌++◌, map, Option, Some, None, option_to_list}
 use Rattle.paths.specs.Prefixes.{Names}
 use Rattle.backing.specs.Calls.{Asked, AskRemove}
 use Rattle.backing.specs.declared.call.Answer.{Answer}
