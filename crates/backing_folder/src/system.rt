@@ -16,6 +16,9 @@ use std::rt::Files;
 use std::time::{Clock, SystemTime};
 use std::{fs, io};
 
+/// The current folder of the process.
+const HERE: &str = ".";
+
 /// A folder of the file system, by its path without links. Each call is one of the system's, but where it says more.
 #[derive(Drop)]
 pub struct System<H: Files<File = File> + Clock + AllocGlobal + Clone + Drop> {
@@ -25,9 +28,14 @@ pub struct System<H: Files<File = File> + Clock + AllocGlobal + Clone + Drop> {
 }
 
 impl<H: Files<File = File> + Clock + AllocGlobal + Clone + Drop> System<H> {
-    /// The folder at `root`, whose own links are resolved once (`realpath`, `stat`).
+    /// The folder at `root`, whose own links are resolved once (`realpath`, `stat`). The process's current folder, `.`, has none: it is
+    /// the one that is current as each call is made.
     pub fn open(rt: H, root: &str) -> io::Result<System<H>> {
-        let root = fs::canonicalize(&rt, root)?.into_string();
+        let root = if root == HERE {
+            String::from_str(rt.alloc(), HERE)?
+        } else {
+            fs::canonicalize(&rt, root)?.into_string()
+        };
         let metadata = fs::metadata(&rt, root.as_str())?;
         if !metadata.is_dir() {
             return Err(io::Error::from(ErrorKind::NotADirectory));

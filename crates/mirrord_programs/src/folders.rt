@@ -4,6 +4,7 @@ ghost use Rattle.std.specs.Prelude.{◌≡◌};
 ghost use Rattle.mirrord_programs.specs.Runs.{RunsPipe, RunsServe};
 
 use crate::ended::{Ended, failure_after, status_after, tell_any};
+use crate::standing::enter;
 use mirrord_server::{Terms, serve_folder, serve_socket, serve_socket_by};
 use std::fs::File;
 use std::io::{Read, Write};
@@ -45,7 +46,8 @@ pub struct Serving {
 }
 
 /// Serves the folder `root` to the first client that comes to a new socket at `path`: the program `serve` but for its command
-/// line. It reads nothing from the input and writes nothing to the output, which is handed back.
+/// line. It reads nothing from the input and writes nothing to the output, which is handed back. The folder becomes the current one of
+/// the process, and stays it.
 pub fn serve_run<
     H: Threads
         + Wait
@@ -74,10 +76,15 @@ pub fn serve_run<
     ensures runs { RunsServe root.entry path.entry threads terms (F.contents faults.old) (F.contents faults.new) result.status result.told }
     ensures output { result.output ≡ output }
 {
+    let entered = enter(host, root, path);
+    let (folder, socket) = match &entered {
+        Some(socket) => (".", socket.as_str()),
+        None => (root, path),
+    };
     let ended = if threads.single {
-        serve_socket(rt, root, path, terms)
+        serve_socket(rt, folder, socket, terms)
     } else {
-        serve_socket_by(rt, host, root, path, threads.workers, terms)
+        serve_socket_by(rt, host, folder, socket, threads.workers, terms)
     };
     let failure = failure_after(ended, root, path);
     Ended {

@@ -10,6 +10,7 @@ mod options;
 mod refusals;
 mod runs;
 mod samples;
+mod standing;
 
 pub use command::DEFAULT_POSTINGS;
 pub use ended::Ended;
