@@ -255,7 +255,9 @@ fn bytes_of_replies(rt: HostRuntime) -> Result<(), Fail> {
 }
 
 /// The reply to unique 7 that carries the bytes `abc`.
-const ABC: [u8; 19] = [19, 0, 0, 0, 0, 0, 0, 0, 7, 0, 0, 0, 0, 0, 0, 0, b'a', b'b', b'c'];
+const ABC: [u8; 19] = [
+    19, 0, 0, 0, 0, 0, 0, 0, 7, 0, 0, 0, 0, 0, 0, 0, b'a', b'b', b'c',
+];
 
 /// The reply to unique 7 that three bytes were written.
 const THREE_WRITTEN: [u8; 24] = [

@@ -17,7 +17,6 @@ loop-frame-init g c = record {
   walks = walks_none worlds c.args.session.now.settings (traffic g.L.LinkIn.receives g.L.LinkOut.sends) (does g.C.Calls.gives g.D.Folders.keeps) (side (around c.args.link.now c.args.served.now (stand (world_of c.args.table.now) c.args.session.now.agreed)) c.args.cutter.now.kept);
 }
 
-
 pub returns-in-Some-clause-drains : goal.returns-in-Some-clause-drains
 returns-in-Some-clause-drains g c =
     let inv = c.loop-frame.invariant in
