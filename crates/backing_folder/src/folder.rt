@@ -66,6 +66,7 @@ impl<D: Disk + Drop> Model for Folder<D> {
 
 impl<H: Files<File = File> + Clock + AllocGlobal + Clone + Drop> Folder<System<H>> {
     /// Opens the folder at `root`, whose own links are resolved once (`realpath`, `stat`).
+    /// `.` is the current folder of the process, whichever that is as a call is made.
     pub fn open(rt: H, root: &str) -> io::Result<Folder<System<H>>>
         ensures { IfOk result (λ f. f ≡ 0) }
     {
