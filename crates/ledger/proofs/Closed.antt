@@ -12,7 +12,7 @@ use Rattle.ledger.specs.Closing.{AreAllAlive, Closes, opening_of}
 use Rattle.ledger.specs.Periods.{Periods, posted}
 use Rattle.ledger.specs.Shares.{Fits, nothing, plus}
 use Rattle.ledger.specs.Sums.{IsAllowed, IsCarriedOver, IsCountable, IsNeverNegative, births_of, carried_by, count_of, entered_by, entries_of, given_back_of, given_by, is_birth, totals_by, totals_of, totals_over}
-use Rattle.ledger.proofs.Balances.{IsCovered, covered_all, entered, left_all, left_in}
+use Rattle.ledger.proofs.Balances.{IsCovered, covered_all, left_all, left_in}
 use Rattle.ledger.proofs.SharesLemmas.{plus-nothing, totals_over-push}
 use Rattle.ledger.proofs.SumsLemmas.{sum_by-plus, given_back_of-le, never_negative-push}
 

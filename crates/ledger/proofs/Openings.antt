@@ -1,13 +1,11 @@
 -- A period that has nothing but openings: they count nothing, and give nothing back.
-use Rattle.std.proofs.Common.{ℕ, ◌≡◌, ◌≤◌, cond, Bool, true, List, [], take, refl, sym, ap, ◌∙◌, arith, All, length}
+use Rattle.std.proofs.Common.{ℕ, ◌≡◌, ◌≤◌, cond, true, List, take, refl, ap, ◌∙◌, arith, All}
 use Rattle.std.specs.Prelude.{count_by, sum_by}
 use Rattle.std.proofs.lemmas.Bool.{false≢true}
 use Rattle.std.proofs.lemmas.List.Elements.{All-take, All-weaker}
 use Rattle.std.proofs.lemmas.List.Sums.{sum_by-le}
-use Rattle.ledger.specs.declared.births.KeptBirths.{KeptBirths}
 use Rattle.ledger.specs.declared.postings.Posting.{Posting}
 use Rattle.ledger.specs.declared.postings.Posting.TheVariants.{Born, Entry, Back, Forget, Opening}
-use Rattle.ledger.specs.declared.shares.Totals.{Totals}
 use Rattle.ledger.specs.Periods.{Periods}
 use Rattle.ledger.specs.Shares.{nothing, plus}
 use Rattle.ledger.specs.Sums.{IsNeverNegative, births_closed, births_of, given_by, is_birth, is_opening, totals_by, totals_of, totals_over}

@@ -1,19 +1,19 @@
 -- How often each number was born, beside the postings.
-use Rattle.std.specs.Prelude.{ℕ, ◌≡◌, nat_eq, List, map, unwrap_or}
-use Rattle.indexmap.specs.IndexMap.{IndexMap, get}
+use Rattle.std.specs.Prelude.{ℕ, ◌≡◌, ◌<◌, ◌≤◌, List, length, AllPairs, MatchResult, Result}
+use Rattle.std.specs.List.{HoldsAt}
+use Rattle.std.specs.List.Sorted.{IsPartitionPoint}
 use Rattle.ledger.specs.declared.births.KeptBirths.{KeptBirths}
 use Rattle.ledger.specs.Periods.{Periods}
-use Rattle.ledger.specs.Sums.{births_of}
+use Rattle.ledger.specs.Sums.{births_closed, births_of}
 
--- each number with its births, in the map's order
-abbrev pub listed_births : List (ℕ × ℕ) → List KeptBirths
-listed_births entries = map (λ e. record { number = e.0; count = e.1 }) entries
+-- each number is below those after it
+abbrev pub IsRising : List KeptBirths → Type 0
+IsRising births = AllPairs (λ b c. b.number < c.number) births
 
-module _ {S : Type 0} where
-  -- the births of the number, as they are kept
-  abbrev pub births_in : IndexMap ℕ ℕ S → ℕ → ℕ
-  births_in m n = unwrap_or (get nat_eq m n) 0
+-- the place of the number, or else the one between those below it and those above it
+abbrev pub IsPlaceOf : List KeptBirths → ℕ → Result ℕ ℕ → Type 0
+IsPlaceOf births n place = MatchResult place (λ i. (i < length births) × HoldsAt (λ b. b.number ≡ n) births i) (λ i. (i ≤ length births) × IsPartitionPoint (λ b. b.number < n) (λ b. n < b.number) births i)
 
-  -- they are those of all periods
-  abbrev pub AreTallied : IndexMap ℕ ℕ S → Periods → Type 0
-  AreTallied m ps = (n : ℕ) → births_in m n ≡ births_of n ps
+-- they are those of all periods
+abbrev pub AreTallied : List KeptBirths → Periods → Type 0
+AreTallied births ps = (n : ℕ) → births_closed n births ≡ births_of n ps

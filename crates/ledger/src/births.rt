@@ -1,14 +1,14 @@
-//! How often each number was born, beside the postings.
+//! How often each number was born, beside the postings: a list by rising numbers.
 
-ghost use Rattle.std.specs.Prelude.{◌≡◌, ◌<◌, ◌≤◌, ◌+◌, ◌^◌, ℕ, IsOk, OnOk, nat_eq, sum_by, vec_capacity, if◌then◌else◌};
-ghost use Rattle.indexmap.specs.IndexMap.{index_map_len, spare, IsUnchanged, IsUnique};
+ghost use Rattle.std.specs.Prelude.{◌≡◌, ◌<◌, ◌≤◌, ◌+◌, ◌^◌, ℕ, AllPairs, IfSome, IsOk, OnOk, length, nat_eq, sum_by, vec_capacity, vec_len, if◌then◌else◌};
+ghost use Rattle.std.specs.List.{HoldsAt};
 ghost use Rattle.ledger.specs.declared.postings.Posting.{Posting};
-ghost use Rattle.ledger.specs.Births.{births_in, listed_births, AreTallied};
+ghost use Rattle.ledger.specs.declared.births.KeptBirths.{KeptBirths as Kept};
+ghost use Rattle.ledger.specs.Births.{AreTallied, IsPlaceOf, IsRising};
 ghost use Rattle.ledger.specs.Periods.{Periods, posted};
-ghost use Rattle.ledger.specs.Sums.{totals_by};
+ghost use Rattle.ledger.specs.Sums.{births_closed, totals_by};
 
 use crate::postings::Posting;
-use indexmap::IndexMap;
 use std::alloc::AllocError;
 
 /// How often a number was born in the periods that are closed.
@@ -18,40 +18,85 @@ pub struct KeptBirths {
     pub count: u64,
 }
 
-/// How often the number was born.
-pub(crate) fn births_of(births: &IndexMap<u64, u64>, number: u64) -> u64
-    ensures { result ≡ births_in births.now number }
+/// The place that the number has if all from the first to it were born.
+fn place_in_run(births: &[KeptBirths], number: u64) -> Option<usize>
+    ensures within { IfSome result (λ i. i < length births.now) }
+    ensures here { IfSome result (HoldsAt (λ (b : Kept). b.number ≡ number) births.now) }
 {
-    match births.get(&number) {
-        Some(count) => *count,
-        None => 0,
+    let first = births.first()?;
+    let place = number.checked_sub(first.number)? as usize;
+    if births.get(place)?.number == number {
+        Some(place)
+    } else {
+        None
+    }
+}
+
+/// Where the births of the number are, or else where they belong. Numbers are mostly first born one after another, and then no search
+/// is made.
+fn place_of(births: &[KeptBirths], number: u64) -> Result<usize, usize>
+    requires { IsRising births.now }
+    ensures { IsPlaceOf births.now number result }
+{
+    match births.last() {
+        Some(last) if number <= last.number => {}
+        _ => return Err(births.len()),
+    }
+    match place_in_run(births, number) {
+        Some(place) => Ok(place),
+        None => search(births, number),
+    }
+}
+
+/// The same by a search.
+fn search(births: &[KeptBirths], number: u64) -> Result<usize, usize>
+    requires { IsRising births.now }
+    ensures { IsPlaceOf births.now number result }
+{
+    births.binary_search_by_key(&number, |b| b.number)
+}
+
+/// How often the number was born.
+pub(crate) fn births_of(births: &[KeptBirths], number: u64) -> u64
+    requires { IsRising births.now }
+    ensures { result ≡ births_closed number births.now }
+{
+    match place_of(births, number) {
+        Ok(place) => births[place].count,
+        Err(_) => 0,
     }
 }
 
 /// One birth more of the number. It takes no memory.
-fn raise(births: &mut IndexMap<u64, u64>, number: u64)
-    requires few { births_in births.old number + 1 < 2 ^ 64 }
-    requires room { 0 < spare births.old }
-    ensures raised { (n : ℕ) → births_in births.new n ≡ births_in births.old n + (if nat_eq number n then 1 else 0) }
-    ensures more { sum_by (λ (e : ℕ × ℕ). e.1) births.new.entries ≡ sum_by (λ (e : ℕ × ℕ). e.1) births.old.entries + 1 }
-    ensures room { spare births.old ≤ spare births.new + 1 }
-    ensures len { index_map_len births.new ≤ index_map_len births.old + 1 }
+fn raise(births: &mut Vec<KeptBirths>, number: u64)
+    requires rising { IsRising births.old.items }
+    requires few { births_closed number births.old.items + 1 < 2 ^ 64 }
+    requires room { vec_len births.old < vec_capacity births.old }
+    ensures rising { IsRising births.new.items }
+    ensures raised { (n : ℕ) → births_closed n births.new.items ≡ births_closed n births.old.items + (if nat_eq number n then 1 else 0) }
+    ensures more { sum_by (λ (b : Kept). b.count) births.new.items ≡ sum_by (λ (b : Kept). b.count) births.old.items + 1 }
+    ensures len { vec_len births.new ≤ vec_len births.old + 1 }
+    ensures capacity { vec_capacity births.new ≡ vec_capacity births.old }
 {
-    let count = births_of(births, number) + 1;
-    match births.insert(number, count) {
-        Ok(_) => {}
-        Err(_) => unreachable!(),
+    match place_of(births, number) {
+        Ok(place) => births[place].count += 1,
+        Err(place) => match births.insert(place, KeptBirths { number, count: 1 }) {
+            Ok(()) => {}
+            Err(_) => unreachable!(),
+        },
     }
 }
 
 /// Keeps the births in step with one posting more. It takes no memory.
-pub(crate) fn tally(births: &mut IndexMap<u64, u64>, posting: Posting)
-    requires few { (n : ℕ) → births_in births.old n + (totals_by posting).born < 2 ^ 64 }
-    requires room { (totals_by posting).born ≤ spare births.old }
-    ensures tallied { (ps : Periods) → AreTallied births.old ps → AreTallied births.new (posted ps posting) }
-    ensures more { sum_by (λ (e : ℕ × ℕ). e.1) births.new.entries ≡ sum_by (λ (e : ℕ × ℕ). e.1) births.old.entries + (totals_by posting).born }
-    ensures room { spare births.old ≤ spare births.new + (totals_by posting).born }
-    ensures len { index_map_len births.new ≤ index_map_len births.old + (totals_by posting).born }
+pub(crate) fn tally(births: &mut Vec<KeptBirths>, posting: Posting)
+    requires rising { IsRising births.old.items }
+    requires few { (n : ℕ) → births_closed n births.old.items + (totals_by posting).born < 2 ^ 64 }
+    requires room { vec_len births.old + (totals_by posting).born ≤ vec_capacity births.old }
+    ensures rising { IsRising births.new.items }
+    ensures tallied { (ps : Periods) → AreTallied births.old.items ps → AreTallied births.new.items (posted ps posting) }
+    ensures more { sum_by (λ (b : Kept). b.count) births.new.items ≡ sum_by (λ (b : Kept). b.count) births.old.items + (totals_by posting).born }
+    ensures len { vec_len births.new ≤ vec_len births.old + (totals_by posting).born }
+    ensures capacity { vec_capacity births.new ≡ vec_capacity births.old }
 {
     match posting {
         Posting::Born { number, .. } => raise(births, number),
@@ -64,17 +109,17 @@ pub(crate) fn tally(births: &mut IndexMap<u64, u64>, posting: Posting)
 
 /// Makes room for the births of so many numbers more, and for all numbers where the end of a period keeps them.
 pub(crate) fn make_places(
-    births: &mut IndexMap<u64, u64>,
+    births: &mut Vec<KeptBirths>,
     kept: &mut Vec<KeptBirths>,
     more: usize,
 ) -> Result<(), AllocError>
-    ensures ok { OnOk result (more ≤ spare births.new) }
-    ensures kept { OnOk result (index_map_len births.new + more ≤ vec_capacity kept.new) }
-    ensures births { IsUnchanged births.old births.new }
+    ensures ok { OnOk result (vec_len births.new + more ≤ vec_capacity births.new) }
+    ensures kept { OnOk result (vec_len births.new + more ≤ vec_capacity kept.new) }
+    ensures births { births.new.items ≡ births.old.items }
     ensures items { kept.new.items ≡ kept.old.items }
-    ensures room { spare births.old ≤ spare births.new }
+    ensures room { vec_capacity births.old ≤ vec_capacity births.new }
     ensures capacity { vec_capacity kept.old ≤ vec_capacity kept.new }
-    ensures succeeds { more ≤ spare births.old → index_map_len births.old + more ≤ vec_capacity kept.old → IsOk result }
+    ensures succeeds { vec_len births.old + more ≤ vec_capacity births.old → vec_len births.old + more ≤ vec_capacity kept.old → IsOk result }
 {
     births.reserve(more)?;
     let all = births.len().saturating_add(more);
@@ -82,17 +127,13 @@ pub(crate) fn make_places(
 }
 
 /// Keeps the births of each number in the place of those that were kept. It takes no memory.
-pub(crate) fn keep_births(kept: &mut Vec<KeptBirths>, births: &IndexMap<u64, u64>)
-    requires room { index_map_len births.now ≤ vec_capacity kept.old }
-    ensures listed { kept.new.items ≡ listed_births births.now.entries }
+pub(crate) fn keep_births(kept: &mut Vec<KeptBirths>, births: &[KeptBirths])
+    requires room { length births.now ≤ vec_capacity kept.old }
+    ensures kept { kept.new.items ≡ births.now }
     ensures capacity { vec_capacity kept.new ≡ vec_capacity kept.old }
-    ensures unique { IsUnique nat_eq births.now }
 {
     kept.clear();
-    for (number, count) in births {
-        kept.push_reserved(KeptBirths {
-            number: *number,
-            count: *count,
-        });
+    for of_number in births {
+        kept.push_reserved(*of_number);
     }
 }

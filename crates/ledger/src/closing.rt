@@ -11,7 +11,6 @@ ghost use Rattle.ledger.specs.Sums.{IsCarriedOver, births_closed, births_of, car
 use crate::births::{KeptBirths, keep_births};
 use crate::postings::{Ledger, Posting};
 use crate::shares::Totals;
-use indexmap::IndexMap;
 use std::alloc::Global;
 use std::marker::Model;
 
@@ -24,7 +23,7 @@ pub struct NextPeriod {
     /// How often each number was born in the periods that are closed.
     closed_births: Vec<KeptBirths>,
     /// The same, by number.
-    births: IndexMap<u64, u64>,
+    births: Vec<KeptBirths>,
     /// What was posted in them.
     closed: Totals,
     limit: usize,

@@ -6,7 +6,7 @@ use Rattle.ledger.specs.Postings.{Postings}
 use Rattle.ledger.specs.Shares.{Fits}
 use Rattle.ledger.specs.declared.shares.Totals.{Totals}
 use Rattle.ledger.proofs.Closed.{periods_of}
-use Rattle.ledger.proofs.Openings.{begun_births, begun_never, begun_totals}
+use Rattle.ledger.proofs.Openings.{begun_never, begun_totals}
 use Rattle.ledger.proofs.closing.NextPeriod.begin.Goals as goal
 
 pub invariant_of-result : goal.invariant_of-result
@@ -22,6 +22,7 @@ invariant_of-result c =
         entered = subst (λ (v : Periods). v.totals.born ≤ v.totals.entries) (sym made) c.requires.entered;
         left = subst (λ (v : Periods). v.totals.backs + v.totals.forgotten + sum_by carried_by v.last ≡ v.totals.entries) (sym made) c.requires.left;
       };
+      rising = old.rising;
       tallied = old.tallied;
       summed = old.summed ∙ ap (λ (t : Totals). t.born) (sym same);
       totals_are = sym same;
