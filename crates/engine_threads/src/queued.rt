@@ -39,8 +39,8 @@ use std::sync::Wait;
 use std::thread::Threads;
 use table_recorded::Opening;
 
-/// How many jobs wait at most: more than one receive can bring.
-const JOBS: usize = 4_096;
+/// How many jobs wait at most: more than one receive can bring, which has 3,276 frames at most.
+const JOBS: usize = 3_328;
 
 /// How many replies wait to be offered at most: as many as four threads may leave, so that nobody waits for a place.
 const REPLIES: usize = 4 * JOINED;

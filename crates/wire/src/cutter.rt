@@ -11,8 +11,8 @@ use smallvec::SmallVec;
 use std::alloc::{AllocError, Global};
 use std::marker::Model;
 
-/// A whole frame. A short one takes no memory, as a LOOKUP of a name of up to 87 bytes.
-pub type Frame = SmallVec<u8, 128>;
+/// A whole frame. A short one takes no memory, as a LOOKUP of a name of up to 55 bytes.
+pub type Frame = SmallVec<u8, 96>;
 
 /// Why no frame can be handed out, or no bytes taken.
 #[derive(Clone, Copy, Debug, PartialEq, Eq)]
