@@ -9,3 +9,6 @@ pub mod Removing
 pub mod Turns
 pub mod Walking
 pub mod Waiting
+pub mod Unreserved
+pub mod Carrying
+pub mod HiddenKept

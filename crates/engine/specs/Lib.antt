@@ -11,3 +11,4 @@ pub mod Tables
 pub mod Walks
 pub mod Alone
 pub mod Reaching
+pub mod Hiding

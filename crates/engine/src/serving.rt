@@ -3,6 +3,8 @@
 ghost use Rattle.std.specs.Prelude.{◌≡◌, None, IfNone, IfOk, OnErr};
 ghost use Rattle.table_steps.specs.Kept.{world_of};
 ghost use Rattle.table.specs.Gains.{GainsInAll};
+ghost use Rattle.table_hiding.specs.Hiding.{KeepsHidden};
+ghost use Rattle.engine.specs.Hiding.{hiding};
 ghost use Rattle.engine.specs.Serving.{around, does, traffic, IsClientRun, IsSessionRun, RemovesAll, RemovesLeft};
 ghost use Rattle.engine.specs.Tables.{worlds, IsIdle};
 ghost use Rattle.engine.specs.Walks.{side, stand, WorksOffFrames};
@@ -152,7 +154,10 @@ pub fn serve<H: Wait, T: Ledgers, L: Link, C: Calls, D: Folders>(
     ensures serves { IsSessionRun worlds settings (traffic L.receives L.sends) (does C.gives D.keeps)
         (around link.old served.old (world_of table.old)) (around link.new served.new (world_of table.new)) result }
     ensures gains { GainsInAll (world_of table.old) share.old (world_of table.new) share.new }
+    ensures hidden { KeepsHidden (world_of table.old) → IsSessionRun hiding settings (traffic L.receives L.sends) (does C.gives D.keeps)
+        (around link.old served.old (world_of table.old)) (around link.new served.new (world_of table.new)) result }
 {
+    table.attest(); // proof: its law
     let end = serve_client(rt, alloc, link, served, table, share, settings);
     remove_leftovers(&mut served.calls, table);
     end

@@ -1,0 +1,6 @@
+pub mod Reserved
+pub mod Marked
+pub mod Altered
+pub mod Wants
+pub mod Stepping
+pub mod Keeping
