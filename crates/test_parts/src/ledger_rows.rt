@@ -1,5 +1,6 @@
 //! Each call once where memory is ample, with the values that the rules of the ledger give.
 ghost use Rattle.std.specs.Prelude.{◌≡◌};
+ghost use Rattle.ledger.specs.declared.postings.Posting.TheVariants.{Born};
 
 use ledger::{Blanks, Book, Gather, Ledger, LedgerFault, Ledgers, Posting, Totals};
 use std::alloc::{AllocError, Global};
@@ -36,6 +37,45 @@ fn posted(alloc: Global) -> Result<Ledger, LedgerFault> {
     ledger.post(ENTRY);
     ledger.post(FORGET);
     Ok(ledger)
+}
+
+const fn born(number: u64, generation: u64) -> Posting
+    ensures { result ≡ Born number generation }
+{
+    Posting::Born { number, generation }
+}
+
+/// A ledger of births that come in no order: 7, 3, 9, 3 again, and 5.
+fn scattered(alloc: Global) -> Result<Ledger, LedgerFault> {
+    let mut ledger = Ledger::new(alloc, 5);
+    ledger.reserve(5, 5)?;
+    ledger.post(born(7, 0));
+    ledger.post(born(3, 0));
+    ledger.post(born(9, 0));
+    ledger.post(born(3, 1));
+    ledger.post(born(5, 0));
+    Ok(ledger)
+}
+
+#[test]
+fn births_in_any_order_are_counted(rt: HostRuntime) -> Result<(), Fail> {
+    let ledger = scattered(rt.alloc())?;
+    let below = [
+        ledger.births(0),
+        ledger.births(2),
+        ledger.births(3),
+        ledger.births(4),
+    ];
+    assert_eq!(rt; below, [0, 0, 2, 0]);
+    let above = [
+        ledger.births(5),
+        ledger.births(7),
+        ledger.births(8),
+        ledger.births(9),
+        ledger.births(10),
+    ];
+    assert_eq!(rt; above, [1, 1, 0, 1, 0]);
+    Ok(())
 }
 
 #[test]

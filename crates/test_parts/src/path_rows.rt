@@ -17,6 +17,28 @@ fn two_names(alloc: Global) -> Result<Path, AllocError>
     Path::from_names(names)
 }
 
+/// Whether the name and its copy are spelt so.
+fn keeps(alloc: Global, text: &str) -> Result<bool, AllocError> {
+    let name = Name::copy_of(alloc, text)?;
+    let copy = name.copy()?;
+    Ok(name.as_str() == text && copy.as_str() == text && copy.is(&name) && copy.len() == text.len())
+}
+
+/// A text of 73 bytes.
+const LONG: &str = "abcdefghijklmnopqrstuvwxyz-abcdefghijklmnopqrstuvwxyz-abcdefghijklmnopqrs";
+
+#[test]
+fn a_name_of_each_form_is_spelt_as_it_came(rt: HostRuntime) -> Result<(), Fail> {
+    // 22 bytes lie in the name, 72 in an allocation of one size.
+    let alloc = rt.alloc();
+    assert!(rt; keeps(alloc, "")? && keeps(alloc, &LONG[..22])? && keeps(alloc, &LONG[..23])?);
+    assert!(rt; keeps(alloc, &LONG[..72])? && keeps(alloc, LONG)?);
+    let short = Name::copy_of(alloc, &LONG[..22])?;
+    let longer = Name::copy_of(alloc, &LONG[..23])?;
+    assert!(rt; !short.is(&longer) && short != longer);
+    Ok(())
+}
+
 #[test]
 fn two_names_make_a_path(rt: HostRuntime) -> Result<(), Fail> {
     let path = two_names(rt.alloc())?;
