@@ -4,4 +4,6 @@ pub mod Ends
 pub mod Lists
 pub mod Parting
 pub mod Sharing
+pub mod Unreserved
+pub mod Histories
 pub mod Served

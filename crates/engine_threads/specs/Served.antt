@@ -1,11 +1,12 @@
 -- One history of all that the threads of a session did on their table.
-use Rattle.std.specs.Prelude.{◌≡◌, ◌≤◌, ◌+◌, ℕ, List, [], length, Option, Some}
+use Rattle.std.specs.Prelude.{◌≡◌, ◌≤◌, ◌+◌, ℕ, List, [], length, All, Option, Some}
 use Rattle.crossbeam_channel.specs.Claims.{view}
 use Rattle.ledger.specs.Sums.{totals_over}
 use Rattle.ledger.specs.declared.shares.Totals.{Totals}
 use Rattle.ops.specs.declared.attributes.Settings.{Settings}
 use Rattle.backing.specs.Calls.{Asked}
 use Rattle.backing.specs.declared.call.Answer.{Answer}
+use Rattle.table_hiding.specs.Hiding.{KeepsHidden}
 use Rattle.table_steps.specs.World.{opened_world}
 use Rattle.table_steps.specs.declared.data.Limits.{Limits}
 use Rattle.table_recorded.specs.Histories.{IsHistory, Made, calls_by, last_world}
@@ -26,3 +27,5 @@ pub record HasServed {C O : Type 0} (gives : C → Asked → Answer → C → Ty
   pub farewell : BidsFarewell (does_shared gives) settings (λ index. calls_by index history) calls passed.farewell.value passed.passes.value.items passed.handed_back.items
   pub writes : ∥ HasWrittenAll sends (Some link) (length calls + 1) (made_by (λ index. calls_by index history) (length calls + 1)) (view passed.written.value) passed.is_broken ∥₁
   pub nobody : (index : ℕ) → length calls + 2 ≤ index → calls_by index history ≡ []
+  -- after each of these calls, each node with a hidden mark stands under a reserved name
+  pub hidden : All (λ (made : Made). KeepsHidden made.after) history

@@ -5,6 +5,7 @@ use Rattle.backing.specs.Calls.{Asked}
 use Rattle.backing.specs.declared.call.Answer.{Answer}
 use Rattle.handles.specs.Calls.{Shares}
 use Rattle.handles.specs.declared.limits.FolderLimits.{FolderLimits}
+use Rattle.engine.specs.Hiding.{hiding}
 use Rattle.engine.specs.Serving.{around, does, IsSessionRun, Traffic}
 use Rattle.engine.specs.Tables.{worlds}
 use Rattle.engine.specs.declared.ends.SessionEnd.{SessionEnd}
@@ -45,6 +46,8 @@ pub record IsServed {L C : Type 0} (terms : Terms) (link : Traffic L) (gives : C
   pub left : C
   pub dirs_left : Bor FolderLimits
   pub run : IsSessionRun worlds terms.settings link (does gives Shares) (around old (record { calls = tree; dirs = dirs }) world) (around new (record { calls = left; dirs = dirs_left }) last) over
+  -- after each call on the table, each node with a hidden mark stands under a reserved name
+  pub hidden : IsSessionRun hiding terms.settings link (does gives Shares) (around old (record { calls = tree; dirs = dirs }) world) (around new (record { calls = left; dirs = dirs_left }) last) over
 
 -- the same, unless there is no memory for a table
 abbrev pub ServesLink : {L C : Type 0} → Terms → Traffic L → (C → Asked → Answer → C → Type 0) → C → L → SessionEnd → L → Type 0

@@ -61,4 +61,4 @@ returns-clause-served g c =
     let a = c.attest.ensures in
     let nobody : (index : ℕ) → c.args.trees.len + 2 ≤ index → did log index ≡ [] = λ index le. a.nobody index (subst (λ (k : ℕ). k ≤ index) (sym c.requires.threads) le) in
     has_served g.C.Calls.gives g.O.LinkOut.sends c.args.settings c.args.trees.items c.args.links.link_out c.args.limits g.N.Opening.limits c.args.trees.len log over.passed c.conclude.result c.requires.limits c.args.trees.ok.0 a.history nobody
-    e.worked e.farewell e.writes c.conclude.ensures.passed c.conclude.ensures.totals
+    e.worked e.farewell e.writes e.numbers c.conclude.ensures.passed c.conclude.ensures.totals

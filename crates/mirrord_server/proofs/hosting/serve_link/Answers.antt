@@ -1,7 +1,9 @@
-use Rattle.std.proofs.Common.{inl, ap, ◌∙◌}
+use Rattle.std.proofs.Common.{inl, ap, subst, sym, ◌∙◌}
 use Rattle.engine.specs.Alone.{opened_idle}
 use Rattle.table_steps.specs.Kept.{world_of}
-use Rattle.table_steps.specs.World.{opened_world}
+use Rattle.table_steps.specs.World.{World, opened_world}
+use Rattle.table_hiding.specs.Hiding.{KeepsHidden}
+use Rattle.table_hiding.proofs.Keeping.{opened_keeps}
 use Rattle.mirrord_server.proofs.hosting.serve_link.Goals as goal
 
 pub serve-end-requires : goal.serve-end-requires
@@ -17,4 +19,5 @@ returns g c = inl (record {
   left = c.serve-end.new.served.calls;
   dirs_left = c.serve-end.new.served.dirs;
   run = c.serve-end.ensures.serves;
+  hidden = c.serve-end.ensures.hidden (subst (λ (w : World). KeepsHidden w) (sym c.in-Ok-opened.ensures.opened) (opened_keeps _));
 })
