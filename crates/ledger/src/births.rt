@@ -11,7 +11,7 @@ ghost use Rattle.ledger.specs.Sums.{births_closed, totals_by};
 use crate::postings::Posting;
 use std::alloc::AllocError;
 
-/// How often a number was born in the periods that are closed.
+/// How often a number was born, ever or in the periods that are closed.
 #[derive(Clone, Copy, Debug, PartialEq, Eq)]
 pub struct KeptBirths {
     pub number: u64,
