@@ -21,7 +21,7 @@ pub enum Received {
 /// What became of a reply.
 #[derive(Clone, Copy, Debug, PartialEq, Eq)]
 pub enum Sent {
-    /// The client has it.
+    /// The client has it, or the link has it for the client.
     Taken,
     /// The client does not want it any more. Others may be sent.
     Untaken,
@@ -56,6 +56,12 @@ pub trait LinkOut {
 
     /// A reply is not taken only where that is counted as a failure.
     ghost counts_sends: { (old new : Self) (bytes : List ℕ) (sent : Sent) → sends old bytes sent new → failed_sends new ≡ counted (failed_sends old) (missed sent) };
+
+    /// Says whether bytes of a further request are at hand as the next reply is offered. A link may hold that reply back then, and hand
+    /// it on with the next one; whatever it holds back it hands on before it waits for more bytes.
+    fn expect_more(&mut self, _more: bool)
+        ensures { self.new ≡ self.old }
+    {}
 
     /// Offers one reply.
     fn send(&mut self, frame: &[u8]) -> Sent

@@ -51,6 +51,7 @@ fn work_off_frames<H: Wait, T: Ledgers, L: Link, C: Calls, D: Folders>(
         let (len, over) = match cutter.peek() {
             Ok(None) => return None,
             Ok(Some(frame)) => {
+                link.expect_more(cutter.rest() > frame.len());
                 let over = session.handle_frame(rt, link, served, table, share, frame);
                 (frame.len(), over)
             }

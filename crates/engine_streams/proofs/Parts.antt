@@ -4,7 +4,7 @@ use Rattle.std.proofs.Math.Seq.{take-add}
 use Rattle.std.proofs.lemmas.List.{take_rest, length-drop, take_all}
 use Rattle.std.proofs.KnownBytes.{Appends-trans}
 use Rattle.std.specs.Io.KnownBytes.{Appends, Keeps}
-use Rattle.engine_streams.specs.Writing.{AppendsFirst}
+use Rattle.engine_streams.specs.Writing.{AppendsFirst, AppendsPart}
 
 -- what was appended stays where nothing is done
 pub kept_on : (old mid new : Option (List ℕ)) (xs : List ℕ) → Appends old mid xs → Keeps mid new → Appends old new xs
@@ -40,3 +40,7 @@ all_kept old mid new bytes all kept = let n = length bytes in record {
   within = omega arith;
   appended = subst (λ (xs : List ℕ). Appends old new xs) (sym (take_all n bytes (omega arith))) (kept_on old mid new bytes all kept);
 }
+
+-- all are the first of them
+pub whole_part : (old new : Option (List ℕ)) (bytes : List ℕ) → Appends old new bytes → AppendsPart old new bytes
+whole_part old new bytes whole = let n = length bytes in (n, subst (λ (xs : List ℕ). Appends old new xs) (sym (take_all n bytes (omega arith))) whole)

@@ -76,10 +76,17 @@ appends_on (Some a) None c xs ys p q = absurd p
 appends_on (Some a) (Some b) None xs ys p q = absurd q
 appends_on (Some a) (Some b) (Some c) xs ys p q = q ∙ ap (λ zs. zs ++ ys) p ∙ append_assoc a xs ys
 
-output_stays : (old new : Streaming) (heard : Heard) → Receives old heard new → new.output ≡ old.output
-output_stays old new (Piece bytes) r = ap (λ (l : Streaming). l.output) r.1
-output_stays old new Ended r = ap (λ (l : Streaming). l.output) r.2
-output_stays old new Broke r = ap (λ (l : Streaming). l.output) r.1
+output_stays : (old new : Streaming) (heard : Heard) → Receives old heard new → Keeps old.output new.output
+output_stays old new (Piece bytes) r = r.1
+output_stays old new Ended r = r.2
+output_stays old new Broke r = r.1
+
+-- what was kept, and then some bytes
+kept_then : (a b c : Option (List ℕ)) (xs : List ℕ) → Keeps a b → Appends b c xs → Appends a c xs
+kept_then None b c xs kept more = tt
+kept_then (Some a) None c xs kept more = absurd kept
+kept_then (Some a) (Some b) None xs kept more = absurd more
+kept_then (Some a) (Some b) (Some c) xs kept more = more ∙ ap (λ zs. zs ++ xs) kept
 
 -- nothing passes after a reply that broke the link
 abbrev pub BreaksLast : List Event → Type 0
@@ -120,7 +127,8 @@ taken_first old mid new frame events n first rest =
 pub written : (old new : Streaming) (events : List Event) → Chain (Happens Receives Sends) old events new → BreaksLast events → WritesSome old events new
 written old new [] chain last = (0, subst (λ (o : Option (List ℕ)). Appends old.output o []) (sym (ap (λ (l : Streaming). l.output) chain)) (appends_none old.output))
 written old new (In heard ∷ events) chain last =
-    subst (λ (o : Option (List ℕ)). (n : ℕ) × Appends o new.output (taken_in events ++ take n (broken_in events))) (output_stays old chain.0 heard chain.1) (written chain.0 new events chain.2 last)
+    let rest = written chain.0 new events chain.2 last in
+    (rest.0, kept_then old.output chain.0.output new.output (taken_in events ++ take rest.0 (broken_in events)) (output_stays old chain.0 heard chain.1) rest.1)
 written old new (Out frame sent.Taken ∷ events) chain last =
     let rest = written chain.0 new events chain.2 last in
     (rest.0, taken_first old.output chain.0.output new.output frame events rest.0 chain.1.0 rest.1)

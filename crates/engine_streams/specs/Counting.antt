@@ -10,9 +10,9 @@ none_more : (n : ℕ) → n ≡ counted n 0
 none_more n = omega arith
 
 pub receives_counted : (old new : Streaming) (heard : Heard) → Receives old heard new → new.failures ≡ counted old.failures (lost heard)
-receives_counted old new (Piece bytes) r = ap (λ (l : Streaming). l.failures) r.1 ∙ none_more old.failures
-receives_counted old new Ended r = ap (λ (l : Streaming). l.failures) r.2 ∙ none_more old.failures
-receives_counted old new Broke r = ap (λ (l : Streaming). l.failures) r.1
+receives_counted old new (Piece bytes) r = ap (λ (l : Streaming). l.failures) r.2 ∙ none_more old.failures
+receives_counted old new Ended r = ap (λ (l : Streaming). l.failures) r.3 ∙ none_more old.failures
+receives_counted old new Broke r = ap (λ (l : Streaming). l.failures) r.2
 
 pub sends_counted : (old new : Streaming) (bytes : List ℕ) (s : Sent) → Sends old bytes s new → new.failures ≡ counted old.failures (missed s)
 sends_counted old new bytes sent.Taken s = ap (λ (l : Streaming). l.failures) s.1 ∙ none_more old.failures

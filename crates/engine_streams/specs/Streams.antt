@@ -18,11 +18,12 @@ pub record Streaming : Type 0 where
 abbrev pub unused : Option (List ℕ) → Option (List ℕ) → Streaming
 unused input output = record { input = input; output = output; failures = 0 }
 
--- The bytes that come are the next that the reader has. It ends only where no byte is left. A break takes none, and counts.
+-- The bytes that come are the next that the reader has. It ends only where no byte is left. A break takes none, and counts. What the
+-- writer was given stays as it is, where it is known.
 abbrev pub Receives : Streaming → Heard → Streaming → Type 0
-Receives old (Piece bytes) new = Consumes old.input new.input bytes × (new ≡ record old { input = new.input })
-Receives old Ended new = Consumes old.input new.input [] × IsAtEnd new.input × (new ≡ record old { input = new.input })
-Receives old Broke new = Keeps old.input new.input × (new ≡ record old { input = new.input; failures = counted old.failures 1 })
+Receives old (Piece bytes) new = Consumes old.input new.input bytes × Keeps old.output new.output × (new ≡ record old { input = new.input; output = new.output })
+Receives old Ended new = Consumes old.input new.input [] × IsAtEnd new.input × Keeps old.output new.output × (new ≡ record old { input = new.input; output = new.output })
+Receives old Broke new = Keeps old.input new.input × Keeps old.output new.output × (new ≡ record old { input = new.input; output = new.output; failures = counted old.failures 1 })
 
 -- A reply that was taken is written whole. None is untaken. A break counts; the first bytes of the reply may have been written, and
 -- nothing else.

@@ -5,23 +5,37 @@ ghost use Rattle.std.specs.Io.KnownBytes.{Appends, Consumes, Keeps, ReadConsumes
 ghost use Rattle.engine.specs.Batches.{bytes_of};
 ghost use Rattle.engine.specs.Links.{counted};
 ghost use Rattle.engine_streams.specs.Joining.{SendsFirst};
-ghost use Rattle.engine_streams.specs.Streams.{unused};
+ghost use Rattle.engine_streams.specs.Streams.{unused, Sends};
+ghost use Rattle.engine_streams.specs.Writing.{AppendsPart};
+ghost use Rattle.engine.specs.declared.links.Sent.TheVariants.{Taken};
 
 use crate::joining::{join, push_taken, whole_in};
-use crate::writing::{write_counted, write_flushed};
+use crate::writing::{write_ahead, write_counted, write_flushed};
 use engine::{Bytes, Link, LinkIn, LinkOut, Received, Sent};
 use std::alloc::Global;
 use std::io;
 use std::io::{ErrorKind, Read, Write};
 use std::marker::Model;
 
+/// How many bytes a reply has at most that its writer may hold back.
+const SMALL: usize = 16_384;
+
+/// How many replies in a row a writer may hold back: so one waits for the work on so many requests at most.
+const HELD_BACK: u8 = 7;
+
 /// A link that takes what its reader has, as it comes, and writes each reply whole. Small replies that are offered together it joins.
+/// Where more requests are at hand, small replies are left to the writer, which may hold them back; they are handed on with a later one,
+/// and before the next read.
 #[derive(Drop)]
 pub struct StreamLink<R: Read, W: Write> {
     reader: R,
     writer: W,
     /// The replies that are joined. Between two calls it is only room.
     joined: Vec<u8>,
+    /// Whether bytes of a further request are at hand.
+    has_more: bool,
+    /// How many replies the writer was given, and not told to hand on.
+    held_back: u8,
     /// How many of its calls have failed.
     failures: u64,
 }
@@ -61,8 +75,44 @@ impl<R: Read, W: Write> StreamLink<R, W> {
             reader,
             writer,
             joined: Vec::new(alloc),
+            has_more: false,
+            held_back: 0,
             failures: 0,
         }
+    }
+
+    /// Writes one reply, and has it handed on unless it may be held back.
+    fn write(&mut self, frame: &[u8]) -> io::Result<()>
+        ensures whole { OnOk result (Sends self.old frame.now Taken self.new) }
+        ensures part { OnErr result (AppendsPart self.old.output self.new.output frame.now × (self.new ≡ record self.old { output = self.new.output })) }
+    {
+        if self.has_more && self.held_back < HELD_BACK && frame.len() <= SMALL {
+            self.held_back += 1;
+            return write_ahead(&mut self.writer, frame);
+        }
+        self.held_back = 0;
+        write_flushed(&mut self.writer, frame)
+    }
+
+    /// Has the writer hand on what it may have held back.
+    fn hand_on(&mut self) -> io::Result<()>
+        ensures { Keeps self.old.output self.new.output × (self.new ≡ record self.old { output = self.new.output }) }
+    {
+        if self.held_back == 0 {
+            return Ok(());
+        }
+        self.held_back = 0;
+        self.writer.flush()
+    }
+
+    /// Reads what is there, once nothing is held back.
+    fn read(&mut self, room: &mut [u8]) -> io::Result<usize>
+        ensures within { IfOk result (λ n. n ≤ length room.new) }
+        ensures bytes { ReadConsumes self.old.input self.new.input result room.new }
+        ensures same { Keeps self.old.output self.new.output × (self.new ≡ record self.old { input = self.new.input; output = self.new.output }) }
+    {
+        self.hand_on()?;
+        read_there(&mut self.reader, room)
     }
 
     // Offers the first of these replies: those that can be joined, or one by itself. False says that the link broke.
@@ -103,6 +153,8 @@ impl<R: Read + Drop, W: Write> StreamLink<R, W> {
             reader: _,
             writer,
             joined: _,
+            has_more: _,
+            held_back: _,
             failures: _,
         } = self;
         writer
@@ -123,7 +175,7 @@ impl<R: Read, W: Write> LinkIn for StreamLink<R, W> {
         if room.is_empty() {
             return Received::Bytes(0);
         }
-        match read_there(&mut self.reader, room) {
+        match self.read(room) {
             Ok(0) => Received::End,
             Ok(count) => Received::Bytes(count),
             Err(_) => {
@@ -144,8 +196,12 @@ impl<R: Read, W: Write> LinkOut for StreamLink<R, W> {
 
     ghost counts_sends = { sends_counted };
 
+    fn expect_more(&mut self, more: bool) {
+        self.has_more = more;
+    }
+
     fn send(&mut self, frame: &[u8]) -> Sent {
-        match write_flushed(&mut self.writer, frame) {
+        match self.write(frame) {
             Ok(()) => Sent::Taken,
             Err(_) => {
                 self.failures = self.failures.saturating_add(1);

@@ -43,6 +43,17 @@ fn write_parts<W: Write>(writer: &mut W, bytes: &[u8]) -> Result<(), WriteFault>
     Err(WriteFault { written, error })
 }
 
+/// Writes all of the bytes, which the writer may hold back. Where that fails, the first of them may have been written, and nothing else.
+pub fn write_ahead<W: Write>(writer: &mut W, bytes: &[u8]) -> io::Result<()>
+    ensures whole { OnOk result (Appends (W.contents writer.old) (W.contents writer.new) bytes.now) }
+    ensures part { AppendsPart (W.contents writer.old) (W.contents writer.new) bytes.now }
+{
+    match write_parts(writer, bytes) {
+        Ok(()) => Ok(()),
+        Err(fault) => Err(fault.error),
+    }
+}
+
 /// Writes all of the bytes and hands them on. Where that fails, it says how many were written.
 pub fn write_counted<W: Write>(writer: &mut W, bytes: &[u8]) -> Result<(), WriteFault>
     ensures whole { OnOk result (Appends (W.contents writer.old) (W.contents writer.new) bytes.now) }

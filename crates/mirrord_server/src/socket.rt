@@ -10,7 +10,7 @@ use crate::workers::{open_folders, serve_workers};
 use backing_folder::{Folder, System};
 use engine::SessionEnd;
 use std::fs::File;
-use std::io::{BufReader, ErrorKind};
+use std::io::{BufReader, BufWriter, ErrorKind};
 use std::net::Net;
 use std::os::unix::fs::MetadataExt;
 use std::os::unix::net::{UnixListener, UnixStream};
@@ -24,6 +24,9 @@ use table::Seeds;
 
 /// How many bytes one receive of the system takes at most.
 pub const RECEIVED: usize = 131_072;
+
+/// Up to how many bytes of replies are held back while more requests are at hand, to go out by one call of the system.
+const HELD_BACK: usize = 32_768;
 
 /// Why nobody is waited for.
 fn unheard(error: io::Error) -> Unserved {
@@ -44,13 +47,14 @@ fn serve_client<H: Wait + Files<File = File> + Clock + AllocGlobal + Clone + Dro
     requires { folder ≡ 0 }
     ensures { ServesSocket terms result }
 {
-    match BufReader::with_capacity(rt.alloc(), RECEIVED, stream) {
-        Ok(input) => {
-            let (end, _) = serve_opened(rt, folder, seeds, terms, input, stream);
-            Ok(end)
-        }
-        Err(_) => Err(Unserved::Memory),
-    }
+    let Ok(input) = BufReader::with_capacity(rt.alloc(), RECEIVED, stream) else {
+        return Err(Unserved::Memory);
+    };
+    let Ok(output) = BufWriter::with_capacity(rt.alloc(), HELD_BACK, stream) else {
+        return Err(Unserved::Memory);
+    };
+    let (end, _) = serve_opened(rt, folder, seeds, terms, input, output);
+    Ok(end)
 }
 
 /// The device and the inode number of what stands at the path, without following a link there.

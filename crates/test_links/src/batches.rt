@@ -1,6 +1,6 @@
 //! Batches of replies, by their lengths.
 
-use crate::narrow::Narrow;
+use crate::narrow::{Narrow, narrow};
 use engine::Sent::{Broken, Taken};
 use engine::{Bytes, LinkOut, Sent};
 use engine_streams::StreamLink;
@@ -28,16 +28,6 @@ fn replies(alloc: Global, lens: &[usize]) -> Result<Vec<Bytes>, AllocError> {
         frames.push(reply(alloc, place, *len)?)?;
     }
     Ok(frames)
-}
-
-/// A writer that takes so many bytes.
-fn narrow(alloc: Global, left: usize, is_flushed: bool) -> Narrow {
-    Narrow {
-        bytes: Vec::new(alloc),
-        left,
-        is_flushed,
-        writes: Vec::new(alloc),
-    }
 }
 
 /// Offers replies of these lengths to that writer, and hands back what became of each.

@@ -4,4 +4,6 @@
 #[cfg(test)]
 mod batches;
 #[cfg(test)]
+mod held_back;
+#[cfg(test)]
 mod narrow;

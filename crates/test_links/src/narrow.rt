@@ -1,5 +1,6 @@
 //! A writer that takes so many bytes, and counts its writes.
 
+use std::alloc::Global;
 use std::io;
 use std::io::{ErrorKind, Write};
 
@@ -13,6 +14,16 @@ pub struct Narrow {
     pub is_flushed: bool,
     /// How many bytes each write brought.
     pub writes: Vec<usize>,
+}
+
+/// A writer that takes so many bytes.
+pub fn narrow(alloc: Global, left: usize, is_flushed: bool) -> Narrow {
+    Narrow {
+        bytes: Vec::new(alloc),
+        left,
+        is_flushed,
+        writes: Vec::new(alloc),
+    }
 }
 
 impl Write for Narrow {

@@ -22,6 +22,7 @@ returns-in-Some-clause-drains g c =
     let inv = c.loop-frame.invariant in
     let frame = rw c.in-Ok-Some.field-0-is at c.in-Ok-Some.ensures.frame in
     let left = ap (λ (k : Cutting). k.kept) c.skip.ensures in
+    let handled = rw c.expect_more.ensures at c.handle_frame-over.ensures.handled in
     let front : c.loop-frame.cutter.kept ≡ c.in-Ok-Some.frame.now ++ c.skip.new.self.kept = frame.front ∙ ap (λ (xs : List ℕ). c.in-Ok-Some.frame.now ++ xs) (sym left) in
     record {
       reached = Some c.in-Some.end;
@@ -29,7 +30,7 @@ returns-in-Some-clause-drains g c =
           (side (around c.args.link.now c.args.served.now (stand (world_of c.args.table.now) c.args.session.now.agreed)) c.args.cutter.now.kept)
           (around c.loop-frame.link c.loop-frame.served (stand (world_of c.loop-frame.table) c.loop-frame.session.agreed)) (around c.handle_frame-over.new.link c.handle_frame-over.new.served (stand (world_of c.handle_frame-over.new.table) c.handle_frame-over.new.self.agreed))
           c.loop-frame.cutter.kept c.in-Ok-Some.frame.now c.in-Ok-Some.frame.now c.skip.new.self.kept c.handle_frame-over.result (Some c.in-Some.end)
-          c.loop-frame.session.settings inv.settings inv.walks front frame.framed refl c.handle_frame-over.ensures.idle c.handle_frame-over.ensures.handled c.in-Some.is;
+          c.loop-frame.session.settings inv.settings inv.walks front frame.framed refl c.handle_frame-over.ensures.idle handled c.in-Some.is;
       stops = refl;
     }
 
@@ -41,6 +42,7 @@ loop-frame-preserved g c =
     let inv = c.loop-frame.invariant in
     let frame = rw c.in-Ok-Some.field-0-is at c.in-Ok-Some.ensures.frame in
     let left = ap (λ (k : Cutting). k.kept) c.skip.ensures in
+    let handled = rw c.expect_more.ensures at c.handle_frame-over.ensures.handled in
     let front : c.loop-frame.cutter.kept ≡ c.in-Ok-Some.frame.now ++ c.skip.new.self.kept = frame.front ∙ ap (λ (xs : List ℕ). c.in-Ok-Some.frame.now ++ xs) (sym left) in
     record {
       stopped = ap (λ (k : Cutting). k.stopped) c.skip.ensures ∙ inv.stopped;
@@ -51,5 +53,5 @@ loop-frame-preserved g c =
           (side (around c.args.link.now c.args.served.now (stand (world_of c.args.table.now) c.args.session.now.agreed)) c.args.cutter.now.kept)
           (around c.loop-frame.link c.loop-frame.served (stand (world_of c.loop-frame.table) c.loop-frame.session.agreed)) (around c.handle_frame-over.new.link c.handle_frame-over.new.served (stand (world_of c.handle_frame-over.new.table) c.handle_frame-over.new.self.agreed))
           c.loop-frame.cutter.kept c.in-Ok-Some.frame.now c.in-Ok-Some.frame.now c.skip.new.self.kept c.handle_frame-over.result None
-          c.loop-frame.session.settings inv.settings inv.walks front frame.framed refl c.handle_frame-over.ensures.idle c.handle_frame-over.ensures.handled c.in-None.is;
+          c.loop-frame.session.settings inv.settings inv.walks front frame.framed refl c.handle_frame-over.ensures.idle handled c.in-None.is;
     }

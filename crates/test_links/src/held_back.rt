@@ -1,0 +1,120 @@
+//! Replies that are offered one by one while more requests are at hand: when they go out.
+
+use crate::narrow::{Narrow, narrow};
+use engine::{LinkIn, LinkOut, Received, Sent};
+use engine_streams::StreamLink;
+use std::alloc::{AllocError, Global};
+use std::io;
+use std::io::{BufWriter, Empty};
+use std::test::Fail;
+
+/// How many bytes the writer between holds back at most.
+const ROOM: usize = 32_768;
+
+type Held = StreamLink<Empty, BufWriter<Narrow>>;
+
+/// A link whose writer holds back what it may, before one that takes so many bytes.
+fn link(alloc: Global, left: usize) -> Result<Held, Fail> {
+    let writer = BufWriter::with_capacity(alloc, ROOM, narrow(alloc, left, true))?;
+    Ok(StreamLink::new(alloc, io::empty(), writer))
+}
+
+/// Offers a reply of so many bytes, while more is at hand or not.
+fn offer(alloc: Global, link: &mut Held, len: usize, has_more: bool) -> Result<Sent, AllocError> {
+    let mut frame = Vec::new(alloc);
+    frame.resize(len, 7u8)?;
+    link.expect_more(has_more);
+    Ok(link.send(frame.as_slice()))
+}
+
+/// The lengths of replies, whether more was at hand as each was offered, and how many bytes each write brings up to the next receive.
+const WRITES: &[(&[(usize, bool)], &[usize])] = &[
+    (&[], &[]),
+    (&[(16, false), (20, false)], &[16, 20]),
+    (&[(16, true), (20, true), (24, false)], &[60]),
+    (&[(16, true), (20, true)], &[36]),
+    (&[(16, false), (20, true), (24, true)], &[16, 44]),
+    (
+        &[
+            (1, true),
+            (1, true),
+            (1, true),
+            (1, true),
+            (1, true),
+            (1, true),
+            (1, true),
+            (1, true),
+            (1, true),
+        ],
+        &[8, 1],
+    ),
+    (&[(16_384, true), (16, true)], &[16_400]),
+    (&[(16_385, true), (16, true)], &[16_385, 16]),
+    (
+        &[(16, true), (131_088, true), (16, true)],
+        &[16, 131_088, 16],
+    ),
+];
+
+/// What became of replies that were all taken, and of the receive after them.
+fn offer_all(
+    link: &mut Held,
+    alloc: Global,
+    replies: &[(usize, bool)],
+) -> Result<bool, AllocError> {
+    for (len, has_more) in replies {
+        if offer(alloc, link, *len, *has_more)? != Sent::Taken {
+            return Ok(false);
+        }
+    }
+    Ok(link.receive(&mut [0; 8]) == Received::End)
+}
+
+#[test]
+fn replies_wait_for_others_that_follow(rt: HostRuntime) -> Result<(), Fail> {
+    for (replies, writes) in WRITES {
+        let mut link = link(rt.alloc(), usize::MAX)?;
+        if !offer_all(&mut link, rt.alloc(), *replies)? {
+            return Err(Fail::from(("not all are taken", replies.len())));
+        }
+        let writer = link.into_writer();
+        if writer.get_ref().writes.as_slice() != *writes {
+            return Err(Fail::from(("writes", replies.len())));
+        }
+    }
+    Ok(())
+}
+
+/// Replies that were held back cannot be handed on: the receive is broken, and counts.
+#[test]
+fn receive_breaks_where_nothing_goes_out(rt: HostRuntime) -> Result<(), Fail> {
+    for left in 0..36usize {
+        let mut link = link(rt.alloc(), left)?;
+        let first = offer(rt.alloc(), &mut link, 16, true)?;
+        let second = offer(rt.alloc(), &mut link, 20, true)?;
+        if first != Sent::Taken || second != Sent::Taken {
+            return Err(Fail::from(("not taken", left)));
+        }
+        if link.receive(&mut [0; 8]) != Received::Broken {
+            return Err(Fail::from(("not broken", left)));
+        }
+        if link.into_writer().get_ref().bytes.len() != left {
+            return Err(Fail::from(("bytes", left)));
+        }
+    }
+    Ok(())
+}
+
+/// The reply that hands on what was held back breaks the link where that cannot go out.
+#[test]
+fn reply_breaks_where_those_before_do_not_go_out(rt: HostRuntime) -> Result<(), Fail> {
+    for left in 0..36usize {
+        let mut link = link(rt.alloc(), left)?;
+        let first = offer(rt.alloc(), &mut link, 16, true)?;
+        let last = offer(rt.alloc(), &mut link, 20, false)?;
+        if first != Sent::Taken || last != Sent::Broken {
+            return Err(Fail::from(("verdicts", left)));
+        }
+    }
+    Ok(())
+}
