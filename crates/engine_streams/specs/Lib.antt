@@ -1,4 +1,5 @@
 pub mod Counting
+pub mod Holding
 pub mod Joining
 pub mod Passing
 pub mod Streams

@@ -8,11 +8,11 @@ ghost use Rattle.engine_streams.specs.Joining.{whole_in};
 
 use engine::{Bytes, Sent};
 
-/// How many bytes a reply has at most that is joined with others.
-const SMALL: usize = 16_384;
+/// How many bytes a reply has at most that is joined with others, or held back for them.
+pub(crate) const SMALL: usize = 16_384;
 
 /// How many bytes are joined at most.
-const JOINED: usize = 65_536;
+pub(crate) const JOINED: usize = 65_536;
 
 /// Joins one reply more, if it is small, fits beside the others and finds memory.
 fn join_one(joined: &mut Vec<u8>, bytes: &[u8]) -> bool

@@ -9,16 +9,13 @@ ghost use Rattle.engine_streams.specs.Streams.{unused, Sends};
 ghost use Rattle.engine_streams.specs.Writing.{AppendsPart};
 ghost use Rattle.engine.specs.declared.links.Sent.TheVariants.{Taken};
 
-use crate::joining::{join, push_taken, whole_in};
+use crate::joining::{SMALL, join, push_taken, whole_in};
 use crate::writing::{write_ahead, write_counted, write_flushed};
 use engine::{Bytes, Link, LinkIn, LinkOut, Received, Sent};
 use std::alloc::Global;
 use std::io;
 use std::io::{ErrorKind, Read, Write};
 use std::marker::Model;
-
-/// How many bytes a reply has at most that its writer may hold back.
-const SMALL: usize = 16_384;
 
 /// How many replies in a row a writer may hold back: so one waits for the work on so many requests at most.
 const HELD_BACK: u8 = 7;

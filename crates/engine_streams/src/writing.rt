@@ -17,7 +17,7 @@ pub struct WriteFault {
 
 /// Writes all of the bytes. Where that fails, it says how many were written. It writes part by part, since `write_all` says
 /// nothing of what stands there after an error. A write that a signal interrupts is made again.
-fn write_parts<W: Write>(writer: &mut W, bytes: &[u8]) -> Result<(), WriteFault>
+pub fn write_parts<W: Write>(writer: &mut W, bytes: &[u8]) -> Result<(), WriteFault>
     ensures whole { OnOk result (Appends (W.contents writer.old) (W.contents writer.new) bytes.now) }
     ensures part { IfErr result (λ fault. AppendsFirst fault.written (W.contents writer.old) (W.contents writer.new) bytes.now) }
 {

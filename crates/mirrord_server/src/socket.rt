@@ -9,8 +9,9 @@ use crate::terms::Terms;
 use crate::workers::{open_folders, serve_workers};
 use backing_folder::{Folder, System};
 use engine::SessionEnd;
+use engine_streams::Holding;
 use std::fs::File;
-use std::io::{BufReader, BufWriter, ErrorKind};
+use std::io::{BufReader, ErrorKind, Write};
 use std::net::Net;
 use std::os::unix::fs::MetadataExt;
 use std::os::unix::net::{UnixListener, UnixStream};
@@ -24,9 +25,6 @@ use table::Seeds;
 
 /// How many bytes one receive of the system takes at most.
 pub const RECEIVED: usize = 131_072;
-
-/// Up to how many bytes of replies are held back while more requests are at hand, to go out by one call of the system.
-const HELD_BACK: usize = 32_768;
 
 /// Why nobody is waited for.
 fn unheard(error: io::Error) -> Unserved {
@@ -50,10 +48,10 @@ fn serve_client<H: Wait + Files<File = File> + Clock + AllocGlobal + Clone + Dro
     let Ok(input) = BufReader::with_capacity(rt.alloc(), RECEIVED, stream) else {
         return Err(Unserved::Memory);
     };
-    let Ok(output) = BufWriter::with_capacity(rt.alloc(), HELD_BACK, stream) else {
-        return Err(Unserved::Memory);
-    };
-    let (end, _) = serve_opened(rt, folder, seeds, terms, input, output);
+    let output = Holding::new(rt.alloc(), stream);
+    let (end, mut output) = serve_opened(rt, folder, seeds, terms, input, output);
+    // Only where more stood behind the DESTROY is anything left; the session is over, whatever becomes of it.
+    let _ = output.flush();
     Ok(end)
 }
 

@@ -2,21 +2,18 @@
 
 use crate::narrow::{Narrow, narrow};
 use engine::{LinkIn, LinkOut, Received, Sent};
-use engine_streams::StreamLink;
+use engine_streams::{Holding, StreamLink};
 use std::alloc::{AllocError, Global};
 use std::io;
-use std::io::{BufWriter, Empty};
+use std::io::Empty;
 use std::test::Fail;
 
-/// How many bytes the writer between holds back at most.
-const ROOM: usize = 32_768;
-
-type Held = StreamLink<Empty, BufWriter<Narrow>>;
+type Held = StreamLink<Empty, Holding<Narrow>>;
 
 /// A link whose writer holds back what it may, before one that takes so many bytes.
-fn link(alloc: Global, left: usize) -> Result<Held, Fail> {
-    let writer = BufWriter::with_capacity(alloc, ROOM, narrow(alloc, left, true))?;
-    Ok(StreamLink::new(alloc, io::empty(), writer))
+fn link(alloc: Global, left: usize) -> Held {
+    let writer = Holding::new(alloc, narrow(alloc, left, true));
+    StreamLink::new(alloc, io::empty(), writer)
 }
 
 /// Offers a reply of so many bytes, while more is at hand or not.
@@ -73,12 +70,12 @@ fn offer_all(
 #[test]
 fn replies_wait_for_others_that_follow(rt: HostRuntime) -> Result<(), Fail> {
     for (replies, writes) in WRITES {
-        let mut link = link(rt.alloc(), usize::MAX)?;
+        let mut link = link(rt.alloc(), usize::MAX);
         if !offer_all(&mut link, rt.alloc(), *replies)? {
             return Err(Fail::from(("not all are taken", replies.len())));
         }
         let writer = link.into_writer();
-        if writer.get_ref().writes.as_slice() != *writes {
+        if writer.writer().writes.as_slice() != *writes {
             return Err(Fail::from(("writes", replies.len())));
         }
     }
@@ -89,7 +86,7 @@ fn replies_wait_for_others_that_follow(rt: HostRuntime) -> Result<(), Fail> {
 #[test]
 fn receive_breaks_where_nothing_goes_out(rt: HostRuntime) -> Result<(), Fail> {
     for left in 0..36usize {
-        let mut link = link(rt.alloc(), left)?;
+        let mut link = link(rt.alloc(), left);
         let first = offer(rt.alloc(), &mut link, 16, true)?;
         let second = offer(rt.alloc(), &mut link, 20, true)?;
         if first != Sent::Taken || second != Sent::Taken {
@@ -98,7 +95,7 @@ fn receive_breaks_where_nothing_goes_out(rt: HostRuntime) -> Result<(), Fail> {
         if link.receive(&mut [0; 8]) != Received::Broken {
             return Err(Fail::from(("not broken", left)));
         }
-        if link.into_writer().get_ref().bytes.len() != left {
+        if link.into_writer().writer().bytes.len() != left {
             return Err(Fail::from(("bytes", left)));
         }
     }
@@ -109,7 +106,7 @@ fn receive_breaks_where_nothing_goes_out(rt: HostRuntime) -> Result<(), Fail> {
 #[test]
 fn reply_breaks_where_those_before_do_not_go_out(rt: HostRuntime) -> Result<(), Fail> {
     for left in 0..36usize {
-        let mut link = link(rt.alloc(), left)?;
+        let mut link = link(rt.alloc(), left);
         let first = offer(rt.alloc(), &mut link, 16, true)?;
         let last = offer(rt.alloc(), &mut link, 20, false)?;
         if first != Sent::Taken || last != Sent::Broken {

@@ -8,7 +8,7 @@ use std::marker::Model;
 /// The bytes of a buffer from `start` up to `end`. What stands before and behind them is room: the buffer never gets shorter, so that
 /// letting bytes go costs nothing.
 #[derive(Drop)]
-pub(crate) struct Window {
+pub struct Window {
     buffer: Vec<u8>,
     start: usize,
     end: usize,
@@ -55,7 +55,7 @@ fn write_behind(buffer: &mut Vec<u8>, end: usize, piece: &[u8]) -> Result<(), Al
 
 impl Window {
     /// No bytes. It takes no memory.
-    pub(crate) fn new(alloc: Global) -> Window
+    pub fn new(alloc: Global) -> Window
         ensures { result ≡ [] }
     {
         Window {
@@ -65,13 +65,13 @@ impl Window {
         }
     }
 
-    pub(crate) fn as_slice(&self) -> &[u8]
+    pub fn as_slice(&self) -> &[u8]
         ensures { result.now ≡ self.now }
     {
         &self.buffer[self.start..self.end]
     }
 
-    pub(crate) fn len(&self) -> usize
+    pub fn len(&self) -> usize
         ensures { result ≡ length self.now }
     {
         self.end - self.start
@@ -92,7 +92,7 @@ impl Window {
     }
 
     /// Takes the piece in. Without memory the bytes stay.
-    pub(crate) fn push(&mut self, piece: &[u8]) -> Result<(), AllocError>
+    pub fn push(&mut self, piece: &[u8]) -> Result<(), AllocError>
         ensures ok { OnOk result (self.new ≡ self.old ++ piece.now) }
         ensures err { OnErr result (self.new ≡ self.old) }
     {
@@ -103,7 +103,7 @@ impl Window {
     }
 
     /// Lets the first bytes go.
-    pub(crate) fn skip(&mut self, count: usize)
+    pub fn skip(&mut self, count: usize)
         requires within { count ≤ length self.old }
         ensures { self.new ≡ drop count self.old }
     {
