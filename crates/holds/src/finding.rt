@@ -1,9 +1,10 @@
 //! A path among others.
 
-ghost use Rattle.std.specs.Prelude.{◌≡◌, ◌↔◌, IsTrue, Contains};
+ghost use Rattle.std.specs.Prelude.{◌≡◌, ◌↔◌, ◌++◌, ◌∷◌, [], IsTrue, Contains};
 ghost use Rattle.holds.specs.Conflicts.{is_among};
 
-use paths::Path;
+use crate::names_under::is_under;
+use paths::{Name, Path};
 
 /// Whether the path is one of these.
 pub(crate) fn contains(paths: &[Path], path: &Path) -> bool
@@ -12,6 +13,18 @@ pub(crate) fn contains(paths: &[Path], path: &Path) -> bool
 {
     for other in paths {
         if other.is(path) {
+            return true;
+        }
+    }
+    false
+}
+
+/// Whether the path of the name under the parent's path is one of these. That path is not made.
+pub(crate) fn contains_name(paths: &[Path], parent: &Path, name: &Name) -> bool
+    ensures { IsTrue result ↔ Contains paths.now (parent.now ++ name.now ∷ []) }
+{
+    for path in paths {
+        if is_under(path, parent, name) {
             return true;
         }
     }

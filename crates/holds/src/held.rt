@@ -3,8 +3,8 @@
 ghost use Rattle.std.specs.Prelude.{◌≡◌, ◌↔◌, ◌++◌, ◌∷◌, [], ℕ, List, IsTrue, Contains, OnOk};
 
 use crate::few::Few;
-use crate::finding::contains;
-use paths::Path;
+use crate::finding::{contains, contains_name};
+use paths::{Name, Path};
 use std::alloc::{AllocError, Global};
 use std::marker::Model;
 
@@ -144,6 +144,13 @@ impl Paths {
         ensures found { IsTrue result ↔ Contains self.now path.now }
     {
         contains(self.as_slice(), path)
+    }
+
+    /// Whether the path of the name under the parent's path is one of them. That path is not made.
+    pub fn contains_name(&self, parent: &Path, name: &Name) -> bool
+        ensures { IsTrue result ↔ Contains self.now (parent.now ++ name.now ∷ []) }
+    {
+        contains_name(self.as_slice(), parent, name)
     }
 
     /// Whether some path is one of these and one of those.

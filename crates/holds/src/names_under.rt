@@ -28,7 +28,7 @@ impl<'a> Equivalent<Path> for NameUnder<'a> {
 }
 
 /// Whether the path is that of the name under the parent's path.
-fn is_under(path: &Path, parent: &Path, name: &Name) -> bool
+pub(crate) fn is_under(path: &Path, parent: &Path, name: &Name) -> bool
     ensures { IsTrue result ↔ (path.now ≡ parent.now ++ name.now ∷ []) }
 {
     let names = path.names();

@@ -1,10 +1,13 @@
 -- How many of the requests in flight hold each path.
-use Rattle.std.specs.Prelude.{ℕ, ◌+◌, ◌≡◌, List, count_by}
+use Rattle.std.specs.Prelude.{ℕ, ◌+◌, ◌≡◌, List, Option, Some, None, count_by}
 use Rattle.paths.specs.Prefixes.{Names}
 use Rattle.holds.specs.Numbers.{AreNumbers, counted_in, holders_on}
 use Rattle.holds.specs.declared.held.Held.{Held}
-use Rattle.holds.specs.declared.numbers.HoldNumbers.{HoldNumbers}
 use Rattle.table_requests.specs.declared.data.RequestInFlight.{RequestInFlight}
+use Rattle.table_requests.specs.declared.data.Stage.{Stage}
+use Rattle.table_requests.specs.declared.data.Stage.TheVariants.{Working, Answered}
+use Rattle.table_requests.specs.declared.held_paths.HeldPaths.{HeldPaths}
+use Rattle.table_requests.specs.Listed.{flight_in}
 use Rattle.table_requests.specs.RequestMaps.{has_exclusive, has_shared}
 
 -- how many requests that are worked on share the path, and how many hold it exclusively
@@ -14,14 +17,41 @@ sharers_in fs path = count_by (λ (f : RequestInFlight). has_shared f.stage path
 abbrev pub owners_in : List RequestInFlight → Names → ℕ
 owners_in fs path = count_by (λ (f : RequestInFlight). has_exclusive f.stage path) fs
 
--- the two numbers of each path are counted over the requests
-pub record AreHolders (numbers : HoldNumbers) (fs : List RequestInFlight) : Type 0 where
-  pub law : AreNumbers numbers
-  pub shared : (path : Names) → (holders_on numbers path).shared ≡ sharers_in fs path
-  pub exclusive : (path : Names) → (holders_on numbers path).exclusive ≡ owners_in fs path
+-- what a request holds, while it is worked on
+abbrev pub held_at : Stage → Option Held
+held_at (Working work) = Some work.held
+held_at (Answered before opened) = None
 
--- a request that held this is worked on no longer
-pub record LoseHolder (old : List RequestInFlight) (held : Held) (new : List RequestInFlight) : Type 0 where
+abbrev pub held_by : Option RequestInFlight → Option Held
+held_by None = None
+held_by (Some f) = held_at f.stage
+
+-- what the request under the id holds, if there is such an id
+abbrev pub held_under : List RequestInFlight → Option ℕ → Option Held
+held_under fs None = None
+held_under fs (Some id) = held_by (flight_in fs id)
+
+-- once, where this is held and the path is shared, or held exclusively
+abbrev pub shared_once : Option Held → Names → ℕ
+shared_once None path = 0
+shared_once (Some held) path = counted_in held.shared path 1
+
+abbrev pub owned_once : Option Held → Names → ℕ
+owned_once None path = 0
+owned_once (Some held) path = counted_in held.exclusive path 1
+
+-- the two numbers of each path, and what the request holds that is not counted, are counted over the requests
+pub record AreHolders (held : HeldPaths) (fs : List RequestInFlight) : Type 0 where
+  pub law : AreNumbers held.numbers
+  pub shared : (path : Names) → (holders_on held.numbers path).shared + shared_once (held_under fs held.uncounted) path ≡ sharers_in fs path
+  pub exclusive : (path : Names) → (holders_on held.numbers path).exclusive + owned_once (held_under fs held.uncounted) path ≡ owners_in fs path
+  -- who is not counted is worked on
+  pub there : held_under fs held.uncounted ≡ None → held.uncounted ≡ None
+
+-- the request under the id held this, and is worked on no longer; the others hold what they held
+pub record LoseHolder (old : List RequestInFlight) (id : ℕ) (held : Held) (new : List RequestInFlight) : Type 0 where
+  pub here : held_by (flight_in old id) ≡ Some held
+  pub others : (k : ℕ) → (id ≡ k → ⊥) → held_by (flight_in new k) ≡ held_by (flight_in old k)
   pub shared : (path : Names) → sharers_in new path + counted_in held.shared path 1 ≡ sharers_in old path
   pub exclusive : (path : Names) → owners_in new path + counted_in held.exclusive path 1 ≡ owners_in old path
 

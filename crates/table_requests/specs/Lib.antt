@@ -3,3 +3,4 @@ pub mod PinCounts
 pub mod RequestMaps
 pub mod Listed
 pub mod HeldPaths
+pub mod Totals

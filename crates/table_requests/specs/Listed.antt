@@ -1,13 +1,8 @@
 -- The requests in flight, one after another.
-use Rattle.std.specs.Prelude.{ℕ, ◌+◌, ◌-◌, ◌<◌, ◌≡◌, ◌≢◌, ◌==◌, ◌^◌, Bool, List, Some, Vec, AllPairs, find, sum_by, length, vec_len, vec_capacity}
+use Rattle.std.specs.Prelude.{ℕ, ◌-◌, ◌<◌, ◌≡◌, ◌≢◌, ◌==◌, Bool, List, Some, Vec, AllPairs, find, sum_by, length, vec_len, vec_capacity}
 use Rattle.std.specs.List.{list_any}
 use Rattle.std.specs.declared.alloc.Global.{Global}
 use Rattle.table_requests.specs.declared.data.RequestInFlight.{RequestInFlight}
-use Rattle.table_requests.specs.declared.data.Promise.{Promise}
-use Rattle.table_requests.specs.declared.pin_counts.PinCounts.{PinCounts}
-use Rattle.holds.specs.declared.numbers.HoldNumbers.{HoldNumbers}
-use Rattle.table_requests.specs.HeldPaths.{AreHolders}
-use Rattle.table_requests.specs.PinCounts.{AreCounted, pins_in}
 use Rattle.table_requests.specs.RequestMaps.{RequestsInFlight, RequestMaps, files_promised, pins_number, nodes_promised, postings_promised}
 
 -- requests, with room for more, which takes no memory
@@ -55,13 +50,3 @@ HaveOwnIds fs = AllPairs (λ (f g : RequestInFlight). f.id ≢ g.id) fs
 -- the ids of all requests are below the number
 abbrev pub AreBelow : ℕ → RequestsInFlight → Type 0
 AreBelow n at = (id : ℕ) (f : RequestInFlight) → at id ≡ Some f → id < n
-
--- requests with their pins and the paths that they hold counted, with running totals, and with an id that comes after all of theirs, if one is known
-pub record IsTotalled (fs : List RequestInFlight) (pinned : PinCounts) (numbers : HoldNumbers) (promised : Promise) (next : ℕ) : Type 0 where
-  pub apart : HaveOwnIds fs
-  pub counted : AreCounted pinned (pins_in fs)
-  pub held : AreHolders numbers fs
-  pub below : next + 1 < 2 ^ 64 → AreBelow next (flight_in fs)
-  pub nodes : promised.nodes ≡ nodes_in fs
-  pub postings : promised.postings ≡ postings_in fs
-  pub files : promised.files ≡ files_in fs

@@ -1,25 +1,153 @@
-//! The paths that a request holds while it is worked on.
+//! The paths that requests hold while they are worked on.
+//!
+//! How many requests hold each path is counted, but for those of one request: of one that was added while all others were
+//! counted. So the paths of a request that is alone are not counted: nothing is looked up or hashed for it, and it takes no
+//! memory. Who asks about a path looks at the numbers, and then at the lists of that one request, which are short.
 
-ghost use Rattle.std.specs.Prelude.{◌≡◌, ◌<◌, ◌+◌, ◌^◌, if◌then◌else◌, OnErr, OnOk};
-ghost use Rattle.paths.specs.Prefixes.{Names};
+ghost use Rattle.std.specs.Prelude.{◌≡◌, ◌↔◌, ◌<◌, ◌+◌, ◌^◌, ◌++◌, ◌∷◌, [], ℕ, List, None, IsTrue, OnErr, OnOk, length};
+ghost use Rattle.std.specs.Option.{option_copied};
 ghost use Rattle.holds.specs.Numbers.{AreNumbers, holders_on};
-ghost use Rattle.table_requests.specs.RequestMaps.{has_exclusive, has_shared};
+ghost use Rattle.table_requests.specs.declared.data.RequestInFlight.{RequestInFlight};
+ghost use Rattle.table_requests.specs.HeldPaths.{AreHolders, LoseHolder, held_under, owners_in, sharers_in};
+ghost use Rattle.table_requests.specs.Listed.{HaveOwnIds, flight_in};
+ghost use Rattle.table_requests.specs.RequestMaps.{HasExclusiveHolder, HoldsUp};
 
-use crate::data::Stage;
-use holds::HoldNumbers;
-use std::alloc::AllocError;
+use crate::data::{RequestInFlight, Stage};
+use crate::listed::index_of;
+use holds::{Held, HoldNumbers};
+use paths::{Name, Path};
+use std::alloc::{AllocError, Global};
+use std::hash::RandomState;
 
-/// Counts what the request holds, if it is worked on. Want of memory is the only error: then all numbers are as they were.
-pub(crate) fn count_held(numbers: &mut HoldNumbers, stage: &Stage) -> Result<(), AllocError>
-    requires law { AreNumbers numbers.old }
-    requires few { (path : Names) → ((holders_on numbers.old path).shared + 1 < 2 ^ 64) × ((holders_on numbers.old path).exclusive + 1 < 2 ^ 64) }
-    ensures shared { OnOk result ((path : Names) → (holders_on numbers.new path).shared ≡ (holders_on numbers.old path).shared + (if has_shared stage.now path then 1 else 0)) }
-    ensures exclusive { OnOk result ((path : Names) → (holders_on numbers.new path).exclusive ≡ (holders_on numbers.old path).exclusive + (if has_exclusive stage.now path then 1 else 0)) }
-    ensures same { OnErr result ((path : Names) → holders_on numbers.new path ≡ holders_on numbers.old path) }
-    ensures law { AreNumbers numbers.new }
+/// How many requests hold each path.
+#[derive(Drop)]
+pub(crate) struct HeldPaths {
+    /// The two numbers of each path, over all requests that are worked on but one.
+    pub(crate) numbers: HoldNumbers,
+    /// The id of that one, which is worked on, if there is such a one.
+    pub(crate) uncounted: Option<u64>,
+}
+
+/// Nothing is held. Paths are hashed by that seed.
+pub(crate) fn nothing_held(alloc: Global, seed: RandomState) -> HeldPaths
+    ensures { AreHolders result [] }
 {
-    match stage {
-        Stage::Working(work) => numbers.add(&work.held),
-        Stage::Answered { .. } => Ok(()),
+    HeldPaths {
+        numbers: HoldNumbers::new(alloc, seed),
+        uncounted: None,
+    }
+}
+
+/// What the request under the id holds, if there is such an id and it is worked on.
+fn held_under(flights: &[RequestInFlight], id: Option<u64>) -> Option<&Held>
+    requires { HaveOwnIds flights.now }
+    ensures { option_copied result ≡ held_under flights.now id }
+{
+    let i = index_of(flights, id?)?;
+    match &flights[i].stage {
+        Stage::Working(work) => Some(&work.held),
+        Stage::Answered { .. } => None,
+    }
+}
+
+/// Whether a request that is worked on holds a name that is in the way of these.
+pub(crate) fn holds_up(held: &HeldPaths, flights: &[RequestInFlight], wanted: &Held) -> bool
+    requires apart { HaveOwnIds flights.now }
+    requires told { AreHolders held.now flights.now }
+    ensures { IsTrue result ↔ HoldsUp (flight_in flights.now) wanted.now }
+{
+    if held.numbers.holds_up(wanted) {
+        return true;
+    }
+    match held_under(flights, held.uncounted) {
+        Some(held) => held.conflicts_with(wanted),
+        None => false,
+    }
+}
+
+/// Whether a request that is counted holds the name under the parent's path for itself. Where nothing is held by such a one, as
+/// while the entries of a page are given and nobody else is at work, nothing is hashed.
+fn is_counted_exclusive(numbers: &HoldNumbers, parent: &Path, name: &Name) -> bool
+    requires { AreNumbers numbers.now }
+    ensures { IsTrue result ↔ (0 < (holders_on numbers.now (parent.now ++ name.now ∷ [])).exclusive) }
+{
+    if numbers.paths == 0 {
+        return false;
+    }
+    numbers.is_held_exclusively(parent, name)
+}
+
+/// Whether a request that is worked on holds the name under the parent's path for itself.
+pub(crate) fn holds_exclusively(
+    held: &HeldPaths,
+    flights: &[RequestInFlight],
+    parent: &Path,
+    name: &Name,
+) -> bool
+    requires apart { HaveOwnIds flights.now }
+    requires told { AreHolders held.now flights.now }
+    ensures { IsTrue result ↔ HasExclusiveHolder (flight_in flights.now) (parent.now ++ name.now ∷ []) }
+{
+    if is_counted_exclusive(&held.numbers, parent, name) {
+        return true;
+    }
+    match held_under(flights, held.uncounted) {
+        Some(held) => held.exclusive.contains_name(parent, name),
+        None => false,
+    }
+}
+
+/// How many of the requests that are worked on share the path.
+pub(crate) fn shared_on(held: &HeldPaths, flights: &[RequestInFlight], path: &Path) -> u64
+    requires apart { HaveOwnIds flights.now }
+    requires told { AreHolders held.now flights.now }
+    ensures { result ≡ sharers_in flights.now path.now }
+{
+    let counted = held.numbers.holders_on(path).shared;
+    match held_under(flights, held.uncounted) {
+        Some(held) if held.shared.contains(path) => counted + 1,
+        _ => counted,
+    }
+}
+
+/// How many of the requests that are worked on hold the path for themselves.
+pub(crate) fn exclusive_on(held: &HeldPaths, flights: &[RequestInFlight], path: &Path) -> u64
+    requires apart { HaveOwnIds flights.now }
+    requires told { AreHolders held.now flights.now }
+    ensures { result ≡ owners_in flights.now path.now }
+{
+    let counted = held.numbers.holders_on(path).exclusive;
+    match held_under(flights, held.uncounted) {
+        Some(held) if held.exclusive.contains(path) => counted + 1,
+        _ => counted,
+    }
+}
+
+/// One request more holds its paths, if it is worked on. Where all others are counted it is not, and only its id is noted. Want of memory for the numbers of
+/// its paths is the only error: then each path has as many holders as before.
+pub(crate) fn add_holder(held: &mut HeldPaths, flight: &RequestInFlight) -> Result<(), AllocError>
+    requires told { (fs : List RequestInFlight) × AreHolders held.old fs × (length fs + 1 < 2 ^ 64) }
+    ensures added { OnOk result ((fs : List RequestInFlight) → flight_in fs flight.now.id ≡ None → AreHolders held.old fs → AreHolders held.new (fs ++ flight.now ∷ [])) }
+    ensures same { OnErr result ((fs : List RequestInFlight) → AreHolders held.old fs → AreHolders held.new fs) }
+{
+    let Stage::Working(work) = &flight.stage else {
+        return Ok(());
+    };
+    if held.uncounted.is_none() {
+        held.uncounted = Some(flight.id);
+        return Ok(());
+    }
+    held.numbers.add(&work.held)
+}
+
+/// The request under the id is worked on no longer, and held this. Of the one that is not counted no number is lowered. It takes no memory.
+pub(crate) fn drop_holder(held: &mut HeldPaths, id: u64, lost: &Held)
+    requires loses { (fs : List RequestInFlight) × (gs : List RequestInFlight) × AreHolders held.old fs × LoseHolder fs id lost.now gs }
+    ensures dropped { (fs gs : List RequestInFlight) → AreHolders held.old fs → LoseHolder fs id lost.now gs → AreHolders held.new gs }
+{
+    if held.uncounted == Some(id) {
+        held.uncounted = None;
+    } else {
+        held.numbers.drop_holds(lost);
     }
 }

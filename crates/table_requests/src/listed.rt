@@ -14,7 +14,7 @@ use std::mem;
 
 /// The place of the request in the list. Where ids rise, as they do where each is the next one, that takes as many steps
 /// as the number of requests has binary digits.
-fn index_of(flights: &[RequestInFlight], id: u64) -> Option<usize>
+pub(crate) fn index_of(flights: &[RequestInFlight], id: u64) -> Option<usize>
     requires { HaveOwnIds flights.now }
     ensures none { IfNone result (flight_in flights.now id ≡ None) }
     ensures within { IfSome result (λ i. i < length flights.now) }
@@ -72,7 +72,7 @@ pub fn end_work(flights: &mut Vec<RequestInFlight>, id: u64) -> Option<Work>
     ensures same { IfNone result (flights.new.items ≡ flights.old.items) }
     ensures some { IfSome result (λ work. Answers (requests_of (in_flight flights.old)) id work (requests_of (in_flight flights.new))) }
     ensures pinned { (n : ℕ) → pins_in flights.new.items n ≡ pins_in flights.old.items n }
-    ensures held { IfSome result (λ work. LoseHolder flights.old.items work.held flights.new.items) }
+    ensures held { IfSome result (λ work. LoseHolder flights.old.items id work.held flights.new.items) }
     ensures apart { HaveOwnIds flights.new.items }
     ensures below { (n : ℕ) → AreBelow n (flight_in flights.old.items) → AreBelow n (flight_in flights.new.items) }
     ensures len { vec_len flights.new ≡ vec_len flights.old }

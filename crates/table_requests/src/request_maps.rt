@@ -6,12 +6,15 @@ ghost use Rattle.table_requests.specs.RequestMaps.{files_promised, no_requests, 
 ghost use Rattle.table_requests.specs.Listed.{requests_of, flight_in, pinned_in};
 
 use crate::data::{Ended, Promise, RequestInFlight, Work};
-use crate::held_paths::count_held;
+use crate::held_paths::{
+    HeldPaths, add_holder, drop_holder, exclusive_on, holds_exclusively, holds_up, nothing_held,
+    shared_on,
+};
 use crate::listed::{
     end_work, least_free, most_posted, next_after, note_for, pin_for, take_answered,
 };
 use crate::pin_counts::{PinCounts, count, count_all, count_of, make_room, no_pins, uncount_all};
-use holds::{Held, HoldNumbers};
+use holds::Held;
 use paths::{Name, Path};
 use std::alloc::{AllocError, Global};
 use std::hash::RandomState;
@@ -23,14 +26,15 @@ pub struct RequestsInFlight {
     flights: Vec<RequestInFlight>,
     pinned: PinCounts,
     /// How many of them hold each path.
-    held: HoldNumbers,
+    held: HeldPaths,
     promised: Promise,
     /// Above all ids, or the greatest number if such a one is not known.
     next: u64,
 }
 
 impl Model for RequestsInFlight {
-    ghost use Rattle.table_requests.specs.Listed.{InFlight, in_flight, IsTotalled};
+    ghost use Rattle.table_requests.specs.Listed.{InFlight, in_flight};
+    ghost use Rattle.table_requests.specs.Totals.{IsTotalled};
 
     ghost Value = { InFlight };
 
@@ -52,11 +56,10 @@ impl RequestsInFlight {
         ensures law { AreLawfulRequests (requests_of result) }
     {
         let flights = Vec::new(alloc);
-        let held = HoldNumbers::new(alloc, seed);
         RequestsInFlight {
             flights,
             pinned: no_pins(alloc),
-            held,
+            held: nothing_held(alloc, seed),
             promised: Promise::NONE,
             next: 0,
         }
@@ -120,7 +123,7 @@ impl RequestsInFlight {
         ensures held { IsTrue result ↔ HoldsUp (requests_of self.now).at wanted.now }
         ensures law { AreLawfulRequests (requests_of self.now) }
     {
-        self.held.holds_up(wanted)
+        holds_up(&self.held, self.flights.as_slice(), wanted)
     }
 
     /// Whether one that is worked on holds the name under the parent's path for itself.
@@ -128,21 +131,21 @@ impl RequestsInFlight {
         ensures owned { IsTrue result ↔ HasExclusiveHolder (requests_of self.now).at (parent.now ++ name.now ∷ []) }
         ensures law { AreLawfulRequests (requests_of self.now) }
     {
-        self.held.is_held_exclusively(parent, name)
+        holds_exclusively(&self.held, self.flights.as_slice(), parent, name)
     }
 
     /// How many of those that are worked on share the path.
     pub fn shared_on(&self, path: &Path) -> u64
         ensures { result ≡ count_by (λ (f : RequestInFlight). has_shared f.stage path.now) self.now.flights }
     {
-        self.held.holders_on(path).shared
+        shared_on(&self.held, self.flights.as_slice(), path)
     }
 
     /// How many of those that are worked on hold the path for themselves.
     pub fn exclusive_on(&self, path: &Path) -> u64
         ensures { result ≡ count_by (λ (f : RequestInFlight). has_exclusive f.stage path.now) self.now.flights }
     {
-        self.held.holders_on(path).exclusive
+        exclusive_on(&self.held, self.flights.as_slice(), path)
     }
 
     /// Makes room for one more.
@@ -170,7 +173,7 @@ impl RequestsInFlight {
         ensures law { AreLawfulRequests (requests_of self.new) }
     {
         let _places = self.flights.capacity(); // proof: a `usize` counts them
-        count_held(&mut self.held, &flight.stage)?;
+        add_holder(&mut self.held, &flight)?;
         let promise = flight.stage.promise();
         self.promised.nodes += promise.nodes;
         self.promised.postings += promise.postings;
@@ -191,7 +194,7 @@ impl RequestsInFlight {
         ensures law { AreLawfulRequests (requests_of self.new) }
     {
         let work = end_work(&mut self.flights, id)?;
-        self.held.drop_holds(&work.held);
+        drop_holder(&mut self.held, id, &work.held);
         self.promised.nodes -= work.promise.nodes;
         self.promised.postings -= work.promise.postings;
         self.promised.files -= work.promise.files;

@@ -1,9 +1,9 @@
 //! Requests that hold names and wait for one another.
 
-use crate::story::Asks::{Move, Name, Node, Remove};
+use crate::story::Asks::{Move, Name, Node, Page, Remove};
 use crate::story::Posted::{Born, Entry};
 use crate::story::Spot::{At, Cut};
-use crate::story::Told::{Busy, Ended, Given, Go, NotGiven, Refused, Settled};
+use crate::story::Told::{Busy, Ended, Gave, Given, Go, NotGiven, Refused, Settled};
 use crate::story::{DEFAULT, Flying, Holding, Living, Outcome, ROOT, Reply, Step, Story, Sum, TOP};
 use crate::teller::run;
 use errno::{ENFILE, ESTALE};
@@ -177,6 +177,55 @@ const FOLDER: Story = Story {
 #[test]
 fn folder_waits_for_what_is_in_it(rt: HostRuntime) -> Result<(), Fail> {
     run(&rt, &FOLDER)
+}
+
+/// The request that began alone holds what it holds, whoever comes and goes beside it: no other is in its place until it ends.
+const FIRST_STAYS: Story = Story {
+    limits: DEFAULT,
+    steps: &[
+        Step::LookUp(ROOT, "d", Given(2, 0)),
+        Step::Begin(1, Remove(2, "x"), Go),
+        Step::Holds(&[Holding("d", 1, 0), Holding("d/x", 0, 1)]),
+        Step::Begin(2, Name(2, "x"), Busy),
+        Step::Begin(2, Remove(2, "x"), Busy),
+        Step::Begin(2, Remove(ROOT, "d"), Busy),
+        Step::Begin(2, Name(2, "y"), Go),
+        Step::Begin(3, Page(2, &["x", "y"]), Go),
+        Step::Holds(&[
+            Holding("d", 3, 0),
+            Holding("d/x", 0, 1),
+            Holding("d/y", 1, 0),
+        ]),
+        Step::Begin(4, Remove(2, "y"), Busy),
+        Step::Finish(3, Outcome::Entries(&[true, true]), Gave(1)),
+        Step::Lists(3, &[None, Some((3, 0))]),
+        Step::Finish(2, Outcome::Entry, Given(3, 0)),
+        Step::Holds(&[Holding("d", 1, 0), Holding("d/x", 0, 1)]),
+        Step::Begin(4, Name(2, "x"), Busy),
+        Step::Begin(4, Move(ROOT, "d", ROOT, "e"), Busy),
+        Step::Begin(4, Remove(2, "y"), Go),
+        Step::Finish(1, Outcome::Done, Ended),
+        Step::Holds(&[Holding("d", 1, 0), Holding("d/y", 0, 1)]),
+        Step::Begin(5, Name(2, "y"), Busy),
+        Step::Begin(5, Name(2, "x"), Go),
+        Step::Holds(&[
+            Holding("d", 2, 0),
+            Holding("d/x", 1, 0),
+            Holding("d/y", 0, 1),
+        ]),
+        Step::Finish(4, Outcome::Failed, Ended),
+        Step::Begin(6, Remove(ROOT, "d"), Busy),
+        Step::Finish(5, Outcome::Failed, NotGiven),
+        Step::Holds(&[]),
+        Step::Begin(6, Remove(ROOT, "d"), Go),
+        Step::Holds(&[Holding("d", 0, 1)]),
+    ],
+    gathers: Sum::All(2, 3, 0, 0),
+};
+
+#[test]
+fn first_stays_while_others_go(rt: HostRuntime) -> Result<(), Fail> {
+    run(&rt, &FIRST_STAYS)
 }
 
 /// A removal of `d` and LOOKUPs of `a` and of `e` below it hold what they name, whether or not a node stands there.

@@ -33,4 +33,5 @@ returns-clause-held c =
     let fs = c.args.flights.now.items in
     let within = rw c.as_slice.ensures.value at c.in_ok-i.ensures.within in
     let found = rw c.as_slice.ensures.value at c.in_ok-i.ensures.found in
-    holder_lost fs c.end_work_at.new.flights.items c.in_ok-i.i within c.end_work_at.result c.end_work_at.ensures.some c.end_work_at.ensures.items (alive_at fs c.in_ok-i.i c.args.id within found).0
+    let answers = Answers_ended fs c.in_ok-i.i c.args.id within found c.end_work_at.new.flights.items 0 0 c.end_work_at.result c.requires c.end_work_at.ensures.some c.end_work_at.ensures.items in
+    holder_lost fs c.end_work_at.new.flights.items c.in_ok-i.i c.args.id 0 0 within c.end_work_at.result c.end_work_at.ensures.some c.end_work_at.ensures.items answers (alive_at fs c.in_ok-i.i c.args.id within found).0

@@ -4,7 +4,6 @@ use Rattle.table_requests.specs.declared.data.RequestInFlight.{RequestInFlight}
 use Rattle.table_requests.specs.RequestMaps.{files_promised, nodes_promised, postings_promised}
 use Rattle.table_requests.specs.PinCounts.{pins_in, times}
 use Rattle.table_requests.proofs.CountedPins.{pins_in-push}
-use Rattle.table_requests.proofs.CountedHolds.{holders_added, holders_same}
 use Rattle.table_requests.proofs.NextIds.{below_added}
 use Rattle.table_requests.proofs.PinCounting.{same_totals}
 use Rattle.table_requests.proofs.Lookups.{HaveOwnIds-push}
@@ -18,7 +17,7 @@ invariant_of-self c =
     record {
       apart = old.apart;
       counted = old.counted;
-      held = holders_same c.self.inside.held c.count_held.new.numbers c.self.inside.flights.items c.in_err-count_held.ensures.same c.count_held.ensures.law old.held;
+      held = c.in_err-add_holder.ensures.same c.self.inside.flights.items old.held;
       below = old.below;
       nodes = old.nodes;
       postings = old.postings;
@@ -33,7 +32,7 @@ invariant_of-self-2 c =
     rw c.push_reserved.ensures.items (record {
       apart = HaveOwnIds-push fs g c.self.invariant.apart fresh;
       counted = same_totals c.count_all.new.counts _ (pins_in (fs ++ g ∷ [])) (λ n. ap (λ (ns : List ℕ). pins_in fs n + times n ns) c.as_slice.ensures ∙ pins_in-push fs g n) (c.count_all.ensures.counted (pins_in fs) c.self.invariant.counted);
-      held = holders_added c.self.inside.held c.count_held.new.numbers fs g c.self.invariant.held c.count_held.ensures.law c.in_ok-count_held.ensures.shared c.in_ok-count_held.ensures.exclusive;
+      held = c.in_ok-add_holder.ensures.added fs fresh c.self.invariant.held;
       below = below_added fs g c.self.inside.next c.next_after-self-inside.result fresh c.self.invariant.below c.next_after-self-inside.ensures.more c.next_after-self-inside.ensures.above;
       nodes = omega (arith, c.self.invariant.nodes, c.promise-promise.ensures.nodes, sum_by_push (λ (f : RequestInFlight). nodes_promised f.stage) fs g);
       postings = omega (arith, c.self.invariant.postings, c.promise-promise.ensures.postings, sum_by_push (λ (f : RequestInFlight). postings_promised f.stage) fs g);

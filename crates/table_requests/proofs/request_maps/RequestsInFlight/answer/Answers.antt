@@ -2,7 +2,6 @@ use Rattle.std.proofs.Common.{sym, arith}
 use Rattle.table_requests.specs.Listed.{requests_of}
 use Rattle.table_requests.specs.PinCounts.{pins_in}
 use Rattle.table_requests.proofs.PinCounting.{same_totals}
-use Rattle.table_requests.proofs.CountedHolds.{holders_dropped}
 use Rattle.table_requests.proofs.Kept.{IsFlying_kept}
 use Rattle.table_requests.proofs.request_maps.RequestsInFlight.answer.Goals as goal
 
@@ -11,6 +10,9 @@ returns-clause-law c = IsFlying_kept c.end_work.new.flights c.end_work.ensures.a
 
 pub returns-in_err-work-clause-law : goal.returns-in_err-work-clause-law
 returns-in_err-work-clause-law c = IsFlying_kept c.end_work.new.flights c.end_work.ensures.apart
+
+pub drop_holder-requires : goal.drop_holder-requires
+drop_holder-requires c = record { loses = (c.self.inside.flights.items, c.end_work.new.flights.items, c.self.invariant.held, c.in_ok-work.ensures.held) }
 
 pub invariant_of-self-2 : goal.invariant_of-self-2
 unfolding requests_of
@@ -21,7 +23,7 @@ invariant_of-self-2 c =
     record {
       apart = work.apart;
       counted = same_totals c.self.inside.pinned (pins_in c.self.inside.flights.items) (pins_in c.end_work.new.flights.items) (λ n. sym (work.pinned n)) old.counted;
-      held = holders_dropped c.self.inside.held c.drop_holds.new.self c.self.inside.flights.items c.end_work.new.flights.items c.in_ok-work.work.held old.held c.in_ok-work.ensures.held c.drop_holds.ensures.law c.drop_holds.ensures.drops.shared c.drop_holds.ensures.drops.exclusive;
+      held = c.drop_holder.ensures.dropped c.self.inside.flights.items c.end_work.new.flights.items old.held c.in_ok-work.ensures.held;
       below = λ within. work.below c.self.inside.next (old.below within);
       nodes = omega (arith, old.nodes, step.nodes);
       postings = omega (arith, old.postings, step.postings);

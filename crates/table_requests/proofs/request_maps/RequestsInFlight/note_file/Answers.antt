@@ -1,8 +1,9 @@
 use Rattle.std.proofs.Common.{Some, ◌≡◌, sym, subst, ◌∙◌}
 use Rattle.table_requests.specs.Listed.{InFlight, requests_of}
 use Rattle.table_requests.specs.PinCounts.{pins_in}
+use Rattle.table_requests.specs.RequestMaps.{opening}
 use Rattle.table_requests.proofs.PinCounting.{same_totals}
-use Rattle.table_requests.proofs.CountedHolds.{holders_stay}
+use Rattle.table_requests.proofs.CountedHolds.{holders_stay, noted_holds, under_with}
 use Rattle.table_requests.proofs.Kept.{IsFlying_kept}
 use Rattle.table_requests.proofs.request_maps.RequestsInFlight.note_file.Goals as goal
 
@@ -19,7 +20,8 @@ invariant_of-self c =
     record {
       apart = note.apart;
       counted = same_totals c.self.inside.pinned (pins_in c.self.inside.flights.items) (pins_in c.note_for.new.flights.items) (λ n. sym (note.pinned n)) old.counted;
-      held = holders_stay c.self.inside.held c.self.inside.flights.items c.note_for.new.flights.items note.held old.held;
+      held = holders_stay c.self.inside.held c.self.inside.flights.items c.note_for.new.flights.items note.held
+          (under_with c.self.inside.flights.items c.note_for.new.flights.items c.args.id c.requires.0 (opening c.requires.0 c.args.handle) here (noted_holds c.requires.0.stage c.args.handle) step.at) old.held;
       below = λ within. note.below c.self.inside.next (old.below within);
       nodes = old.nodes ∙ sym step.nodes;
       postings = old.postings ∙ sym step.postings;

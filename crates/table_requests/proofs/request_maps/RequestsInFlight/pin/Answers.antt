@@ -1,8 +1,9 @@
-use Rattle.std.proofs.Common.{Some, ◌+◌, ◌≡◌, sym, subst, ◌∙◌}
+use Rattle.std.proofs.Common.{Some, refl, ◌+◌, ◌≡◌, sym, subst, ◌∙◌}
 use Rattle.table_requests.specs.Listed.{InFlight, requests_of}
 use Rattle.table_requests.specs.PinCounts.{pins_in}
+use Rattle.table_requests.specs.RequestMaps.{pinning}
 use Rattle.table_requests.proofs.PinCounting.{counts_as, same_totals}
-use Rattle.table_requests.proofs.CountedHolds.{holders_stay}
+use Rattle.table_requests.proofs.CountedHolds.{holders_stay, under_with}
 use Rattle.table_requests.proofs.Kept.{IsFlying_kept}
 use Rattle.table_requests.proofs.request_maps.RequestsInFlight.pin.Goals as goal
 
@@ -19,7 +20,8 @@ invariant_of-self c =
     record {
       apart = pin.apart;
       counted = same_totals c.count.new.counts (λ n. pins_in c.self.inside.flights.items n + counts_as c.args.number n) (pins_in c.pin_for.new.flights.items) (λ n. sym (pin.pinned n)) (c.count.ensures.counted (pins_in c.self.inside.flights.items) old.counted);
-      held = holders_stay c.self.inside.held c.self.inside.flights.items c.pin_for.new.flights.items pin.held old.held;
+      held = holders_stay c.self.inside.held c.self.inside.flights.items c.pin_for.new.flights.items pin.held
+          (under_with c.self.inside.flights.items c.pin_for.new.flights.items c.args.id c.requires.0 (pinning c.requires.0 c.args.number) here refl step.at) old.held;
       below = λ within. pin.below c.self.inside.next (old.below within);
       nodes = old.nodes ∙ sym step.nodes;
       postings = old.postings ∙ sym step.postings;

@@ -2,7 +2,7 @@ use Rattle.std.proofs.Common.{ℕ, List, ◌+◌, ◌≡◌, ap, sym, ◌∙◌,
 use Rattle.table_requests.specs.Listed.{requests_of}
 use Rattle.table_requests.specs.PinCounts.{pins_in, times}
 use Rattle.table_requests.proofs.CountedPins.{counted_back}
-use Rattle.table_requests.proofs.CountedHolds.{holders_stay}
+use Rattle.table_requests.proofs.CountedHolds.{holders_stay, under_without}
 use Rattle.table_requests.proofs.Kept.{IsFlying_kept}
 use Rattle.table_requests.proofs.request_maps.RequestsInFlight.take.Goals as goal
 
@@ -25,7 +25,7 @@ invariant_of-self-2 c =
     record {
       apart = took.apart;
       counted = counted_back fs gs c.uncount_all.new.counts ns less (c.uncount_all.ensures.counted (pins_in fs) old.counted (λ n. let it = less n in omega (arith, it)));
-      held = holders_stay c.self.inside.held fs gs took.held old.held;
+      held = holders_stay c.self.inside.held fs gs c.take_answered.ensures.held (under_without fs gs c.args.id c.in_ok-ended.ended.before c.in_ok-ended.ended.opened step.flight step.here step.answered step.at) old.held;
       below = λ within. took.below c.self.inside.next (old.below within);
       nodes = old.nodes ∙ sym step.nodes;
       postings = old.postings ∙ sym step.postings;
