@@ -1,6 +1,7 @@
 -- Files and folders that are the same one.
 use Rattle.std.specs.Prelude.{◌≡◌}
 use Rattle.backing_folder.specs.declared.walk.Identity.{Identity}
+use Rattle.backing_folder.specs.declared.walk.Numbers.{Numbers}
 use Rattle.backing_folder.specs.declared.walk.Found.{Found}
 use Rattle.backing_folder.specs.declared.walk.Found.TheVariants as found
 
@@ -33,3 +34,15 @@ pub record Shows (shows : Found → Type 0) (identity : Identity) : Type 0 where
 -- some file or folder was found
 abbrev pub ShowsAny : (Found → Type 0) → Type 0
 ShowsAny shows = (identity : Identity) × Shows shows identity
+
+-- these are its device and inode number
+pub record HasNumbers (numbers : Numbers) (it : Identity) : Type 0 where
+  pub device : it.device ≡ numbers.device
+  pub inode : it.inode ≡ numbers.inode
+
+-- that was found, a file or a folder, and it has these numbers
+pub record ShowsNumbers (shows : Found → Type 0) (numbers : Numbers) (found : Found) : Type 0 where
+  pub shown : shows found
+  pub now : Identity
+  pub is : IsIt found now
+  pub same : HasNumbers numbers now

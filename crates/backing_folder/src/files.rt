@@ -19,7 +19,8 @@ use paths::Path;
 use payload::{HEADER_ROOM, Payload};
 use std::fs::File;
 
-/// What stands at the path. At the root that takes one `lstat`, since the way to it takes none.
+/// What stands at the path. At the root that takes one `lstat`, since the way to it takes none. Elsewhere it takes one where a Stat
+/// before it found the same file or folder there.
 pub fn stat<D: Disk + Drop>(
     ways: &mut Ways<D>,
     walk: &mut Walk,
@@ -27,7 +28,7 @@ pub fn stat<D: Disk + Drop>(
 ) -> Result<Answer, HostError>
     ensures { IfOk result (Suits (AskStat path.now)) }
 {
-    match ways.find(walk, path.names())? {
+    match ways.find_seen(walk, path)? {
         Found::Folder(identity) => {
             let details = if path.len() == 0 {
                 details_now(ways.disk(), walk.path(), identity)

@@ -15,6 +15,7 @@ mod listing;
 mod making;
 mod parts;
 mod places;
+mod seen;
 mod system;
 mod walk;
 mod ways;

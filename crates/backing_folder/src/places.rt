@@ -1,6 +1,6 @@
 //! Folders that were walked to, as they are remembered.
 
-ghost use Rattle.std.specs.Prelude.{true, ◌≡◌, IfOk, string_bytes};
+ghost use Rattle.std.specs.Prelude.{true, ◌≡◌, ◌<◌, IfOk, string_bytes};
 
 use crate::walk::Identity;
 use paths::{Name, Path};
@@ -50,14 +50,17 @@ pub fn are_same(names: &[Name], others: &[Name]) -> bool
     true
 }
 
-/// In which slot the folder of these names is remembered. Folders that share a slot take it from one another, whatever
-/// their names are: so names that a client chose to share one cost walks, and nothing else.
-pub fn slot_of(names: &[Name]) -> usize {
+/// In which of so many slots what stands at these names is remembered. Paths that share a slot take it from one another,
+/// whatever their names are: so names that a client chose to share one cost walks, and nothing else. The upper half of the
+/// hash counts too: the lowest bits alone are the same for many names that count up.
+pub fn slot_of(names: &[Name], slots: usize) -> usize
+    requires { 0 < slots }
+{
     let mut hash = 0xcbf2_9ce4_8422_2325u64;
     for name in names {
         hash = mixed(hash, name.as_str().as_bytes());
     }
-    (hash % PLACES as u64) as usize
+    ((hash ^ (hash >> 32)) % slots as u64) as usize
 }
 
 /// The hash with the bytes and an end mixed into it (FNV-1a).

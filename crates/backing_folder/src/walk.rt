@@ -24,9 +24,16 @@ pub struct Identity {
     pub details: Details,
 }
 
+/// The device and the inode number of a file or folder: which one it is, and nothing that may change of it.
+#[derive(Clone, Copy)]
+pub struct Numbers {
+    device: u64,
+    inode: u64,
+}
+
 impl Identity {
     ghost use Rattle.std.specs.Prelude.{IsTrue, ◌↔◌};
-    ghost use Rattle.backing_folder.specs.Same.{IsSame};
+    ghost use Rattle.backing_folder.specs.Same.{HasNumbers, IsSame};
 
     pub fn of(metadata: &Metadata) -> Identity {
         Identity {
@@ -42,6 +49,22 @@ impl Identity {
         ensures { IsTrue result ↔ IsSame self.now other.now }
     {
         self.device == other.device && self.inode == other.inode
+    }
+
+    pub fn numbers(&self) -> Numbers
+        ensures { HasNumbers result self.now }
+    {
+        Numbers {
+            device: self.device,
+            inode: self.inode,
+        }
+    }
+
+    /// Whether these are its numbers.
+    pub fn has(&self, numbers: &Numbers) -> bool
+        ensures { IsTrue result ↔ HasNumbers numbers.now self.now }
+    {
+        self.device == numbers.device && self.inode == numbers.inode
     }
 }
 

@@ -2,24 +2,28 @@
 
 ghost use Rattle.std.specs.Prelude.{true, ◌≡◌, IfOk, IfSome, OnOk};
 ghost use Rattle.backing_folder.specs.Routes.{IsBelow, IsFolder, IsWalked};
-ghost use Rattle.backing_folder.specs.Same.{ShowsFolder};
+ghost use Rattle.backing_folder.specs.Same.{IsIt, ShowsFolder, ShowsNumbers};
+ghost use Rattle.backing_folder.specs.declared.walk.Identity.{Identity};
 
 use crate::disk::Disk;
 use crate::host_error::HostError;
 use crate::places::{PLACES, Place, are_same, place_of, slot_of};
-use crate::walk::{Found, Identity, Walk, expect_folder};
-use paths::Name;
+use crate::seen::Seen;
+use crate::walk::{Found, Identity, Numbers, Walk, expect_folder, expect_present};
+use paths::{Name, Path};
 use std::alloc::AllocError;
 use std::marker::Model;
 
-/// A disk, and folders that were walked to on it. Contracts see the disk.
+/// A disk, folders that were walked to on it, and what a Stat found on it. Contracts see the disk.
 ///
 /// A folder that is remembered is looked at again, by its whole path, each time that it is used to reach what is not known. It is the
-/// one that was walked to if it has the same device and inode number; else it is walked to anew.
+/// one that was walked to if it has the same device and inode number; else it is walked to anew. What a Stat found is looked at again in
+/// the same way by the next one.
 #[derive(Drop)]
 pub struct Ways<D: Disk + Drop> {
     disk: D,
     slots: Vec<Option<Place>>,
+    seen: Seen,
 }
 
 impl<D: Disk + Drop> Model for Ways<D> {
@@ -41,7 +45,8 @@ impl<D: Disk + Drop> Ways<D> {
         ensures { result ≡ disk }
     {
         let slots = Vec::new(disk.alloc());
-        Ways { disk, slots }
+        let seen = Seen::new(disk.alloc());
+        Ways { disk, slots, seen }
     }
 
     pub fn disk(&self) -> &D
@@ -68,9 +73,54 @@ impl<D: Disk + Drop> Ways<D> {
         self.disk.look(walk.path())
     }
 
+    /// What stands there, for a Stat: by one look, where that shows the file or folder that one before it found there. Else what `find`
+    /// answers counts, and is remembered. Of the root and the names in it nothing is remembered, since `find` looks there once at most.
+    pub fn find_seen(&mut self, walk: &mut Walk, path: &Path) -> Result<Found, HostError>
+        ensures same { self.new ≡ self.old }
+        ensures walked { OnOk result (IsWalked (D.root self.new) (D.folders self.new) walk.new path.now) }
+    {
+        if path.len() < 2 {
+            return self.find(walk, path.names());
+        }
+        if let Some(found) = self.recall_seen(walk, path) {
+            return Ok(found);
+        }
+        let found = self.find(walk, path.names());
+        match found {
+            Ok(found) => self.seen.set(path, found),
+            Err(_) => self.seen.forget(path),
+        }
+        found
+    }
+
+    /// What stands there, by one look, if it is what a Stat found there before.
+    fn recall_seen(&self, walk: &mut Walk, path: &Path) -> Option<Found>
+        ensures { IfSome result (λ found. IsWalked (D.root self.now) (D.folders self.now) walk.new path.now) }
+    {
+        let sight = self.seen.at(path)?;
+        self.glance_for(walk, path.names(), &sight.numbers)
+    }
+
+    /// What `glance` shows there, if it has these numbers.
+    fn glance_for(&self, walk: &mut Walk, names: &[Name], numbers: &Numbers) -> Option<Found>
+        ensures walked { IfSome result (λ found. IsWalked (D.root self.now) (D.folders self.now) walk.new names.now) }
+        ensures same { IfSome result (ShowsNumbers (D.shows self.now walk.new) numbers.now) }
+    {
+        let Ok(found) = self.glance(walk, names) else {
+            return None;
+        };
+        let Ok(now) = expect_present(found) else {
+            return None;
+        };
+        if now.has(numbers) { Some(found) } else { None }
+    }
+
     /// What stands there, by one look, where its folder is remembered. Others may have put another folder, or a link, into the place of
     /// one above it meanwhile: so it is of use only where that very file is known, by device and inode number.
-    pub fn glance(&self, walk: &mut Walk, names: &[Name]) -> Result<Found, HostError> {
+    pub fn glance(&self, walk: &mut Walk, names: &[Name]) -> Result<Found, HostError>
+        ensures walked { IfOk result (λ found. (it : Identity) → IsIt found it → IsWalked (D.root self.now) (D.folders self.now) walk.new names.now) }
+        ensures shown { IfOk result (λ found. (it : Identity) → IsIt found it → D.shows self.now walk.new found) }
+    {
         let Some((name, parent)) = names.split_last() else {
             return Ok(Found::Nothing);
         };
@@ -114,7 +164,7 @@ impl<D: Disk + Drop> Ways<D> {
         ensures known { IfSome result (λ place. IsKnown (D.root self.now) (D.folders self.now) place.now) }
         ensures same { IfSome result (λ place. place.now.names ≡ names.now) }
     {
-        let slot = slot_of(names);
+        let slot = slot_of(names, PLACES);
         if slot >= self.slots.len() {
             return None;
         }
@@ -142,7 +192,7 @@ impl<D: Disk + Drop> Ways<D> {
         if self.make_slots().is_err() {
             return;
         }
-        let slot = slot_of(names);
+        let slot = slot_of(names, PLACES);
         if slot < self.slots.len() {
             self.slots[slot] = Some(place);
         }
@@ -162,7 +212,7 @@ impl<D: Disk + Drop> Ways<D> {
     pub fn forget(&mut self, names: &[Name])
         ensures { self.new ≡ self.old }
     {
-        let slot = slot_of(names);
+        let slot = slot_of(names, PLACES);
         if slot < self.slots.len() {
             self.slots[slot] = None;
         }

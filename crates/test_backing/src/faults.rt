@@ -26,6 +26,8 @@ enum Trick {
     Arrive,
     /// Nothing may be opened, and the file `e` is somebody else's.
     Shut,
+    /// No look at the folder `d` succeeds once the file `e` is gone.
+    Blind,
 }
 
 /// The system, but for the trick.
@@ -52,7 +54,20 @@ impl Tricked {
                 let place = place_of(self.rt.alloc(), folder, "late")?;
                 fs::write(&self.rt, place.as_str(), "late")
             }
-            Trick::Look(_) | Trick::Replace | Trick::Arrive | Trick::Shut => Ok(()),
+            Trick::Look(_) | Trick::Replace | Trick::Arrive | Trick::Shut | Trick::Blind => Ok(()),
+        }
+    }
+
+    /// Fails, if that is the trick.
+    fn look_at(&self, path: &str) -> io::Result<()> {
+        match (self.trick, path.strip_suffix("/d")) {
+            (Trick::Look(kind), _) => Err(io::Error::from(kind)),
+            (Trick::Blind, Some(root)) => {
+                let place = place_of(self.rt.alloc(), root, "e")?;
+                self.rt.symlink_metadata(place.as_str())?;
+                Ok(())
+            }
+            _ => Ok(()),
         }
     }
 }
@@ -85,7 +100,7 @@ impl Files for Tricked {
         match self.trick {
             Trick::Replace => self.replace(path)?,
             Trick::Shut => return Err(io::Error::from(ErrorKind::PermissionDenied)),
-            Trick::Look(_) | Trick::Enter | Trick::Arrive => {}
+            Trick::Look(_) | Trick::Enter | Trick::Arrive | Trick::Blind => {}
         }
         self.rt.open_file(how, path)
     }
@@ -99,12 +114,8 @@ impl Files for Tricked {
     }
 
     fn symlink_metadata(&self, path: &str) -> io::Result<Metadata> {
-        match self.trick {
-            Trick::Look(kind) => Err(io::Error::from(kind)),
-            Trick::Replace | Trick::Enter | Trick::Arrive | Trick::Shut => {
-                self.rt.symlink_metadata(path)
-            }
-        }
+        self.look_at(path)?;
+        self.rt.symlink_metadata(path)
     }
 
     fn copy(&self, from: &str, to: &str) -> io::Result<u64> {
@@ -114,7 +125,7 @@ impl Files for Tricked {
     fn rename(&self, from: &str, to: &str) -> io::Result<()> {
         match self.trick {
             Trick::Arrive => fs::write(&self.rt, to, "late")?,
-            Trick::Look(_) | Trick::Replace | Trick::Enter | Trick::Shut => {}
+            Trick::Look(_) | Trick::Replace | Trick::Enter | Trick::Shut | Trick::Blind => {}
         }
         self.rt.rename(from, to)
     }
@@ -282,4 +293,25 @@ fn now_is_what_the_clock_says(rt: HostRuntime) -> Result<(), Fail> {
         ("times d", "5.1 1000000000.500000000"),
     ];
     tell(rt, "now", Trick::Arrive, rows.as_slice(), 0)
+}
+
+// One look at a file or a folder finds what a STAT has found, and the folder above it is not looked at.
+#[test]
+fn what_was_seen_is_told_by_one_look(rt: HostRuntime) -> Result<(), Fail> {
+    let rows = [
+        ("make d/f", "done"),
+        ("make d/g", "done"),
+        ("mkdir d/x", "done"),
+        ("write d/f 0 abc", "wrote 3"),
+        ("stat d/f", "file 3"),
+        ("stat d/x", "folder 0"),
+        ("remove e", "done"),
+        ("stat d/f", "file 3"),
+        ("stat d/x", "folder 0"),
+        ("stat d/g", "fault 2"),
+        ("stat d", "fault 2"),
+        ("make e", "done"),
+        ("stat d/g", "file 0"),
+    ];
+    tell(rt, "blind", Trick::Blind, rows.as_slice(), 0)
 }

@@ -22,4 +22,6 @@ mod remembered;
 #[cfg(test)]
 mod rows;
 #[cfg(test)]
+mod seen;
+#[cfg(test)]
 mod telling;
