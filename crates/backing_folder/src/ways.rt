@@ -74,7 +74,8 @@ impl<D: Disk + Drop> Ways<D> {
     }
 
     /// What stands there, for a Stat: by one look, where that shows the file or folder that one before it found there. Else what `find`
-    /// answers counts, and is remembered. Of the root and the names in it nothing is remembered, since `find` looks there once at most.
+    /// answers counts, and is remembered. That takes one look at most at the root and at a name in it, so nothing is remembered of
+    /// these.
     pub fn find_seen(&mut self, walk: &mut Walk, path: &Path) -> Result<Found, HostError>
         ensures same { self.new ≡ self.old }
         ensures walked { OnOk result (IsWalked (D.root self.new) (D.folders self.new) walk.new path.now) }
