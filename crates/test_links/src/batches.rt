@@ -1,6 +1,6 @@
 //! Batches of replies, by their lengths.
 
-use crate::narrow::{Narrow, narrow};
+use crate::narrow::{Narrow, make_narrow};
 use engine::Sent::{Broken, Taken};
 use engine::{Bytes, LinkOut, Sent};
 use engine_streams::StreamLink;
@@ -81,7 +81,7 @@ fn is_front(bytes: &[u8]) -> bool {
 #[test]
 fn write_fails_after_each_byte(rt: HostRuntime) -> Result<(), Fail> {
     for left in 0..62usize {
-        let (sent, writer) = send(rt.alloc(), THREE, narrow(rt.alloc(), left, true))?;
+        let (sent, writer) = send(rt.alloc(), THREE, make_narrow(rt.alloc(), left, true))?;
         if sent.as_slice() != verdicts_at(left) {
             return Err(Fail::from(("verdicts", left)));
         }
@@ -95,7 +95,7 @@ fn write_fails_after_each_byte(rt: HostRuntime) -> Result<(), Fail> {
 /// All is written and not handed on, so the last is not known to be taken.
 #[test]
 fn flush_fails(rt: HostRuntime) -> Result<(), Fail> {
-    let (sent, writer) = send(rt.alloc(), THREE, narrow(rt.alloc(), 100, false))?;
+    let (sent, writer) = send(rt.alloc(), THREE, make_narrow(rt.alloc(), 100, false))?;
     assert!(rt; sent.as_slice() == [Taken, Taken, Broken].as_slice());
     assert_eq!(rt; writer.bytes.len(), 60);
     Ok(())
@@ -117,7 +117,7 @@ const WRITES: &[(&[usize], &[usize])] = &[
 #[test]
 fn small_replies_are_joined(rt: HostRuntime) -> Result<(), Fail> {
     for (lens, writes) in WRITES {
-        let writer = narrow(rt.alloc(), usize::MAX, true);
+        let writer = make_narrow(rt.alloc(), usize::MAX, true);
         let (sent, writer) = send(rt.alloc(), *lens, writer)?;
         if sent.len() != lens.len() || sent.as_slice().contains(&Broken) {
             return Err(Fail::from(("not all are taken", lens.len())));

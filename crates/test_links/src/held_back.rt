@@ -1,6 +1,6 @@
 //! Replies that are offered one by one while more requests are at hand: when they go out.
 
-use crate::narrow::{Narrow, narrow};
+use crate::narrow::{Narrow, make_narrow};
 use engine::{LinkIn, LinkOut, Received, Sent};
 use engine_streams::{Holding, StreamLink};
 use std::alloc::{AllocError, Global};
@@ -12,7 +12,7 @@ type Held = StreamLink<Empty, Holding<Narrow>>;
 
 /// A link whose writer holds back what it may, before one that takes so many bytes.
 fn link(alloc: Global, left: usize) -> Held {
-    let writer = Holding::new(alloc, narrow(alloc, left, true));
+    let writer = Holding::new(alloc, make_narrow(alloc, left, true));
     StreamLink::new(alloc, io::empty(), writer)
 }
 

@@ -17,7 +17,7 @@ pub struct Narrow {
 }
 
 /// A writer that takes so many bytes.
-pub fn narrow(alloc: Global, left: usize, is_flushed: bool) -> Narrow {
+pub fn make_narrow(alloc: Global, left: usize, is_flushed: bool) -> Narrow {
     Narrow {
         bytes: Vec::new(alloc),
         left,
