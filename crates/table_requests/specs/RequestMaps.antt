@@ -1,5 +1,5 @@
 -- The requests in flight, as contracts see them: by their ids.
-use Rattle.std.specs.Prelude.{ℕ, ◌+◌, ◌-◌, ◌≡◌, ◌==◌, ◌||◌, ◌↔◌, Bool, true, false, if◌then◌else◌, List, [], ◌∷◌, ◌++◌, Option, Some, None, Contains, drop, length}
+use Rattle.std.specs.Prelude.{ℕ, ◌+◌, ◌-◌, ◌≡◌, ◌==◌, ◌||◌, ◌↔◌, Bool, true, false, if◌then◌else◌, List, [], ◌∷◌, ◌++◌, Option, Some, None, Contains, drop, length, slice_get}
 use Rattle.std.specs.List.{list_any}
 use Rattle.paths.specs.Prefixes.{Names}
 use Rattle.holds.specs.Conflicts.{Conflict, is_among}
@@ -52,6 +52,11 @@ most_posted (Answered before opened) pins = length (drop before pins)
 abbrev pub most_posted_by : Option RequestInFlight → ℕ
 most_posted_by None = 0
 most_posted_by (Some f) = most_posted f.stage f.pins.numbers
+
+-- the number that a request pinned at that place
+abbrev pub pinned_at : Option RequestInFlight → ℕ → Option ℕ
+pinned_at None place = None
+pinned_at (Some f) place = slice_get f.pins.numbers place
 
 -- what the request holds while it is worked on conflicts with these names
 abbrev pub IsInTheWay : Stage → Held → Type 0

@@ -5,7 +5,7 @@ ghost use Rattle.std.specs.List.{remove};
 ghost use Rattle.table_requests.specs.declared.data.RequestInFlight.{RequestInFlight};
 ghost use Rattle.table_requests.specs.declared.data.Stage.TheVariants as Stage;
 ghost use Rattle.table_requests.specs.HeldPaths.{HaveSameHolders, LoseHolder};
-ghost use Rattle.table_requests.specs.RequestMaps.{is_working, answered, opening, pinning, HasNoneWorking, HasNoneAnswered, Answers, Notes, PinsMore, Goes, most_posted_by};
+ghost use Rattle.table_requests.specs.RequestMaps.{is_working, answered, opening, pinning, HasNoneWorking, HasNoneAnswered, Answers, Notes, PinsMore, Goes, most_posted_by, pinned_at};
 ghost use Rattle.table_requests.specs.Listed.{flight_in, in_flight, requests_of, AreBelow, HaveOwnIds};
 ghost use Rattle.table_requests.specs.PinCounts.{pins_in, times};
 
@@ -198,6 +198,21 @@ pub fn most_posted(flights: &[RequestInFlight], id: u64) -> u64
         Stage::Answered { before, opened: _ } => {
             flight.pins.as_slice().len().saturating_sub(*before) as u64
         }
+    }
+}
+
+/// The number that the request pinned at that place.
+pub fn pinned_at(flights: &[RequestInFlight], id: u64, place: usize) -> Option<u64>
+    requires { HaveOwnIds flights.now }
+    ensures { result ≡ pinned_at (flight_in flights.now id) place }
+{
+    let Some(i) = index_of(flights, id) else {
+        return None;
+    };
+    let flight = &flights[i];
+    match flight.pins.as_slice().get(place) {
+        Some(number) => Some(*number),
+        None => None,
     }
 }
 

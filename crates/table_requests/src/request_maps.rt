@@ -2,7 +2,7 @@
 
 ghost use Rattle.std.specs.Prelude.{true, false, ◌≡◌, ◌≢◌, ◌<◌, ◌≤◌, ◌+◌, ◌^◌, ◌++◌, ◌∷◌, [], ℕ, None, Some, IfNone, IfSome, IsOk, OnErr, OnOk, IsTrue, AllPairs, ◌↔◌, option_copied, count_by, length};
 ghost use Rattle.table_requests.specs.declared.data.RequestInFlight.{RequestInFlight};
-ghost use Rattle.table_requests.specs.RequestMaps.{files_promised, no_requests, nodes_promised, postings_promised, AreLawfulRequests, IsTallied, HasNoneWorking, HasNoneAnswered, Adds, Answers, Notes, PinsMore, Goes, HoldsUp, HasExclusiveHolder, has_exclusive, has_shared, most_posted_by};
+ghost use Rattle.table_requests.specs.RequestMaps.{files_promised, no_requests, nodes_promised, postings_promised, AreLawfulRequests, IsTallied, HasNoneWorking, HasNoneAnswered, Adds, Answers, Notes, PinsMore, Goes, HoldsUp, HasExclusiveHolder, has_exclusive, has_shared, most_posted_by, pinned_at};
 ghost use Rattle.table_requests.specs.Listed.{requests_of, flight_in, pinned_in};
 
 use crate::data::{Ended, Promise, RequestInFlight, Work};
@@ -11,7 +11,7 @@ use crate::held_paths::{
     shared_on,
 };
 use crate::listed::{
-    end_work, least_free, most_posted, next_after, note_for, pin_for, take_answered,
+    end_work, least_free, most_posted, next_after, note_for, pin_for, pinned_at, take_answered,
 };
 use crate::pin_counts::{PinCounts, count, count_all, count_of, make_room, no_pins, uncount_all};
 use holds::Held;
@@ -210,6 +210,13 @@ impl RequestsInFlight {
     {
         pin_for(&mut self.flights, id, number);
         count(&mut self.pinned, number);
+    }
+
+    /// The number that the request pinned at that place, if it is in flight and pinned so many.
+    pub fn pinned_at(&self, id: u64, place: usize) -> Option<u64>
+        ensures { result ≡ pinned_at ((requests_of self.now).at id) place }
+    {
+        pinned_at(self.flights.as_slice(), id, place)
     }
 
     /// Notes the file that the end of the request's work opened.

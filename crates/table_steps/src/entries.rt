@@ -70,13 +70,14 @@ fn bear(
     Given { number, generation }
 }
 
-/// Gives an entry of the name: of the node that stands there, or of one that is born.
+/// Gives an entry of the name: of the node that stands there, which may be the one that is guessed, or of one that is born.
 pub(crate) fn enter(
     tree: &mut Tree,
     ledger: &mut Ledger,
     flights: &RequestsInFlight,
     files: &Files,
     keys: Keys,
+    guess: Option<u64>,
 ) -> Given
     requires law { IsUpheld (at_in tree.old) ledger.old.made (kept_by flights.now files.now) }
     requires above { Leads (at_in tree.old) keys.key.parent }
@@ -88,7 +89,7 @@ pub(crate) fn enter(
     ensures law { IsUpheld (at_in tree.new) ledger.new.made (kept_by flights.now files.now) }
     ensures more { IsEntered tree.old ledger.old keys.key.parent keys.key.name tree.new ledger.new }
 {
-    match tree.find(&keys.key) {
+    match tree.find_guessed(&keys.key, guess) {
         Some(number) => enter_again(tree, ledger, flights, files, number, &keys.key),
         None => bear(tree, ledger, flights, files, keys),
     }

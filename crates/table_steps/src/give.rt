@@ -21,6 +21,9 @@ use holds::Held;
 use paths::Path;
 use table_requests::{Given, Givens};
 
+/// Where a request's pins have the node that stood at its first name as it began, if one did: behind the node that its name is under.
+const FIRST_FOUND: usize = 1;
+
 impl Entries {
     /// How many names they are.
     fn len(&self) -> usize
@@ -61,8 +64,8 @@ fn path_of(held: &Held) -> &Path
 }
 
 impl State {
-    /// Gives an entry of the name, and lets the request pin its node.
-    fn give(&mut self, id: u64, keys: Keys) -> Given
+    /// Gives an entry of the name, and lets the request pin its node, which is likely the one that it pinned at that place.
+    fn give(&mut self, id: u64, keys: Keys, place: usize) -> Given
         requires kept { IsKept self.old }
         requires may { MayEnter self.old id (keys.key ∷ []) }
         ensures enters { (f : Recorded) → (requests_of self.old.flights).at id ≡ Some f → EntersName (world_of self.old) id (flight_of f) keys.key result (world_of self.new) }
@@ -73,12 +76,14 @@ impl State {
         ensures promised { (requests_of self.new.flights).files ≡ (requests_of self.old.flights).files }
         ensures kept { IsKept self.new }
     {
+        let guess = self.flights.pinned_at(id, place);
         let entered = enter(
             &mut self.tree,
             &mut self.ledger,
             &self.flights,
             &self.files,
             keys,
+            guess,
         );
         self.counts += 1;
         self.flights.pin(id, entered.number);
@@ -86,7 +91,14 @@ impl State {
     }
 
     /// Gives an entry of a name of a page, if it was found and no request that is worked on holds it exclusively.
-    fn give_found(&mut self, id: u64, folder: &Path, keys: Keys, found: bool) -> Option<Given>
+    fn give_found(
+        &mut self,
+        id: u64,
+        folder: &Path,
+        keys: Keys,
+        found: bool,
+        place: usize,
+    ) -> Option<Given>
         requires kept { IsKept self.old }
         requires may { MayEnter self.old id (keys.key ∷ []) }
         requires leads { IsPathOf (at_in self.old.tree) keys.key.parent folder.now }
@@ -101,7 +113,16 @@ impl State {
         if self.flights.holds_exclusively(folder, &keys.key.name) {
             return None;
         }
-        Some(self.give(id, keys))
+        Some(self.give(id, keys, place))
+    }
+
+    /// Where the node of the next name was likely pinned, once that entry was given: nodes that stood at names of a page as it began were
+    /// pinned in the order of the names.
+    fn next_found(&self, id: u64, place: usize, given: Option<Given>) -> usize {
+        match (self.flights.pinned_at(id, place), given) {
+            (Some(pinned), Some(given)) if pinned == given.number => place.saturating_add(1),
+            _ => place,
+        }
     }
 
     /// Gives an entry of each name of the page that was found and that no request that is worked on holds exclusively.
@@ -130,11 +151,14 @@ impl State {
         } = page;
         let mut given = answer;
         let mut copies = copies.into_vec().into_iter();
+        let mut place = FIRST_FOUND;
         let mut i = 0;
         for name in names.into_vec() {
             let copy = copies.next();
             let keys = Keys::new(parent, name, copy);
-            given.add(self.give_found(id, folder, keys, found[i]));
+            let entered = self.give_found(id, folder, keys, found[i], place);
+            place = self.next_found(id, place, entered);
+            given.add(entered);
             i += 1;
         }
         Answered {
@@ -168,7 +192,7 @@ impl State {
         match entries {
             Entries::One(keys) => {
                 let mut given = answer;
-                let entered = self.give(id, keys);
+                let entered = self.give(id, keys, FIRST_FOUND);
                 given.add(Some(entered));
                 let answered = Answered {
                     id,

@@ -17,8 +17,8 @@ nothing_left : {X : Type 0} → (xs : List X) → length xs ≡ 0 → xs ≡ []
 nothing_left [] none = refl
 nothing_left (x ∷ xs) none = absurd (omega (arith, none))
 
-pub give_found-requires-clause-may : goal.give_found-requires-clause-may
-give_found-requires-clause-may c =
+pub give_found-entered-requires-clause-may : goal.give_found-entered-requires-clause-may
+give_found-entered-requires-clause-may c =
     let s = c.loop-name.self in
     let folder = c.args.page.folder in
     let rest = into_iter_items c.next.new.self in
@@ -30,7 +30,7 @@ pub loop-name-preserved : goal.loop-name-preserved
 loop-name-preserved c =
     let o = c.args.self.now in
     let s = c.loop-name.self in
-    let new = c.give_found.new.self in
+    let new = c.give_found-entered.new.self in
     let id = c.args.id in
     let folder = c.args.page.folder in
     let name = c.in-Some.name in
@@ -40,7 +40,7 @@ loop-name-preserved c =
     let i = c.loop-name.i in
     let found = c.args.found.now in
     let given = c.loop-name.given in
-    let g = c.give_found.result in
+    let g = c.give_found-entered.result in
     let inv = c.loop-name.invariant in
     let steps : into_iter_items c.loop-name.name-iterator ≡ name ∷ rest = c.in-Some.ensures.steps.0 in
     let gone = c.in-Some.ensures.steps.1 in
@@ -50,11 +50,11 @@ loop-name-preserved c =
     let all : length c.args.page.names ≡ length yielded + length (name ∷ rest) = ap {B = ℕ} length inv.names ∙ (length-append yielded (into_iter_items c.loop-name.name-iterator) ∙ ap (λ (ns : List Name). length yielded + length ns) steps) in
     let within : i < length found = omega (arith, all, inv.count, c.requires.fits) in
     let fill : MayFill s id (key ∷ page_keys folder rest) = subst (λ (ns : List Name). MayFill s id (page_keys folder ns)) steps inv.may in
-    let more : (ks : List Key) → MayFill s id (key ∷ ks) → MayFill new id ks = subst (λ (k : Key). (ks : List Key) → MayFill s id (k ∷ ks) → MayFill new id ks) key_is c.give_found.ensures.more in
+    let more : (ks : List Key) → MayFill s id (key ∷ ks) → MayFill new id ks = subst (λ (k : Key). (ks : List Key) → MayFill s id (k ∷ ks) → MayFill new id ks) key_is c.give_found-entered.ensures.more in
     let now : Recorded = fill.flight in
     let b : Bool = get_or found i false in
     let gives : GivesAll (world_of s) id (flight_of now) (key ∷ []) (b ∷ []) (g ∷ []) (world_of new) =
-    subst (λ (k : Key). GivesAll (world_of s) id (flight_of now) (k ∷ []) (b ∷ []) (g ∷ []) (world_of new)) key_is (c.give_found.ensures.gives now fill.here) in
+    subst (λ (k : Key). GivesAll (world_of s) id (flight_of now) (k ∷ []) (b ∷ []) (g ∷ []) (world_of new)) key_is (c.give_found-entered.ensures.gives now fill.here) in
     let items : c.add.new.self.items ≡ given.items ++ g ∷ [] = ap (λ (l : Listed). l.items) c.add.ensures in
     record {
       names = inv.names ∙ (ap (λ (ns : List Name). yielded ++ ns) steps ∙ sym (append_assoc yielded (name ∷ []) rest));
@@ -62,9 +62,9 @@ loop-name-preserved c =
       left = omega (arith, long, gone);
       same = omega (arith, copy.1, gone, inv.same);
       count = omega (arith, inv.count, length-append yielded (name ∷ []));
-      kept = c.give_found.ensures.kept;
+      kept = c.give_found-entered.ensures.kept;
       may = more (page_keys folder rest) fill;
-      leads = subst (λ (k : Key). IsPathOf (at_in new.tree) k.parent c.args.folder.now) key_is c.give_found.ensures.leads;
+      leads = subst (λ (k : Key). IsPathOf (at_in new.tree) k.parent c.args.folder.now) key_is c.give_found-entered.ensures.leads;
       gives = λ f here.
           subst (λ (ks : List Key). GivesAll (world_of o) id (flight_of f) ks (take (i + 1) found) c.add.new.self.items (world_of new)) (sym (keys_push folder yielded name))
           (subst (λ (bs : List Bool). GivesAll (world_of o) id (flight_of f) (page_keys folder yielded ++ key ∷ []) bs c.add.new.self.items (world_of new)) (sym (found_more found i within))
