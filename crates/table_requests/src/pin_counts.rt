@@ -1,19 +1,19 @@
 //! How often each number is pinned by the requests in flight.
 //!
-//! A request brings its pins, and adds pins later, without a call that may fail. So where no place is left for a number, its
-//! pin is not counted by number but is loose: as long as there are loose pins, who asks has to look at the requests.
+//! Numbers are those of a slab: small, and used again. So the counts are a list, with the number as the index, and counting takes no look-up.
 //!
-//! Numbers are small, since they are places of a slab and are used again. So the counts are a list, with the number as the index.
+//! A request brings its pins, and adds pins later, without a call that may fail. So where the list does not reach a number, its
+//! pin is not counted by number but is loose: as long as there are loose pins, who asks has to look at the requests.
 
 ghost use Rattle.std.specs.Prelude.{true, false, ◌≡◌, ◌<◌, ◌≤◌, ◌+◌, ◌-◌, ℕ, nat_eq, if◌then◌else◌};
 ghost use Rattle.table_requests.specs.PinCounts.{counted_in, times, AreCounted};
 
 use std::alloc::Global;
 
-/// The list goes on for at least so many numbers after the greatest one that was pinned: those may be born before memory may be taken again.
+/// The list reaches so many numbers more than the greatest that was pinned: those may be born before memory may be taken again.
 const NUMBERS_AHEAD: usize = 1024;
 
-/// The list is not made longer for a number that is not below this one.
+/// The list is made longer for numbers below this one alone, so that none asks for much more than 2 GiB.
 const MOST_NUMBERS: u64 = 1 << 28;
 
 /// How often each number is pinned.
@@ -21,7 +21,7 @@ const MOST_NUMBERS: u64 = 1 << 28;
 pub(crate) struct PinCounts {
     /// How often each number is counted, with the number as the index.
     pub(crate) by_number: Vec<u32>,
-    /// The greatest number that was pinned so far, of those that the list is made longer for.
+    /// The greatest number that was pinned so far, of those that the list may be made longer for.
     pub(crate) greatest: u64,
     /// How many pins are not counted by number. The greatest value says that it is not known how many.
     pub(crate) loose: usize,
@@ -80,7 +80,7 @@ fn lower(counts: &mut PinCounts, number: u64) -> bool
     }
 }
 
-/// Notes the number as one that the list is to reach.
+/// Notes that the list is to reach the number.
 fn note(counts: &mut PinCounts, number: u64)
     ensures same { counts.new.by_number.items ≡ counts.old.by_number.items }
     ensures loose { counts.new.loose ≡ counts.old.loose }
@@ -132,8 +132,8 @@ pub(crate) fn uncount_all(counts: &mut PinCounts, numbers: &[u64])
     }
 }
 
-/// Makes places for the numbers that the requests to come may pin, if there is memory. As each new list is twice as long as the one
-/// before, that costs a constant for each number.
+/// Makes the list reach the numbers that requests to come may pin, if there is memory. It becomes at least twice as long, so that this
+/// costs a constant for each number, and at most twice as long as it has to be.
 pub(crate) fn make_room(counts: &mut PinCounts)
     ensures counted { (total : ℕ → ℕ) → AreCounted counts.old total → AreCounted counts.new total }
 {
