@@ -40,11 +40,11 @@ none_of (m ∷ ns) n none = absurd (omega (arith, none))
 
 module _ (fs : List RequestInFlight) (counts : PinCounts) (counted : AreCounted counts (pins_in fs)) (n : ℕ) where
   -- a number that is counted is pinned
-  pub pinned_if_counted : 0 < counted_in counts.by_number n → pinned_in fs n ≡ true
+  pub pinned_if_counted : 0 < counted_in counts.by_number.items n → pinned_in fs n ≡ true
   pinned_if_counted some = let here = counted.exact n in sym (pinned_counted fs n) ∙ lt-ltb 0 (pins_in fs n) (omega (arith, here, some))
 
   -- where no pin is loose, a number that is not counted is not pinned
-  pub not_pinned : counted_in counts.by_number n ≡ 0 → counts.loose ≡ 0 → pinned_in fs n ≡ false
+  pub not_pinned : counted_in counts.by_number.items n ≡ 0 → counts.loose ≡ 0 → pinned_in fs n ≡ false
   not_pinned none tight =
       let here = counted.exact n in
       let others = none_of counted.others n (counted.known (omega (arith, tight)) ∙ tight) in

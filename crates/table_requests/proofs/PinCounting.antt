@@ -6,7 +6,6 @@ use Rattle.std.proofs.lemmas.List.{length-append}
 use Rattle.std.proofs.lemmas.List.Edits.{length-remove}
 use Rattle.std.proofs.lemmas.List.Folds.{Any-from_list_any}
 use Rattle.std.proofs.lemmas.List.Sums.{count_by_more_no, count_by_more_yes, sum_by-remove, sum_by-take-le, sum_by_push}
-use Rattle.steady_map.specs.Living.{live}
 use Rattle.table_files.proofs.Listing.{any_counted}
 use Rattle.table_requests.specs.PinCounts.{AreCounted, counted_in, times}
 use Rattle.table_requests.specs.declared.pin_counts.PinCounts.{PinCounts}
@@ -18,31 +17,30 @@ counts_as number n = if nat_eq number n then 1 else 0
 -- the totals may be written in another way
 pub same_totals : (counts : PinCounts) (f g : ℕ → ℕ) → ((n : ℕ) → f n ≡ g n) → AreCounted counts f → AreCounted counts g
 same_totals counts f g same counted = record {
-  alive = counted.alive;
   others = counted.others;
   known = counted.known;
   exact = λ n. counted.exact n ∙ same n;
 }
 
 -- a pin is not counted by number
-pub loosened : (old new : PinCounts) (number loose : ℕ) (total : ℕ → ℕ) → new ≡ old → (loose + 1 < 2 ^ 64 → loose ≡ old.loose + 1) → AreCounted old total
-    → AreCounted (record { by_number = new.by_number; numbers = new.numbers; loose = loose }) (λ n. total n + counts_as number n)
-loosened old new number loose total same more counted =
+pub loosened : (old new : PinCounts) (number : ℕ) (total : ℕ → ℕ) → new.by_number.items ≡ old.by_number.items → (new.loose + 1 < 2 ^ 64 → new.loose ≡ old.loose + 1) → AreCounted old total
+    → AreCounted new (λ n. total n + counts_as number n)
+loosened old new number total same more counted =
     let longer = length-append counted.others (number ∷ []) in
     record {
-      alive = subst (λ (c : PinCounts). c.numbers ≡ live c.by_number) (sym same) counted.alive;
       others = counted.others ++ number ∷ [];
       known = λ within. let is = more within in let was = counted.known (omega (arith, within, is)) in omega (arith, longer, is, was);
       exact = λ n.
-          let was = subst (λ (c : PinCounts). counted_in c.by_number n + times n counted.others ≡ total n) (sym same) (counted.exact n) in
+          let was = subst (λ (counts : List ℕ). counted_in counts n + times n counted.others ≡ total n) (sym same) (counted.exact n) in
           let pushed = sum_by_push (λ m. cond (m == n) 1 0) counted.others number in
           omega (arith, was, pushed);
     }
 
 -- a pin that is not counted goes
-pub tightened : (old new : PinCounts) (number loose : ℕ) (total : ℕ → ℕ) → new ≡ old → counted_in old.by_number number ≡ 0 → 0 < total number → (loose + 1 < 2 ^ 64 → (old.loose + 1 < 2 ^ 64) × (loose ≡ old.loose - 1)) → AreCounted old total
-    → AreCounted (record { by_number = new.by_number; numbers = new.numbers; loose = loose }) (λ n. total n - counts_as number n)
-tightened old new number loose total same none some less counted =
+pub tightened : (old new : PinCounts) (number : ℕ) (total : ℕ → ℕ) → new.by_number.items ≡ old.by_number.items → counted_in old.by_number.items number ≡ 0 → 0 < total number
+    → (new.loose + 1 < 2 ^ 64 → (old.loose + 1 < 2 ^ 64) × (new.loose ≡ old.loose - 1)) → AreCounted old total
+    → AreCounted new (λ n. total n - counts_as number n)
+tightened old new number total same none some less counted =
     let here = counted.exact number in
     let all = counted.others in
     let many : 0 < times number all = omega (arith, here, none, some) in
@@ -51,11 +49,10 @@ tightened old new number loose total same none some less counted =
     let is : get_or all i it.1 ≡ number = it.3 ∙ eqb-true it.1 number it.4 in
     let shorter = length-remove all i it.2 in
     record {
-      alive = subst (λ (c : PinCounts). c.numbers ≡ live c.by_number) (sym same) counted.alive;
       others = remove all i;
       known = λ within. let was = less within in let length_is = counted.known was.0 in omega (arith, shorter, was.1, length_is, it.2);
       exact = λ n.
-          let was = subst (λ (c : PinCounts). counted_in c.by_number n + times n all ≡ total n) (sym same) (counted.exact n) in
+          let was = subst (λ (counts : List ℕ). counted_in counts n + times n all ≡ total n) (sym same) (counted.exact n) in
           let gone : times n (remove all i) + counts_as number n ≡ times n all = subst (λ k. times n (remove all i) + counts_as k n ≡ times n all) is (sum_by-remove (λ m. cond (m == n) 1 0) all i it.1 it.2) in
           omega (arith, was, gone);
     }

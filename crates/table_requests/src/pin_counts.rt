@@ -1,25 +1,28 @@
 //! How often each number is pinned by the requests in flight.
 //!
-//! A request brings its pins, and adds pins later, without a call that may fail. So where no place is left for a number, its
+//! Numbers are those of a slab: small, and used again. So the counts are a list, with the number as the index, and counting takes no look-up.
+//!
+//! A request brings its pins, and adds pins later, without a call that may fail. So where the list does not reach a number, its
 //! pin is not counted by number but is loose: as long as there are loose pins, who asks has to look at the requests.
 
-ghost use Rattle.std.specs.Prelude.{true, false, ◌≡◌, ◌<◌, ◌≤◌, ◌+◌, ◌-◌, ◌^◌, ℕ, nat_eq, if◌then◌else◌};
-ghost use Rattle.steady_map.specs.Living.{live};
+ghost use Rattle.std.specs.Prelude.{true, false, ◌≡◌, ◌<◌, ◌≤◌, ◌+◌, ◌-◌, ℕ, nat_eq, if◌then◌else◌};
 ghost use Rattle.table_requests.specs.PinCounts.{counted_in, times, AreCounted};
 
-use indexmap::IndexMap;
 use std::alloc::Global;
-use steady_map::{make_places, put, set, take_out, value_of};
 
-/// For so many numbers more there are places when a request begins.
+/// The list reaches so many numbers more than the greatest that was pinned: those may be born before memory may be taken again.
 const NUMBERS_AHEAD: usize = 1024;
+
+/// The list is made longer for numbers below this one alone, so that none asks for much more than 2 GiB.
+const MOST_NUMBERS: u64 = 1 << 28;
 
 /// How often each number is pinned.
 #[derive(Drop)]
 pub(crate) struct PinCounts {
-    pub(crate) by_number: IndexMap<u64, Option<u64>>,
-    /// How many numbers have a count.
-    pub(crate) numbers: usize,
+    /// How often each number is counted, with the number as the index.
+    pub(crate) by_number: Vec<u32>,
+    /// The greatest number that was pinned so far, of those that the list may be made longer for.
+    pub(crate) greatest: u64,
     /// How many pins are not counted by number. The greatest value says that it is not known how many.
     pub(crate) loose: usize,
 }
@@ -29,77 +32,69 @@ pub(crate) fn no_pins(alloc: Global) -> PinCounts
     ensures { AreCounted result (λ n. 0) }
 {
     PinCounts {
-        by_number: IndexMap::new(alloc),
-        numbers: 0,
+        by_number: Vec::new(alloc),
+        greatest: 0,
         loose: 0,
     }
 }
 
 /// How often the number is counted.
-pub(crate) fn count_of(counts: &PinCounts, number: u64) -> u64
-    ensures { result ≡ counted_in counts.now.by_number number }
+pub(crate) fn count_of(counts: &PinCounts, number: u64) -> u32
+    ensures { result ≡ counted_in counts.now.by_number.items number }
 {
-    match value_of(&counts.by_number, &number) {
-        Some(count) => count,
+    match counts.by_number.get(number as usize) {
+        Some(count) => *count,
         None => 0,
     }
 }
 
-/// Counts the number once more if there is a place for it. Whether there is one is the result. It takes no memory.
+/// Counts the number once more if the list has a place for it. Whether it has one is the result. It takes no memory.
 fn raise(counts: &mut PinCounts, number: u64) -> bool
-    requires alive { counts.old.numbers ≡ live counts.old.by_number }
-    ensures raised { result ≡ true → (n : ℕ) → counted_in counts.new.by_number n ≡ counted_in counts.old.by_number n + (if nat_eq number n then 1 else 0) }
-    ensures same { result ≡ false → counts.new ≡ counts.old }
-    ensures alive { counts.new.numbers ≡ live counts.new.by_number }
+    ensures raised { result ≡ true → (n : ℕ) → counted_in counts.new.by_number.items n ≡ counted_in counts.old.by_number.items n + (if nat_eq number n then 1 else 0) }
+    ensures same { result ≡ false → counts.new.by_number.items ≡ counts.old.by_number.items }
     ensures loose { counts.new.loose ≡ counts.old.loose }
 {
-    match value_of(&counts.by_number, &number) {
-        Some(count) => {
-            if count == u64::MAX {
-                return false;
-            }
-            set(&mut counts.by_number, &number, count + 1);
+    match counts.by_number.get_mut(number as usize) {
+        Some(count) if *count < u32::MAX => {
+            *count += 1;
+            true
         }
-        None => {
-            if counts.numbers >= counts.by_number.capacity() / 2 {
-                return false;
-            }
-            put(&mut counts.by_number, number, 1);
-            counts.numbers += 1;
-        }
+        _ => false,
     }
-    true
 }
 
 /// Counts the number once less if it is counted. Whether it is counted is the result. It takes no memory.
 fn lower(counts: &mut PinCounts, number: u64) -> bool
-    requires alive { counts.old.numbers ≡ live counts.old.by_number }
-    ensures some { result ≡ true → 0 < counted_in counts.old.by_number number }
-    ensures lowered { result ≡ true → (n : ℕ) → counted_in counts.new.by_number n ≡ counted_in counts.old.by_number n - (if nat_eq number n then 1 else 0) }
-    ensures none { result ≡ false → counted_in counts.old.by_number number ≡ 0 }
-    ensures same { result ≡ false → counts.new ≡ counts.old }
-    ensures alive { counts.new.numbers ≡ live counts.new.by_number }
+    ensures some { result ≡ true → 0 < counted_in counts.old.by_number.items number }
+    ensures lowered { result ≡ true → (n : ℕ) → counted_in counts.new.by_number.items n ≡ counted_in counts.old.by_number.items n - (if nat_eq number n then 1 else 0) }
+    ensures none { result ≡ false → counted_in counts.old.by_number.items number ≡ 0 }
+    ensures same { result ≡ false → counts.new.by_number.items ≡ counts.old.by_number.items }
     ensures loose { counts.new.loose ≡ counts.old.loose }
 {
-    let count = count_of(counts, number);
-    if count == 0 {
-        return false;
+    match counts.by_number.get_mut(number as usize) {
+        Some(count) if *count > 0 => {
+            *count -= 1;
+            true
+        }
+        _ => false,
     }
-    if count == 1 {
-        take_out(&mut counts.by_number, &number);
-        counts.numbers -= 1;
-    } else {
-        set(&mut counts.by_number, &number, count - 1);
+}
+
+/// Notes that the list is to reach the number.
+fn note(counts: &mut PinCounts, number: u64)
+    ensures same { counts.new.by_number.items ≡ counts.old.by_number.items }
+    ensures loose { counts.new.loose ≡ counts.old.loose }
+{
+    if number < MOST_NUMBERS {
+        counts.greatest = counts.greatest.max(number);
     }
-    true
 }
 
 /// The number is pinned once more. It takes no memory.
 pub(crate) fn count(counts: &mut PinCounts, number: u64)
-    requires alive { counts.old.numbers ≡ live counts.old.by_number }
-    ensures alive { counts.new.numbers ≡ live counts.new.by_number }
     ensures counted { (total : ℕ → ℕ) → AreCounted counts.old total → AreCounted counts.new (λ n. total n + (if nat_eq number n then 1 else 0)) }
 {
+    note(counts, number);
     if !raise(counts, number) {
         counts.loose = counts.loose.saturating_add(1);
     }
@@ -120,7 +115,6 @@ fn uncount(counts: &mut PinCounts, number: u64)
 
 /// Each of the numbers is pinned once more. It takes no memory.
 pub(crate) fn count_all(counts: &mut PinCounts, numbers: &[u64])
-    requires alive { counts.old.numbers ≡ live counts.old.by_number }
     ensures counted { (total : ℕ → ℕ) → AreCounted counts.old total → AreCounted counts.new (λ n. total n + times n numbers.now) }
 {
     for number in numbers {
@@ -138,10 +132,13 @@ pub(crate) fn uncount_all(counts: &mut PinCounts, numbers: &[u64])
     }
 }
 
-/// Makes places for the numbers of requests to come, if there is memory.
+/// Makes the list reach the numbers that requests to come may pin, if there is memory. It becomes at least twice as long, so that this
+/// costs a constant for each number, and at most twice as long as it has to be.
 pub(crate) fn make_room(counts: &mut PinCounts)
-    requires alive { counts.old.numbers ≡ live counts.old.by_number }
     ensures counted { (total : ℕ → ℕ) → AreCounted counts.old total → AreCounted counts.new total }
 {
-    let _ = make_places(&mut counts.by_number, counts.numbers, NUMBERS_AHEAD);
+    let wanted = (counts.greatest as usize).saturating_add(NUMBERS_AHEAD);
+    if counts.by_number.len() < wanted {
+        let _ = counts.by_number.resize(wanted.saturating_mul(2), 0);
+    }
 }

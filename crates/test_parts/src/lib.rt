@@ -1,5 +1,5 @@
-//! Rows of the parts that stand below the table: paths, hidden names, the ledger and its book, the tree of nodes, open files and images. The crate is of
-//! tests alone.
+//! Rows of the parts that stand below the table: paths, hidden names, the ledger and its book, the tree of nodes, open files, requests in flight and images. The
+//! crate is of tests alone.
 #![tactic(auto)]
 
 #[cfg(test)]
@@ -12,6 +12,8 @@ mod ledger_rows;
 mod name_rows;
 #[cfg(test)]
 mod path_rows;
+#[cfg(test)]
+mod pin_rows;
 #[cfg(test)]
 mod sketch;
 #[cfg(test)]
