@@ -1,9 +1,10 @@
 //! Bytes that are taken in at one end and let go at the other.
 
-ghost use Rattle.std.specs.Prelude.{◌≡◌, ◌+◌, ◌-◌, ◌≤◌, ◌++◌, [], length, take, drop, OnOk, OnErr};
+ghost use Rattle.std.specs.Prelude.{◌≡◌, ◌+◌, ◌-◌, ◌≤◌, ◌++◌, [], length, take, drop, vec_len, OnOk, OnErr};
 
 use std::alloc::{AllocError, Global};
 use std::marker::Model;
+use std::mem::swap;
 
 /// The bytes of a buffer from `start` up to `end`. What stands before and behind them is room: the buffer never gets shorter, so that
 /// letting bytes go costs nothing.
@@ -99,6 +100,26 @@ impl Window {
         self.move_up();
         write_behind(&mut self.buffer, self.end, piece)?;
         self.end += piece.len();
+        Ok(())
+    }
+
+    /// Takes in the first bytes of a room. Where none are kept, the buffer and the room are exchanged, and no byte is copied. Without
+    /// memory nothing changes.
+    pub fn take_from(&mut self, room: &mut Vec<u8>, count: usize) -> Result<(), AllocError>
+        requires within { count ≤ vec_len room.old }
+        ensures ok { OnOk result (self.new ≡ self.old ++ take count room.old.items) }
+        ensures err { OnErr result ((self.new ≡ self.old) × (room.new.items ≡ room.old.items)) }
+        ensures room { vec_len room.old ≤ vec_len room.new }
+    {
+        if self.start < self.end {
+            return self.push(&room[..count]);
+        }
+        if self.buffer.len() < room.len() {
+            self.buffer.resize(room.len(), 0)?;
+        }
+        swap(&mut self.buffer, room);
+        self.start = 0;
+        self.end = count;
         Ok(())
     }
 
