@@ -83,14 +83,14 @@ impl Cutter {
         Ok(())
     }
 
-    /// Takes the first bytes of a room as the next piece, without a copy where no bytes are kept: then another buffer is left in the
-    /// place of the room, which never gets shorter. An `Err` changes nothing.
+    /// Takes the first bytes of a room as the next piece, without a copy where no bytes are kept: then another buffer of that length is
+    /// left in the place of the room. An `Err` changes nothing.
     pub fn feed_from(&mut self, room: &mut Vec<u8>, count: usize) -> Result<(), CutFault>
         requires within { count ≤ vec_len room.old }
         ensures ok { OnOk result (self.new ≡ record self.old { kept = self.old.kept ++ take count room.old.items }) }
         ensures err { OnErr result ((self.new ≡ self.old) × (room.new.items ≡ room.old.items)) }
         ensures bad { (len : ℕ) → (result ≡ Err (CutFault.BadLength len)) ↔ (self.old.stopped ≡ Some len) }
-        ensures room { vec_len room.old ≤ vec_len room.new }
+        ensures room { vec_len room.new ≡ vec_len room.old }
     {
         if let Some(len) = self.stopped {
             return Err(CutFault::BadLength { len });
