@@ -1,4 +1,4 @@
-use Rattle.std.proofs.Common.{[], false, take, ap, inl, refl, subst, sym, ◌∙◌, ℕ, List, arith}
+use Rattle.std.proofs.Common.{[], false, ap, inl, refl, subst, sym, ◌∙◌, ℕ, List, arith}
 use Rattle.table_steps.specs.Kept.{world_of}
 use Rattle.wire.specs.Stream.{Cutting, IsPartial}
 use Rattle.table.proofs.Gaining.{gains_totals, in_all_on}
