@@ -8,7 +8,7 @@ use Rattle.std.proofs.lemmas.List.{length-drop}
 use Rattle.wire.specs.declared.request.TheConstants.{HEADER_LEN, MAX_FRAME_LEN}
 use Rattle.wire.specs.Requests.{IsFramed}
 use Rattle.wire.specs.NextFrame.{IsWhole}
-use Rattle.wire.specs.Stream.{BeginsBadly, IsPartial, Splits, joined, len_in}
+use Rattle.wire.specs.Stream.{BeginsBadly, Cutting, IsPartial, Splits, joined, len_in}
 use Rattle.wire.proofs.Cutting.{handed, partial_ends, bad_ends}
 use Rattle.engine.specs.declared.ends.SessionEnd.{SessionEnd}
 use Rattle.engine.specs.declared.ends.SessionEnd.TheVariants as ends
@@ -16,6 +16,7 @@ use Rattle.engine.specs.declared.links.Sent.{Sent}
 use Rattle.engine.specs.declared.served.Served.{Served}
 use Rattle.ops.specs.declared.attributes.Settings.{Settings}
 use Rattle.engine.specs.Chain.{Chain}
+use Rattle.engine.specs.Hearing.{IsHeard}
 use Rattle.engine.specs.Links.{Heard, Piece, Ended, Broke, Event, Happens}
 use Rattle.engine.specs.Reference.{At, Offer, Stop, AtEnd, Lost, IsTurn, Turn, frames_of, sent_in, starting, was_broken, Closes}
 use Rattle.engine.specs.Serving.{Behaviour, Draws, Environment, Step, Hears, Traffic, Works, GoesOn, IsClientRun, LacksMemory, Paces, bytes_of, events_of, folders_of, heard_of, made_of, sent_of, stop_in, stops_of, turns_of, around}
@@ -238,16 +239,25 @@ module _ {W L C D : Type 0} (table : Table W) (settings : Settings) (over : Traf
         (subst (λ (ss : List Stop). Tells (side mid kept) (Hears heard ∷ []) new now ss) stops (tells_heard (side mid kept) heard link now refl partial r is))
         splits closes lacks
 
-    pub at_end : (link : L) (rest : ℕ) → over.receives mid.link Ended link → rest ≡ length kept → IsClientRun table settings over does old (around link mid.served mid.at.world) (ends.Closed rest)
+    at_end : (link : L) (rest : ℕ) → over.receives mid.link Ended link → rest ≡ length kept → IsClientRun table settings over does old (around link mid.served mid.at.world) (ends.Closed rest)
     at_end link rest r is = by_heard Ended link kept (Some AtEnd) [] kept (ends.Closed rest) r (sym (append-nil kept)) refl (no_frame kept (partial_ends kept partial)) (refl, refl, partial, is) tt
 
-    pub at_break : (link : L) → over.receives mid.link Broke link → IsClientRun table settings over does old (around link mid.served mid.at.world) ends.LinkBroken
+    at_break : (link : L) → over.receives mid.link Broke link → IsClientRun table settings over does old (around link mid.served mid.at.world) ends.LinkBroken
     at_break link r = by_heard Broke link kept (Some Lost) [] kept ends.LinkBroken r (sym (append-nil kept)) refl (no_frame kept (partial_ends kept partial)) (refl, refl, partial) tt
 
-    pub unfed : (link : L) (piece : List ℕ) → over.receives mid.link (Piece piece) link → IsClientRun table settings over does old (around link mid.served mid.at.world) ends.Memory
+    unfed : (link : L) (piece : List ℕ) → over.receives mid.link (Piece piece) link → IsClientRun table settings over does old (around link mid.served mid.at.world) ends.Memory
     unfed link piece r =
         let all = splits_all (kept ++ piece) in
         by_heard (Piece piece) link (kept ++ piece) None all.frames all.rest ends.Memory r refl refl all.splits refl (walks.steps, piece, refl)
+
+    -- a receive ends the session
+    pub heard_end : (link : L) (cutter cutter' : Cutting) (end : SessionEnd) → cutter.kept ≡ kept → IsHeard over.receives mid.link cutter (Some end) link cutter' → IsClientRun table settings over does old (around link mid.served mid.at.world) end
+    heard_end link cutter cutter' (ends.Closed rest) same h = at_end link rest h.0 (h.1 ∙ ap length same)
+    heard_end link cutter cutter' ends.Destroyed same h = absurd h
+    heard_end link cutter cutter' (ends.BadLength len) same h = absurd h
+    heard_end link cutter cutter' ends.LinkBroken same h = at_break link h
+    heard_end link cutter cutter' ends.Memory same h = unfed link h.0 h.1
+    heard_end link cutter cutter' ends.NoWorkers same h = absurd h
 
   -- the session ended by a frame or a bad length
   by_stop : (old : Environment W L C D) (new : Environment (Stand W) L C D) (kept : List ℕ) (reached : Option SessionEnd) (end : SessionEnd) → table.is_idle old.at → Walks table settings over does (beginning old) (reaching (side new kept) reached) → Stops reached (Some end) kept

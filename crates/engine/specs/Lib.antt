@@ -11,4 +11,5 @@ pub mod Tables
 pub mod Walks
 pub mod Alone
 pub mod Reaching
+pub mod Hearing
 pub mod Hiding

@@ -8,6 +8,7 @@ mod ends;
 mod entries;
 mod folders;
 mod handling;
+mod hearing;
 mod links;
 mod outlet;
 mod playing;

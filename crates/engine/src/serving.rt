@@ -10,7 +10,8 @@ ghost use Rattle.engine.specs.Tables.{worlds, IsIdle};
 ghost use Rattle.engine.specs.Walks.{side, stand, WorksOffFrames};
 
 use crate::ends::SessionEnd;
-use crate::links::{Link, Received};
+use crate::hearing::{hear, room_in};
+use crate::links::Link;
 use crate::requests::Session;
 use crate::served::Served;
 use backing::{Call, Calls};
@@ -23,9 +24,6 @@ use std::alloc::{AllocError, Global};
 use std::sync::Wait;
 use table::Table;
 use wire::{CutFault, Cutter};
-
-/// How many bytes are asked of a link at a time: more than the longest frame has.
-const ROOM: usize = 131_072;
 
 /// Works off the frames that are there whole. Some end says that the session is over.
 fn work_off_frames<H: Wait, T: Ledgers, L: Link, C: Calls, D: Folders>(
@@ -89,21 +87,11 @@ fn serve_client<H: Wait, T: Ledgers, L: Link, C: Calls, D: Folders>(
         buffer: Vec::new(alloc),
     };
     let mut cutter = Cutter::new(alloc);
-    let mut room = [0; ROOM];
+    let mut room = room_in(alloc);
     for _ in rt.forever() {
-        let count = match link.receive(&mut room) {
-            Received::Bytes(count) => count,
-            Received::End => {
-                return SessionEnd::Closed {
-                    rest: cutter.rest(),
-                };
-            }
-            Received::Broken => return SessionEnd::LinkBroken,
-        };
-        match cutter.feed(&room[..count]) {
-            Ok(()) => {}
-            // It has met no bad length yet.
-            Err(_) => return SessionEnd::Memory,
+        match hear(link, &mut cutter, &mut room) {
+            None => {}
+            Some(end) => return end,
         }
         match work_off_frames(rt, &mut session, link, served, table, share, &mut cutter) {
             None => {}

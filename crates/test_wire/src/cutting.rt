@@ -65,16 +65,56 @@ fn many_frames_each_in_two_pieces(rt: HostRuntime) -> Result<(), Fail> {
     Ok(())
 }
 
+/// Hands a piece over as it is, or as the front of a room.
+fn hand(cutter: &mut Cutter, room: &mut Vec<u8>, piece: &[u8], in_room: bool) -> Result<(), Fail> {
+    if !in_room {
+        cutter.feed(piece)?;
+        return Ok(());
+    }
+    room.clear();
+    room.extend_from_slice(piece)?;
+    room.resize(64, 0xff)?;
+    cutter.feed_from(room, piece.len().min(64))?;
+    Ok(())
+}
+
+#[test]
+fn pieces_in_a_room_and_others_in_turn(rt: HostRuntime) -> Result<(), Fail> {
+    let mut cutter = Cutter::new(rt.alloc());
+    let mut room = Vec::new(rt.alloc());
+    for at in 1..42 {
+        let (front, back) = LOOKUP_A.split_at(at);
+        for (one, other) in [(true, true), (true, false), (false, true)] {
+            hand(&mut cutter, &mut room, front, one)?;
+            assert!(rt; cutter.next()?.is_none());
+            assert_eq!(rt; cutter.rest(), at);
+            hand(&mut cutter, &mut room, back, other)?;
+            hand(&mut cutter, &mut room, &LOOKUP_A, one)?;
+            for left in [42, 0] {
+                let frame = cutter.next()?.ok_or("a frame")?;
+                assert_eq!(rt; frame.as_slice(), LOOKUP_A.as_slice());
+                assert_eq!(rt; cutter.rest(), left);
+            }
+        }
+    }
+    Ok(())
+}
+
 #[test]
 fn bad_length(rt: HostRuntime) -> Result<(), Fail> {
     for (first, len) in [([0x27, 0, 0, 0], 39), ([0x01, 0x10, 0x01, 0], 69633)] {
         let mut cutter = Cutter::new(rt.alloc());
+        let mut room = Vec::new(rt.alloc());
         cutter.feed(&LOOKUP_A)?;
         cutter.feed(&first)?;
         assert!(rt; cutter.next()?.is_some());
         for _ in 0..2 {
             assert_eq!(rt; cutter.next().err(), Some(CutFault::BadLength { len }));
             assert_eq!(rt; cutter.feed(&[]).err(), Some(CutFault::BadLength { len }));
+            assert_eq!(rt;
+                cutter.feed_from(&mut room, 0).err(),
+                Some(CutFault::BadLength { len })
+            );
         }
         assert_eq!(rt; cutter.rest(), 4);
     }

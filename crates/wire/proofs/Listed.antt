@@ -1,12 +1,12 @@
 -- Entries of a folder as runs of numbers, a name and zeros.
-use Rattle.std.proofs.Common.{◌≡◌, ℕ, ◌+◌, ◌^◌, ◌<◌, List, ◌++◌, length, map, refl, ap, lit<, arith, Option, Some, None}
+use Rattle.std.proofs.Common.{◌≡◌, ℕ, ◌+◌, ◌^◌, ◌<◌, List, ◌++◌, length, map, replicate, refl, ap, lit<, arith, Option, Some, None}
 use Rattle.wire.specs.declared.reply.Entry.{Entry}
 use Rattle.wire.specs.declared.reply.Kind.TheVariants.{File, Folder}
 use Rattle.wire.specs.declared.reply.Kind.{Kind}
 use Rattle.wire.specs.Dirents.{Dirent, PlusDirent, IsDirent, IsPlusDirent, dirent_bytes, dirent_in, dirent_layout, dirent_values, given_values, ino_of, padding_of, plus_bytes, plus_layout, plus_values, type_of}
 use Rattle.wire.specs.Fields.{Value, num, CanTell}
 use Rattle.wire.specs.Replies.{entry_layout}
-use Rattle.wire.specs.Written.{le, zeros, written}
+use Rattle.wire.specs.Written.{le, zeros, joined, written}
 use Rattle.wire.proofs.Again.{written_spelled}
 use Rattle.wire.proofs.Entries.{entry_lens, tells_on}
 use Rattle.wire.proofs.Lengths.{cat_assoc, cat_nil, length-cat, length-le, length-zeros}
@@ -18,9 +18,9 @@ dirent_parts d = ap (λ (z : List ℕ). le 8 d.ino ++ (le 8 d.next ++ (le 4 (len
 abbrev no_values : List Value
 no_values = map (λ _. num 0) entry_layout
 
-pub none_parts : written entry_layout no_values ≡ zeros 128
-unfolding le zeros
-none_parts = refl
+pub none_words : joined (replicate 16 (replicate 8 0)) ≡ written entry_layout no_values
+unfolding le
+none_words = refl
 
 type_fits : (kind : Kind) → type_of kind < 256 ^ 4
 type_fits Folder = lit< tt
@@ -52,7 +52,7 @@ is_plus_dirent p given next name =
     let dirent : CanTell (dirent_layout (dirent_in p)) (dirent_values (dirent_in p)) = dirent_tells (dirent_in p) (ino_fits p.entry given) (omega arith) (omega arith) in
     written_spelled (plus_layout p) (plus_values p) (tells_on entry_lens (given_values p.entry) (dirent_layout (dirent_in p)) (dirent_values (dirent_in p)) given dirent)
 
-pub ruleset dirents = (dirent_parts, none_parts, given_len, plus_parts, cat_assoc)
+pub ruleset dirents = (dirent_parts, plus_parts, cat_assoc)
 
 pub length-dirent : (d : Dirent) → length (dirent_bytes d) ≡ 24 + length d.name + padding_of d.name
 length-dirent d = rw (dirent_parts d, length-cat, length-cat, length-cat, length-cat, length-cat, length-le, length-le, length-le, length-le, length-zeros) (omega arith)

@@ -7,6 +7,7 @@ use Rattle.wire.specs.declared.request.TheConstants.{HEADER_LEN}
 use Rattle.wire.specs.declared.reply.TheConstants.{REPLY_HEADER_LEN}
 use Rattle.wire.specs.declared.request.Request.{Request}
 use Rattle.wire.specs.declared.request.Operation.{Operation}
+use Rattle.wire.specs.declared.bodies.ReplyHeader.{ReplyHeader}
 use Rattle.wire.specs.declared.reply.Reply.{Reply}
 use Rattle.wire.specs.declared.reply.ReplyBody.{ReplyBody}
 use Rattle.wire.specs.declared.reply.ReplyBody.TheVariants.{Failed}
@@ -21,15 +22,16 @@ zeros n = replicate n 0
 unfoldable pub le : ℕ → ℕ → List ℕ
 le len n = little_bytes len n
 
--- numbers of two, of four and of eight bytes, one after another
+-- numbers of two and of four bytes, one after another
 unfoldable pub u16s : List ℕ → List ℕ
 u16s ns = flat_map (little_bytes 2) ns
 
 unfoldable pub u32s : List ℕ → List ℕ
 u32s ns = flat_map (little_bytes 4) ns
 
-unfoldable pub u64s : List ℕ → List ℕ
-u64s ns = flat_map (little_bytes 8) ns
+-- words of bytes, one after another
+abbrev pub joined : List (List ℕ) → List ℕ
+joined words = flat_map (λ word. word) words
 
 -- fields with these values; what is not read is zero
 abbrev pub written : List Field → List Value → List ℕ
@@ -59,6 +61,9 @@ request_bytes r =
     ++ operation_bytes r.operation
 
 -- ---- replies
+
+abbrev pub header_bytes : ReplyHeader → List ℕ
+header_bytes header = header.length ++ header.unique
 
 -- two's complement of an error number, in four bytes
 abbrev pub negated : ℤ → ℕ

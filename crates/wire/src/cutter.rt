@@ -1,6 +1,6 @@
 //! A stream of bytes, cut into frames.
 
-ghost use Rattle.std.specs.Prelude.{◌≡◌, ℕ, List, ◌+◌, ◌-◌, ◌≤◌, ◌↔◌, ◌++◌, [], length, drop, OnOk, OnErr, IfOk, IfErr, IfSome, IfNone, Some, None, Err};
+ghost use Rattle.std.specs.Prelude.{◌≡◌, ℕ, List, ◌+◌, ◌-◌, ◌≤◌, ◌↔◌, ◌++◌, [], length, drop, take, vec_len, OnOk, OnErr, IfOk, IfErr, IfSome, IfNone, Some, None, Err};
 ghost use Rattle.wire.specs.NextFrame.{IsWhole};
 ghost use Rattle.wire.specs.Stream.{HandsOut, BeginsBadly, IsPartial, Splits, StandsFirst};
 ghost use Rattle.wire.specs.declared.cutter.CutFault.TheVariants.{Memory};
@@ -80,6 +80,22 @@ impl Cutter {
             return Err(CutFault::BadLength { len });
         }
         self.kept.push(piece)?;
+        Ok(())
+    }
+
+    /// Takes the first bytes of a room as the next piece, without a copy where no bytes are kept: then another buffer of that length is
+    /// left in the place of the room. An `Err` changes nothing.
+    pub fn feed_from(&mut self, room: &mut Vec<u8>, count: usize) -> Result<(), CutFault>
+        requires within { count ≤ vec_len room.old }
+        ensures ok { OnOk result (self.new ≡ record self.old { kept = self.old.kept ++ take count room.old.items }) }
+        ensures err { OnErr result ((self.new ≡ self.old) × (room.new.items ≡ room.old.items)) }
+        ensures bad { (len : ℕ) → (result ≡ Err (CutFault.BadLength len)) ↔ (self.old.stopped ≡ Some len) }
+        ensures room { vec_len room.new ≡ vec_len room.old }
+    {
+        if let Some(len) = self.stopped {
+            return Err(CutFault::BadLength { len });
+        }
+        self.kept.take_from(room, count)?;
         Ok(())
     }
 

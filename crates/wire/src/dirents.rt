@@ -4,10 +4,10 @@ ghost use Rattle.std.specs.Prelude.{◌≡◌, ◌<◌, ◌≤◌, ◌+◌, ◌^
 ghost use Rattle.wire.specs.Dirents.{Dirent, PlusDirent, IsDirent, IsPlusDirent, dirent_bytes, given_values, ino_of, padding, padding_of, plus_bytes, type_of};
 ghost use Rattle.wire.specs.Fields.{CanTell};
 ghost use Rattle.wire.specs.Replies.{entry_layout};
-ghost use Rattle.wire.specs.Written.{written};
+ghost use Rattle.wire.specs.Written.{joined, written, zeros};
 
-use crate::bodies::put_entry;
-use crate::put::{put, put_low_u32, put_u32, put_u64, put_zeros};
+use crate::bodies::entry_words;
+use crate::put::{len_and, put, put_words, word};
 use crate::reply::{ENTRY_LEN, Entry, Kind};
 use std::alloc::AllocError;
 
@@ -43,18 +43,26 @@ fn dirent_len(name: &str) -> usize
     len + padding(len) as usize
 }
 
+/// A name, and so many zeros.
+#[tactic(auto, unfolding(crate::specs::Written::zeros))]
+fn put_padded(out: &mut Vec<u8>, name: &str, padding: u8)
+    requires few { padding < 8 }
+    requires room { vec_len out.old + length name.now + padding ≤ vec_capacity out.old }
+    ensures { out.new.items ≡ out.old.items ++ (name.now ++ zeros padding) }
+{
+    put(out, name.as_bytes());
+    let zeros = [0; 7];
+    put(out, &zeros[..padding as usize]);
+}
+
 #[tactic(auto, using(crate::proofs::Listed::dirents))]
 fn put_dirent(out: &mut Vec<u8>, ino: u64, next: u64, kind: Kind, name: &str)
     requires { vec_len out.old + (DIRENT_LEN + length name.now + padding_of name.now) ≤ vec_capacity out.old }
     ensures { out.new.items ≡ out.old.items ++ dirent_bytes (record { ino = ino; next = next; kind = kind; name = name.now }) }
 {
     let len = name.len();
-    put_u64(out, ino);
-    put_u64(out, next);
-    put_low_u32(out, len);
-    put_u32(out, type_of(kind));
-    put(out, name.as_bytes());
-    put_zeros(out, padding(DIRENT_LEN + len));
+    put_words(out, &[word(ino), word(next), len_and(len, type_of(kind))]);
+    put_padded(out, name, padding(DIRENT_LEN + len));
 }
 
 /// Puts an entry of READDIR at the end of a vector: its inode number, where the next one stands, what it is, and its name. Where
@@ -77,8 +85,8 @@ pub fn encode_dirent(
 }
 
 /// The inode number of an entry with which a node is given, if any.
-fn ino_of(entry: Option<Entry>) -> u64
-    ensures { result ≡ ino_of entry }
+fn ino_of(entry: &Option<Entry>) -> u64
+    ensures { result ≡ ino_of entry.now }
 {
     match entry {
         Some(entry) => entry.attributes.ino,
@@ -88,17 +96,34 @@ fn ino_of(entry: Option<Entry>) -> u64
 
 /// The node that is given with an entry, or zeros.
 #[tactic(auto, using(crate::proofs::Listed::dirents))]
-fn put_given(out: &mut Vec<u8>, entry: Option<Entry>)
-    requires { vec_len out.old + ENTRY_LEN ≤ vec_capacity out.old }
-    ensures items { out.new.items ≡ out.old.items ++ written entry_layout (given_values entry) }
-    ensures len { vec_len out.new ≡ vec_len out.old + ENTRY_LEN }
-    ensures capacity { vec_capacity out.old ≤ vec_capacity out.new }
-    ensures tells { CanTell entry_layout (given_values entry) }
+fn given_words(entry: &Option<Entry>) -> [[u8; 8]; 16]
+    ensures words { joined result ≡ written entry_layout (given_values entry.now) }
+    ensures len { length result ≡ 16 }
+    ensures tells { CanTell entry_layout (given_values entry.now) }
 {
     match entry {
-        Some(entry) => put_entry(out, &entry),
-        None => put_zeros(out, ENTRY_LEN as u8),
+        Some(entry) => entry_words(entry),
+        None => [[0; 8]; 16],
     }
+}
+
+/// What stands before the name of an entry with the node that is given with it, and the name.
+#[tactic(auto, using(crate::proofs::Listed::dirents))]
+fn put_plus_dirent(out: &mut Vec<u8>, entry: &Option<Entry>, next: u64, kind: Kind, name: &str)
+    requires { vec_len out.old + (ENTRY_LEN + (DIRENT_LEN + length name.now + padding_of name.now)) ≤ vec_capacity out.old }
+    ensures items { out.new.items ≡ out.old.items ++ plus_bytes (record { entry = entry.now; next = next; kind = kind; name = name.now }) }
+    ensures tells { CanTell entry_layout (given_values entry.now) }
+{
+    let (len, ino) = (name.len(), ino_of(entry));
+    let [a, b, c, d, e, f, g, h, i, j, k, l, m, n, o, p] = given_words(entry);
+    let (ino, next, last) = (word(ino), word(next), len_and(len, type_of(kind)));
+    put_words(
+        out,
+        &[
+            a, b, c, d, e, f, g, h, i, j, k, l, m, n, o, p, ino, next, last,
+        ],
+    );
+    put_padded(out, name, padding(DIRENT_LEN + len));
 }
 
 /// The same for READDIRPLUS: the node that is given with the entry stands before it. Without one its bytes are zero, and the inode
@@ -117,7 +142,6 @@ pub fn encode_plus_dirent(
     ensures err { OnErr result (out.new.items ≡ out.old.items) }
 {
     out.reserve(ENTRY_LEN + dirent_len(name))?;
-    put_given(out, entry);
-    put_dirent(out, ino_of(entry), next, kind, name);
+    put_plus_dirent(out, &entry, next, kind, name);
     Ok(())
 }

@@ -7,10 +7,10 @@ ghost use Rattle.wire.specs.Fields.{CanTell, IsBytes};
 ghost use Rattle.wire.specs.Requests.{IsRequest, opcode_of};
 ghost use Rattle.wire.specs.Replies.{IsReply, IsAnswer, IsErrno, reply_layout, reply_values};
 ghost use Rattle.wire.specs.Rows.{parts_bytes};
-ghost use Rattle.wire.specs.Written.{operation_bytes, request_bytes, reply_bytes, body_bytes, error_word, negated as negated_of};
+ghost use Rattle.wire.specs.Written.{operation_bytes, request_bytes, reply_bytes, body_bytes, error_word, le, negated as negated_of};
 
-use crate::bodies::{body_len, put_body};
-use crate::put::{put_low_u32, put_reply_header, put_u32, put_u64, put_zeros, reply_header};
+use crate::bodies::{ReplyHeader, body_len, put_body};
+use crate::put::{len_and, put_low_u32, put_u32, put_u64, put_zeros, word};
 use crate::reply::{REPLY_HEADER_LEN, Reply, ReplyBody};
 use crate::request::{HEADER_LEN, Request};
 use crate::writing::{Row, put_parts, request_len, row_of};
@@ -74,8 +74,11 @@ fn put_reply(out: &mut Vec<u8>, reply: &Reply, len: usize)
     ensures tells { CanTell (reply_layout reply.now.body) (reply_values reply.now.body) }
 {
     let unique = reply.unique;
-    put_reply_header(out, len, error(&reply.body), unique);
-    put_body(out, &reply.body);
+    let header = ReplyHeader {
+        length: len_and(len, error(&reply.body)),
+        unique: word(unique),
+    };
+    put_body(out, header, &reply.body);
 }
 
 /// Puts a reply at the end of a vector. Where memory is refused, the items stay as they were.
@@ -93,6 +96,16 @@ pub fn encode_reply(reply: &Reply, out: &mut Vec<u8>) -> Result<(), AllocError>
     Ok(())
 }
 
+/// The header of a reply that carries so many bytes with it.
+#[tactic(auto, unfolding(crate::specs::Written::le))]
+fn data_header(len: usize, unique: u64) -> [u8; 16]
+    ensures { result ≡ le 4 len ++ (le 4 0 ++ le 8 unique) }
+{
+    let [a, b, c, d, ..] = len.to_le_bytes();
+    let [e, f, g, h, i, j, k, l] = unique.to_le_bytes();
+    [a, b, c, d, 0, 0, 0, 0, e, f, g, h, i, j, k, l]
+}
+
 /// Writes a reply into the vector, in the place of what stood there. The bytes that it carries are not copied where there is just room
 /// for a header before them.
 #[tactic(auto, using(crate::proofs::Lengths::lengths), unfolding(crate::specs::Written::le, crate::specs::Written::body_bytes, crate::specs::Written::reply_bytes))]
@@ -103,7 +116,7 @@ pub fn write_reply(reply: Reply, out: &mut Vec<u8>) -> Result<(), AllocError>
     let body = match body {
         ReplyBody::Data(data) => {
             let len = REPLY_HEADER_LEN + data.as_slice().len();
-            match data.headed(&reply_header(len, 0, unique)) {
+            match data.headed(&data_header(len, unique)) {
                 Ok(frame) => {
                     *out = frame;
                     return Ok(());

@@ -1,7 +1,7 @@
 //! Bytes put at the end of a vector that has room for them.
 
 ghost use Rattle.std.specs.Prelude.{◌≡◌, ◌≤◌, ◌+◌, ◌*◌, ◌++◌, ◌∷◌, [], length, vec_len, vec_capacity};
-ghost use Rattle.wire.specs.Written.{le, zeros, u16s, u32s, u64s};
+ghost use Rattle.wire.specs.Written.{le, zeros, joined, u16s, u32s};
 
 pub fn put(out: &mut Vec<u8>, bytes: &[u8])
     requires { vec_len out.old + length bytes.now ≤ vec_capacity out.old }
@@ -54,54 +54,42 @@ pub fn put_u64(out: &mut Vec<u8>, n: u64)
     put(out, &n.to_le_bytes());
 }
 
-/// Two numbers of eight bytes, at once.
-#[tactic(auto, unfolding(crate::specs::Written::u64s, crate::specs::Written::le))]
-pub fn put_two_u64(out: &mut Vec<u8>, m: u64, n: u64)
-    requires { vec_len out.old + 16 ≤ vec_capacity out.old }
-    ensures items { out.new.items ≡ out.old.items ++ u64s (m ∷ n ∷ []) }
-    ensures len { vec_len out.new ≡ vec_len out.old + 16 }
-    ensures capacity { vec_capacity out.old ≤ vec_capacity out.new }
-{
-    let [a, b, c, d, e, f, g, h] = m.to_le_bytes();
-    let [i, j, k, l, p, q, r, s] = n.to_le_bytes();
-    put(out, &[a, b, c, d, e, f, g, h, i, j, k, l, p, q, r, s]);
-}
-
-/// Four numbers of four bytes, at once.
-#[tactic(auto, unfolding(crate::specs::Written::u32s, crate::specs::Written::le))]
-pub fn put_four_u32(out: &mut Vec<u8>, m: u32, n: u32, o: u32, p: u32)
-    requires { vec_len out.old + 16 ≤ vec_capacity out.old }
-    ensures items { out.new.items ≡ out.old.items ++ u32s (m ∷ n ∷ o ∷ p ∷ []) }
-    ensures len { vec_len out.new ≡ vec_len out.old + 16 }
-    ensures capacity { vec_capacity out.old ≤ vec_capacity out.new }
-{
-    let [a, b, c, d] = m.to_le_bytes();
-    let [e, f, g, h] = n.to_le_bytes();
-    let [i, j, k, l] = o.to_le_bytes();
-    let [q, r, s, t] = p.to_le_bytes();
-    put(out, &[a, b, c, d, e, f, g, h, i, j, k, l, q, r, s, t]);
-}
-
-/// The header of a reply: the lowest four bytes of a length, an error, and the number of a request.
+/// A number of eight bytes as a word.
 #[tactic(auto, unfolding(crate::specs::Written::le))]
-pub fn reply_header(len: usize, error: u32, unique: u64) -> [u8; 16]
-    ensures { result ≡ le 4 len ++ (le 4 error ++ le 8 unique) }
+pub fn word(n: u64) -> [u8; 8]
+    ensures { result ≡ le 8 n }
+{
+    n.to_le_bytes()
+}
+
+/// Two numbers of four bytes as one word of eight.
+#[tactic(auto, unfolding(crate::specs::Written::le))]
+pub fn pair(first: u32, second: u32) -> [u8; 8]
+    ensures { result ≡ le 4 first ++ le 4 second }
+{
+    let [a, b, c, d] = first.to_le_bytes();
+    let [e, f, g, h] = second.to_le_bytes();
+    [a, b, c, d, e, f, g, h]
+}
+
+/// The lowest four bytes of a length and a number of four bytes as one word of eight.
+#[tactic(auto, unfolding(crate::specs::Written::le))]
+pub fn len_and(len: usize, number: u32) -> [u8; 8]
+    ensures { result ≡ le 4 len ++ le 4 number }
 {
     let [a, b, c, d, ..] = len.to_le_bytes();
-    let [e, f, g, h] = error.to_le_bytes();
-    let [i, j, k, l, p, q, r, s] = unique.to_le_bytes();
-    [a, b, c, d, e, f, g, h, i, j, k, l, p, q, r, s]
+    let [e, f, g, h] = number.to_le_bytes();
+    [a, b, c, d, e, f, g, h]
 }
 
-/// Puts such a header at once.
-#[tactic(auto, unfolding(crate::specs::Written::le))]
-pub fn put_reply_header(out: &mut Vec<u8>, len: usize, error: u32, unique: u64)
-    requires { vec_len out.old + 16 ≤ vec_capacity out.old }
-    ensures items { out.new.items ≡ out.old.items ++ (le 4 len ++ (le 4 error ++ le 8 unique)) }
-    ensures len { vec_len out.new ≡ vec_len out.old + 16 }
+/// Words of eight bytes, all at once.
+pub fn put_words(out: &mut Vec<u8>, words: &[[u8; 8]])
+    requires { vec_len out.old + 8 * length words.now ≤ vec_capacity out.old }
+    ensures items { out.new.items ≡ out.old.items ++ joined words.now }
+    ensures len { vec_len out.new ≡ vec_len out.old + 8 * length words.now }
     ensures capacity { vec_capacity out.old ≤ vec_capacity out.new }
 {
-    put(out, &reply_header(len, error, unique));
+    put(out, words.as_flattened());
 }
 
 #[tactic(auto, unfolding(crate::specs::Written::u16s, crate::specs::Written::le))]

@@ -10,9 +10,7 @@ use crate::opcode::{
     LOOKUP, MKDIR, OPEN, OPENDIR, READ, READDIR, READDIRPLUS, RELEASE, RELEASEDIR, RENAME, RENAME2,
     RMDIR, SETATTR, STATFS, UNLINK, WRITE,
 };
-use crate::put::{
-    put, put_four_u32, put_low_u32, put_text, put_two_u64, put_u32, put_u64, put_zeros,
-};
+use crate::put::{pair, put, put_low_u32, put_text, put_u32, put_u64, put_words, put_zeros, word};
 use crate::request::{HEADER_LEN, NewAttributes, Operation};
 use Part::{Bytes, LowU32, New, Text, U32, U64, Zeros};
 
@@ -185,10 +183,17 @@ fn put_new_attributes(out: &mut Vec<u8>, a: &NewAttributes)
 {
     let (accessed, modified) = (a.accessed, a.modified);
     let (mode, uid, gid) = (a.mode, a.uid, a.gid);
-    put_two_u64(out, 0, accessed.seconds);
-    put_two_u64(out, modified.seconds, 0);
-    put_four_u32(out, accessed.nanos, modified.nanos, 0, mode);
-    put_four_u32(out, 0, uid, gid, 0);
+    let words = [
+        word(0),
+        word(accessed.seconds),
+        word(modified.seconds),
+        word(0),
+        pair(accessed.nanos, modified.nanos),
+        pair(0, mode),
+        pair(0, uid),
+        pair(gid, 0),
+    ];
+    put_words(out, &words);
 }
 
 #[tactic(auto, using(crate::proofs::Lengths::lengths))]
