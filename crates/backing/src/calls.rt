@@ -1,6 +1,6 @@
 //! A directory, as far as its callers know it.
 
-ghost use Rattle.std.specs.Prelude.{ℕ};
+ghost use Rattle.std.specs.Prelude.{◌≡◌, ℕ};
 ghost use Rattle.backing.specs.declared.call.Answer.{Answer};
 
 use crate::call::{Answer, Call};
@@ -19,6 +19,11 @@ pub trait Calls {
     /// Makes one call.
     fn call(&mut self, call: Call<'_>) -> Answer
         ensures { gives self.old (asked call.entry) result self.new };
+
+    /// Offers a buffer that is needed no longer: a later read may take its room, and leave another one.
+    fn offer_room(&mut self, _buffer: &mut Vec<u8>)
+        ensures { self.new ≡ self.old }
+    {}
 
     /// A failure is told by a fault, and counts as one more. Nothing else counts.
     ghost counts: { (old new : Self) (call : Asked) (answer : Answer) → gives old call answer new → Counts (faults old) answer (faults new) };

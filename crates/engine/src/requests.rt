@@ -168,7 +168,11 @@ impl Session {
             ScriptResult::Looked(looked) => {
                 self.tell_entries(link, table, share, request, ticket, page, looked)
             }
-            found => self.tell(link, table, share, request, ticket, found),
+            found => {
+                let sent = self.tell(link, table, share, request, ticket, found);
+                served.calls.offer_room(&mut self.buffer);
+                sent
+            }
         }
     }
 

@@ -1,7 +1,8 @@
-use Rattle.std.proofs.Common.{[], refl, subst}
+use Rattle.std.proofs.Common.{[], refl, subst, sym}
 use Rattle.ops.specs.Ahead.{end_of}
 use Rattle.ops.specs.Scripts.{Plan, Follows, listed_end, plan_of}
 use Rattle.ops.specs.declared.findings.ScriptResult.{ScriptResult}
+use Rattle.engine.specs.Serving.{Makes}
 use Rattle.engine.specs.Walks.{no_memory}
 use Rattle.engine.proofs.requests.Session.run_script.Goals as goal
 
@@ -34,10 +35,10 @@ returns-in_default g c =
       runs = record {
         made = played.made;
         end = end_of c.play.result;
-        makes = played.makes;
-        concludes = record { folders = []; chain = refl; so = c.tell.ensures.concludes c.args.page.now played.made follows };
+        makes = subst (λ (calls : g.row.C.Denot). Makes g.C.Calls.gives c.args.served.now.calls played.made calls) (sym c.offer_room.ensures) played.makes;
+        concludes = record { folders = []; chain = refl; so = c.tell-sent.ensures.concludes c.args.page.now played.made follows };
       };
-      gains = c.tell.ensures.gains;
-      settings = c.tell.ensures.settings;
-      agreed = c.tell.ensures.agreed;
+      gains = c.tell-sent.ensures.gains;
+      settings = c.tell-sent.ensures.settings;
+      agreed = c.tell-sent.ensures.agreed;
     }
