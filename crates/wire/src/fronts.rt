@@ -5,7 +5,7 @@ ghost use Rattle.std.specs.List.{position};
 ghost use Rattle.wire.specs.Reading.{Gives, number_at, unread_at, text_at, counted_at, limited_at, ended, utf8_at, name_at};
 
 use crate::fault::WireFault;
-use crate::little_endian::{u32_at, u64_at};
+use byteorder::{ByteOrder, LittleEndian};
 
 pub fn u32_front(body: &[u8]) -> Result<(u32, &[u8]), WireFault>
     ensures { Gives (λ x. (x.0, x.1.now)) result (number_at 4 body.now) }
@@ -13,7 +13,7 @@ pub fn u32_front(body: &[u8]) -> Result<(u32, &[u8]), WireFault>
     if body.len() < 4 {
         return Err(WireFault::Body);
     }
-    Ok((u32_at(body), &body[4..]))
+    Ok((LittleEndian::read_u32(body), &body[4..]))
 }
 
 pub fn u64_front(body: &[u8]) -> Result<(u64, &[u8]), WireFault>
@@ -22,7 +22,7 @@ pub fn u64_front(body: &[u8]) -> Result<(u64, &[u8]), WireFault>
     if body.len() < 8 {
         return Err(WireFault::Body);
     }
-    Ok((u64_at(body), &body[8..]))
+    Ok((LittleEndian::read_u64(body), &body[8..]))
 }
 
 pub fn unread_front(body: &[u8], len: usize) -> Result<&[u8], WireFault>
@@ -54,7 +54,7 @@ pub fn counted_front(body: &[u8], unit: usize, gap: usize, limit: u32) -> Result
     if body.len() < 4 + gap {
         return Err(WireFault::Body);
     }
-    let count = u32_at(body);
+    let count = LittleEndian::read_u32(body);
     let rest = &body[4 + gap..];
     if count > limit || rest.len() != unit * count as usize {
         return Err(WireFault::Body);

@@ -4,8 +4,8 @@ ghost use Rattle.std.specs.Prelude.{◌≡◌, ◌+◌, ◌<◌, ◌≤◌, ◌�
 ghost use Rattle.byteorder.specs.Endian.{little_number};
 ghost use Rattle.wire.specs.Requests.{header_in};
 
-use crate::little_endian::{u32_at, u64_at};
 use crate::request::HEADER_LEN;
+use byteorder::{ByteOrder, LittleEndian};
 
 /// What the header of a request tells, beside the length of the frame.
 #[derive(Clone, Copy, Debug, PartialEq, Eq)]
@@ -21,14 +21,14 @@ pub fn u32_in(frame: &[u8], at: usize) -> u32
     requires { at + 4 ≤ length frame.now }
     ensures { result ≡ little_number 4 (drop at frame.now) }
 {
-    u32_at(&frame[at..])
+    LittleEndian::read_u32(&frame[at..])
 }
 
 fn u64_in(frame: &[u8], at: usize) -> u64
     requires { at + 8 ≤ length frame.now }
     ensures { result ≡ little_number 8 (drop at frame.now) }
 {
-    u64_at(&frame[at..])
+    LittleEndian::read_u64(&frame[at..])
 }
 
 /// The header of a frame that has one, whether or not the frame is faulty: whom to answer, and whether to.

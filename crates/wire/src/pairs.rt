@@ -3,7 +3,7 @@
 ghost use Rattle.std.specs.Prelude.{◌≡◌, ◌<◌, [], ◌∷◌, length, MatchOption};
 ghost use Rattle.wire.specs.Pairs.{pairs_in};
 
-use crate::little_endian::u64_at;
+use byteorder::{ByteOrder, LittleEndian};
 
 /// How many bytes a pair has (`fuse_forget_one`).
 const PAIR_LEN: usize = 16;
@@ -24,8 +24,8 @@ pub fn split_pair(pairs: &[u8]) -> Option<(Forgotten, &[u8])>
         return None;
     }
     let pair = Forgotten {
-        node: u64_at(pairs),
-        nlookup: u64_at(&pairs[8..]),
+        node: LittleEndian::read_u64(pairs),
+        nlookup: LittleEndian::read_u64(&pairs[8..]),
     };
     Some((pair, &pairs[PAIR_LEN..]))
 }

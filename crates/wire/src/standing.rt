@@ -2,8 +2,8 @@
 
 ghost use Rattle.wire.specs.NextFrame.{Stands};
 
-use crate::little_endian::u32_at;
 use crate::request::{HEADER_LEN, MAX_FRAME_LEN};
+use byteorder::{ByteOrder, LittleEndian};
 
 pub enum NextFrame {
     /// Neither a whole frame nor a bad length.
@@ -20,7 +20,7 @@ pub fn standing_in(kept: &[u8]) -> NextFrame
     if kept.len() < 4 {
         return NextFrame::Partial;
     }
-    let len = u32_at(kept);
+    let len = LittleEndian::read_u32(kept);
     if (len as usize) < HEADER_LEN || len as usize > MAX_FRAME_LEN {
         return NextFrame::Bad(len);
     }

@@ -6,7 +6,8 @@ use std::alloc::{AllocError, Global};
 use std::marker::Model;
 use std::mem::swap;
 
-/// The bytes of a buffer from `start` up to `end`. What stands before and behind them is room, so that letting bytes go costs nothing.
+/// The bytes of a buffer from `start` up to `end`. What stands before and behind them is room: the buffer never gets shorter, so that
+/// letting bytes go costs nothing.
 #[derive(Drop)]
 pub struct Window {
     buffer: Vec<u8>,
@@ -36,19 +37,20 @@ fn move_to_front(buffer: &mut [u8], start: usize, end: usize)
     front[..end - start].copy_from_slice(&back[..end - start]);
 }
 
-/// Writes the piece behind the first `end` bytes, and makes room for it. Without memory those bytes stay.
+/// Writes the piece behind the first `end` bytes, and makes room for it. Without memory nothing changes.
 fn write_behind(buffer: &mut Vec<u8>, end: usize, piece: &[u8]) -> Result<(), AllocError>
     requires within { end ≤ length buffer.old.items }
     ensures written { OnOk result (take (end + length piece.now) buffer.new.items ≡ take end buffer.old.items ++ piece.now) }
     ensures fits { OnOk result (end + length piece.now ≤ length buffer.new.items) }
-    ensures same { OnErr result (take end buffer.new.items ≡ take end buffer.old.items) }
-    ensures left { OnErr result (end ≤ length buffer.new.items) }
+    ensures same { OnErr result (buffer.new.items ≡ buffer.old.items) }
 {
-    if piece.len() > buffer.len() - end {
-        buffer.truncate(end);
-        return buffer.extend_from_slice(piece);
+    let Some(wanted) = end.checked_add(piece.len()) else {
+        return Err(AllocError);
+    };
+    if wanted > buffer.len() {
+        buffer.resize(wanted, 0)?;
     }
-    buffer[end..end + piece.len()].copy_from_slice(piece);
+    buffer[end..wanted].copy_from_slice(piece);
     Ok(())
 }
 
@@ -101,7 +103,7 @@ impl Window {
         Ok(())
     }
 
-    /// Takes in the first bytes of a room. Where none are kept, the buffer and the room are exchanged, each at the length of the room,
+    /// Takes in the first bytes of a room. Where none are kept, and the buffer did not come to be longer than the room, the two are exchanged
     /// and no byte is copied. Without memory nothing changes.
     pub fn take_from(&mut self, room: &mut Vec<u8>, count: usize) -> Result<(), AllocError>
         requires within { count ≤ vec_len room.old }
@@ -109,12 +111,10 @@ impl Window {
         ensures err { OnErr result ((self.new ≡ self.old) × (room.new.items ≡ room.old.items)) }
         ensures room { vec_len room.new ≡ vec_len room.old }
     {
-        if self.start < self.end {
+        if self.start < self.end || self.buffer.len() > room.len() {
             return self.push(&room[..count]);
         }
-        if self.buffer.len() != room.len() {
-            self.buffer.resize(room.len(), 0)?;
-        }
+        self.buffer.resize(room.len(), 0)?;
         swap(&mut self.buffer, room);
         self.start = 0;
         self.end = count;

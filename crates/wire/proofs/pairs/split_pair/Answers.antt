@@ -20,5 +20,5 @@ first_pair body rest node nlookup long one two is =
 pub returns : goal.returns
 returns c =
     let body = c.args.pairs.now in
-    first_pair body (take (length body - 16) (drop 16 body)) c.u64_at.result c.u64_at-2.result c.if-pairs-lt-PAIR_LEN.false c.u64_at.ensures
-    (c.u64_at-2.ensures ∙ ap (λ (t : List ℕ). little_number 8 t) (take_rest body 8)) (take_rest body 16)
+    first_pair body (take (length body - 16) (drop 16 body)) c.read_u64.result c.read_u64-2.result c.if-pairs-lt-PAIR_LEN.false c.read_u64.ensures
+    (c.read_u64-2.ensures ∙ ap (λ (t : List ℕ). little_number 8 t) (take_rest body 8)) (take_rest body 16)
