@@ -1,40 +1,19 @@
-//! The programs `pipe` and `serve`, but for their command lines.
+//! The program `serve`, but for its command line.
 
 ghost use Rattle.std.specs.Prelude.{◌≡◌};
-ghost use Rattle.mirrord_programs.specs.Runs.{RunsPipe, RunsServe};
+ghost use Rattle.mirrord_programs.specs.Runs.{RunsServe};
 
-use crate::ended::{Ended, failure_after, status_after, tell_any};
 use crate::standing::enter;
-use mirrord_server::{Terms, serve_folder, serve_socket, serve_socket_by};
+use mirrord_server::{Terms, serve_socket, serve_socket_by};
+use mirrord_streams::{Ended, failure_after, status_after, tell_any};
 use std::fs::File;
-use std::io::{Read, Write};
+use std::io::Write;
 use std::net::Net;
 use std::random::RandomSource;
 use std::rt::Files;
 use std::sync::Wait;
 use std::thread::Threads;
 use std::time::Clock;
-
-/// The name of what `pipe` reads.
-const STANDARD_INPUT: &str = "standard input";
-
-/// Serves the folder `root` to the client who writes `input` and reads `output`: the program `pipe` but for its command line.
-pub fn pipe_run<
-    H: Wait + RandomSource + Files<File = File> + Clock + AllocGlobal + Clone + Drop,
-    I: Read + Drop,
-    O: Write + Drop,
-    F: Write,
->(rt: &H, root: &str, terms: Terms, input: I, output: O, faults: &mut F) -> Ended<O>
-    ensures { RunsPipe root.entry terms (I.remaining input) (O.contents output) (O.contents result.output) (F.contents faults.old) (F.contents faults.new) result.status result.told }
-{
-    let served = serve_folder(rt, root, terms, input, output);
-    let failure = failure_after(served.ended, root, STANDARD_INPUT);
-    Ended {
-        status: status_after(failure),
-        told: tell_any(faults, failure),
-        output: served.output,
-    }
-}
 
 /// How many threads serve.
 #[derive(Clone, Copy, Debug, PartialEq, Eq)]

@@ -1,23 +1,11 @@
-//! The programs of the server: their command lines, and what each of them does, but for the system around it.
+//! The programs of the server, over any words, readers and writers.
 #![tactic(auto)]
 
-mod command;
-mod ended;
-mod faults;
 mod folders;
-mod hexadecimal;
-mod options;
-mod refusals;
 mod runs;
-mod samples;
 mod standing;
 
-pub use command::DEFAULT_POSTINGS;
-pub use ended::Ended;
-pub use faults::{Failure, Fault, tell};
-pub use folders::{Serving, pipe_run, serve_run};
-pub use hexadecimal::HexLink;
-pub use options::{Options, read_options};
-pub use refusals::Refusal;
-pub use runs::{hex_run, run};
-pub use samples::new_tree;
+pub use folders::{Serving, serve_run};
+pub use mirrord_commands::{DEFAULT_POSTINGS, Failure, Fault, Options, Refusal, read_options, tell};
+pub use mirrord_streams::{Ended, HexLink, hex_run, new_tree, pipe_run};
+pub use runs::run;

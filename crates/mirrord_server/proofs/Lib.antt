@@ -1,3 +1,1 @@
-pub mod KnownRuns
-pub mod Streaming
 pub mod Threads

@@ -13,9 +13,9 @@ use Rattle.engine_threads.specs.Ended.{EndsAs, IsShared}
 use Rattle.engine_threads.specs.Served.{HasServed}
 use Rattle.engine_queues.specs.Gathered.{numbers_of}
 use Rattle.engine_threads.specs.declared.ended.Account.{Account}
-use Rattle.mirrord_server.specs.Sessions.{limits_of}
+use Rattle.mirrord_sessions.specs.Sessions.{limits_of}
 use Rattle.mirrord_server.specs.Workers.{AreServed, ServesWorkers}
-use Rattle.mirrord_server.specs.declared.terms.Terms.{Terms}
+use Rattle.mirrord_sessions.specs.declared.terms.Terms.{Terms}
 
 -- by what was made of the folders
 pub served_by : (terms : Terms) (workers : ℕ) (folders : List ℕ) (input output : Streaming) (account : Option Account) (over : SessionEnd)

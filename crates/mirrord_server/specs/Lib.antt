@@ -1,4 +1,1 @@
-pub mod Folders
-pub mod Known
-pub mod Sessions
 pub mod Workers

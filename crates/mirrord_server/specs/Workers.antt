@@ -13,9 +13,9 @@ use Rattle.engine_threads.specs.Ended.{EndsAs, IsShared}
 use Rattle.engine_threads.specs.Served.{HasServed}
 use Rattle.engine_queues.specs.Gathered.{numbers_of}
 use Rattle.engine_threads.specs.declared.ended.Account.{Account}
-use Rattle.mirrord_server.specs.Sessions.{limits_of}
-use Rattle.mirrord_server.specs.declared.folder.Unserved.{Unserved}
-use Rattle.mirrord_server.specs.declared.terms.Terms.{Terms}
+use Rattle.mirrord_sessions.specs.Sessions.{limits_of}
+use Rattle.mirrord_sessions.specs.declared.folder.Unserved.{Unserved}
+use Rattle.mirrord_sessions.specs.declared.terms.Terms.{Terms}
 
 -- So many folders, of which no call was made, are served by a thread each: what one link hears are the jobs, another link is offered the
 -- replies, and one history has all calls on the table. The links are some streams.

@@ -1,15 +1,13 @@
 //! A folder of the system, served by threads.
 
-ghost use Rattle.std.specs.Prelude.{◌≡◌, IfOk, replicate, vec_len};
+ghost use Rattle.std.specs.Prelude.{◌≡◌, IfOk, Ok, replicate, vec_len};
 ghost use Rattle.mirrord_server.specs.Workers.{ServesWorkers};
 
-use crate::folder::{Unserved, open_folder};
-use crate::socket::RECEIVED;
-use crate::terms::Terms;
 use backing_folder::{Folder, System};
 use engine::SessionEnd;
 use engine_streams::StreamLink;
 use engine_threads::serve_threads;
+use mirrord_sessions::{Terms, Unserved, open_folder};
 use std::fs::ReadDir;
 use std::io;
 use std::io::BufReader;
@@ -40,26 +38,21 @@ pub(crate) fn open_folders(
     Ok(folders)
 }
 
-/// Serves the client at the other end of a socket by as many workers as there are folders.
+/// Serves by as many workers as there are folders a client who is heard from `input` and gets the replies by `output`.
 pub(crate) fn serve_workers<H: Threads + Wait + AllocGlobal + Clone + Send + Sync + Drop + 'static>(
     rt: &H,
     folders: Vec<HostFolder>,
     seeds: Seeds,
     terms: Terms,
-    stream: UnixStream,
-) -> Result<SessionEnd, Unserved>
+    input: BufReader<UnixStream>,
+    output: UnixStream,
+) -> SessionEnd
     requires { folders.items ≡ replicate (vec_len folders) 0 }
-    ensures { ServesWorkers terms (vec_len folders) result }
+    ensures { ServesWorkers terms (vec_len folders) (Ok result) }
 {
     let _names: Option<ReadDir> = None; // proof: a type that a folder's calls name
-    let Ok(heard) = stream.try_clone() else {
-        return Err(Unserved::NoSocket);
-    };
-    let Ok(input) = BufReader::with_capacity(rt.alloc(), RECEIVED, heard) else {
-        return Err(Unserved::Memory);
-    };
     let link_in = StreamLink::new(rt.alloc(), input, io::sink());
-    let link_out = StreamLink::new(rt.alloc(), io::empty(), stream);
+    let link_out = StreamLink::new(rt.alloc(), io::empty(), output);
     let ended = serve_threads(
         rt,
         rt.alloc(),
@@ -70,5 +63,5 @@ pub(crate) fn serve_workers<H: Threads + Wait + AllocGlobal + Clone + Send + Syn
         seeds,
         terms.settings,
     );
-    Ok(ended.end)
+    ended.end
 }

@@ -1,0 +1,168 @@
+-- The command line, as clap reads it.
+use Rattle.std.specs.Prelude.{ℕ, ◌≡◌, ◌≢◌, ◌<◌, ◌^◌, ◌⊎◌, pos, Bool, true, false, is_some, List, [], ◌∷◌, codes, Option, Some, None}
+use Rattle.std.specs.Str.Parse.{IsNumeral, without_leading_plus, digits_value}
+use Rattle.clap.specs.Words.{App, Row, Rule, Text, first_of, new_app, new_rule, one_of, with_rule, with_subcommand}
+use Rattle.clap.specs.declared.builder.action.ArgAction.TheVariants.{Set, SetTrue}
+use Rattle.clap.specs.declared.builder.value_parser.ValueParser.TheVariants.{Signed}
+use Rattle.ops.specs.declared.attributes.Settings.{Settings}
+use Rattle.ops.specs.declared.attributes.Settings.TheVariants.{Fixed, Host}
+use Rattle.mirrord_sessions.specs.declared.terms.Bounds.{Bounds}
+use Rattle.mirrord_sessions.specs.declared.terms.Terms.{Terms}
+use Rattle.mirrord_commands.specs.declared.options.Options.{Options}
+use Rattle.mirrord_commands.specs.declared.options.Options.TheVariants.{Serve, Pipe, Hex, Refused}
+use Rattle.mirrord_commands.specs.declared.refusals.Refusal.{Refusal}
+use Rattle.mirrord_commands.specs.declared.refusals.Refusal.TheVariants.{Attributes, Owner}
+use Rattle.mirrord_commands.specs.declared.refusals.Refusal.TheVariants as refusals
+use Rattle.table_steps.specs.declared.data.Counts.{Counts}
+use Rattle.table_steps.specs.declared.data.Counts.TheVariants.{Bounded, Free}
+
+-- ---- what may be written
+
+-- an option that takes a text and must be there
+abbrev pub text_rule : Text → Rule
+text_rule id = record (new_rule id) { long = Some id; action = Some Set; value_names = 1; required = true }
+
+-- an option that takes a number, and has a default
+abbrev pub number_rule : Text → (least most : ℕ) → (default : Text) → Rule
+number_rule id least most default = record (new_rule id) {
+  long = Some id;
+  action = Some Set;
+  value_names = 1;
+  parser = Some (Signed (pos least) (pos most));
+  defaults = default ∷ [];
+}
+
+-- a user or a group, which nobody need say
+abbrev pub user : Text → Rule
+user id = record (new_rule id) { long = Some id; action = Some Set; value_names = 1; parser = Some (Signed (pos 0) (pos 4294967295)) }
+
+-- an option that takes a word, and has a default
+abbrev pub word_rule : Text → (default : Text) → Rule
+word_rule id default = record (new_rule id) { long = Some id; action = Some Set; value_names = 1; defaults = default ∷ [] }
+
+-- whose attributes are told
+abbrev pub attributes_rule : Rule
+attributes_rule = record (new_rule (codes "attributes")) { long = Some (codes "attributes"); action = Some Set; value_names = 1; defaults = codes "fixed" ∷ [] }
+
+-- a flag
+abbrev pub flag_rule : Text → Rule
+flag_rule id = record (new_rule id) { long = Some id; action = Some SetTrue }
+
+-- the flag `--single`, which is `-s` too
+abbrev pub single_rule : Rule
+single_rule = record (flag_rule (codes "single")) { short = Some 115 }
+
+-- told how many postings a period of the ledger may have, too
+abbrev pub bounded : App → App
+bounded app = with_rule app (number_rule (codes "postings") 1 4294967295 (codes "1048576"))
+
+-- told how many nodes, open files and requests there may be, too
+abbrev pub limited : App → App
+limited app = with_rule (with_rule (with_rule app (number_rule (codes "nodes") 2 16777216 (codes "65536"))) (number_rule (codes "files") 1 1048576 (codes "4096"))) (number_rule (codes "requests") 1 65536 (codes "64"))
+
+-- told what bounds the lookup counts, too
+abbrev pub counted : App → App
+counted app = with_rule app (word_rule (codes "counts") (codes "bounded"))
+
+-- the subcommands
+abbrev pub hex_app : App
+hex_app = bounded (with_rule (new_app (codes "hex")) (flag_rule (codes "sample")))
+
+-- told whose attributes are told, and a user and a group, too
+abbrev pub owned : App → App
+owned app = with_rule (with_rule (with_rule app attributes_rule) (user (codes "uid"))) (user (codes "gid"))
+
+abbrev pub pipe_app : App
+pipe_app = bounded (counted (limited (owned (with_rule (new_app (codes "pipe")) (text_rule (codes "root"))))))
+
+-- told how many threads work on requests, too
+abbrev pub staffed : App → App
+staffed app = with_rule (with_rule app (number_rule (codes "workers") 1 4 (codes "2"))) single_rule
+
+abbrev pub serve_app : App
+serve_app = bounded (counted (limited (owned (staffed (with_rule (with_rule (new_app (codes "serve")) (text_rule (codes "root"))) (text_rule (codes "socket")))))))
+
+-- the program, whose version can be asked for, without its subcommands
+abbrev pub bare_app : App
+bare_app = record (new_app (codes "mirrord")) {
+  top = record (new_app (codes "mirrord")).top { has_version = true; subcommand_required = true; arg_required_else_help = true };
+}
+
+abbrev pub mirrord_app : App
+mirrord_app = with_subcommand (with_subcommand (with_subcommand bare_app serve_app.top) pipe_app.top) hex_app.top
+
+-- ---- what it asks for
+
+-- what an option reads as: its text; empty where there is none
+abbrev pub TextReads : Option Text → Text → Type 0
+TextReads None text = text ≡ []
+TextReads (Some t) text = text ≡ t
+
+abbrev pub IsText : Text → List Row → Text → Type 0
+IsText id rows = TextReads (first_of id rows)
+
+-- a text that spells a number of so many bits
+abbrev pub IsSpelt : (bits : ℕ) → Text → Type 0
+IsSpelt bits text = IsNumeral 10 (without_leading_plus text) × (digits_value 10 (without_leading_plus text) < 2 ^ bits)
+
+-- what a text reads as where a number is asked for: the one that it spells; 0 where it spells none
+pub record NumberReads (bits : ℕ) (text : Text) (n : ℕ) : Type 0 where
+  pub spelt : IsSpelt bits text → n ≡ digits_value 10 (without_leading_plus text)
+  pub none : (IsSpelt bits text → ⊥) → n ≡ 0
+
+abbrev pub IsNumber : (bits : ℕ) → Text → List Row → ℕ → Type 0
+IsNumber bits id rows n = (text : Text) × IsText id rows text × NumberReads bits text n
+
+-- what a flag reads as
+abbrev pub FlagReads : Option Text → Bool → Type 0
+FlagReads None flag = flag ≡ false
+FlagReads (Some text) flag = (text ≡ codes "true" → flag ≡ true) × (text ≡ codes "false" → flag ≡ false)
+
+abbrev pub IsFlag : Text → List Row → Bool → Type 0
+IsFlag id rows = FlagReads (one_of id rows)
+
+-- what bounds the lookup counts
+abbrev pub AreCounts : List Row → Counts → Type 0
+AreCounts rows Bounded = IsText (codes "counts") rows (codes "bounded")
+AreCounts rows Free = IsText (codes "counts") rows (codes "free")
+
+-- how far the table may grow
+pub record AreBounds (rows : List Row) (bounds : Bounds) : Type 0 where
+  pub nodes : IsNumber 32 (codes "nodes") rows bounds.nodes
+  pub files : IsNumber 32 (codes "files") rows bounds.files
+  pub requests : IsNumber 32 (codes "requests") rows bounds.requests
+  pub postings : IsNumber 32 (codes "postings") rows bounds.postings
+  pub counts : AreCounts rows bounds.counts
+
+-- whether an option was given that has no default
+abbrev pub is_given : Text → List Row → Bool
+is_given id rows = is_some (first_of id rows)
+
+-- whose attributes are told: fixed ones, of an owner, who is user 0 and group 0 where none is given; or those of the host, which have their owners
+abbrev pub AreSettings : List Row → Settings → Type 0
+AreSettings rows (Fixed uid gid) = IsText (codes "attributes") rows (codes "fixed") × IsNumber 32 (codes "uid") rows uid × IsNumber 32 (codes "gid") rows gid
+AreSettings rows Host = IsText (codes "attributes") rows (codes "host") × (is_given (codes "uid") rows ≡ false) × (is_given (codes "gid") rows ≡ false)
+
+-- why nothing can be served so: attributes or counts are neither of their words, or an owner is given beside attributes of the host
+abbrev pub AreRefused : List Row → Refusal → Type 0
+AreRefused rows Attributes = (text : Text) × IsText (codes "attributes") rows text × (text ≢ codes "fixed") × (text ≢ codes "host")
+AreRefused rows refusals.Counts = (text : Text) × IsText (codes "counts") rows text × (text ≢ codes "bounded") × (text ≢ codes "free")
+AreRefused rows Owner = IsText (codes "attributes") rows (codes "host") × ((is_given (codes "uid") rows ≡ true) ⊎ (is_given (codes "gid") rows ≡ true))
+
+-- what a session is served by
+pub record AreTerms (rows : List Row) (terms : Terms) : Type 0 where
+  pub settings : AreSettings rows terms.settings
+  pub bounds : AreBounds rows terms.bounds
+
+-- what is asked for by the subcommand of that name, which was met with these rows
+abbrev pub IsAskedBy : Text → List Row → Options → Type 0
+IsAskedBy name rows (Serve root socket workers single terms) =
+    (name ≡ codes "serve") × IsText (codes "root") rows root.now × IsText (codes "socket") rows socket.now
+    × IsNumber 8 (codes "workers") rows workers × IsFlag (codes "single") rows single × AreTerms rows terms
+IsAskedBy name rows (Pipe root terms) = (name ≡ codes "pipe") × IsText (codes "root") rows root.now × AreTerms rows terms
+IsAskedBy name rows (Refused refusal) = ((name ≡ codes "serve") ⊎ (name ≡ codes "pipe")) × AreRefused rows refusal
+IsAskedBy name rows (Hex sample postings) = (name ≢ codes "serve") × (name ≢ codes "pipe") × IsFlag (codes "sample") rows sample × IsNumber 32 (codes "postings") rows postings
+
+abbrev pub IsAsked : Option (Text × List Row) → Options → Type 0
+IsAsked None options = options ≡ Hex false 1048576
+IsAsked (Some met) options = IsAskedBy met.0 met.1 options

@@ -1,0 +1,30 @@
+//! Why options that can be read are refused all the same.
+
+use std::fmt;
+use std::fmt::Display;
+
+/// Why options of `serve` and `pipe` are refused.
+#[derive(Clone, Copy, Debug, PartialEq, Eq)]
+pub enum Refusal {
+    /// `--attributes` is neither `fixed` nor `host`.
+    Attributes,
+    /// `--counts` is neither `bounded` nor `free`.
+    Counts,
+    /// An owner is given, and attributes are to be the host's, which tell the owners.
+    Owner,
+}
+
+impl Display for Refusal {
+    ghost use Rattle.std.specs.Prelude.{Some};
+    ghost use Rattle.mirrord_commands.specs.Faults.{refusal_message};
+
+    ghost output = { λ refusal. Some (refusal_message refusal) };
+
+    fn fmt<W: fmt::Write>(&self, f: &mut fmt::Formatter<W>) -> fmt::Result {
+        match self {
+            Refusal::Attributes => f.write_str("--attributes is fixed or host"),
+            Refusal::Counts => f.write_str("--counts is bounded or free"),
+            Refusal::Owner => f.write_str("with --attributes host there is no --uid and no --gid"),
+        }
+    }
+}

@@ -1,0 +1,134 @@
+//! A folder of the system, served over a stream.
+
+ghost use Rattle.std.specs.Prelude.{◌≡◌, ◌≢◌, IfErr, IfOk};
+ghost use Rattle.mirrord_sessions.specs.Folders.{IsFolderServed, ServesFolder};
+ghost use Rattle.mirrord_sessions.specs.declared.folder.Unserved.TheVariants.{NoSocket};
+
+use crate::hosting::serve_alone;
+use crate::terms::Terms;
+use backing_folder::{Folder, System};
+use engine::SessionEnd;
+use engine_streams::StreamLink;
+use std::fs::File;
+use std::io;
+use std::io::{ErrorKind, Read, Write};
+use std::random::RandomSource;
+use std::rt::Files;
+use std::sync::Wait;
+use std::time::Clock;
+use table::Seeds;
+
+/// Why nothing is served.
+#[derive(Clone, Copy, Debug, PartialEq, Eq)]
+pub enum Unserved {
+    /// No folder can be opened there.
+    NoFolder,
+    /// The system gives no random bytes.
+    NoSeed,
+    /// Nobody can be waited for there.
+    NoSocket,
+    /// Memory was refused.
+    Memory,
+}
+
+/// What serving over a stream leaves behind.
+#[derive(Drop)]
+pub struct Served<O: Drop> {
+    /// How the session ended, or why there was none.
+    pub ended: Result<SessionEnd, Unserved>,
+    /// The writer of the replies, handed back.
+    pub output: O,
+}
+
+/// Why a folder was not opened.
+fn unopened(error: io::Error) -> Unserved
+    ensures { result ≢ NoSocket }
+{
+    match error.kind() {
+        ErrorKind::OutOfMemory => Unserved::Memory,
+        _ => Unserved::NoFolder,
+    }
+}
+
+/// Opens the folder that is served.
+pub fn open_folder<H: Files<File = File> + Clock + AllocGlobal + Clone + Drop>(
+    rt: &H,
+    root: &str,
+) -> Result<Folder<System<H>>, Unserved>
+    ensures new { IfOk result (λ folder. folder ≡ 0) }
+    ensures why { IfErr result (λ why. why ≢ NoSocket) }
+{
+    let Ok(own) = rt.clone() else {
+        return Err(Unserved::Memory);
+    };
+    match Folder::open(own, root) {
+        Ok(folder) => Ok(folder),
+        Err(error) => Err(unopened(error)),
+    }
+}
+
+/// Seeds of a new table.
+pub fn new_seeds<H: RandomSource>(rt: &H) -> Result<Seeds, Unserved>
+    ensures { IfErr result (λ why. why ≢ NoSocket) }
+{
+    match Seeds::new(rt) {
+        Ok(seeds) => Ok(seeds),
+        Err(_) => Err(Unserved::NoSeed),
+    }
+}
+
+/// The folder that is served, and seeds of a table for it.
+pub(crate) fn open_seeded<
+    H: RandomSource + Files<File = File> + Clock + AllocGlobal + Clone + Drop,
+>(rt: &H, root: &str) -> Result<(Folder<System<H>>, Seeds), Unserved>
+    ensures new { IfOk result (λ opened. opened.0 ≡ 0) }
+    ensures why { IfErr result (λ why. why ≢ NoSocket) }
+{
+    let seeds = new_seeds(rt)?;
+    let folder = open_folder(rt, root)?;
+    Ok((folder, seeds))
+}
+
+/// Serves a folder that no call was made of.
+pub(crate) fn serve_opened<
+    H: Wait + Files<File = File> + Clock + AllocGlobal + Clone + Drop,
+    I: Read + Drop,
+    O: Write + Drop,
+>(
+    rt: &H,
+    folder: Folder<System<H>>,
+    seeds: Seeds,
+    terms: Terms,
+    input: I,
+    output: O,
+) -> (SessionEnd, O)
+    requires { folder ≡ 0 }
+    ensures { IsFolderServed terms (I.remaining input) (O.contents output) result.0 (O.contents result.1) }
+{
+    let mut link = StreamLink::new(rt.alloc(), input, output);
+    let end = serve_alone(rt, rt.alloc(), seeds, folder, &mut link, terms);
+    (end, link.into_writer())
+}
+
+/// Serves the folder at `root` to the client who writes `input` and reads `output`, until its session ends.
+pub fn serve_folder<
+    H: Wait + RandomSource + Files<File = File> + Clock + AllocGlobal + Clone + Drop,
+    I: Read + Drop,
+    O: Write + Drop,
+>(rt: &H, root: &str, terms: Terms, input: I, output: O) -> Served<O>
+    ensures { ServesFolder terms (I.remaining input) (O.contents output) result.ended (O.contents result.output) }
+{
+    match open_seeded(rt, root) {
+        Ok((folder, seeds)) => {
+            let (end, output) = serve_opened(rt, folder, seeds, terms, input, output);
+            Served {
+                ended: Ok(end),
+                output,
+            }
+        }
+        Err(why) => Served {
+            ended: Err(why),
+            output,
+        },
+    }
+}

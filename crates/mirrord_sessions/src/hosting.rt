@@ -1,0 +1,100 @@
+//! A session with a table of its own.
+
+ghost use Rattle.std.specs.Prelude.{◌≡◌};
+ghost use Rattle.engine.specs.Serving.{traffic};
+ghost use Rattle.mirrord_sessions.specs.Known.{known_calls, ServesKnown};
+ghost use Rattle.mirrord_sessions.specs.Sessions.{folder_limits, ServesLink};
+
+use crate::terms::Terms;
+use backing::{Calls, KnownTree};
+use engine::{Link, Served, SessionEnd, serve};
+use handles::Dirs;
+use ledger::{Blanks, Ledgers};
+use std::alloc::Global;
+use std::marker::Brand;
+use std::sync::Wait;
+use table::{Seeds, Table};
+
+/// Serves a tree and these open folders over a link with a table of one share.
+fn serve_new<H: Wait, T: Ledgers, L: Link, C: Calls + Drop>(
+    rt: &H,
+    alloc: Global,
+    blanks: Blanks,
+    seeds: Seeds,
+    tree: C,
+    dirs: &Dirs,
+    link: &mut L,
+    terms: Terms,
+) -> SessionEnd
+    requires names { blanks ≡ T.names }
+    requires shares { T.names.parts ≡ 1 }
+    requires limits { dirs.now ≡ folder_limits }
+    ensures { ServesLink terms (traffic L.receives L.sends) C.gives tree link.old result link.new }
+{
+    let opened = Table::<T>::open(alloc, terms.limits(), seeds, blanks, 1);
+    let Ok((mut table, mut shares)) = opened else {
+        return SessionEnd::Memory;
+    };
+    let mut share = shares.pop().unwrap();
+    shares.destroy_empty();
+    let mut served = Served { calls: tree, dirs };
+    let end = serve(
+        rt,
+        alloc,
+        link,
+        &mut served,
+        &mut table,
+        &mut share,
+        terms.settings,
+    );
+    share.leave();
+    end
+}
+
+/// The same with open folders of its own.
+fn serve_link<H: Wait, T: Ledgers, L: Link, C: Calls + Drop>(
+    rt: &H,
+    alloc: Global,
+    blanks: Blanks,
+    seeds: Seeds,
+    tree: C,
+    link: &mut L,
+    terms: Terms,
+) -> SessionEnd
+    requires names { blanks ≡ T.names }
+    requires shares { T.names.parts ≡ 1 }
+    ensures { ServesLink terms (traffic L.receives L.sends) C.gives tree link.old result link.new }
+{
+    match Dirs::new(alloc) {
+        Ok(dirs) => serve_new::<H, T, L, C>(rt, alloc, blanks, seeds, tree, &dirs, link, terms),
+        Err(_) => SessionEnd::Memory,
+    }
+}
+
+/// Serves a tree to one client, until its session ends. It may wait for the link.
+pub fn serve_alone<H: Wait, L: Link, C: Calls + Drop>(
+    rt: &H,
+    alloc: Global,
+    seeds: Seeds,
+    tree: C,
+    link: &mut L,
+    terms: Terms,
+) -> SessionEnd
+    ensures { ServesLink terms (traffic L.receives L.sends) C.gives tree link.old result link.new }
+{
+    serve_link::<H, Brand, L, C>(rt, alloc, Blanks::new(1), seeds, tree, link, terms)
+}
+
+/// The same from a tree that tells itself.
+pub fn serve_known<H: Wait, L: Link, C: KnownTree + Drop>(
+    rt: &H,
+    alloc: Global,
+    seeds: Seeds,
+    tree: C,
+    link: &mut L,
+    terms: Terms,
+) -> SessionEnd
+    ensures { ServesKnown terms (traffic L.receives L.sends) (known_calls C.gives C.tree C.faults) tree link.old result link.new }
+{
+    serve_alone(rt, alloc, seeds, tree, link, terms)
+}

@@ -1,0 +1,87 @@
+//! A folder of the system, served over a Unix socket by one thread.
+
+ghost use Rattle.std.specs.Prelude.{◌≡◌};
+ghost use Rattle.mirrord_sessions.specs.Folders.{ServesSocket};
+
+use crate::folder::{Unserved, open_seeded, serve_opened};
+use crate::place::Place;
+use crate::terms::Terms;
+use backing_folder::{Folder, System};
+use engine::SessionEnd;
+use engine_streams::Holding;
+use std::fs::File;
+use std::io::{BufReader, Write};
+use std::net::Net;
+use std::os::unix::net::UnixStream;
+use std::random::RandomSource;
+use std::rt::Files;
+use std::sync::Wait;
+use std::time::Clock;
+use table::Seeds;
+
+/// How many bytes one receive of the system takes at most.
+pub const RECEIVED: usize = 131_072;
+
+/// Serves the client at the other end of a socket.
+fn serve_client<H: Wait + Files<File = File> + Clock + AllocGlobal + Clone + Drop>(
+    rt: &H,
+    folder: Folder<System<H>>,
+    seeds: Seeds,
+    terms: Terms,
+    stream: &UnixStream,
+) -> Result<SessionEnd, Unserved>
+    requires { folder ≡ 0 }
+    ensures { ServesSocket terms result }
+{
+    let Ok(input) = BufReader::with_capacity(rt.alloc(), RECEIVED, stream) else {
+        return Err(Unserved::Memory);
+    };
+    let output = Holding::new(rt.alloc(), stream);
+    let (end, mut output) = serve_opened(rt, folder, seeds, terms, input, output);
+    // Only where more stood behind the DESTROY is anything left; the session is over, whatever becomes of it.
+    let _ = output.flush();
+    Ok(end)
+}
+
+/// Serves the first client that comes.
+fn serve_first<H: Wait + Files<File = File> + Clock + AllocGlobal + Clone + Drop>(
+    rt: &H,
+    folder: Folder<System<H>>,
+    seeds: Seeds,
+    terms: Terms,
+    place: &Place,
+) -> Result<SessionEnd, Unserved>
+    requires { folder ≡ 0 }
+    ensures { ServesSocket terms result }
+{
+    let stream = place.accept()?;
+    serve_client(rt, folder, seeds, terms, &stream)
+}
+
+/// Serves the first client that connects to a new socket at `path`, whose file is removed then.
+fn serve_at<H: Wait + Net + Files<File = File> + Clock + AllocGlobal + Clone + Drop>(
+    rt: &H,
+    folder: Folder<System<H>>,
+    seeds: Seeds,
+    terms: Terms,
+    path: &str,
+) -> Result<SessionEnd, Unserved>
+    requires { folder ≡ 0 }
+    ensures { ServesSocket terms result }
+{
+    let place = Place::new(rt, path)?;
+    let ended = serve_first(rt, folder, seeds, terms, &place);
+    place.remove(rt, path);
+    ended
+}
+
+/// Serves the folder at `root` to the first client that connects to a new socket at `path`, until its session ends. The file of
+/// the socket is then removed, unless something else stands there by then.
+pub fn serve_socket<
+    H: Wait + Net + RandomSource + Files<File = File> + Clock + AllocGlobal + Clone + Drop,
+>(rt: &H, root: &str, path: &str, terms: Terms) -> Result<SessionEnd, Unserved>
+    ensures { ServesSocket terms result }
+{
+    let (folder, seeds) = open_seeded(rt, root)?;
+    serve_at(rt, folder, seeds, terms, path)
+}

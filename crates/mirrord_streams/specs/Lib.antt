@@ -1,0 +1,5 @@
+pub mod Counting
+pub mod Ends
+pub mod Lines
+pub mod Runs
+pub mod Samples
