@@ -131,9 +131,6 @@ fn find_place<D: Disk + Drop>(
     let Some((name, parent)) = path.names().split_last() else {
         return Err(HostError::Refused(Reason::Taken));
     };
-    match ways.find(walk, parent)? {
-        Found::Folder(_) => walk.enter(name),
-        Found::File(_) => Err(HostError::Refused(Reason::NoFolder)),
-        Found::Nothing | Found::Hidden => Err(HostError::Refused(Reason::Nothing)),
-    }
+    ways.find_folder(walk, parent)?;
+    walk.enter(name)
 }

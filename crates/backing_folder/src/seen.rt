@@ -1,4 +1,4 @@
-//! Files and folders that a Stat found, as they are remembered.
+//! Files and folders that were found, as they are remembered.
 
 ghost use Rattle.std.specs.Prelude.{◌≡◌, IfSome};
 
@@ -10,14 +10,14 @@ use std::alloc::{AllocError, Global};
 /// How many files and folders are remembered at most.
 const SEEN: usize = 512;
 
-/// A file or folder that a Stat found.
+/// A file or folder that was found.
 #[derive(Drop)]
 pub struct Sight {
     pub path: Path,
     pub numbers: Numbers,
 }
 
-/// What a Stat found last at a path, for up to 512 paths. It says which file or folder to look for, and nothing of what stands there
+/// What was found last at a path, for up to 512 paths. It says which file or folder to look for, and nothing of what stands there
 /// now: so nothing needs to be done here where one is removed or moved.
 #[derive(Drop)]
 pub struct Seen {
@@ -52,7 +52,7 @@ impl Seen {
         }
     }
 
-    /// Remembers what a Stat found at the path, if there is memory for it. Where that is no file or folder, nothing is remembered of the
+    /// Remembers what was found at the path, if there is memory for it. Where that is no file or folder, nothing is remembered of the
     /// path.
     pub fn set(&mut self, path: &Path, found: Found) {
         match expect_present(found) {

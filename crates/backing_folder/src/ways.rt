@@ -14,11 +14,11 @@ use paths::{Name, Path};
 use std::alloc::AllocError;
 use std::marker::Model;
 
-/// A disk, folders that were walked to on it, and what a Stat found on it. Contracts see the disk.
+/// A disk, folders that were walked to on it, and what was found on it. Contracts see the disk.
 ///
 /// A folder that is remembered is looked at again, by its whole path, each time that it is used to reach what is not known. It is the
-/// one that was walked to if it has the same device and inode number; else it is walked to anew. What a Stat found is looked at again in
-/// the same way by the next one.
+/// one that was walked to if it has the same device and inode number; else it is walked to anew. What was found is looked at again in
+/// the same way by the next call on it.
 #[derive(Drop)]
 pub struct Ways<D: Disk + Drop> {
     disk: D,
@@ -55,12 +55,42 @@ impl<D: Disk + Drop> Ways<D> {
         &self.disk
     }
 
+    /// What stands there: by one look, where that shows the file or folder that was found there before. Else what `find_anew` answers
+    /// counts, and is remembered. That takes one look at most at the root and at a name in it, so nothing is remembered of these.
+    pub fn find(&mut self, walk: &mut Walk, path: &Path) -> Result<Found, HostError>
+        ensures same { self.new ≡ self.old }
+        ensures walked { OnOk result (IsWalked (D.root self.new) (D.folders self.new) walk.new path.now) }
+    {
+        if path.len() < 2 {
+            return self.find_anew(walk, path.names());
+        }
+        if let Some(found) = self.recall_seen(walk, path) {
+            return Ok(found);
+        }
+        let found = self.find_anew(walk, path.names());
+        match found {
+            Ok(found) => self.seen.set(path, found),
+            Err(_) => self.seen.forget(path),
+        }
+        found
+    }
+
+    /// What stands there, in the folder of what was found just now: one look, where the folder is remembered.
+    pub fn find_beside(&mut self, walk: &mut Walk, path: &Path) -> Result<Found, HostError>
+        ensures same { self.new ≡ self.old }
+        ensures walked { OnOk result (IsWalked (D.root self.new) (D.folders self.new) walk.new path.now) }
+    {
+        match self.glance(walk, path.names())? {
+            Some(found) => Ok(found),
+            None => self.find_anew(walk, path.names()),
+        }
+    }
+
     /// Goes down from the root, and answers what stands there: one look for each name, or two where its folder is
     /// remembered.
-    pub fn find(&mut self, walk: &mut Walk, names: &[Name]) -> Result<Found, HostError>
+    fn find_anew(&mut self, walk: &mut Walk, names: &[Name]) -> Result<Found, HostError>
         ensures same { self.new ≡ self.old }
         ensures walked { OnOk result (IsWalked (D.root self.new) (D.folders self.new) walk.new names.now) }
-        ensures folder { IfOk result (λ found. IsFolder found → D.folders self.new walk.new) }
     {
         if names.len() < 2 {
             return walk.find(&self.disk, names);
@@ -73,28 +103,20 @@ impl<D: Disk + Drop> Ways<D> {
         self.disk.look(walk.path())
     }
 
-    /// What stands there, for a Stat: by one look, where that shows the file or folder that one before it found there. Else what `find`
-    /// answers counts, and is remembered. That takes one look at most at the root and at a name in it, so nothing is remembered of
-    /// these.
-    pub fn find_seen(&mut self, walk: &mut Walk, path: &Path) -> Result<Found, HostError>
+    /// Goes down to the folder: by one look, where it is remembered, and by none to the root.
+    pub fn find_folder(&mut self, walk: &mut Walk, names: &[Name]) -> Result<(), HostError>
         ensures same { self.new ≡ self.old }
-        ensures walked { OnOk result (IsWalked (D.root self.new) (D.folders self.new) walk.new path.now) }
+        ensures walked { OnOk result (IsWalked (D.root self.new) (D.folders self.new) walk.new names.now) }
+        ensures folder { OnOk result (D.folders self.new walk.new) }
     {
-        if path.len() < 2 {
-            return self.find(walk, path.names());
+        if names.is_empty() {
+            expect_folder(walk.find(&self.disk, names)?)?;
+            return Ok(());
         }
-        if let Some(found) = self.recall_seen(walk, path) {
-            return Ok(found);
-        }
-        let found = self.find(walk, path.names());
-        match found {
-            Ok(found) => self.seen.set(path, found),
-            Err(_) => self.seen.forget(path),
-        }
-        found
+        self.go_to_folder(walk, names)
     }
 
-    /// What stands there, by one look, if it is what a Stat found there before.
+    /// What stands there, by one look, if it is what was found there before.
     fn recall_seen(&self, walk: &mut Walk, path: &Path) -> Option<Found>
         ensures { IfSome result (λ found. IsWalked (D.root self.now) (D.folders self.now) walk.new path.now) }
     {
@@ -107,7 +129,7 @@ impl<D: Disk + Drop> Ways<D> {
         ensures walked { IfSome result (λ found. IsWalked (D.root self.now) (D.folders self.now) walk.new names.now) }
         ensures same { IfSome result (ShowsNumbers (D.shows self.now walk.new) numbers.now) }
     {
-        let Ok(found) = self.glance(walk, names) else {
+        let Ok(Some(found)) = self.glance(walk, names) else {
             return None;
         };
         let Ok(now) = expect_present(found) else {
@@ -117,20 +139,39 @@ impl<D: Disk + Drop> Ways<D> {
     }
 
     /// What stands there, by one look, where its folder is remembered. Others may have put another folder, or a link, into the place of
-    /// one above it meanwhile: so it is of use only where that very file is known, by device and inode number.
-    pub fn glance(&self, walk: &mut Walk, names: &[Name]) -> Result<Found, HostError>
-        ensures walked { IfOk result (λ found. (it : Identity) → IsIt found it → IsWalked (D.root self.now) (D.folders self.now) walk.new names.now) }
-        ensures shown { IfOk result (λ found. (it : Identity) → IsIt found it → D.shows self.now walk.new found) }
+    /// one above it meanwhile: so it is of use only where that very file is known, by device and inode number, or one beside it was
+    /// found so just now.
+    pub fn glance(&self, walk: &mut Walk, names: &[Name]) -> Result<Option<Found>, HostError>
+        ensures walked { IfOk result (λ found. IfSome found (λ _. IsWalked (D.root self.now) (D.folders self.now) walk.new names.now)) }
+        ensures shown { IfOk result (λ found. IfSome found (D.shows self.now walk.new)) }
     {
         let Some((name, parent)) = names.split_last() else {
-            return Ok(Found::Nothing);
+            return Ok(None);
         };
         let Some(place) = self.place(parent) else {
-            return Ok(Found::Nothing);
+            return Ok(None);
         };
         walk.start(place.path.as_str())?;
         walk.enter(name)?;
-        self.disk.look(walk.path())
+        let found = self.disk.look(walk.path())?;
+        Ok(Some(found))
+    }
+
+    /// Whether that file or folder was found there before.
+    pub fn has_seen(&self, path: &Path, identity: &Identity) -> bool {
+        match self.seen.at(path) {
+            Some(sight) => identity.has(&sight.numbers),
+            None => false,
+        }
+    }
+
+    /// Remembers what was made or moved there.
+    pub fn see(&mut self, path: &Path, found: Found)
+        ensures { self.new ≡ self.old }
+    {
+        if path.len() > 1 {
+            self.seen.set(path, found);
+        }
     }
 
     /// Goes down to the folder, by one look where it is remembered.
