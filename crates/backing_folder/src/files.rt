@@ -217,6 +217,7 @@ fn open_found<D: Disk>(
     Ok(files.keep(Kept {
         identity,
         access,
+        any: false,
         file,
     })?)
 }
