@@ -86,7 +86,7 @@ pub fn rename<D: Disk + Drop>(
     expect_fitting(ways.disk(), target.path(), source, found)?;
     ways.forget_moved(source);
     replace(ways.disk(), files, walk.path(), target.path(), found)?;
-    ways.see(to, source);
+    ways.see(target, to, source);
     Ok(Answer::Done)
 }
 
@@ -111,7 +111,7 @@ pub fn rename_new<D: Disk + Drop>(
     }
     ways.forget_moved(source);
     ways.disk().rename(walk.path(), target.path())?;
-    ways.see(to, source);
+    ways.see(target, to, source);
     Ok(Answer::Done)
 }
 

@@ -40,7 +40,7 @@ pub fn make<D: Disk + Drop>(
     match ways.disk().create_new(walk.path(), permissions) {
         Ok(file) => {
             let identity = keep_made(files, file, permissions)?;
-            ways.see(path, Found::File(identity));
+            ways.see(walk, path, Found::File(identity));
         }
         Err(error) => return Err(why_not_made(ways.disk(), walk.path(), error)),
     }

@@ -8,7 +8,7 @@ ghost use Rattle.backing_folder.specs.declared.walk.Identity.{Identity};
 use crate::disk::Disk;
 use crate::host_error::HostError;
 use crate::places::{PLACES, Place, are_same, place_of, slot_of};
-use crate::seen::Seen;
+use crate::seen::Sight;
 use crate::walk::{Found, Identity, Numbers, Walk, expect_folder, expect_present};
 use paths::{Name, Path};
 use std::alloc::AllocError;
@@ -21,20 +21,20 @@ use std::marker::Model;
 /// the same way by the next call on it.
 #[derive(Drop)]
 pub struct Ways<D: Disk + Drop> {
-    disk: D,
+    pub(crate) disk: D,
     slots: Vec<Option<Place>>,
-    seen: Seen,
+    pub(crate) sights: Vec<Option<Sight>>,
 }
 
 impl<D: Disk + Drop> Model for Ways<D> {
     ghost use Rattle.std.specs.List.{All};
-    ghost use Rattle.backing_folder.specs.Places.{IsKnownSlot};
+    ghost use Rattle.backing_folder.specs.Places.{IsKnownSight, IsKnownSlot};
 
     ghost Value = { D };
 
     ghost view = { λ w. w.disk };
 
-    ghost invariant = { λ w. All (IsKnownSlot (D.root w.disk) (D.folders w.disk)) w.slots.items };
+    ghost invariant = { λ w. (All (IsKnownSlot (D.root w.disk) (D.folders w.disk)) w.slots.items) × (All (IsKnownSight (D.root w.disk) (D.folders w.disk)) w.sights.items) };
 }
 
 impl<D: Disk + Drop> Ways<D> {
@@ -45,8 +45,12 @@ impl<D: Disk + Drop> Ways<D> {
         ensures { result ≡ disk }
     {
         let slots = Vec::new(disk.alloc());
-        let seen = Seen::new(disk.alloc());
-        Ways { disk, slots, seen }
+        let sights = Vec::new(disk.alloc());
+        Ways {
+            disk,
+            slots,
+            sights,
+        }
     }
 
     pub fn disk(&self) -> &D
@@ -67,12 +71,16 @@ impl<D: Disk + Drop> Ways<D> {
         if let Some(found) = self.recall_seen(walk, path) {
             return Ok(found);
         }
-        let found = self.find_anew(walk, path.names());
-        match found {
-            Ok(found) => self.seen.set(path, found),
-            Err(_) => self.seen.forget(path),
+        match self.find_anew(walk, path.names()) {
+            Ok(found) => {
+                self.see(walk, path, found);
+                Ok(found)
+            }
+            Err(error) => {
+                self.forget_sight(path);
+                Err(error)
+            }
         }
-        found
     }
 
     /// What stands there, in the folder of what was found just now: one look, where the folder is remembered.
@@ -120,22 +128,9 @@ impl<D: Disk + Drop> Ways<D> {
     fn recall_seen(&self, walk: &mut Walk, path: &Path) -> Option<Found>
         ensures { IfSome result (λ found. IsWalked (D.root self.now) (D.folders self.now) walk.new path.now) }
     {
-        let sight = self.seen.at(path)?;
-        self.glance_for(walk, path.names(), &sight.numbers)
-    }
-
-    /// What `glance` shows there, if it has these numbers.
-    fn glance_for(&self, walk: &mut Walk, names: &[Name], numbers: &Numbers) -> Option<Found>
-        ensures walked { IfSome result (λ found. IsWalked (D.root self.now) (D.folders self.now) walk.new names.now) }
-        ensures same { IfSome result (ShowsNumbers (D.shows self.now walk.new) numbers.now) }
-    {
-        let Ok(Some(found)) = self.glance(walk, names) else {
-            return None;
-        };
-        let Ok(now) = expect_present(found) else {
-            return None;
-        };
-        if now.has(numbers) { Some(found) } else { None }
+        let sight = self.sight(path)?;
+        walk.start(sight.path.as_str()).ok()?;
+        look_for(&self.disk, walk.path(), &sight.numbers)
     }
 
     /// What stands there, by one look, where its folder is remembered. Others may have put another folder, or a link, into the place of
@@ -159,18 +154,9 @@ impl<D: Disk + Drop> Ways<D> {
 
     /// Whether that file or folder was found there before.
     pub fn has_seen(&self, path: &Path, identity: &Identity) -> bool {
-        match self.seen.at(path) {
+        match self.sight(path) {
             Some(sight) => identity.has(&sight.numbers),
             None => false,
-        }
-    }
-
-    /// Remembers what was made or moved there.
-    pub fn see(&mut self, path: &Path, found: Found)
-        ensures { self.new ≡ self.old }
-    {
-        if path.len() > 1 {
-            self.seen.set(path, found);
         }
     }
 
@@ -260,12 +246,15 @@ impl<D: Disk + Drop> Ways<D> {
         }
     }
 
-    /// Forgets all folders where one is to be moved, and all that is below it with it.
+    /// Forgets all folders and all that was found where a folder is to be moved, and all that is below it with it.
     pub fn forget_moved(&mut self, moved: Found)
         ensures { self.new ≡ self.old }
     {
         match moved {
-            Found::Folder(_) => self.slots.clear(),
+            Found::Folder(_) => {
+                self.slots.clear();
+                self.sights.clear();
+            }
             Found::File(_) | Found::Nothing | Found::Hidden => {}
         }
     }
@@ -281,4 +270,18 @@ fn stands_there<D: Disk>(disk: &D, path: &str, identity: &Identity) -> bool
         Ok(Found::Folder(now)) => now.is(identity),
         _ => false,
     }
+}
+
+/// What stands there, by one look, if it has these numbers.
+fn look_for<D: Disk>(disk: &D, path: &str, numbers: &Numbers) -> Option<Found>
+    requires { IsBelow (D.root disk.now) (D.folders disk.now) path.now }
+    ensures { IfSome result (ShowsNumbers (D.shows disk.now path.now) numbers.now) }
+{
+    let Ok(found) = disk.look(path) else {
+        return None;
+    };
+    let Ok(now) = expect_present(found) else {
+        return None;
+    };
+    if now.has(numbers) { Some(found) } else { None }
 }
