@@ -4,10 +4,10 @@ ghost use Rattle.std.specs.Prelude.{◌≡◌, IfOk, IfSome, string_bytes};
 ghost use Rattle.backing_folder.specs.Routes.{IsWalked};
 
 use crate::disk::Disk;
-use crate::places::slot_of;
+use crate::places::{are_same, slot_of};
 use crate::walk::{Found, Numbers, Walk, expect_present};
 use crate::ways::Ways;
-use paths::Path;
+use paths::{Name, Path};
 use std::alloc::{AllocError, Global};
 
 /// How many files and folders are remembered at most.
@@ -36,17 +36,17 @@ fn sight_of(alloc: Global, names: &Path, path: &str, numbers: Numbers) -> Result
 }
 
 impl<D: Disk + Drop> Ways<D> {
-    /// What is remembered of the path.
-    pub fn sight(&self, path: &Path) -> Option<&Sight>
-        ensures { IfSome result (λ sight. IsWalked (D.root self.now) (D.folders self.now) (string_bytes sight.now.path) path.now) }
+    /// What is remembered of the path with these names.
+    pub fn sight(&self, names: &[Name]) -> Option<&Sight>
+        ensures { IfSome result (λ sight. IsWalked (D.root self.now) (D.folders self.now) (string_bytes sight.now.path) names.now) }
     {
-        let slot = slot_of(path.names(), SEEN);
+        let slot = slot_of(names, SEEN);
         if slot >= self.sights.len() {
             return None;
         }
         match &self.sights[slot] {
             Some(sight) => {
-                if sight.names.is(path) {
+                if are_same(sight.names.names(), names) {
                     Some(sight)
                 } else {
                     None
@@ -96,7 +96,7 @@ impl<D: Disk + Drop> Ways<D> {
     pub fn forget_sight(&mut self, path: &Path)
         ensures { self.new ≡ self.old }
     {
-        if self.sight(path).is_none() {
+        if self.sight(path.names()).is_none() {
             return;
         }
         let slot = slot_of(path.names(), SEEN);

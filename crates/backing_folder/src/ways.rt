@@ -68,7 +68,7 @@ impl<D: Disk + Drop> Ways<D> {
         if path.len() < 2 {
             return self.find_anew(walk, path.names());
         }
-        if let Some(found) = self.recall_seen(walk, path) {
+        if let Some(found) = self.recall_seen(walk, path.names()) {
             return Ok(found);
         }
         match self.find_anew(walk, path.names()) {
@@ -111,7 +111,7 @@ impl<D: Disk + Drop> Ways<D> {
         self.disk.look(walk.path())
     }
 
-    /// Goes down to the folder: by one look, where it is remembered, and by none to the root.
+    /// Goes down to the folder, as `go_to_folder` does; to the root by no look.
     pub fn find_folder(&mut self, walk: &mut Walk, names: &[Name]) -> Result<(), HostError>
         ensures same { self.new ≡ self.old }
         ensures walked { OnOk result (IsWalked (D.root self.new) (D.folders self.new) walk.new names.now) }
@@ -125,10 +125,11 @@ impl<D: Disk + Drop> Ways<D> {
     }
 
     /// What stands there, by one look, if it is what was found there before.
-    fn recall_seen(&self, walk: &mut Walk, path: &Path) -> Option<Found>
-        ensures { IfSome result (λ found. IsWalked (D.root self.now) (D.folders self.now) walk.new path.now) }
+    fn recall_seen(&self, walk: &mut Walk, names: &[Name]) -> Option<Found>
+        ensures walked { IfSome result (λ found. IsWalked (D.root self.now) (D.folders self.now) walk.new names.now) }
+        ensures folder { IfSome result (λ found. IsFolder found → D.folders self.now walk.new) }
     {
-        let sight = self.sight(path)?;
+        let sight = self.sight(names)?;
         walk.start(sight.path.as_str()).ok()?;
         look_for(&self.disk, walk.path(), &sight.numbers)
     }
@@ -154,13 +155,13 @@ impl<D: Disk + Drop> Ways<D> {
 
     /// Whether that file or folder was found there before.
     pub fn has_seen(&self, path: &Path, identity: &Identity) -> bool {
-        match self.sight(path) {
+        match self.sight(path.names()) {
             Some(sight) => identity.has(&sight.numbers),
             None => false,
         }
     }
 
-    /// Goes down to the folder, by one look where it is remembered.
+    /// Goes down to the folder, by one look where it is remembered or was found there before.
     fn go_to_folder(&mut self, walk: &mut Walk, names: &[Name]) -> Result<(), HostError>
         ensures same { self.new ≡ self.old }
         ensures walked { OnOk result (IsWalked (D.root self.new) (D.folders self.new) walk.new names.now) }
@@ -169,7 +170,10 @@ impl<D: Disk + Drop> Ways<D> {
         if self.recall(walk, names)? {
             return Ok(());
         }
-        let found = walk.find(&self.disk, names)?;
+        let found = match self.recall_seen(walk, names) {
+            Some(found) => found,
+            None => walk.find(&self.disk, names)?,
+        };
         let identity = expect_folder(found)?;
         self.remember(walk, names, identity);
         Ok(())
@@ -275,7 +279,8 @@ fn stands_there<D: Disk>(disk: &D, path: &str, identity: &Identity) -> bool
 /// What stands there, by one look, if it has these numbers.
 fn look_for<D: Disk>(disk: &D, path: &str, numbers: &Numbers) -> Option<Found>
     requires { IsBelow (D.root disk.now) (D.folders disk.now) path.now }
-    ensures { IfSome result (ShowsNumbers (D.shows disk.now path.now) numbers.now) }
+    ensures same { IfSome result (ShowsNumbers (D.shows disk.now path.now) numbers.now) }
+    ensures folder { IfSome result (λ found. IsFolder found → D.folders disk.now path.now) }
 {
     let Ok(found) = disk.look(path) else {
         return None;

@@ -148,6 +148,28 @@ fn a_seen_file_is_served_through_a_link_to_its_folder(rt: HostRuntime) -> Result
 }
 
 #[test]
+fn names_in_a_seen_folder_that_was_replaced_are_found_anew(rt: HostRuntime) -> Result<(), Fail> {
+    const STEPS: &[Step] = &[
+        Step::Put("d/x", Item::Folder),
+        Step::Put("d/x/y", Item::Folder),
+        Step::Both("stat d/x/y", "folder 0"),
+        Step::Put("away", Item::Moved("d/x")),
+        Step::Put("d/x", Item::Folder),
+        Step::Put("d/x/y", Item::Folder),
+        Step::Put("d/x/y/f", Item::File("two")),
+        Step::Both("stat d/x/y/f", "file 3"),
+        Step::Both("stat d/x/y", "folder 0"),
+        Step::Put("gone", Item::Moved("d/x")),
+        Step::Put("d/x", Item::Link("../away")),
+        Step::Put("away/y/h", Item::File("h")),
+        Step::Both("stat d/x/y/h", "fault 2"),
+        Step::Both("list d/x/y", "fault 2"),
+        Step::Failed(0),
+    ];
+    tell(rt, "seen-replaced-folder", STEPS)
+}
+
+#[test]
 fn what_its_own_calls_change_is_told(rt: HostRuntime) -> Result<(), Fail> {
     const STEPS: &[Step] = &[
         Step::Ask("make d/f", "done"),
