@@ -1,10 +1,7 @@
 -- A path that goes on by a name.
-use Rattle.std.proofs.Common.{ℕ, ◌≡◌, Result, Ok, Err, OnOk, IfOk, subst, List, [], ◌∷◌, ◌++◌, sym, ap, ◌∙◌, append_assoc, append-nil}
+use Rattle.std.proofs.Common.{ℕ, ◌≡◌, Result, Ok, Err, OnOk, subst, List, [], ◌∷◌, ◌++◌, sym, ap, ◌∙◌, append_assoc, append-nil}
 use Rattle.paths.specs.Prefixes.{Name, Names}
-use Rattle.backing_folder.specs.declared.walk.Found.{Found}
-use Rattle.backing_folder.specs.declared.walk.Identity.{Identity}
 use Rattle.backing_folder.specs.Routes.{IsLawfulName, AllEntered, AllLawful, IsWalked, spelled}
-use Rattle.backing_folder.specs.Same.{IsIt}
 
 spelled-push : (names : Names) (name : Name) → spelled (names ++ name ∷ []) ≡ spelled names ++ 47 ∷ name
 spelled-push [] name = ap (λ (xs : List ℕ). 47 ∷ xs) (append-nil name)
@@ -36,7 +33,3 @@ entered root before after folders parent path name (Err e) down folder whole goe
 pub on_ok : {T E P : Type 0} (r : Result T E) → P → OnOk r P
 on_ok (Ok value) it = it
 on_ok (Err e) it = tt
-
-pub on_it : {E P : Type 0} (r : Result Found E) → P → IfOk r (λ found. (it : Identity) → IsIt found it → P)
-on_it (Ok found) holds = λ it is. holds
-on_it (Err e) holds = tt

@@ -1,5 +1,5 @@
 -- Open files that are kept.
-use Rattle.std.specs.Prelude.{ℕ, ◌≡◌, ◌<◌, List, Some, length, slice_get}
+use Rattle.std.specs.Prelude.{ℕ, true, ◌≡◌, ◌<◌, ◌⊎◌, List, Some, length, slice_get}
 use Rattle.backing_folder.specs.declared.kept.Access.{Access}
 use Rattle.backing_folder.specs.declared.kept.Kept.{Kept}
 use Rattle.backing_folder.specs.declared.walk.Identity.{Identity}
@@ -8,7 +8,7 @@ use Rattle.backing_folder.specs.Same.{IsSame}
 -- it is that file, opened for that access
 pub record IsFor (identity : Identity) (access : Access) (kept : Kept) : Type 0 where
   pub same : IsSame kept.identity identity
-  pub opened : kept.access ≡ access
+  pub opened : (kept.access ≡ access) ⊎ (kept.any ≡ true)
 
 -- the i-th of them is that file, opened for that access
 pub record IsKeptAt (files : List Kept) (i : ℕ) (identity : Identity) (access : Access) : Type 0 where

@@ -14,6 +14,7 @@ use crate::files::{find_file, find_folder};
 use crate::host_error::{HostError, Reason};
 use crate::kept::OpenFiles;
 use crate::making::taken_by;
+use crate::places::are_same;
 use crate::walk::{Found, Identity, Walk};
 use crate::ways::Ways;
 use backing::Answer;
@@ -81,10 +82,11 @@ pub fn rename<D: Disk + Drop>(
         return Ok(Answer::Done);
     }
     expect_apart(from, to)?;
-    let found = ways.find(target, to.names())?;
+    let found = find_target(ways, target, from, to)?;
     expect_fitting(ways.disk(), target.path(), source, found)?;
     ways.forget_moved(source);
     replace(ways.disk(), files, walk.path(), target.path(), found)?;
+    ways.see(target, to, source);
     Ok(Answer::Done)
 }
 
@@ -103,12 +105,13 @@ pub fn rename_new<D: Disk + Drop>(
         return Err(HostError::Refused(Reason::Taken));
     }
     expect_apart(from, to)?;
-    let found = ways.find(target, to.names())?;
+    let found = find_target(ways, target, from, to)?;
     if !matches!(found, Found::Nothing) {
         return Err(taken_by(found));
     }
     ways.forget_moved(source);
     ways.disk().rename(walk.path(), target.path())?;
+    ways.see(target, to, source);
     Ok(Answer::Done)
 }
 
@@ -125,11 +128,37 @@ fn find_source<D: Disk + Drop>(
     if from.len() == 0 || to.len() == 0 {
         return Err(HostError::Refused(Reason::Root));
     }
-    let source = ways.find(walk, from.names())?;
+    let source = ways.find(walk, from)?;
     if is_gone(source) {
         return Err(HostError::Refused(Reason::Nothing));
     }
     Ok(source)
+}
+
+/// What stands at the other path. Where that is in the folder of the first one, at which something was found just now, no folder is looked
+/// at again.
+fn find_target<D: Disk + Drop>(
+    ways: &mut Ways<D>,
+    target: &mut Walk,
+    from: &Path,
+    to: &Path,
+) -> Result<Found, HostError>
+    ensures same { ways.new ≡ ways.old }
+    ensures walked { OnOk result (IsWalked (D.root ways.new) (D.folders ways.new) target.new to.now) }
+{
+    if are_beside(from, to) {
+        ways.find_beside(target, to)
+    } else {
+        ways.find(target, to)
+    }
+}
+
+/// Both are in the same folder.
+fn are_beside(from: &Path, to: &Path) -> bool {
+    match (from.names().split_last(), to.names().split_last()) {
+        (Some((_, folder)), Some((_, other))) => are_same(folder, other),
+        _ => false,
+    }
 }
 
 /// Closes the file that was found at the other path, if one was, and renames.

@@ -39,6 +39,8 @@ impl Access {
 pub struct Kept {
     pub identity: Identity,
     pub access: Access,
+    /// It was opened for any access.
+    pub any: bool,
     pub file: File,
 }
 
@@ -51,6 +53,9 @@ impl Kept {
     {
         if !self.identity.is(identity) {
             return false;
+        }
+        if self.any {
+            return true;
         }
         self.access.is(access)
     }

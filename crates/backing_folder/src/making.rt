@@ -20,8 +20,13 @@ use std::fs::File;
 use std::io;
 use std::io::ErrorKind;
 
-/// Makes an empty file: `open` with `O_EXCL`, `close`, or one `lstat` where something stands there. With permission bits
-/// given, `fstat`, and `fchmod` where the process's mask took some of them; the file is then kept open.
+/// The permission bits by which an owner may read and write a file.
+const OWNER_READS: u32 = 0o400;
+
+const OWNER_WRITES: u32 = 0o200;
+
+/// Makes an empty file: `open` with `O_EXCL` and `fstat`, or one `lstat` where something stands there. With permission bits
+/// given, `fchmod` where the process's mask took some of them. The file is then kept open.
 pub fn make<D: Disk + Drop>(
     ways: &mut Ways<D>,
     files: &mut OpenFiles,
@@ -33,7 +38,10 @@ pub fn make<D: Disk + Drop>(
 {
     find_place(ways, walk, path)?;
     match ways.disk().create_new(walk.path(), permissions) {
-        Ok(file) => keep_made(files, file, permissions)?,
+        Ok(file) => {
+            let identity = keep_made(files, file, permissions)?;
+            ways.see(walk, path, Found::File(identity));
+        }
         Err(error) => return Err(why_not_made(ways.disk(), walk.path(), error)),
     }
     Ok(Answer::Done)
@@ -58,23 +66,29 @@ pub fn make_dir<D: Disk + Drop>(
     Ok(Answer::Done)
 }
 
-/// The file that was made has all of its bits, and stays open where bits were given: who made it may write it, whatever
+/// The file that was made has all of its bits, where bits were given, and stays open: whoever makes a file with bits may write it, whatever
 /// they are. Where memory is refused it is closed.
-fn keep_made(files: &mut OpenFiles, file: File, permissions: Option<u32>) -> Result<(), HostError> {
-    let Some(wanted) = permissions else {
-        return Ok(());
-    };
+fn keep_made(
+    files: &mut OpenFiles,
+    file: File,
+    permissions: Option<u32>,
+) -> Result<Identity, HostError> {
     let identity = Identity::of(&file.metadata()?);
-    if let Some(bits) = with_missing(identity.details.permissions, wanted) {
-        Change::Permissions(bits).apply(&file)?;
+    let bits = identity.details.permissions;
+    if let Some(wanted) = permissions {
+        if let Some(all) = with_missing(bits, wanted) {
+            Change::Permissions(all).apply(&file)?;
+        }
     }
-    let access = Access::Write;
-    let _ = files.keep(Kept {
-        identity,
-        access,
-        file,
-    });
-    Ok(())
+    if permissions.is_some() || bits & OWNER_WRITES != 0 {
+        let _ = files.keep(Kept {
+            identity,
+            access: Access::Write,
+            any: bits & OWNER_READS != 0,
+            file,
+        });
+    }
+    Ok(identity)
 }
 
 /// The folder that was made has all of its bits, where bits were given.
@@ -131,9 +145,6 @@ fn find_place<D: Disk + Drop>(
     let Some((name, parent)) = path.names().split_last() else {
         return Err(HostError::Refused(Reason::Taken));
     };
-    match ways.find(walk, parent)? {
-        Found::Folder(_) => walk.enter(name),
-        Found::File(_) => Err(HostError::Refused(Reason::NoFolder)),
-        Found::Nothing | Found::Hidden => Err(HostError::Refused(Reason::Nothing)),
-    }
+    ways.find_folder(walk, parent)?;
+    walk.enter(name)
 }

@@ -1,48 +1,52 @@
-//! Files and folders that a Stat found, as they are remembered.
+//! Files and folders that were found, as they are remembered.
 
-ghost use Rattle.std.specs.Prelude.{◌≡◌, IfSome};
+ghost use Rattle.std.specs.Prelude.{◌≡◌, IfOk, IfSome, string_bytes};
+ghost use Rattle.backing_folder.specs.Routes.{IsWalked};
 
-use crate::places::slot_of;
-use crate::walk::{Found, Numbers, expect_present};
-use paths::Path;
+use crate::disk::Disk;
+use crate::places::{are_same, slot_of};
+use crate::walk::{Found, Numbers, Walk, expect_present};
+use crate::ways::Ways;
+use paths::{Name, Path};
 use std::alloc::{AllocError, Global};
 
 /// How many files and folders are remembered at most.
 const SEEN: usize = 512;
 
-/// A file or folder that a Stat found.
+/// What was found last at a path. It says which file or folder to look for, and nothing of what stands there now: so nothing needs to
+/// be done here where a file is removed or moved.
 #[derive(Drop)]
 pub struct Sight {
-    pub path: Path,
+    pub names: Path,
+    /// Its path in the file system.
+    pub path: String,
     pub numbers: Numbers,
 }
 
-/// What a Stat found last at a path, for up to 512 paths. It says which file or folder to look for, and nothing of what stands there
-/// now: so nothing needs to be done here where one is removed or moved.
-#[derive(Drop)]
-pub struct Seen {
-    slots: Vec<Option<Sight>>,
+/// The sight of these numbers at the names, which lead to that path of the file system.
+fn sight_of(alloc: Global, names: &Path, path: &str, numbers: Numbers) -> Result<Sight, AllocError>
+    ensures names { IfOk result (λ s. s.names ≡ names.now) }
+    ensures path { IfOk result (λ s. string_bytes s.path ≡ path.now) }
+{
+    Ok(Sight {
+        names: names.copy()?,
+        path: String::from_str(alloc, path)?,
+        numbers,
+    })
 }
 
-impl Seen {
-    /// Nothing was seen.
-    pub fn new(alloc: Global) -> Seen {
-        Seen {
-            slots: Vec::new(alloc),
-        }
-    }
-
-    /// What is remembered of the path.
-    pub fn at(&self, path: &Path) -> Option<&Sight>
-        ensures { IfSome result (λ sight. sight.now.path ≡ path.now) }
+impl<D: Disk + Drop> Ways<D> {
+    /// What is remembered of the path with these names.
+    pub fn sight(&self, names: &[Name]) -> Option<&Sight>
+        ensures { IfSome result (λ sight. IsWalked (D.root self.now) (D.folders self.now) (string_bytes sight.now.path) names.now) }
     {
-        let slot = slot_of(path.names(), SEEN);
-        if slot >= self.slots.len() {
+        let slot = slot_of(names, SEEN);
+        if slot >= self.sights.len() {
             return None;
         }
-        match &self.slots[slot] {
+        match &self.sights[slot] {
             Some(sight) => {
-                if sight.path.is(path) {
+                if are_same(sight.names.names(), names) {
                     Some(sight)
                 } else {
                     None
@@ -52,48 +56,52 @@ impl Seen {
         }
     }
 
-    /// Remembers what a Stat found at the path, if there is memory for it. Where that is no file or folder, nothing is remembered of the
-    /// path.
-    pub fn set(&mut self, path: &Path, found: Found) {
-        match expect_present(found) {
-            Ok(identity) => self.keep(path, identity.numbers()),
-            Err(_) => self.forget(path),
+    /// Remembers what was found at the path, if there is memory for it, in the place of what shares its slot. Where that is no file or
+    /// folder, nothing is remembered of the path.
+    pub fn see(&mut self, walk: &Walk, path: &Path, found: Found)
+        requires { IsWalked (D.root self.old) (D.folders self.old) walk.now path.now }
+        ensures { self.new ≡ self.old }
+    {
+        if path.len() < 2 {
+            return;
         }
-    }
-
-    /// Remembers the file or folder, in the place of what shares its slot.
-    fn keep(&mut self, path: &Path, numbers: Numbers) {
-        let Ok(copy) = path.copy() else {
+        let Ok(identity) = expect_present(found) else {
+            self.forget_sight(path);
             return;
         };
-        if self.make_slots().is_err() {
+        let numbers = identity.numbers();
+        let Ok(sight) = sight_of(self.disk.alloc(), path, walk.path(), numbers) else {
+            return;
+        };
+        if self.make_sights().is_err() {
             return;
         }
         let slot = slot_of(path.names(), SEEN);
-        if slot < self.slots.len() {
-            self.slots[slot] = Some(Sight {
-                path: copy,
-                numbers,
-            });
+        if slot < self.sights.len() {
+            self.sights[slot] = Some(sight);
         }
     }
 
     /// Makes all slots.
-    fn make_slots(&mut self) -> Result<(), AllocError> {
-        while self.slots.len() < SEEN {
-            self.slots.push(None)?;
+    fn make_sights(&mut self) -> Result<(), AllocError>
+        ensures { self.new ≡ self.old }
+    {
+        while self.sights.len() < SEEN {
+            self.sights.push(None)?;
         }
         Ok(())
     }
 
     /// Forgets what was found at the path.
-    pub fn forget(&mut self, path: &Path) {
-        if self.at(path).is_none() {
+    pub fn forget_sight(&mut self, path: &Path)
+        ensures { self.new ≡ self.old }
+    {
+        if self.sight(path.names()).is_none() {
             return;
         }
         let slot = slot_of(path.names(), SEEN);
-        if slot < self.slots.len() {
-            self.slots[slot] = None;
+        if slot < self.sights.len() {
+            self.sights[slot] = None;
         }
     }
 }

@@ -8,33 +8,33 @@ ghost use Rattle.backing_folder.specs.declared.walk.Identity.{Identity};
 use crate::disk::Disk;
 use crate::host_error::HostError;
 use crate::places::{PLACES, Place, are_same, place_of, slot_of};
-use crate::seen::Seen;
+use crate::seen::Sight;
 use crate::walk::{Found, Identity, Numbers, Walk, expect_folder, expect_present};
 use paths::{Name, Path};
 use std::alloc::AllocError;
 use std::marker::Model;
 
-/// A disk, folders that were walked to on it, and what a Stat found on it. Contracts see the disk.
+/// A disk, folders that were walked to on it, and what was found on it. Contracts see the disk.
 ///
 /// A folder that is remembered is looked at again, by its whole path, each time that it is used to reach what is not known. It is the
-/// one that was walked to if it has the same device and inode number; else it is walked to anew. What a Stat found is looked at again in
-/// the same way by the next one.
+/// one that was walked to if it has the same device and inode number; else it is walked to anew. What was found is looked at again in
+/// the same way by the next call on it.
 #[derive(Drop)]
 pub struct Ways<D: Disk + Drop> {
-    disk: D,
+    pub(crate) disk: D,
     slots: Vec<Option<Place>>,
-    seen: Seen,
+    pub(crate) sights: Vec<Option<Sight>>,
 }
 
 impl<D: Disk + Drop> Model for Ways<D> {
     ghost use Rattle.std.specs.List.{All};
-    ghost use Rattle.backing_folder.specs.Places.{IsKnownSlot};
+    ghost use Rattle.backing_folder.specs.Places.{IsKnownSight, IsKnownSlot};
 
     ghost Value = { D };
 
     ghost view = { λ w. w.disk };
 
-    ghost invariant = { λ w. All (IsKnownSlot (D.root w.disk) (D.folders w.disk)) w.slots.items };
+    ghost invariant = { λ w. (All (IsKnownSlot (D.root w.disk) (D.folders w.disk)) w.slots.items) × (All (IsKnownSight (D.root w.disk) (D.folders w.disk)) w.sights.items) };
 }
 
 impl<D: Disk + Drop> Ways<D> {
@@ -45,8 +45,12 @@ impl<D: Disk + Drop> Ways<D> {
         ensures { result ≡ disk }
     {
         let slots = Vec::new(disk.alloc());
-        let seen = Seen::new(disk.alloc());
-        Ways { disk, slots, seen }
+        let sights = Vec::new(disk.alloc());
+        Ways {
+            disk,
+            slots,
+            sights,
+        }
     }
 
     pub fn disk(&self) -> &D
@@ -55,12 +59,46 @@ impl<D: Disk + Drop> Ways<D> {
         &self.disk
     }
 
+    /// What stands there: by one look, where that shows the file or folder that was found there before. Else what `find_anew` answers
+    /// counts, and is remembered. That takes one look at most at the root and at a name in it, so nothing is remembered of these.
+    pub fn find(&mut self, walk: &mut Walk, path: &Path) -> Result<Found, HostError>
+        ensures same { self.new ≡ self.old }
+        ensures walked { OnOk result (IsWalked (D.root self.new) (D.folders self.new) walk.new path.now) }
+    {
+        if path.len() < 2 {
+            return self.find_anew(walk, path.names());
+        }
+        if let Some(found) = self.recall_seen(walk, path.names()) {
+            return Ok(found);
+        }
+        match self.find_anew(walk, path.names()) {
+            Ok(found) => {
+                self.see(walk, path, found);
+                Ok(found)
+            }
+            Err(error) => {
+                self.forget_sight(path);
+                Err(error)
+            }
+        }
+    }
+
+    /// What stands there, in the folder of what was found just now: one look, where the folder is remembered.
+    pub fn find_beside(&mut self, walk: &mut Walk, path: &Path) -> Result<Found, HostError>
+        ensures same { self.new ≡ self.old }
+        ensures walked { OnOk result (IsWalked (D.root self.new) (D.folders self.new) walk.new path.now) }
+    {
+        match self.glance(walk, path.names())? {
+            Some(found) => Ok(found),
+            None => self.find_anew(walk, path.names()),
+        }
+    }
+
     /// Goes down from the root, and answers what stands there: one look for each name, or two where its folder is
     /// remembered.
-    pub fn find(&mut self, walk: &mut Walk, names: &[Name]) -> Result<Found, HostError>
+    fn find_anew(&mut self, walk: &mut Walk, names: &[Name]) -> Result<Found, HostError>
         ensures same { self.new ≡ self.old }
         ensures walked { OnOk result (IsWalked (D.root self.new) (D.folders self.new) walk.new names.now) }
-        ensures folder { IfOk result (λ found. IsFolder found → D.folders self.new walk.new) }
     {
         if names.len() < 2 {
             return walk.find(&self.disk, names);
@@ -73,67 +111,57 @@ impl<D: Disk + Drop> Ways<D> {
         self.disk.look(walk.path())
     }
 
-    /// What stands there, for a Stat: by one look, where that shows the file or folder that one before it found there. Else what `find`
-    /// answers counts, and is remembered. That takes one look at most at the root and at a name in it, so nothing is remembered of
-    /// these.
-    pub fn find_seen(&mut self, walk: &mut Walk, path: &Path) -> Result<Found, HostError>
+    /// Goes down to the folder, as `go_to_folder` does; to the root by no look.
+    pub fn find_folder(&mut self, walk: &mut Walk, names: &[Name]) -> Result<(), HostError>
         ensures same { self.new ≡ self.old }
-        ensures walked { OnOk result (IsWalked (D.root self.new) (D.folders self.new) walk.new path.now) }
+        ensures walked { OnOk result (IsWalked (D.root self.new) (D.folders self.new) walk.new names.now) }
+        ensures folder { OnOk result (D.folders self.new walk.new) }
     {
-        if path.len() < 2 {
-            return self.find(walk, path.names());
+        if names.is_empty() {
+            expect_folder(walk.find(&self.disk, names)?)?;
+            return Ok(());
         }
-        if let Some(found) = self.recall_seen(walk, path) {
-            return Ok(found);
-        }
-        let found = self.find(walk, path.names());
-        match found {
-            Ok(found) => self.seen.set(path, found),
-            Err(_) => self.seen.forget(path),
-        }
-        found
+        self.go_to_folder(walk, names)
     }
 
-    /// What stands there, by one look, if it is what a Stat found there before.
-    fn recall_seen(&self, walk: &mut Walk, path: &Path) -> Option<Found>
-        ensures { IfSome result (λ found. IsWalked (D.root self.now) (D.folders self.now) walk.new path.now) }
-    {
-        let sight = self.seen.at(path)?;
-        self.glance_for(walk, path.names(), &sight.numbers)
-    }
-
-    /// What `glance` shows there, if it has these numbers.
-    fn glance_for(&self, walk: &mut Walk, names: &[Name], numbers: &Numbers) -> Option<Found>
+    /// What stands there, by one look, if it is what was found there before.
+    fn recall_seen(&self, walk: &mut Walk, names: &[Name]) -> Option<Found>
         ensures walked { IfSome result (λ found. IsWalked (D.root self.now) (D.folders self.now) walk.new names.now) }
-        ensures same { IfSome result (ShowsNumbers (D.shows self.now walk.new) numbers.now) }
+        ensures folder { IfSome result (λ found. IsFolder found → D.folders self.now walk.new) }
     {
-        let Ok(found) = self.glance(walk, names) else {
-            return None;
-        };
-        let Ok(now) = expect_present(found) else {
-            return None;
-        };
-        if now.has(numbers) { Some(found) } else { None }
+        let sight = self.sight(names)?;
+        walk.start(sight.path.as_str()).ok()?;
+        look_for(&self.disk, walk.path(), &sight.numbers)
     }
 
     /// What stands there, by one look, where its folder is remembered. Others may have put another folder, or a link, into the place of
-    /// one above it meanwhile: so it is of use only where that very file is known, by device and inode number.
-    pub fn glance(&self, walk: &mut Walk, names: &[Name]) -> Result<Found, HostError>
-        ensures walked { IfOk result (λ found. (it : Identity) → IsIt found it → IsWalked (D.root self.now) (D.folders self.now) walk.new names.now) }
-        ensures shown { IfOk result (λ found. (it : Identity) → IsIt found it → D.shows self.now walk.new found) }
+    /// one above it meanwhile: so it is of use only where that very file is known, by device and inode number, or one beside it was
+    /// found so just now.
+    pub fn glance(&self, walk: &mut Walk, names: &[Name]) -> Result<Option<Found>, HostError>
+        ensures walked { IfOk result (λ found. IfSome found (λ _. IsWalked (D.root self.now) (D.folders self.now) walk.new names.now)) }
+        ensures shown { IfOk result (λ found. IfSome found (D.shows self.now walk.new)) }
     {
         let Some((name, parent)) = names.split_last() else {
-            return Ok(Found::Nothing);
+            return Ok(None);
         };
         let Some(place) = self.place(parent) else {
-            return Ok(Found::Nothing);
+            return Ok(None);
         };
         walk.start(place.path.as_str())?;
         walk.enter(name)?;
-        self.disk.look(walk.path())
+        let found = self.disk.look(walk.path())?;
+        Ok(Some(found))
     }
 
-    /// Goes down to the folder, by one look where it is remembered.
+    /// Whether that file or folder was found there before.
+    pub fn has_seen(&self, path: &Path, identity: &Identity) -> bool {
+        match self.sight(path.names()) {
+            Some(sight) => identity.has(&sight.numbers),
+            None => false,
+        }
+    }
+
+    /// Goes down to the folder, by one look where it is remembered or was found there before.
     fn go_to_folder(&mut self, walk: &mut Walk, names: &[Name]) -> Result<(), HostError>
         ensures same { self.new ≡ self.old }
         ensures walked { OnOk result (IsWalked (D.root self.new) (D.folders self.new) walk.new names.now) }
@@ -142,7 +170,10 @@ impl<D: Disk + Drop> Ways<D> {
         if self.recall(walk, names)? {
             return Ok(());
         }
-        let found = walk.find(&self.disk, names)?;
+        let found = match self.recall_seen(walk, names) {
+            Some(found) => found,
+            None => walk.find(&self.disk, names)?,
+        };
         let identity = expect_folder(found)?;
         self.remember(walk, names, identity);
         Ok(())
@@ -219,12 +250,15 @@ impl<D: Disk + Drop> Ways<D> {
         }
     }
 
-    /// Forgets all folders where one is to be moved, and all that is below it with it.
+    /// Forgets all folders and all that was found where a folder is to be moved, and all that is below it with it.
     pub fn forget_moved(&mut self, moved: Found)
         ensures { self.new ≡ self.old }
     {
         match moved {
-            Found::Folder(_) => self.slots.clear(),
+            Found::Folder(_) => {
+                self.slots.clear();
+                self.sights.clear();
+            }
             Found::File(_) | Found::Nothing | Found::Hidden => {}
         }
     }
@@ -240,4 +274,19 @@ fn stands_there<D: Disk>(disk: &D, path: &str, identity: &Identity) -> bool
         Ok(Found::Folder(now)) => now.is(identity),
         _ => false,
     }
+}
+
+/// What stands there, by one look, if it has these numbers.
+fn look_for<D: Disk>(disk: &D, path: &str, numbers: &Numbers) -> Option<Found>
+    requires { IsBelow (D.root disk.now) (D.folders disk.now) path.now }
+    ensures same { IfSome result (ShowsNumbers (D.shows disk.now path.now) numbers.now) }
+    ensures folder { IfSome result (λ found. IsFolder found → D.folders disk.now path.now) }
+{
+    let Ok(found) = disk.look(path) else {
+        return None;
+    };
+    let Ok(now) = expect_present(found) else {
+        return None;
+    };
+    if now.has(numbers) { Some(found) } else { None }
 }

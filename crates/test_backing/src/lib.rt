@@ -12,6 +12,8 @@ mod faults;
 #[cfg(test)]
 mod links;
 #[cfg(test)]
+mod moved;
+#[cfg(test)]
 mod moves;
 #[cfg(test)]
 mod places;

@@ -1,7 +1,7 @@
 use Rattle.std.proofs.Common.{ℕ, List, ◌≡◌, ◌++◌, ◌∷◌, [], sym, ap, ◌∙◌, subst}
 use Rattle.std.specs.Prelude.{string_bytes}
 use Rattle.paths.specs.Prefixes.{Names}
-use Rattle.backing_folder.proofs.RouteLemmas.{one_deeper, on_it}
+use Rattle.backing_folder.proofs.RouteLemmas.{one_deeper}
 use Rattle.backing_folder.specs.Routes.{IsBelow, IsWalked}
 use Rattle.backing_folder.proofs.ways.Ways.glance.Goals as goal
 
@@ -31,4 +31,4 @@ returns-clause-walked g c =
     let deeper = entered.ok ∙ ap (λ (p : List ℕ). p ++ 47 ∷ name) stood in
     let walked = one_deeper (g.D.Disk.root disk) (string_bytes place.path) c.enter.new.self (g.D.Disk.folders disk) place.names name known.walked known.folder deeper entered.lawful in
     let names : place.names ++ name ∷ [] ≡ c.args.names.now = ap (λ (ns : Names). ns ++ name ∷ []) c.in-Some-place.ensures.same ∙ sym c.in-Some.ensures.cases.0 in
-    on_it c.look.result (subst (λ (ns : Names). IsWalked (g.D.Disk.root disk) (g.D.Disk.folders disk) c.enter.new.self ns) names walked)
+    subst (λ (ns : Names). IsWalked (g.D.Disk.root disk) (g.D.Disk.folders disk) c.enter.new.self ns) names walked

@@ -1,12 +1,13 @@
 use Rattle.std.proofs.Common.{◌≡◌, ◌-◌, length}
 use Rattle.std.specs.List.{All}
-use Rattle.backing_folder.specs.Places.{IsKnownSlot}
+use Rattle.backing_folder.specs.Places.{IsKnownSight, IsKnownSlot}
 use Rattle.backing_folder.proofs.ways.Ways.make_slots.Given as goal
 
 abbrev pub invariant-loop-self : goal.invariant-loop-self
 invariant-loop-self g l = record {
   same : l.self-inside.disk ≡ l.initial.self-inside.disk;
   known : All (IsKnownSlot (g.D.Disk.root l.self-inside.disk) (g.D.Disk.folders l.self-inside.disk)) l.self-inside.slots.items;
+  seen : All (IsKnownSight (g.D.Disk.root l.self-inside.disk) (g.D.Disk.folders l.self-inside.disk)) l.self-inside.sights.items;
 }
 
 abbrev pub decreases-loop-self : goal.decreases-loop-self
