@@ -1,6 +1,6 @@
 //! Calls on what a real file holds.
 
-ghost use Rattle.std.specs.Prelude.{IfOk, OnOk};
+ghost use Rattle.std.specs.Prelude.{◌≡◌, IfOk, OnOk, vec_len};
 ghost use Rattle.backing.specs.Calls.{AskStat, AskRead, AskWrite, AskSetLen, AskSync};
 ghost use Rattle.backing_folder.specs.Explained.{Suits};
 ghost use Rattle.backing_folder.specs.Kept.{IsKeptAt};
@@ -17,7 +17,9 @@ use backing::{Answer, Details, Kind};
 use errno::EIO;
 use paths::Path;
 use payload::{HEADER_ROOM, Payload};
+use std::alloc::{AllocError, Global};
 use std::fs::File;
+use std::mem::replace;
 
 /// What stands at the path. At the root that takes one `lstat`, since the way to it takes none. Elsewhere it takes one where a call
 /// before it found the same file or folder there.
@@ -66,12 +68,23 @@ fn details_now<D: Disk>(disk: &D, path: &str, identity: Identity) -> Details
     }
 }
 
+/// A buffer of that length: the spare one where it is just as long, so that nothing is cleared which is overwritten, or else zeros.
+fn buffer_of(alloc: Global, spare: &mut Vec<u8>, len: usize) -> Result<Vec<u8>, AllocError>
+    ensures { IfOk result (λ buffer. vec_len buffer ≡ len) }
+{
+    if spare.len() == len {
+        return Ok(replace(spare, Vec::new(alloc)));
+    }
+    vec![in alloc; 0u8; len]
+}
+
 /// Reads at most `size` bytes from `offset` on: `pread` until there are so many or the file ends. A file that is not kept open is
 /// opened, and the bytes end where it ended when it was found.
 pub fn read<D: Disk + Drop>(
     ways: &mut Ways<D>,
     files: &mut OpenFiles,
     walk: &mut Walk,
+    spare: &mut Vec<u8>,
     path: &Path,
     offset: u64,
     size: u32,
@@ -80,7 +93,7 @@ pub fn read<D: Disk + Drop>(
 {
     let (i, identity) = open_file(ways, files, walk, path, Access::Read)?;
     let size = u64::from(size).min(identity.size.saturating_sub(offset)) as usize;
-    let mut buffer = vec![in ways.disk().alloc(); 0u8; HEADER_ROOM + size]?;
+    let mut buffer = buffer_of(ways.disk().alloc(), spare, HEADER_ROOM + size)?;
     let count = read_all(files.file(i), &mut buffer[HEADER_ROOM..], offset)?;
     buffer.truncate(HEADER_ROOM + count);
     Ok(Answer::Bytes(Payload::behind(HEADER_ROOM, buffer)))

@@ -21,8 +21,12 @@ use errno::EINVAL;
 use std::fs::File;
 use std::io;
 use std::marker::Model;
+use std::mem::swap;
 use std::rt::Files;
 use std::time::Clock;
+
+/// A shorter buffer is made anew in less time than it takes to keep it.
+const WORTH_KEEPING: usize = 1024;
 
 /// A folder of the file system, and all that is below it.
 ///
@@ -58,6 +62,8 @@ pub struct Folder<D: Disk + Drop> {
     files: OpenFiles,
     walk: Walk,
     target: Walk,
+    /// A buffer for the next read of as many bytes. What stands in it is overwritten.
+    spare: Vec<u8>,
     failures: u64,
 }
 
@@ -85,11 +91,13 @@ impl<D: Disk + Drop> Folder<D> {
         let walk = Walk::new(disk.alloc());
         let target = Walk::new(disk.alloc());
         let files = OpenFiles::new(disk.alloc());
+        let spare = Vec::new(disk.alloc());
         Folder {
             ways: Ways::new(disk),
             files,
             walk,
             target,
+            spare,
             failures: 0,
         }
     }
@@ -117,10 +125,18 @@ impl<D: Disk + Drop> Calls for Folder<D> {
             &mut self.files,
             &mut self.walk,
             &mut self.target,
+            &mut self.spare,
             call,
         );
         let told = conclude(call, ended);
         told.into_answer(&mut self.failures)
+    }
+
+    /// A long one is kept in the place of the one before it, which is handed back.
+    fn offer_room(&mut self, buffer: &mut Vec<u8>) {
+        if buffer.len() >= WORTH_KEEPING {
+            swap(&mut self.spare, buffer);
+        }
     }
 }
 
@@ -130,6 +146,7 @@ fn perform<D: Disk + Drop>(
     files: &mut OpenFiles,
     walk: &mut Walk,
     target: &mut Walk,
+    spare: &mut Vec<u8>,
     call: Call<'_>,
 ) -> Result<Answer, HostError>
     ensures suits { IfOk result (Suits (asked call.entry)) }
@@ -145,7 +162,7 @@ fn perform<D: Disk + Drop>(
         Call::Rename { from, to } => rename(ways, files, walk, target, from, to),
         Call::RenameNew { from, to } => rename_new(ways, walk, target, from, to),
         Call::Exchange { .. } => Ok(Answer::Fault(EINVAL)),
-        Call::Read { path, offset, size } => read(ways, files, walk, path, offset, size),
+        Call::Read { path, offset, size } => read(ways, files, walk, spare, path, offset, size),
         Call::Write { path, offset, data } => write(ways, files, walk, path, offset, data),
         Call::SetLen { path, size } => set_len(ways, files, walk, path, size),
         Call::Sync(path) => sync(ways, walk, path),
