@@ -30,15 +30,15 @@ const WORTH_KEEPING: usize = 1024;
 
 /// A folder of the file system, and all that is below it.
 ///
-/// It shows files and folders alone: a symbolic link, a pipe, a socket or a device is absent to it, wherever it stands in a
-/// path, and is neither followed nor opened. Each call first walks down the path, with one look for each name. Up to 256
+/// It shows files and folders alone: a symbolic link, a pipe, a socket or a device is absent to it, wherever it stands in
+/// a path, and is neither followed nor opened. Each call first walks down the path, with one look for each name. Up to 256
 /// folders that it walked to are remembered: one look at such a folder that shows the same device and inode number stands
 /// for the walk to it. So are up to 512 files and folders that were found, made or moved: one look at the whole path that
-/// shows the same numbers stands for the walk there. What is opened to be read, written, cut or synced, or to have its permission bits, its owner or its
-/// times set, is compared with what was found in the same way, before that is done: a file that was replaced after its look
-/// is not touched. Up to 64 files that were read, written, cut or made with permission bits stay open, whatever their bits
-/// become, and are used again where a look at a path shows their numbers; a file that the folder's own call removes or
-/// replaces is closed.
+/// shows the same numbers stands for the walk there. What is opened to be read, written, cut or synced, or to have its
+/// permission bits, its owner or its times set, is compared with what was found in the same way, before that is done: a
+/// file that was replaced after its look is not touched. Up to 64 files that were read, written, cut or made stay open,
+/// whatever their bits become, and are used again where a look at a path shows their numbers; a file that the folder's own
+/// call removes or replaces is closed.
 ///
 /// Bits and an owner are set through an open file or folder; of what may not be opened by their path, right after one more
 /// look at it that shows the same numbers; times then are not set (EACCES). Bits are the lowest twelve (POSIX). EPERM: it

@@ -39,7 +39,7 @@ impl Access {
 pub struct Kept {
     pub identity: Identity,
     pub access: Access,
-    /// It was opened for any access.
+    /// It was opened to be read and written, whatever the access says.
     pub any: bool,
     pub file: File,
 }

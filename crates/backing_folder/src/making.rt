@@ -60,7 +60,11 @@ pub fn make_dir<D: Disk + Drop>(
 {
     find_place(ways, walk, path)?;
     match ways.disk().create_dir(walk.path(), permissions) {
-        Ok(()) => complete_dir(ways.disk(), files, walk.path(), permissions)?,
+        Ok(()) => {
+            if let Some(found) = complete_dir(ways.disk(), files, walk.path(), permissions)? {
+                ways.see(walk, path, found);
+            }
+        }
         Err(error) => return Err(why_not_made(ways.disk(), walk.path(), error)),
     }
     Ok(Answer::Done)
@@ -91,24 +95,24 @@ fn keep_made(
     Ok(identity)
 }
 
-/// The folder that was made has all of its bits, where bits were given.
+/// The folder that was made has all of its bits, where bits were given: then a look has shown it.
 fn complete_dir<D: Disk>(
     disk: &D,
     files: &OpenFiles,
     path: &str,
     permissions: Option<u32>,
-) -> Result<(), HostError>
+) -> Result<Option<Found>, HostError>
     requires { IsBelow (D.root disk.now) (D.folders disk.now) path.now }
 {
     let Some(wanted) = permissions else {
-        return Ok(());
+        return Ok(None);
     };
     let found = disk.look(path)?;
     let identity = expect_present(found)?;
-    match with_missing(identity.details.permissions, wanted) {
-        Some(bits) => change_found(disk, files, path, found, Change::Permissions(bits)),
-        None => Ok(()),
+    if let Some(bits) = with_missing(identity.details.permissions, wanted) {
+        change_found(disk, files, path, found, Change::Permissions(bits))?;
     }
+    Ok(Some(found))
 }
 
 /// Why nothing could be made there. If something stands there, one `lstat` says what.
