@@ -1,12 +1,9 @@
 -- What a receive brought, and what is kept of it.
-use Rattle.std.proofs.Common.{◌≡◌, ℕ, ◌+◌, ◌≤◌, ◌-◌, ◌↔◌, Bool, List, [], ◌++◌, length, take, drop, Option, Some, None, IfSome, IfNone, Result, Ok, Err, IfOk, inl, inr, refl, sym, ap, ◌∙◌, subst, length-append, arith}
+use Rattle.std.proofs.Common.{◌≡◌, ℕ, ◌+◌, ◌↔◌, Bool, List, [], ◌++◌, length, take, drop, Option, Some, None, IfSome, IfNone, Result, Ok, Err, IfOk, inl, inr, refl, sym, ap, ◌∙◌, subst}
 use Rattle.std.proofs.Math.Logic.{∥∥₁_map}
-use Rattle.std.proofs.lemmas.List.{take_at, drop_at, length-take-le, take-append-le}
 use Rattle.std.proofs.Math.Seq.{take-add}
-use Rattle.engine.specs.Links.{Heard, Piece, IsWithin, heard}
+use Rattle.engine.specs.Links.{Heard, Piece, heard}
 use Rattle.engine.specs.declared.ends.SessionEnd.{SessionEnd}
-use Rattle.engine.specs.declared.links.Received.{Received}
-use Rattle.engine.specs.declared.links.Received.TheVariants as received
 use Rattle.wire.specs.Stream.{BeginsBadly, Cutting, HandsOut, IsPartial, StoppedBy}
 use Rattle.wire.specs.declared.cutter.CutFault.{CutFault}
 use Rattle.wire.specs.declared.cutter.CutFault.TheVariants as fault
