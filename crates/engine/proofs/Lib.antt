@@ -12,3 +12,4 @@ pub mod Waiting
 pub mod Unreserved
 pub mod Carrying
 pub mod HiddenKept
+pub mod Behind

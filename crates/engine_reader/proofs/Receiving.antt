@@ -1,35 +1,13 @@
 -- What a receive brought, and what is kept of it.
-use Rattle.std.proofs.Common.{◌≡◌, ℕ, ◌+◌, ◌≤◌, ◌-◌, ◌↔◌, Bool, List, [], ◌++◌, length, take, drop, Option, Some, None, IfSome, IfNone, Result, Ok, Err, IfOk, inl, inr, refl, sym, ap, ◌∙◌, subst, length-append, arith}
+use Rattle.std.proofs.Common.{◌≡◌, ℕ, ◌+◌, ◌↔◌, Bool, List, [], ◌++◌, length, take, drop, Option, Some, None, IfSome, IfNone, Result, Ok, Err, IfOk, inl, inr, refl, sym, ap, ◌∙◌, subst}
 use Rattle.std.proofs.Math.Logic.{∥∥₁_map}
-use Rattle.std.proofs.lemmas.List.{take_at, drop_at, length-take-le, take-append-le}
 use Rattle.std.proofs.Math.Seq.{take-add}
-use borrow.Rule.Slice.PartMut.{put_mid, post_of}
-use Rattle.engine.specs.Links.{Heard, Piece, IsWithin, heard}
+use Rattle.engine.specs.Links.{Heard, Piece, heard}
 use Rattle.engine.specs.declared.ends.SessionEnd.{SessionEnd}
-use Rattle.engine.specs.declared.links.Received.{Received}
-use Rattle.engine.specs.declared.links.Received.TheVariants as received
 use Rattle.wire.specs.Stream.{BeginsBadly, Cutting, HandsOut, IsPartial, StoppedBy}
 use Rattle.wire.specs.declared.cutter.CutFault.{CutFault}
 use Rattle.wire.specs.declared.cutter.CutFault.TheVariants as fault
 use Rattle.engine_reader.specs.Verdicts.{KeepsNone, Progress, Queued, QueuesAll, Reads, and_then, with_unkept}
-
--- a receive into what is behind the front leaves the front, and brings what stands behind it then
-module _ (room new : List ℕ) (from k : ℕ) (inside : from ≤ length room) where
-  pub front_left : take from (put_mid from k room new) ≡ take from room
-  front_left = take_at (take from room) (new ++ post_of from k room) from (length-take-le from room inside)
-
-  pub heard_behind : (r : Received) → IsWithin r (length new) → heard r (drop from (put_mid from k room new)) ≡ heard r new
-  heard_behind (received.Bytes n) within =
-      ap (λ (bytes : List ℕ). Piece (take n bytes)) (drop_at (take from room) (new ++ post_of from k room) from (length-take-le from room inside))
-      ∙ ap Piece (take-append-le n new (post_of from k room) within)
-  heard_behind received.End within = refl
-  heard_behind received.Broken within = refl
-
-  pub within_behind : (r : Received) → IsWithin r (length new) → IsWithin r (length (put_mid from k room new) - from)
-  within_behind (received.Bytes n) within =
-      omega (arith, within, length-append (take from room) (new ++ post_of from k room), length-append new (post_of from k room), length-take-le from room inside)
-  within_behind received.End within = tt
-  within_behind received.Broken within = tt
 
 -- the bytes at the front, and those that came behind them
 pub front_grown : (old new : List ℕ) (from count : ℕ) → take from new ≡ take from old → take (from + count) new ≡ take from old ++ take count (drop from new)

@@ -10,6 +10,17 @@ const LOOKUP_A: [u8; 42] = [
     0x61, 0, // the name
 ];
 
+/// Where a piece and the next one stand in their rooms. None where a piece is in no room.
+const GAPS: [(Option<usize>, Option<usize>); 7] = [
+    (Some(0), Some(0)),
+    (Some(0), None),
+    (None, Some(0)),
+    (Some(20), Some(20)),
+    (Some(64), Some(64)),
+    (Some(64), None),
+    (None, Some(64)),
+];
+
 #[test]
 fn frame_cut_anywhere(rt: HostRuntime) -> Result<(), Fail> {
     for at in 1..42 {
@@ -65,16 +76,21 @@ fn many_frames_each_in_two_pieces(rt: HostRuntime) -> Result<(), Fail> {
     Ok(())
 }
 
-/// Hands a piece over as it is, or as the front of a room.
-fn hand(cutter: &mut Cutter, room: &mut Vec<u8>, piece: &[u8], in_room: bool) -> Result<(), Fail> {
-    if !in_room {
+/// Hands a piece over as it is, or in a room behind so many other bytes.
+fn hand(
+    cutter: &mut Cutter,
+    room: &mut Vec<u8>,
+    piece: &[u8],
+    gap: Option<usize>,
+) -> Result<(), Fail> {
+    let Some(gap) = gap else {
         cutter.feed(piece)?;
         return Ok(());
-    }
+    };
     room.clear();
+    room.resize(gap, 0xff)?;
     room.extend_from_slice(piece)?;
-    room.resize(64, 0xff)?;
-    cutter.feed_from(room, piece.len().min(64))?;
+    cutter.feed_from(room, gap, piece.len())?;
     Ok(())
 }
 
@@ -84,7 +100,7 @@ fn pieces_in_a_room_and_others_in_turn(rt: HostRuntime) -> Result<(), Fail> {
     let mut room = Vec::new(rt.alloc());
     for at in 1..42 {
         let (front, back) = LOOKUP_A.split_at(at);
-        for (one, other) in [(true, true), (true, false), (false, true)] {
+        for (one, other) in GAPS {
             hand(&mut cutter, &mut room, front, one)?;
             assert!(rt; cutter.next()?.is_none());
             assert_eq!(rt; cutter.rest(), at);
@@ -112,7 +128,7 @@ fn bad_length(rt: HostRuntime) -> Result<(), Fail> {
             assert_eq!(rt; cutter.next().err(), Some(CutFault::BadLength { len }));
             assert_eq!(rt; cutter.feed(&[]).err(), Some(CutFault::BadLength { len }));
             assert_eq!(rt;
-                cutter.feed_from(&mut room, 0).err(),
+                cutter.feed_from(&mut room, 0, 0).err(),
                 Some(CutFault::BadLength { len })
             );
         }

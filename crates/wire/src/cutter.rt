@@ -83,19 +83,24 @@ impl Cutter {
         Ok(())
     }
 
-    /// Takes the first bytes of a room as the next piece, without a copy where no bytes are kept: then another buffer of that length is
-    /// left in the place of the room. An `Err` changes nothing.
-    pub fn feed_from(&mut self, room: &mut Vec<u8>, count: usize) -> Result<(), CutFault>
-        requires within { count ≤ vec_len room.old }
-        ensures ok { OnOk result (self.new ≡ record self.old { kept = self.old.kept ++ take count room.old.items }) }
+    /// Takes so many bytes of a room as the next piece, which stand there from `from` on. The bytes that are kept are copied before them
+    /// where they are fewer and fit there, and another buffer is left in the place of the room, no shorter. An `Err` changes nothing.
+    pub fn feed_from(
+        &mut self,
+        room: &mut Vec<u8>,
+        from: usize,
+        count: usize,
+    ) -> Result<(), CutFault>
+        requires within { from + count ≤ vec_len room.old }
+        ensures ok { OnOk result (self.new ≡ record self.old { kept = self.old.kept ++ take count (drop from room.old.items) }) }
         ensures err { OnErr result ((self.new ≡ self.old) × (room.new.items ≡ room.old.items)) }
         ensures bad { (len : ℕ) → (result ≡ Err (CutFault.BadLength len)) ↔ (self.old.stopped ≡ Some len) }
-        ensures room { vec_len room.new ≡ vec_len room.old }
+        ensures room { vec_len room.old ≤ vec_len room.new }
     {
         if let Some(len) = self.stopped {
             return Err(CutFault::BadLength { len });
         }
-        self.kept.take_from(room, count)?;
+        self.kept.take_from(room, from, count)?;
         Ok(())
     }
 

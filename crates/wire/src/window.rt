@@ -54,6 +54,44 @@ fn write_behind(buffer: &mut Vec<u8>, end: usize, piece: &[u8]) -> Result<(), Al
     Ok(())
 }
 
+/// Writes bytes before those that stand in a room from `from` on.
+fn write_before(room: &mut [u8], from: usize, bytes: &[u8])
+    requires before { length bytes.now ≤ from }
+    requires within { from ≤ length room.old }
+    ensures written { drop (from - length bytes.now) room.new ≡ bytes.now ++ drop from room.old }
+    ensures len { length room.new ≡ length room.old }
+{
+    room[from - bytes.len()..from].copy_from_slice(bytes);
+}
+
+/// Makes a buffer at least so long. Its first `end` bytes stay, and without memory nothing changes.
+fn lengthen(buffer: &mut Vec<u8>, end: usize, len: usize) -> Result<(), AllocError>
+    requires within { end ≤ length buffer.old.items }
+    ensures front { take end buffer.new.items ≡ take end buffer.old.items }
+    ensures within { end ≤ length buffer.new.items }
+    ensures long { OnOk result (len ≤ length buffer.new.items) }
+    ensures same { OnErr result (buffer.new.items ≡ buffer.old.items) }
+{
+    if buffer.len() < len {
+        buffer.resize(len, 0)?;
+    }
+    Ok(())
+}
+
+/// Writes the bytes of a buffer from `start` up to `end` before those that stand in a room from `from` on, and exchanges the two.
+fn exchange(buffer: &mut Vec<u8>, start: usize, end: usize, room: &mut Vec<u8>, from: usize)
+    requires order { start ≤ end }
+    requires within { end ≤ length buffer.old.items }
+    requires before { end - start ≤ from }
+    requires inside { from ≤ length room.old.items }
+    ensures joined { drop (from - (end - start)) buffer.new.items ≡ drop start (take end buffer.old.items) ++ drop from room.old.items }
+    ensures len { length buffer.new.items ≡ length room.old.items }
+    ensures room { length room.new.items ≡ length buffer.old.items }
+{
+    write_before(room, from, &buffer[start..end]);
+    swap(buffer, room);
+}
+
 impl Window {
     /// No bytes. It takes no memory.
     pub fn new(alloc: Global) -> Window
@@ -103,21 +141,27 @@ impl Window {
         Ok(())
     }
 
-    /// Takes in the first bytes of a room. Where none are kept, and the buffer did not come to be longer than the room, the two are exchanged
-    /// and no byte is copied. Without memory nothing changes.
-    pub fn take_from(&mut self, room: &mut Vec<u8>, count: usize) -> Result<(), AllocError>
-        requires within { count ≤ vec_len room.old }
-        ensures ok { OnOk result (self.new ≡ self.old ++ take count room.old.items) }
+    /// Takes in so many bytes of a room, which stand there from `from` on. Where fewer are kept, those are copied before these, if they
+    /// fit there, and the buffer and the room are exchanged. The room gets no shorter. Without memory nothing changes.
+    pub fn take_from(
+        &mut self,
+        room: &mut Vec<u8>,
+        from: usize,
+        count: usize,
+    ) -> Result<(), AllocError>
+        requires within { from + count ≤ vec_len room.old }
+        ensures ok { OnOk result (self.new ≡ self.old ++ take count (drop from room.old.items)) }
         ensures err { OnErr result ((self.new ≡ self.old) × (room.new.items ≡ room.old.items)) }
-        ensures room { vec_len room.new ≡ vec_len room.old }
+        ensures room { vec_len room.old ≤ vec_len room.new }
     {
-        if self.start < self.end || self.buffer.len() > room.len() {
-            return self.push(&room[..count]);
+        let (kept, behind) = (self.end - self.start, self.buffer.len() - self.end);
+        if kept > from || (count <= kept && count <= behind) {
+            return self.push(&room[from..from + count]);
         }
-        self.buffer.resize(room.len(), 0)?;
-        swap(&mut self.buffer, room);
-        self.start = 0;
-        self.end = count;
+        lengthen(&mut self.buffer, self.end, room.len())?;
+        exchange(&mut self.buffer, self.start, self.end, room, from);
+        self.start = from - kept;
+        self.end = from + count;
         Ok(())
     }
 

@@ -1,6 +1,6 @@
 use Rattle.std.proofs.Common.{sym, subst}
 use Rattle.engine.specs.Links.{Heard}
-use Rattle.engine_reader.proofs.Receiving.{front_left, heard_behind, within_behind}
+use Rattle.engine.proofs.Behind.{front_left, heard_behind, within_behind}
 use Rattle.engine_reader.proofs.reader.receive_behind.Goals as goal
 
 pub returns-clause-within : goal.returns-clause-within
