@@ -38,7 +38,8 @@ fn sight_of(alloc: Global, names: &Path, path: &str, numbers: Numbers) -> Result
 impl<D: Disk + Drop> Ways<D> {
     /// What is remembered of the path with these names.
     pub fn sight(&self, names: &[Name]) -> Option<&Sight>
-        ensures { IfSome result (λ sight. IsWalked (D.root self.now) (D.folders self.now) (string_bytes sight.now.path) names.now) }
+        ensures known { IfSome result (λ sight. IsWalked (D.root self.now) (D.folders self.now) (string_bytes sight.now.path) names.now) }
+        ensures same { IfSome result (λ sight. sight.now.names ≡ names.now) }
     {
         let slot = slot_of(names, SEEN);
         if slot >= self.sights.len() {
