@@ -73,7 +73,7 @@ fn find_and_change<D: Disk + Drop>(
     path: &Path,
     change: Change,
 ) -> Result<(), HostError> {
-    let found = ways.find(walk, path)?;
+    let found = ways.find(walk, path.names())?;
     change_found(ways.disk(), files, walk.path(), found, change)
 }
 

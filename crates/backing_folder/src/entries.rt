@@ -128,7 +128,7 @@ fn find_source<D: Disk + Drop>(
     if from.len() == 0 || to.len() == 0 {
         return Err(HostError::Refused(Reason::Root));
     }
-    let source = ways.find(walk, from)?;
+    let source = ways.find(walk, from.names())?;
     if is_gone(source) {
         return Err(HostError::Refused(Reason::Nothing));
     }
@@ -149,7 +149,7 @@ fn find_target<D: Disk + Drop>(
     if are_beside(from, to) {
         ways.find_beside(target, to)
     } else {
-        ways.find(target, to)
+        ways.find(target, to.names())
     }
 }
 

@@ -21,8 +21,8 @@ use std::alloc::{AllocError, Global};
 use std::fs::File;
 use std::mem::replace;
 
-/// What stands at the path. At the root that takes one `lstat`, since the way to it takes none. Elsewhere it takes one where a call
-/// before it found the same file or folder there.
+/// What stands at the path. At the root that takes one `lstat`, since the way to it takes none. Elsewhere it takes one where the
+/// same file or folder was found, made or moved there before.
 pub fn stat<D: Disk + Drop>(
     ways: &mut Ways<D>,
     walk: &mut Walk,
@@ -30,7 +30,7 @@ pub fn stat<D: Disk + Drop>(
 ) -> Result<Answer, HostError>
     ensures { IfOk result (Suits (AskStat path.now)) }
 {
-    match ways.find(walk, path)? {
+    match ways.find_seen(walk, path)? {
         Found::Folder(identity) => {
             let details = if path.len() == 0 {
                 details_now(ways.disk(), walk.path(), identity)
@@ -145,7 +145,7 @@ pub fn sync<D: Disk + Drop>(
 ) -> Result<Answer, HostError>
     ensures { IfOk result (Suits (AskSync path.now)) }
 {
-    let found = ways.find(walk, path)?;
+    let found = ways.find(walk, path.names())?;
     let identity = expect_present(found)?;
     let file = ways.disk().open(walk.path())?;
     expect_same(&file, &identity)?;
@@ -161,7 +161,7 @@ pub fn find_file<D: Disk + Drop>(
 ) -> Result<Identity, HostError>
     ensures { OnOk result (IsWalked (D.root ways.new) (D.folders ways.new) walk.new path.now) }
 {
-    match ways.find(walk, path)? {
+    match ways.find(walk, path.names())? {
         Found::File(identity) => Ok(identity),
         Found::Folder(_) => Err(HostError::Refused(Reason::Folder)),
         Found::Nothing | Found::Hidden => Err(HostError::Refused(Reason::Nothing)),
@@ -176,15 +176,15 @@ pub fn find_folder<D: Disk + Drop>(
 ) -> Result<(), HostError>
     ensures { OnOk result (IsWalked (D.root ways.new) (D.folders ways.new) walk.new path.now) }
 {
-    match ways.find(walk, path)? {
+    match ways.find(walk, path.names())? {
         Found::Folder(_) => Ok(()),
         Found::File(_) => Err(HostError::Refused(Reason::NoFolder)),
         Found::Nothing | Found::Hidden => Err(HostError::Refused(Reason::Nothing)),
     }
 }
 
-/// Which of the open files stands at the path, and what a look told of it. One look shows a file that is kept or was found there before,
-/// whatever stands above it; else the folders above it are looked at too.
+/// Which of the open files stands at the path, and what a look told of it. One look shows a file that is kept, whatever stands above it;
+/// else the folders above it are looked at too.
 fn open_file<D: Disk + Drop>(
     ways: &mut Ways<D>,
     files: &mut OpenFiles,
@@ -196,10 +196,6 @@ fn open_file<D: Disk + Drop>(
 {
     if let Ok(Some(Found::File(identity))) = ways.glance(walk, path.names()) {
         if let Some(i) = files.index_of(&identity, access) {
-            return Ok((i, identity));
-        }
-        if ways.has_seen(path, &identity) {
-            let i = open_found(ways.disk(), files, walk.path(), &identity, access)?;
             return Ok((i, identity));
         }
     }

@@ -33,8 +33,8 @@ const WORTH_KEEPING: usize = 1024;
 /// It shows files and folders alone: a symbolic link, a pipe, a socket or a device is absent to it, wherever it stands in
 /// a path, and is neither followed nor opened. Each call first walks down the path, with one look for each name. Up to 256
 /// folders that it walked to are remembered: one look at such a folder that shows the same device and inode number stands
-/// for the walk to it. So are up to 512 files and folders that were found, made or moved: one look at the whole path that
-/// shows the same numbers stands for the walk there. What is opened to be read, written, cut or synced, or to have its
+/// for the walk to it. So are up to 512 files and folders that a Stat found, or that were made or moved: one look at the whole path that
+/// shows the same numbers answers the next Stat. What is opened to be read, written, cut or synced, or to have its
 /// permission bits, its owner or its times set, is compared with what was found in the same way, before that is done: a
 /// file that was replaced after its look is not touched. Up to 64 files that were read, written, cut or made stay open,
 /// whatever their bits become, and are used again where a look at a path shows their numbers; a file that the folder's own
@@ -52,10 +52,9 @@ const WORTH_KEEPING: usize = 1024;
 /// nothing looks at its target first: what somebody else makes there between that look and the move is replaced.
 ///
 /// A folder in the way that another user swaps for a link between two calls of the system is not noticed, nor is a link
-/// that leads to the very folder that is remembered, or to one that got the number of a folder that is gone. Nor is a link
-/// noticed above a path at whose end it leads to the very file or folder that was found there: a call then serves that one,
-/// and a move within its folder takes the other name beside it. The standard library has no call that works below an open
-/// folder: serve no folder in which another user can write.
+/// that leads to the very folder that is remembered, or to one that got the number of a folder that is gone. Nor does a Stat
+/// notice a link above a path at whose end it leads to the very file or folder that was found there. The standard
+/// library has no call that works below an open folder: serve no folder in which another user can write.
 #[derive(Drop)]
 pub struct Folder<D: Disk + Drop> {
     ways: Ways<D>,

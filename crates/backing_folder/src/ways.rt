@@ -18,7 +18,7 @@ use std::marker::Model;
 ///
 /// A folder that is remembered is looked at again, by its whole path, each time that it is used to reach what is not known. It is the
 /// one that was walked to if it has the same device and inode number; else it is walked to anew. What was found is looked at again in
-/// the same way by the next call on it.
+/// the same way by the next Stat.
 #[derive(Drop)]
 pub struct Ways<D: Disk + Drop> {
     pub(crate) disk: D,
@@ -59,19 +59,20 @@ impl<D: Disk + Drop> Ways<D> {
         &self.disk
     }
 
-    /// What stands there: by one look, where that shows the file or folder that was found there before. Else what `find_anew` answers
-    /// counts, and is remembered. That takes one look at most at the root and at a name in it, so nothing is remembered of these.
-    pub fn find(&mut self, walk: &mut Walk, path: &Path) -> Result<Found, HostError>
+    /// What stands there, for a Stat: by one look, where that shows the file or folder that was found, made or moved there before. Else what
+    /// `find` answers counts, and is remembered. That takes one look at most at the root and at a name in it, so nothing is remembered of
+    /// these.
+    pub fn find_seen(&mut self, walk: &mut Walk, path: &Path) -> Result<Found, HostError>
         ensures same { self.new ≡ self.old }
         ensures walked { OnOk result (IsWalked (D.root self.new) (D.folders self.new) walk.new path.now) }
     {
         if path.len() < 2 {
-            return self.find_anew(walk, path.names());
+            return self.find(walk, path.names());
         }
         if let Some(found) = self.recall_seen(walk, path.names()) {
             return Ok(found);
         }
-        match self.find_anew(walk, path.names()) {
+        match self.find(walk, path.names()) {
             Ok(found) => {
                 self.see(walk, path, found);
                 Ok(found)
@@ -90,13 +91,13 @@ impl<D: Disk + Drop> Ways<D> {
     {
         match self.glance(walk, path.names())? {
             Some(found) => Ok(found),
-            None => self.find_anew(walk, path.names()),
+            None => self.find(walk, path.names()),
         }
     }
 
     /// Goes down from the root, and answers what stands there: one look for each name, or two where its folder is
     /// remembered.
-    fn find_anew(&mut self, walk: &mut Walk, names: &[Name]) -> Result<Found, HostError>
+    pub fn find(&mut self, walk: &mut Walk, names: &[Name]) -> Result<Found, HostError>
         ensures same { self.new ≡ self.old }
         ensures walked { OnOk result (IsWalked (D.root self.new) (D.folders self.new) walk.new names.now) }
     {
@@ -151,14 +152,6 @@ impl<D: Disk + Drop> Ways<D> {
         walk.enter(name)?;
         let found = self.disk.look(walk.path())?;
         Ok(Some(found))
-    }
-
-    /// Whether that file or folder was found there before.
-    pub fn has_seen(&self, path: &Path, identity: &Identity) -> bool {
-        match self.sight(path.names()) {
-            Some(sight) => identity.has(&sight.numbers),
-            None => false,
-        }
     }
 
     /// Goes down to the folder, by one look where it is remembered or was found there before.

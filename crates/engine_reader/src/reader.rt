@@ -170,7 +170,7 @@ impl Reader {
             }
             Received::Broken => return Some(SessionEnd::LinkBroken),
         }
-        match self.cutter.feed_from(&mut self.room, 0, self.unkept) {
+        match self.cutter.feed(&self.room[..self.unkept]) {
             Ok(()) => {
                 self.unkept = 0;
                 self.queue_all(rt)

@@ -295,33 +295,30 @@ fn now_is_what_the_clock_says(rt: HostRuntime) -> Result<(), Fail> {
     tell(rt, "now", Trick::Arrive, rows.as_slice(), 0)
 }
 
-// One look at a file or a folder finds what was found, made or moved there, and the folder above it is not looked at.
+// One look at a file or a folder finds for a STAT what was found, made or moved there, and the folder above it is not looked at.
 #[test]
-fn what_was_seen_is_found_by_one_look(rt: HostRuntime) -> Result<(), Fail> {
+fn what_was_seen_is_told_by_one_look(rt: HostRuntime) -> Result<(), Fail> {
     let rows = [
         ("make d/f", "done"),
         ("make d/g", "done"),
         ("mkdir d/x", "done"),
         ("mkdir d/y", "done"),
+        ("make d/i", "done"),
+        ("rename d/i d/h", "done"),
         ("write d/f 0 abc", "wrote 3"),
         ("stat d/x", "folder 0"),
         ("remove e", "done"),
         ("stat d/f", "file 3"),
         ("stat d/g", "file 0"),
+        ("stat d/h", "file 0"),
         ("stat d/x", "folder 0"),
-        ("list d/x", "names"),
         ("read d/f 0 9", "bytes 616263"),
-        ("rename d/f d/g", "done"),
-        ("rename-new d/g d/h", "done"),
-        ("read d/h 0 9", "bytes 616263"),
-        ("sync d/h", "done"),
-        ("chmod d/h 600", "done"),
-        ("rename d/h d/i", "done"),
-        ("remove d/i", "done"),
-        ("rmdir d/x", "done"),
         ("stat d/y", "fault 2"),
-        ("make d/f", "fault 2"),
-        ("rename d/y d/z", "fault 2"),
+        ("list d/x", "fault 2"),
+        ("rename d/f d/g", "fault 2"),
+        ("rename-new d/f d/i", "fault 2"),
+        ("remove d/f", "fault 2"),
+        ("rmdir d/x", "fault 2"),
         ("stat d", "fault 2"),
         ("make e", "done"),
         ("stat d/y", "folder 0"),

@@ -1,5 +1,5 @@
-//! What a real folder remembers of what it found, and others change meanwhile. Each path is asked for twice before: the second time one look
-//! finds what was seen.
+//! What a real folder remembers of a STAT, and others change meanwhile. Each path is asked for twice before: the second time one look finds
+//! what was seen.
 
 use crate::asking::{expect, expect_count};
 use crate::places::sample_folder;
@@ -126,7 +126,7 @@ fn a_link_to_another_folder_is_not_followed_to_a_seen_name(rt: HostRuntime) -> R
 
 // The file itself is not another one: this is what others may do in a folder that is served.
 #[test]
-fn a_seen_file_is_served_through_a_link_to_its_folder(rt: HostRuntime) -> Result<(), Fail> {
+fn a_seen_file_is_told_through_a_link_to_its_folder(rt: HostRuntime) -> Result<(), Fail> {
     const STEPS: &[Step] = &[
         Step::Put("d/x", Item::Folder),
         Step::Put("d/x/f", Item::File("one")),
@@ -137,11 +137,12 @@ fn a_seen_file_is_served_through_a_link_to_its_folder(rt: HostRuntime) -> Result
         Step::Ask("stat d/x/f", "file 3"),
         Step::Ask("stat d/x/g", "fault 2"),
         Step::Ask("stat d/x", "fault 2"),
-        Step::Ask("read d/x/f 0 9", "bytes 6f6e65"),
-        Step::Ask("read d/x/g 0 9", "fault 2"),
-        Step::Ask("write d/x/g 0 x", "fault 2"),
-        Step::Ask("remove d/x/g", "fault 2"),
-        Step::Ask("rename d/x/g d/x/f", "fault 2"),
+        Step::Ask("read d/x/f 0 9", "fault 2"),
+        Step::Ask("write d/x/f 0 x", "fault 2"),
+        Step::Ask("chmod d/x/f 600", "fault 2"),
+        Step::Ask("rename d/x/f d/x/g", "fault 2"),
+        Step::Ask("rename-new d/x/f d/x/h", "fault 2"),
+        Step::Ask("remove d/x/f", "fault 2"),
         Step::Failed(0),
     ];
     tell(rt, "seen-through", STEPS)

@@ -2,7 +2,7 @@ use Rattle.std.proofs.Common.{◌++◌, ◌∷◌, [], sym, ◌∙◌, subst}
 use Rattle.paths.specs.Prefixes.{Names}
 use Rattle.backing_folder.proofs.RouteLemmas.{one_deeper, on_ok}
 use Rattle.backing_folder.specs.Routes.{IsBelow, IsWalked}
-use Rattle.backing_folder.proofs.ways.Ways.find_anew.Goals as goal
+use Rattle.backing_folder.proofs.ways.Ways.find.Goals as goal
 
 pub look-requires : goal.look-requires
 look-requires g c =
