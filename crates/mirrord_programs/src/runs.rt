@@ -33,14 +33,7 @@ fn run_asked<
     I: BufRead + Drop,
     O: Write + Drop,
     F: Write,
->(
-    rt: &H,
-    host: &HostRuntime,
-    options: Options<'_>,
-    input: I,
-    output: O,
-    faults: &mut F,
-) -> Ended<O>
+>(rt: &H, host: &HostRuntime, options: Options<'_>, input: I, output: O, faults: &mut F) -> Ended<O>
     ensures { RunsAsked options.entry (I.remaining input) (O.contents output) (O.contents result.output) (F.contents faults.old) (F.contents faults.new) result.status result.told }
 {
     match options {

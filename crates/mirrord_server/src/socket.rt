@@ -48,7 +48,16 @@ fn serve_first<H: Threads + Wait + AllocGlobal + Clone + Send + Sync + Drop + 's
 
 /// Serves the first client that connects to a new socket at `path`, whose file is removed then.
 fn serve_at<
-    H: Threads + Wait + Net + Files<File = File> + AllocGlobal + Clone + Send + Sync + Drop + 'static,
+    H: Threads
+        + Wait
+        + Net
+        + Files<File = File>
+        + AllocGlobal
+        + Clone
+        + Send
+        + Sync
+        + Drop
+        + 'static,
 >(
     rt: &H,
     folders: Vec<HostFolder>,
