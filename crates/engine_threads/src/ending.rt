@@ -47,7 +47,6 @@ pub struct Over<T: Ledgers, N: Opening, C: Calls + Drop> {
 }
 
 /// What the starter has of its own: passes and a front, what it answers the last frame with, and room for what all leave.
-#[derive(Drop)]
 pub struct Room<T: Ledgers, N: Opening> {
     pub own: Bid<T, N>,
     pub starter: Starter,
@@ -57,114 +56,128 @@ pub struct Room<T: Ledgers, N: Opening> {
     pub shares: Shares<T>,
 }
 
-/// Answers the frame that ended the session, offers what is still queued, and gathers what all passes tell. The last of these is the
-/// starter's, who takes no job.
-pub fn end_all<
-    H: Wait + Drop,
-    T: Ledgers,
-    N: Opening,
-    I: LinkIn + Drop,
-    O: LinkOut + Drop,
-    C: Calls + Drop,
-    S: Source<I> + Sink<O>,
->(
-    rt: &H,
-    common: Common<H, T, N, I, O, S>,
-    jobs: &JobSender<Job>,
-    replies: &ReplySender<Reply>,
-    ends: Vec<WorkerEnd<T, N, C>>,
-    room: Room<T, N>,
-) -> Over<T, N, C>
-    requires jobs { S.jobs ≡ Some (sends_on jobs.now) }
-    requires replies { S.replies ≡ Some (sends_on replies.now) }
-    requires parted { S.parted ≡ vec_len ends + 1 }
-    requires senders { S.senders ≡ vec_len ends + 1 }
-    requires some { 0 < vec_len ends }
-    requires few { vec_len ends ≤ 4 }
-    requires over { All (λ e. IsOver (sends_on jobs.now) (sends_on replies.now) (does_shared C.gives) room.starter.settings e.given.value e.passes e.handed_back e.calls e.kept.share (on_table_of e.front)) ends.items }
-    requires numbers { map (λ e. e.passes.number) ends.items ≡ range_with_len 0 (vec_len ends) }
-    requires job_seat { IsSeatAt (sends_on jobs.now) room.own.passes.job_pass }
-    requires reply_seat { IsSeatAt (sends_on replies.now) room.own.passes.reply_pass }
-    requires unused { AreUnused room.own.passes }
-    requires number { room.own.passes.number ≡ vec_len ends }
-    requires front { on_table_of room.own.front ≡ idle room.own.passes.number }
-    requires work { receives_on room.starter.work ≡ sends_on jobs.now }
-    requires ring { sends_on room.starter.replies ≡ sends_on replies.now }
-    requires passes { 5 ≤ vec_capacity room.passes }
-    requires no_passes { room.passes.items ≡ [] }
-    requires handed_back { (5 ≤ vec_capacity room.handed_back) × (room.handed_back.items ≡ []) }
-    requires taken { 5 ≤ vec_capacity room.taken }
-    requires none_taken { room.taken.items ≡ [] }
-    ensures taken { vec_len result.taken ≡ vec_len ends + 1 }
-    ensures counted { result.taken.items ≡ map (λ js. length js) (takings_of result.passed.passes.value.items) }
-    ensures numbers { numbers_of result.passed.passes.value.items ≡ range_with_len 0 (vec_len ends + 1) }
-    ensures reads { ∥ HasReadAll I.receives S.heard_from result.passed.input (queued_of (view result.passed.read.value).put) (option_map shown result.passed.farewell.value) result.passed.is_job_handed_back ∥₁ }
-    ensures writes { ∥ HasWrittenAll O.sends S.sent_to S.senders (made_by (did result.closed.table.log) S.senders) (view result.passed.written.value) result.passed.is_broken ∥₁ }
-    ensures shared { IsShared (view result.passed.read.value) result.passed.passes.value.items (view result.passed.written.value) }
-    ensures worked { WorkedEach (does_shared C.gives) room.starter.settings (did result.closed.table.log) (map (λ e. e.given.value) ends.items) result.passed.passes.value.items result.passed.handed_back.items }
-    ensures farewell { BidsFarewell (does_shared C.gives) room.starter.settings (did result.closed.table.log) (map (λ e. e.given.value) ends.items) result.passed.farewell.value result.passed.passes.value.items result.passed.handed_back.items }
-{
-    let Room {
-        own,
-        starter,
-        passes,
-        handed_back,
-        taken,
-        mut shares,
-    } = room;
-    let Common {
-        rt: _,
-        hall,
-        dirs,
-        reader,
-        writer,
-        sleepers: _,
-        signs: _,
-    } = common;
-    let ReaderEnd {
-        pass,
-        end,
-        farewell,
-        is_handed_back: is_job_handed_back,
-    } = reader.into_inner().into_end();
-    let mut writer = writer.into_inner();
-    let last = Snapshot::of(&farewell);
-    let leaving = take_leave(
-        rt, &hall, &dirs, jobs, replies, ends, starter, own, farewell,
-    );
-    offer_queued(rt, &hall, &dirs, &mut writer);
-    let mut closed = hall.close();
-    let WriterEnd {
-        pass: written,
-        is_broken,
-        kept,
-        mut front,
-    } = writer.into_end();
-    closed.look(&mut front);
-    shares.put(kept);
-    let (passes, handed_back, calls) = part_with(
-        &mut closed,
-        leaving,
-        passes,
-        handed_back,
-        &mut shares,
-    );
-    let passed = Passed {
-        input: end,
-        is_broken,
-        read: Snapshot::of(&pass),
-        farewell: last,
-        written: Snapshot::of(&written),
-        passes: Snapshot::of(&passes),
-        handed_back,
-        is_job_handed_back,
-    };
-    let taken = gather(jobs, replies, pass, passes, written, taken);
-    Over {
-        passed,
-        taken,
-        closed,
-        shares,
-        calls,
+impl<T: Ledgers, N: Opening> Drop for Room<T, N> {
+    // A call: else whoever drops it is checked for each of its parts.
+    fn drop(self) {
+        let Room {
+            own: _,
+            starter: _,
+            passes: _,
+            handed_back: _,
+            taken: _,
+            shares: _,
+        } = self;
+    }
+}
+
+impl<T: Ledgers, N: Opening> Room<T, N> {
+    /// Answers the frame that ended the session, offers what is still queued, and gathers what all passes tell. The last of these is the
+    /// starter's, who takes no job.
+    pub fn end_all<
+        H: Wait + Drop,
+        I: LinkIn + Drop,
+        O: LinkOut + Drop,
+        C: Calls + Drop,
+        S: Source<I> + Sink<O>,
+    >(
+        self,
+        rt: &H,
+        common: Common<H, T, N, I, O, S>,
+        jobs: &JobSender<Job>,
+        replies: &ReplySender<Reply>,
+        ends: Vec<WorkerEnd<T, N, C>>,
+    ) -> Over<T, N, C>
+        requires jobs { S.jobs ≡ Some (sends_on jobs.now) }
+        requires replies { S.replies ≡ Some (sends_on replies.now) }
+        requires parted { S.parted ≡ vec_len ends + 1 }
+        requires senders { S.senders ≡ vec_len ends + 1 }
+        requires some { 0 < vec_len ends }
+        requires few { vec_len ends ≤ 4 }
+        requires over { All (λ e. IsOver (sends_on jobs.now) (sends_on replies.now) (does_shared C.gives) self.starter.settings e.given.value e.passes e.handed_back e.calls e.kept.share (on_table_of e.front)) ends.items }
+        requires numbers { map (λ e. e.passes.number) ends.items ≡ range_with_len 0 (vec_len ends) }
+        requires job_seat { IsSeatAt (sends_on jobs.now) self.own.passes.job_pass }
+        requires reply_seat { IsSeatAt (sends_on replies.now) self.own.passes.reply_pass }
+        requires unused { AreUnused self.own.passes }
+        requires number { self.own.passes.number ≡ vec_len ends }
+        requires front { on_table_of self.own.front ≡ idle self.own.passes.number }
+        requires work { receives_on self.starter.work ≡ sends_on jobs.now }
+        requires ring { sends_on self.starter.replies ≡ sends_on replies.now }
+        requires passes { 5 ≤ vec_capacity self.passes }
+        requires no_passes { self.passes.items ≡ [] }
+        requires handed_back { (5 ≤ vec_capacity self.handed_back) × (self.handed_back.items ≡ []) }
+        requires taken { 5 ≤ vec_capacity self.taken }
+        requires none_taken { self.taken.items ≡ [] }
+        ensures taken { vec_len result.taken ≡ vec_len ends + 1 }
+        ensures counted { result.taken.items ≡ map (λ js. length js) (takings_of result.passed.passes.value.items) }
+        ensures numbers { numbers_of result.passed.passes.value.items ≡ range_with_len 0 (vec_len ends + 1) }
+        ensures reads { ∥ HasReadAll I.receives S.heard_from result.passed.input (queued_of (view result.passed.read.value).put) (option_map shown result.passed.farewell.value) result.passed.is_job_handed_back ∥₁ }
+        ensures writes { ∥ HasWrittenAll O.sends S.sent_to S.senders (made_by (did result.closed.table.log) S.senders) (view result.passed.written.value) result.passed.is_broken ∥₁ }
+        ensures shared { IsShared (view result.passed.read.value) result.passed.passes.value.items (view result.passed.written.value) }
+        ensures worked { WorkedEach (does_shared C.gives) self.starter.settings (did result.closed.table.log) (map (λ e. e.given.value) ends.items) result.passed.passes.value.items result.passed.handed_back.items }
+        ensures farewell { BidsFarewell (does_shared C.gives) self.starter.settings (did result.closed.table.log) (map (λ e. e.given.value) ends.items) result.passed.farewell.value result.passed.passes.value.items result.passed.handed_back.items }
+    {
+        let Room {
+            own,
+            starter,
+            passes,
+            handed_back,
+            taken,
+            mut shares,
+        } = self;
+        let Common {
+            rt: _,
+            hall,
+            dirs,
+            reader,
+            writer,
+            sleepers: _,
+            signs: _,
+        } = common;
+        let ReaderEnd {
+            pass,
+            end,
+            farewell,
+            is_handed_back: is_job_handed_back,
+        } = reader.into_inner().into_end();
+        let mut writer = writer.into_inner();
+        let last = Snapshot::of(&farewell);
+        let leaving = take_leave(
+            rt, &hall, &dirs, jobs, replies, ends, starter, own, farewell,
+        );
+        offer_queued(rt, &hall, &dirs, &mut writer);
+        let mut closed = hall.close();
+        let WriterEnd {
+            pass: written,
+            is_broken,
+            kept,
+            mut front,
+        } = writer.into_end();
+        closed.look(&mut front);
+        shares.put(kept);
+        let (passes, handed_back, calls) = part_with(
+            &mut closed,
+            leaving,
+            passes,
+            handed_back,
+            &mut shares,
+        );
+        let passed = Passed {
+            input: end,
+            is_broken,
+            read: Snapshot::of(&pass),
+            farewell: last,
+            written: Snapshot::of(&written),
+            passes: Snapshot::of(&passes),
+            handed_back,
+            is_job_handed_back,
+        };
+        let taken = gather(jobs, replies, pass, passes, written, taken);
+        Over {
+            passed,
+            taken,
+            closed,
+            shares,
+            calls,
+        }
     }
 }

@@ -1,12 +1,17 @@
 //! What each thread of a session knows of the table's history.
 
-ghost use Rattle.std.specs.Prelude.{◌≡◌, ◌+◌, ℕ, [], map, IfSome};
+ghost use Rattle.std.specs.Prelude.{◌≡◌, ◌≤◌, ◌+◌, ℕ, [], map, IfSome};
 ghost use Rattle.std.specs.List.{range_with_len};
 ghost use Rattle.table_histories.specs.Views.{front};
+ghost use Rattle.table_steps.specs.Kept.{world_of};
+ghost use Rattle.table_steps.specs.World.{opened_world};
 ghost use Rattle.engine_visits.specs.Visits.{idle, on_table_of};
 
 use ledger::Ledgers;
-use table_histories::Front;
+use std::alloc::Global;
+use table::Table;
+use table_halls::Hall;
+use table_histories::{Front, Opened};
 use table_recorded::{Entry, Opening, Runs};
 
 /// The fronts of the workers by their numbers, of the starter, and of the writer.
@@ -33,4 +38,24 @@ impl<T: Ledgers, N: Opening> Fronts<T, N> {
             writer,
         })
     }
+}
+
+/// What the threads share of a table that was just opened, and the front of each. None is want of memory.
+pub fn hall_of<T: Ledgers, N: Opening>(
+    alloc: Global,
+    opened: Opened<Entry<T>>,
+    table: Table<T>,
+    count: usize,
+) -> Option<(Hall<T, N>, Fronts<T, N>)>
+    requires few { count ≤ 4 }
+    requires history { opened.table.shared.table_id ≡ N.history }
+    requires table { world_of table ≡ opened_world N.limits }
+    requires threads { N.threads ≡ count + 2 }
+    ensures workers { IfSome result (λ r. map on_table_of r.1.workers.items ≡ map idle (range_with_len 0 count)) }
+    ensures starter { IfSome result (λ r. on_table_of r.1.starter ≡ idle count) }
+    ensures writer { IfSome result (λ r. on_table_of r.1.writer ≡ idle (count + 1)) }
+{
+    let (hall, fronts) = Hall::<T, N>::new(alloc, opened, table, count + 2).ok()?;
+    let fronts = Fronts::new(fronts)?;
+    Some((hall, fronts))
 }

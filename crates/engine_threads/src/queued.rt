@@ -15,89 +15,148 @@ ghost use Rattle.engine_roles.specs.Writes.{none_got, HasWrittenAll};
 ghost use Rattle.engine_threads.specs.Ended.{IsShared};
 ghost use Rattle.engine_threads.specs.Worked.{did, does_shared, made_by, AreUnused, BidsFarewell, IsStaffed, WorkedEach};
 
-use crate::ending::{Over, Room};
+use crate::ending::Over;
 use crate::farewell::Bid;
-use crate::fronts::Fronts;
-use crate::grounds::{Ground, parts_of, room_for, room_of};
 use crate::hiring::{cut_passes, hire_staff};
-use crate::running::{Parts, run};
-use crate::starting::Working;
-use crate::turns::JOINED;
-use crate::working::{Staff, WorkerEnd};
+use crate::rings::{Ends, Receivers, Senders, queues};
+use crate::rooms::Rooms;
+use crate::running::Parts;
+use crate::working::Staff;
 use backing::Calls;
-use crossbeam_channel::bounded_with;
 use engine::{LinkIn, LinkOut, Settings};
 use engine_jobs::Job;
-use engine_queues::jobs::{Fair, Hand, JobPass, JobReceiver, JobSender};
-use engine_queues::letters::{InOrder, Letter, ReplyLane, ReplyPass, ReplyReceiver, ReplySender};
+use engine_queues::passes::Passes;
 use engine_roles::Shares;
 use engine_workers::Reply;
+use handles::Dirs;
 use ledger::Ledgers;
 use std::alloc::Global;
 use std::marker::Brand;
 use std::sync::Wait;
 use std::thread::Threads;
-use table_recorded::Opening;
+use table_halls::Hall;
+use table_histories::Front;
+use table_recorded::{Entry, Opening, Runs};
 
-/// How many jobs wait at most: more than one receive can bring, which has 3,276 frames at most.
-const JOBS: usize = 3_328;
+/// What a session has before its queues, beside its workers.
+pub struct Ground<H: Drop, T: Ledgers, N: Opening, I: LinkIn + Drop, O: LinkOut + Drop> {
+    pub rt: H,
+    pub hall: Hall<T, N>,
+    pub dirs: Dirs,
+    pub link_in: I,
+    pub link_out: O,
+    /// The writer's.
+    pub writes: Front<Entry<T>, Runs<N>>,
+    /// The starter's.
+    pub starts: Front<Entry<T>, Runs<N>>,
+    pub shares: Shares<T>,
+}
 
-/// How many replies wait to be offered at most: as many as four threads may leave, so that nobody waits for a place.
-const REPLIES: usize = 4 * JOINED;
+impl<H: Drop, T: Ledgers, N: Opening, I: LinkIn + Drop, O: LinkOut + Drop> Drop
+    for Ground<H, T, N, I, O> {
+    // A call: else whoever drops it is checked for each of its parts.
+    fn drop(self) {
+        let Ground {
+            rt: _,
+            hall: _,
+            dirs: _,
+            link_in: _,
+            link_out: _,
+            writes: _,
+            starts: _,
+            shares: _,
+        } = self;
+    }
+}
 
-/// Runs a session by this staff. None where memory or a thread was wanting.
-fn serve_staffed<
+impl<
     H: Threads + Wait + Send + Sync + Drop + 'static,
     T: Ledgers + Send + Sync + 'static,
     N: Opening + Send + Sync + 'static,
     I: LinkIn + Send + Drop + 'static,
     O: LinkOut + Send + Drop + 'static,
-    C: Calls + Send + Drop + 'static,
->(
-    rt: &H,
-    alloc: Global,
-    jobs: &JobSender<Job>,
-    replies: &ReplySender<Reply>,
-    parts: Parts<H, T, N, I, O>,
-    staff: Vec<Staff<T, N, C>>,
-    room: Room<T, N>,
-) -> Option<Over<T, N, C>>
-    requires some { 0 < vec_len staff }
-    requires few { vec_len staff ≤ 4 }
-    requires reads { sends_on parts.reader.to ≡ sends_on jobs.now }
-    requires parts { (view parts.reader.pass).parts + (vec_len staff + 1) ≡ 8 }
-    requires unheard { reading parts.link_in parts.reader ≡ beginning parts.link_in }
-    requires writes { receives_on parts.writer.replies ≡ sends_on replies.now }
-    requires unsent { view parts.writer.pass ≡ none_got (vec_len staff + 1) }
-    requires whole { parts.writer.is_broken ≡ false }
-    requires front { on_table_of parts.front ≡ idle (vec_len staff + 1) }
-    requires staff { All (λ s. IsStaffed (sends_on jobs.now) (sends_on replies.now) room.starter.settings s.worker s.kept.share (on_table_of s.front)) staff.items }
-    requires numbers { map (λ s. s.worker.number) staff.items ≡ range_with_len 0 (vec_len staff) }
-    requires job_seat { IsSeatAt (sends_on jobs.now) room.own.passes.job_pass }
-    requires reply_seat { IsSeatAt (sends_on replies.now) room.own.passes.reply_pass }
-    requires unused { AreUnused room.own.passes }
-    requires number { room.own.passes.number ≡ vec_len staff }
-    requires own_front { on_table_of room.own.front ≡ idle room.own.passes.number }
-    requires work { receives_on room.starter.work ≡ sends_on jobs.now }
-    requires ring { sends_on room.starter.replies ≡ sends_on replies.now }
-    requires passes { (5 ≤ vec_capacity room.passes) × (room.passes.items ≡ []) }
-    requires handed_back { (5 ≤ vec_capacity room.handed_back) × (room.handed_back.items ≡ []) }
-    requires taken { (5 ≤ vec_capacity room.taken) × (room.taken.items ≡ []) }
-    ensures taken { IfSome result (λ o. vec_len o.taken ≡ vec_len staff + 1) }
-    ensures counted { IfSome result (λ o. o.taken.items ≡ map (λ js. length js) (takings_of o.passed.passes.value.items)) }
-    ensures numbers { IfSome result (λ o. numbers_of o.passed.passes.value.items ≡ range_with_len 0 (vec_len staff + 1)) }
-    ensures reads { IfSome result (λ o. ∥ HasReadAll I.receives (Some parts.link_in) o.passed.input (queued_of (view o.passed.read.value).put) (option_map shown o.passed.farewell.value) o.passed.is_job_handed_back ∥₁) }
-    ensures writes { IfSome result (λ o. ∥ HasWrittenAll O.sends (Some parts.link_out) (vec_len staff + 1) (made_by (did o.closed.table.log) (vec_len staff + 1)) (view o.passed.written.value) o.passed.is_broken ∥₁) }
-    ensures shared { IfSome result (λ o. IsShared (view o.passed.read.value) o.passed.passes.value.items (view o.passed.written.value)) }
-    ensures worked { IfSome result (λ o. WorkedEach (does_shared C.gives) room.starter.settings (did o.closed.table.log) (map (λ s. s.calls) staff.items) o.passed.passes.value.items o.passed.handed_back.items) }
-    ensures farewell { IfSome result (λ o. BidsFarewell (does_shared C.gives) room.starter.settings (did o.closed.table.log) (map (λ s. s.calls) staff.items) o.passed.farewell.value o.passed.passes.value.items o.passed.handed_back.items) }
-{
-    let ended = room_for::<WorkerEnd<T, N, C>>(alloc, 4)?;
-    let handles = room_for::<Working<T, N, C>>(alloc, 4)?;
-    run::<H, T, N, I, O, C, Brand>(rt, alloc, jobs, replies, parts, staff, handles, ended, room)
+> Ground<H, T, N, I, O> {
+    /// Runs a session by all that its threads need. None where a thread was wanting.
+    fn serve_staffed<C: Calls + Send + Drop + 'static>(
+        self,
+        rt: &H,
+        alloc: Global,
+        senders: &Senders,
+        ends: Ends<T>,
+        passes: Passes<Job, Reply>,
+        staff: Vec<Staff<T, N, C>>,
+        rooms: Rooms<T, N, C>,
+    ) -> Option<Over<T, N, C>>
+        requires some { 0 < vec_len staff }
+        requires few { vec_len staff ≤ 4 }
+        requires staff { All (λ s. IsStaffed (sends_on senders.now.jobs) (sends_on senders.now.replies) ends.starter.settings s.worker s.kept.share (on_table_of s.front)) staff.items }
+        requires staff_numbers { map (λ s. s.worker.number) staff.items ≡ range_with_len 0 (vec_len staff) }
+        requires reads { sends_on ends.reader.to ≡ sends_on senders.now.jobs }
+        requires parts { (view ends.reader.pass).parts + (vec_len staff + 1) ≡ 8 }
+        requires unheard { reading self.link_in ends.reader ≡ beginning self.link_in }
+        requires writes { receives_on ends.writer.replies ≡ sends_on senders.now.replies }
+        requires unsent { view ends.writer.pass ≡ none_got (vec_len staff + 1) }
+        requires whole { ends.writer.is_broken ≡ false }
+        requires front { on_table_of self.writes ≡ idle (vec_len staff + 1) }
+        requires job_seat { IsSeatAt (sends_on senders.now.jobs) passes.job_pass }
+        requires reply_seat { IsSeatAt (sends_on senders.now.replies) passes.reply_pass }
+        requires unused { AreUnused passes }
+        requires number { passes.number ≡ vec_len staff }
+        requires own_front { on_table_of self.starts ≡ idle passes.number }
+        requires work { receives_on ends.starter.work ≡ sends_on senders.now.jobs }
+        requires ring { sends_on ends.starter.replies ≡ sends_on senders.now.replies }
+        requires handles { (4 ≤ vec_capacity rooms.handles) × (rooms.handles.items ≡ []) }
+        requires ended { (4 ≤ vec_capacity rooms.ended) × (rooms.ended.items ≡ []) }
+        requires rooms_passes { (5 ≤ vec_capacity rooms.passes) × (rooms.passes.items ≡ []) }
+        requires handed_back { (5 ≤ vec_capacity rooms.handed_back) × (rooms.handed_back.items ≡ []) }
+        requires taken { (5 ≤ vec_capacity rooms.taken) × (rooms.taken.items ≡ []) }
+        ensures taken { IfSome result (λ o. vec_len o.taken ≡ vec_len staff + 1) }
+        ensures counted { IfSome result (λ o. o.taken.items ≡ map (λ js. length js) (takings_of o.passed.passes.value.items)) }
+        ensures numbers { IfSome result (λ o. numbers_of o.passed.passes.value.items ≡ range_with_len 0 (vec_len staff + 1)) }
+        ensures reads { IfSome result (λ o. ∥ HasReadAll I.receives (Some self.link_in) o.passed.input (queued_of (view o.passed.read.value).put) (option_map shown o.passed.farewell.value) o.passed.is_job_handed_back ∥₁) }
+        ensures writes { IfSome result (λ o. ∥ HasWrittenAll O.sends (Some self.link_out) (vec_len staff + 1) (made_by (did o.closed.table.log) (vec_len staff + 1)) (view o.passed.written.value) o.passed.is_broken ∥₁) }
+        ensures shared { IfSome result (λ o. IsShared (view o.passed.read.value) o.passed.passes.value.items (view o.passed.written.value)) }
+        ensures worked { IfSome result (λ o. WorkedEach (does_shared C.gives) ends.starter.settings (did o.closed.table.log) (map (λ s. s.calls) staff.items) o.passed.passes.value.items o.passed.handed_back.items) }
+        ensures farewell { IfSome result (λ o. BidsFarewell (does_shared C.gives) ends.starter.settings (did o.closed.table.log) (map (λ s. s.calls) staff.items) o.passed.farewell.value o.passed.passes.value.items o.passed.handed_back.items) }
+    {
+        let Ground {
+            rt: host,
+            hall,
+            dirs,
+            link_in,
+            link_out,
+            writes,
+            starts,
+            shares,
+        } = self;
+        let Ends {
+            starter,
+            reader,
+            writer,
+            kept,
+        } = ends;
+        let own = Bid {
+            passes,
+            front: starts,
+        };
+        let parts = Parts {
+            rt: host,
+            hall,
+            dirs,
+            reader,
+            link_in,
+            writer,
+            link_out,
+            kept,
+            front: writes,
+        };
+        rooms
+            .into_crew(staff, own, starter, shares)
+            .run::<H, I, O, Brand>(rt, alloc, &senders.jobs, &senders.replies, parts)
+    }
 }
 
-/// Hires a staff for the queues, and runs a session by it. None where memory or a thread was wanting.
+/// Runs a session by this staff. None where memory or a thread was wanting.
 fn serve_hired<
     H: Threads + Wait + Send + Sync + Drop + 'static,
     T: Ledgers + Send + Sync + 'static,
@@ -108,30 +167,89 @@ fn serve_hired<
 >(
     rt: &H,
     alloc: Global,
-    ground: Ground<H, T, N, I, O>,
-    jobs: &JobSender<Job>,
-    work: JobReceiver<Job>,
-    read: JobPass<Job>,
-    replies: &ReplySender<Reply>,
-    writes: ReplyReceiver<Reply>,
-    written: ReplyPass<Reply>,
-    fronts: Fronts<T, N>,
-    trees: Vec<C>,
-    shares: Shares<T>,
     settings: Settings,
+    ground: Ground<H, T, N, I, O>,
+    senders: &Senders,
+    receivers: Receivers,
+    staff: Vec<Staff<T, N, C>>,
+    rooms: Rooms<T, N, C>,
+) -> Option<Over<T, N, C>>
+    requires some { 0 < vec_len staff }
+    requires few { vec_len staff ≤ 4 }
+    requires staff { All (λ s. IsStaffed (sends_on senders.now.jobs) (sends_on senders.now.replies) settings s.worker s.kept.share (on_table_of s.front)) staff.items }
+    requires staff_numbers { map (λ s. s.worker.number) staff.items ≡ range_with_len 0 (vec_len staff) }
+    requires starter { on_table_of ground.starts ≡ idle (vec_len staff) }
+    requires writer { on_table_of ground.writes ≡ idle (vec_len staff + 1) }
+    requires work { receives_on receivers.work ≡ sends_on senders.now.jobs }
+    requires read { IsSeatAt (sends_on senders.now.jobs) receivers.read }
+    requires writes { receives_on receivers.writes ≡ sends_on senders.now.replies }
+    requires written { IsSeatAt (sends_on senders.now.replies) receivers.written }
+    requires parts { (view receivers.read).parts + vec_len staff ≡ 8 }
+    requires unread { ((view receivers.read).put ≡ []) × (length (view receivers.read).taken ≡ 0) }
+    requires unwritten { view receivers.written ≡ none_got (vec_len staff) }
+    requires handles { (4 ≤ vec_capacity rooms.handles) × (rooms.handles.items ≡ []) }
+    requires ended { (4 ≤ vec_capacity rooms.ended) × (rooms.ended.items ≡ []) }
+    requires passes { (5 ≤ vec_capacity rooms.passes) × (rooms.passes.items ≡ []) }
+    requires handed_back { (5 ≤ vec_capacity rooms.handed_back) × (rooms.handed_back.items ≡ []) }
+    requires taken { (5 ≤ vec_capacity rooms.taken) × (rooms.taken.items ≡ []) }
+    ensures taken { IfSome result (λ o. vec_len o.taken ≡ vec_len staff + 1) }
+    ensures counted { IfSome result (λ o. o.taken.items ≡ map (λ js. length js) (takings_of o.passed.passes.value.items)) }
+    ensures numbers { IfSome result (λ o. numbers_of o.passed.passes.value.items ≡ range_with_len 0 (vec_len staff + 1)) }
+    ensures reads { IfSome result (λ o. ∥ HasReadAll I.receives (Some ground.link_in) o.passed.input (queued_of (view o.passed.read.value).put) (option_map shown o.passed.farewell.value) o.passed.is_job_handed_back ∥₁) }
+    ensures writes { IfSome result (λ o. ∥ HasWrittenAll O.sends (Some ground.link_out) (vec_len staff + 1) (made_by (did o.closed.table.log) (vec_len staff + 1)) (view o.passed.written.value) o.passed.is_broken ∥₁) }
+    ensures shared { IfSome result (λ o. IsShared (view o.passed.read.value) o.passed.passes.value.items (view o.passed.written.value)) }
+    ensures worked { IfSome result (λ o. WorkedEach (does_shared C.gives) settings (did o.closed.table.log) (map (λ s. s.calls) staff.items) o.passed.passes.value.items o.passed.handed_back.items) }
+    ensures farewell { IfSome result (λ o. BidsFarewell (does_shared C.gives) settings (did o.closed.table.log) (map (λ s. s.calls) staff.items) o.passed.farewell.value o.passed.passes.value.items o.passed.handed_back.items) }
+{
+    let mut ground = ground;
+    let mut receivers = receivers;
+    let passes = cut_passes(
+        &senders.jobs,
+        &senders.replies,
+        &mut receivers.read,
+        &mut receivers.written,
+        staff.len() as u64,
+    );
+    let ends = receivers.into_ends(alloc, settings, senders, &mut ground.shares)?;
+    ground.serve_staffed(rt, alloc, senders, ends, passes, staff, rooms)
+}
+
+/// Hires a staff for the queues, and runs a session by it. None where memory or a thread was wanting.
+fn serve_hiring<
+    H: Threads + Wait + Send + Sync + Drop + 'static,
+    T: Ledgers + Send + Sync + 'static,
+    N: Opening + Send + Sync + 'static,
+    I: LinkIn + Send + Drop + 'static,
+    O: LinkOut + Send + Drop + 'static,
+    C: Calls + Send + Drop + 'static,
+>(
+    rt: &H,
+    alloc: Global,
+    settings: Settings,
+    ground: Ground<H, T, N, I, O>,
+    workers: Vec<Front<Entry<T>, Runs<N>>>,
+    trees: Vec<C>,
+    senders: &Senders,
+    receivers: Receivers,
+    rooms: Rooms<T, N, C>,
 ) -> Option<Over<T, N, C>>
     requires some { 0 < vec_len trees }
     requires few { vec_len trees ≤ 4 }
-    requires shares { All (λ p. p.totals ≡ nothing) shares.shares.items }
-    requires fronts { map on_table_of fronts.workers.items ≡ map idle (range_with_len 0 (vec_len trees)) }
-    requires starter { on_table_of fronts.starter ≡ idle (vec_len trees) }
-    requires writer { on_table_of fronts.writer ≡ idle (vec_len trees + 1) }
-    requires work { receives_on work ≡ sends_on jobs.now }
-    requires read { IsSeatAt (sends_on jobs.now) read }
-    requires unread { view read ≡ hand 8 [] [] }
-    requires writes { receives_on writes ≡ sends_on replies.now }
-    requires written { IsSeatAt (sends_on replies.now) written }
-    requires unwritten { view written ≡ none_got 0 }
+    requires shares { All (λ p. p.totals ≡ nothing) ground.shares.shares.items }
+    requires fronts { map on_table_of workers.items ≡ map idle (range_with_len 0 (vec_len trees)) }
+    requires starter { on_table_of ground.starts ≡ idle (vec_len trees) }
+    requires writer { on_table_of ground.writes ≡ idle (vec_len trees + 1) }
+    requires work { receives_on receivers.work ≡ sends_on senders.now.jobs }
+    requires read { IsSeatAt (sends_on senders.now.jobs) receivers.read }
+    requires writes { receives_on receivers.writes ≡ sends_on senders.now.replies }
+    requires written { IsSeatAt (sends_on senders.now.replies) receivers.written }
+    requires unread { view receivers.read ≡ hand 8 [] [] }
+    requires unwritten { view receivers.written ≡ none_got 0 }
+    requires handles { (4 ≤ vec_capacity rooms.handles) × (rooms.handles.items ≡ []) }
+    requires ended { (4 ≤ vec_capacity rooms.ended) × (rooms.ended.items ≡ []) }
+    requires passes { (5 ≤ vec_capacity rooms.passes) × (rooms.passes.items ≡ []) }
+    requires handed_back { (5 ≤ vec_capacity rooms.handed_back) × (rooms.handed_back.items ≡ []) }
+    requires taken { (5 ≤ vec_capacity rooms.taken) × (rooms.taken.items ≡ []) }
     ensures taken { IfSome result (λ o. vec_len o.taken ≡ vec_len trees + 1) }
     ensures counted { IfSome result (λ o. o.taken.items ≡ map (λ js. length js) (takings_of o.passed.passes.value.items)) }
     ensures numbers { IfSome result (λ o. numbers_of o.passed.passes.value.items ≡ range_with_len 0 (vec_len trees + 1)) }
@@ -141,59 +259,23 @@ fn serve_hired<
     ensures worked { IfSome result (λ o. WorkedEach (does_shared C.gives) settings (did o.closed.table.log) trees.items o.passed.passes.value.items o.passed.handed_back.items) }
     ensures farewell { IfSome result (λ o. BidsFarewell (does_shared C.gives) settings (did o.closed.table.log) trees.items o.passed.farewell.value o.passed.passes.value.items o.passed.handed_back.items) }
 {
-    let count = trees.len() as u64;
-    let mut read = read;
-    let mut written = written;
-    let mut shares = shares;
-    let Fronts {
-        workers,
-        starter,
-        writer,
-    } = fronts;
+    let mut ground = ground;
+    let mut receivers = receivers;
     let staff = hire_staff(
         alloc,
         settings,
-        jobs,
-        &work,
-        replies,
-        &mut read,
-        &mut written,
+        &senders.jobs,
+        &receivers.work,
+        &senders.replies,
+        &mut receivers.read,
+        &mut receivers.written,
         workers,
         trees,
-        &mut shares,
+        &mut ground.shares,
     )?;
-    let own = Bid {
-        passes: cut_passes(jobs, replies, &mut read, &mut written, count),
-        front: starter,
-    };
-    let parts = parts_of(
-        alloc,
-        ground,
-        jobs,
-        read,
-        writes,
-        written,
-        writer,
-        &mut shares,
-    )?;
-    let room = room_of(alloc, settings, work, replies, own, shares)?;
-    serve_staffed(rt, alloc, jobs, replies, parts, staff, room)
-}
-
-/// An empty queue of jobs: both ends, and the pass that has put and taken nothing. None is want of memory.
-fn job_queue(alloc: Global) -> Option<(JobSender<Job>, JobReceiver<Job>, JobPass<Job>)>
-    ensures { IfSome result (λ q. (receives_on q.1 ≡ sends_on q.0) × IsSeatAt (sends_on q.0) q.2 × (view q.2 ≡ hand 8 [] [])) }
-{
-    bounded_with::<Option<Job>, Hand<Job>, Fair, Global>(alloc, JOBS).ok()
-}
-
-/// An empty queue of replies: both ends, and the pass that has got nothing and that no sender's was made of. None is want of memory.
-fn reply_queue(
-    alloc: Global,
-) -> Option<(ReplySender<Reply>, ReplyReceiver<Reply>, ReplyPass<Reply>)>
-    ensures { IfSome result (λ q. (receives_on q.1 ≡ sends_on q.0) × IsSeatAt (sends_on q.0) q.2 × (view q.2 ≡ none_got 0)) }
-{
-    bounded_with::<Option<Letter<Reply>>, ReplyLane<Reply>, InOrder, Global>(alloc, REPLIES).ok()
+    serve_hired(
+        rt, alloc, settings, ground, senders, receivers, staff, rooms,
+    )
 }
 
 /// Makes the queues, and runs a session by them. None where memory or a thread was wanting.
@@ -207,18 +289,17 @@ pub fn serve_queued<
 >(
     rt: &H,
     alloc: Global,
-    ground: Ground<H, T, N, I, O>,
-    fronts: Fronts<T, N>,
-    trees: Vec<C>,
-    shares: Shares<T>,
     settings: Settings,
+    ground: Ground<H, T, N, I, O>,
+    workers: Vec<Front<Entry<T>, Runs<N>>>,
+    trees: Vec<C>,
 ) -> Option<Over<T, N, C>>
     requires some { 0 < vec_len trees }
     requires few { vec_len trees ≤ 4 }
-    requires shares { All (λ p. p.totals ≡ nothing) shares.shares.items }
-    requires fronts { map on_table_of fronts.workers.items ≡ map idle (range_with_len 0 (vec_len trees)) }
-    requires starter { on_table_of fronts.starter ≡ idle (vec_len trees) }
-    requires writer { on_table_of fronts.writer ≡ idle (vec_len trees + 1) }
+    requires shares { All (λ p. p.totals ≡ nothing) ground.shares.shares.items }
+    requires fronts { map on_table_of workers.items ≡ map idle (range_with_len 0 (vec_len trees)) }
+    requires starter { on_table_of ground.starts ≡ idle (vec_len trees) }
+    requires writer { on_table_of ground.writes ≡ idle (vec_len trees + 1) }
     ensures taken { IfSome result (λ o. vec_len o.taken ≡ vec_len trees + 1) }
     ensures counted { IfSome result (λ o. o.taken.items ≡ map (λ js. length js) (takings_of o.passed.passes.value.items)) }
     ensures numbers { IfSome result (λ o. numbers_of o.passed.passes.value.items ≡ range_with_len 0 (vec_len trees + 1)) }
@@ -228,10 +309,9 @@ pub fn serve_queued<
     ensures worked { IfSome result (λ o. WorkedEach (does_shared C.gives) settings (did o.closed.table.log) trees.items o.passed.passes.value.items o.passed.handed_back.items) }
     ensures farewell { IfSome result (λ o. BidsFarewell (does_shared C.gives) settings (did o.closed.table.log) trees.items o.passed.farewell.value o.passed.passes.value.items o.passed.handed_back.items) }
 {
-    let (jobs, work, read) = job_queue(alloc)?;
-    let (replies, writes, written) = reply_queue(alloc)?;
-    serve_hired(
-        rt, alloc, ground, &jobs, work, read, &replies, writes, written, fronts, trees, shares,
-        settings,
+    let rooms = Rooms::new(alloc)?;
+    let (senders, receivers) = queues(alloc)?;
+    serve_hiring(
+        rt, alloc, settings, ground, workers, trees, &senders, receivers, rooms,
     )
 }

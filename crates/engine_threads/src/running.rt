@@ -13,7 +13,7 @@ ghost use Rattle.engine_roles.specs.Writes.{none_got, HasWrittenAll};
 ghost use Rattle.engine_threads.specs.Ended.{IsShared};
 ghost use Rattle.engine_threads.specs.Worked.{did, does_shared, made_by, AreUnused, BidsFarewell, IsStaffed, WorkedEach};
 
-use crate::ending::{Over, Room, end_all};
+use crate::ending::{Over, Room};
 use crate::places::{Common, Shared, Signs};
 use crate::starting::{Working, join_all, start_all};
 use crate::working::{Staff, WorkerEnd};
@@ -35,7 +35,6 @@ use table_histories::Front;
 use table_recorded::{Entry, Opening, Runs};
 
 /// What the threads of a session will share.
-#[derive(Drop)]
 pub struct Parts<H: Drop, T: Ledgers, N: Opening, I: LinkIn + Drop, O: LinkOut + Drop> {
     pub rt: H,
     pub hall: Hall<T, N>,
@@ -49,46 +48,79 @@ pub struct Parts<H: Drop, T: Ledgers, N: Opening, I: LinkIn + Drop, O: LinkOut +
     pub front: Front<Entry<T>, Runs<N>>,
 }
 
-/// Both roles at their beginning. None is want of memory.
-fn share<
-    H: Drop,
-    T: Ledgers,
-    N: Opening,
-    I: LinkIn + Drop,
-    O: LinkOut + Drop,
-    S: Source<I> + Sink<O>,
->(alloc: Global, parts: Parts<H, T, N, I, O>) -> Option<Shared<H, T, N, I, O, S>>
-    requires jobs { S.jobs ≡ Some (sends_on parts.reader.to) }
-    requires parts { (view parts.reader.pass).parts + S.parted ≡ 8 }
-    requires from { S.heard_from ≡ Some parts.link_in }
-    requires unheard { reading parts.link_in parts.reader ≡ beginning parts.link_in }
-    requires replies { S.replies ≡ Some (receives_on parts.writer.replies) }
-    requires to { S.sent_to ≡ Some parts.link_out }
-    requires unsent { view parts.writer.pass ≡ none_got S.senders }
-    requires whole { parts.writer.is_broken ≡ false }
-    requires front { on_table_of parts.front ≡ idle S.senders }
-{
-    let Parts {
-        rt,
-        hall,
-        dirs,
-        reader,
-        link_in,
-        writer,
-        link_out,
-        kept,
-        front,
-    } = parts;
-    let common = Common {
-        rt,
-        hall,
-        dirs,
-        reader: Mutex::new(ReaderRole::new(reader, link_in)),
-        writer: Mutex::new(WriterRole::new(writer, link_out, kept, front)),
-        sleepers: Sleepers::new(),
-        signs: Signs::new(),
-    };
-    Arc::new(alloc, common).ok()
+impl<H: Drop, T: Ledgers, N: Opening, I: LinkIn + Drop, O: LinkOut + Drop> Drop
+    for Parts<H, T, N, I, O> {
+    // A call: else whoever drops it is checked for each of its parts.
+    fn drop(self) {
+        let Parts {
+            rt: _,
+            hall: _,
+            dirs: _,
+            reader: _,
+            link_in: _,
+            writer: _,
+            link_out: _,
+            kept: _,
+            front: _,
+        } = self;
+    }
+}
+
+/// Who works, and room for what all leave.
+pub struct Crew<T: Ledgers, N: Opening, C: Calls + Drop> {
+    pub staff: Vec<Staff<T, N, C>>,
+    pub handles: Vec<Working<T, N, C>>,
+    pub ended: Vec<WorkerEnd<T, N, C>>,
+    pub room: Room<T, N>,
+}
+
+impl<T: Ledgers, N: Opening, C: Calls + Drop> Drop for Crew<T, N, C> {
+    // A call: else whoever drops it is checked for each of its parts.
+    fn drop(self) {
+        let Crew {
+            staff: _,
+            handles: _,
+            ended: _,
+            room: _,
+        } = self;
+    }
+}
+
+impl<H: Drop, T: Ledgers, N: Opening, I: LinkIn + Drop, O: LinkOut + Drop> Parts<H, T, N, I, O> {
+    /// Both roles at their beginning. None is want of memory.
+    fn share<S: Source<I> + Sink<O>>(self, alloc: Global) -> Option<Shared<H, T, N, I, O, S>>
+        requires jobs { S.jobs ≡ Some (sends_on self.reader.to) }
+        requires parts { (view self.reader.pass).parts + S.parted ≡ 8 }
+        requires from { S.heard_from ≡ Some self.link_in }
+        requires unheard { reading self.link_in self.reader ≡ beginning self.link_in }
+        requires replies { S.replies ≡ Some (receives_on self.writer.replies) }
+        requires to { S.sent_to ≡ Some self.link_out }
+        requires unsent { view self.writer.pass ≡ none_got S.senders }
+        requires whole { self.writer.is_broken ≡ false }
+        requires front { on_table_of self.front ≡ idle S.senders }
+    {
+        let Parts {
+            rt,
+            hall,
+            dirs,
+            reader,
+            link_in,
+            writer,
+            link_out,
+            kept,
+            front,
+        } = self;
+        let common = Common {
+            rt,
+            hall,
+            dirs,
+            reader: Mutex::new(ReaderRole::new(reader, link_in)),
+            writer: Mutex::new(WriterRole::new(writer, link_out, kept, front)),
+            sleepers: Sleepers::new(),
+            signs: Signs::new(),
+        };
+        Arc::new(alloc, common).ok()
+    }
 }
 
 /// Starts a thread for each of the staff. Where one cannot be started, those that were end at once. Nothing is read before all stand.
@@ -128,78 +160,84 @@ fn start_staff<
     handles
 }
 
-/// Runs a session: starts its threads, waits for their end, and does what is left. None where memory or a thread was wanting.
-pub fn run<
-    H: Threads + Wait + Send + Sync + Drop + 'static,
+impl<
     T: Ledgers + Send + Sync + 'static,
     N: Opening + Send + Sync + 'static,
-    I: LinkIn + Send + Drop + 'static,
-    O: LinkOut + Send + Drop + 'static,
     C: Calls + Send + Drop + 'static,
-    S: Source<I> + Sink<O> + Send + Sync + 'static,
->(
-    rt: &H,
-    alloc: Global,
-    jobs: &JobSender<Job>,
-    replies: &ReplySender<Reply>,
-    parts: Parts<H, T, N, I, O>,
-    staff: Vec<Staff<T, N, C>>,
-    handles: Vec<Working<T, N, C>>,
-    ended: Vec<WorkerEnd<T, N, C>>,
-    room: Room<T, N>,
-) -> Option<Over<T, N, C>>
-    requires some { 0 < vec_len staff }
-    requires few { vec_len staff ≤ 4 }
-    requires jobs { S.jobs ≡ Some (sends_on jobs.now) }
-    requires replies { S.replies ≡ Some (sends_on replies.now) }
-    requires parted { S.parted ≡ vec_len staff + 1 }
-    requires senders { S.senders ≡ vec_len staff + 1 }
-    requires from { S.heard_from ≡ Some parts.link_in }
-    requires to { S.sent_to ≡ Some parts.link_out }
-    requires reads { sends_on parts.reader.to ≡ sends_on jobs.now }
-    requires parts { (view parts.reader.pass).parts + (vec_len staff + 1) ≡ 8 }
-    requires unheard { reading parts.link_in parts.reader ≡ beginning parts.link_in }
-    requires writes { receives_on parts.writer.replies ≡ sends_on replies.now }
-    requires unsent { view parts.writer.pass ≡ none_got (vec_len staff + 1) }
-    requires whole { parts.writer.is_broken ≡ false }
-    requires front { on_table_of parts.front ≡ idle (vec_len staff + 1) }
-    requires staff { All (λ s. IsStaffed (sends_on jobs.now) (sends_on replies.now) room.starter.settings s.worker s.kept.share (on_table_of s.front)) staff.items }
-    requires numbers { map (λ s. s.worker.number) staff.items ≡ range_with_len 0 (vec_len staff) }
-    requires handles { 4 ≤ vec_capacity handles }
-    requires none_started { handles.items ≡ [] }
-    requires ended { 4 ≤ vec_capacity ended }
-    requires none_ended { ended.items ≡ [] }
-    requires job_seat { IsSeatAt (sends_on jobs.now) room.own.passes.job_pass }
-    requires reply_seat { IsSeatAt (sends_on replies.now) room.own.passes.reply_pass }
-    requires unused { AreUnused room.own.passes }
-    requires number { room.own.passes.number ≡ vec_len staff }
-    requires own_front { on_table_of room.own.front ≡ idle room.own.passes.number }
-    requires work { receives_on room.starter.work ≡ sends_on jobs.now }
-    requires ring { sends_on room.starter.replies ≡ sends_on replies.now }
-    requires passes { 5 ≤ vec_capacity room.passes }
-    requires no_passes { room.passes.items ≡ [] }
-    requires handed_back { (5 ≤ vec_capacity room.handed_back) × (room.handed_back.items ≡ []) }
-    requires taken { 5 ≤ vec_capacity room.taken }
-    requires none_taken { room.taken.items ≡ [] }
-    ensures taken { IfSome result (λ o. vec_len o.taken ≡ vec_len staff + 1) }
-    ensures counted { IfSome result (λ o. o.taken.items ≡ map (λ js. length js) (takings_of o.passed.passes.value.items)) }
-    ensures numbers { IfSome result (λ o. numbers_of o.passed.passes.value.items ≡ range_with_len 0 (vec_len staff + 1)) }
-    ensures reads { IfSome result (λ o. ∥ HasReadAll I.receives (Some parts.link_in) o.passed.input (queued_of (view o.passed.read.value).put) (option_map shown o.passed.farewell.value) o.passed.is_job_handed_back ∥₁) }
-    ensures writes { IfSome result (λ o. ∥ HasWrittenAll O.sends (Some parts.link_out) (vec_len staff + 1) (made_by (did o.closed.table.log) (vec_len staff + 1)) (view o.passed.written.value) o.passed.is_broken ∥₁) }
-    ensures shared { IfSome result (λ o. IsShared (view o.passed.read.value) o.passed.passes.value.items (view o.passed.written.value)) }
-    ensures worked { IfSome result (λ o. WorkedEach (does_shared C.gives) room.starter.settings (did o.closed.table.log) (map (λ s. s.calls) staff.items) o.passed.passes.value.items o.passed.handed_back.items) }
-    ensures farewell { IfSome result (λ o. BidsFarewell (does_shared C.gives) room.starter.settings (did o.closed.table.log) (map (λ s. s.calls) staff.items) o.passed.farewell.value o.passed.passes.value.items o.passed.handed_back.items) }
-{
-    let count = staff.len();
-    let common: Shared<H, T, N, I, O, S> = share(alloc, parts)?;
-    let settings = room.starter.settings;
-    let handles = start_staff(rt, &common, jobs, replies, settings, staff, handles);
-    let are_all = handles.len() == count;
-    let ended = join_all(rt, jobs, replies, settings, handles, ended);
-    if !are_all {
-        return None;
+> Crew<T, N, C> {
+    /// Runs a session: starts its threads, waits for their end, and does what is left. None where memory or a thread was wanting.
+    pub fn run<
+        H: Threads + Wait + Send + Sync + Drop + 'static,
+        I: LinkIn + Send + Drop + 'static,
+        O: LinkOut + Send + Drop + 'static,
+        S: Source<I> + Sink<O> + Send + Sync + 'static,
+    >(
+        self,
+        rt: &H,
+        alloc: Global,
+        jobs: &JobSender<Job>,
+        replies: &ReplySender<Reply>,
+        parts: Parts<H, T, N, I, O>,
+    ) -> Option<Over<T, N, C>>
+        requires some { 0 < vec_len self.staff }
+        requires few { vec_len self.staff ≤ 4 }
+        requires jobs { S.jobs ≡ Some (sends_on jobs.now) }
+        requires replies { S.replies ≡ Some (sends_on replies.now) }
+        requires parted { S.parted ≡ vec_len self.staff + 1 }
+        requires senders { S.senders ≡ vec_len self.staff + 1 }
+        requires from { S.heard_from ≡ Some parts.link_in }
+        requires to { S.sent_to ≡ Some parts.link_out }
+        requires reads { sends_on parts.reader.to ≡ sends_on jobs.now }
+        requires parts { (view parts.reader.pass).parts + (vec_len self.staff + 1) ≡ 8 }
+        requires unheard { reading parts.link_in parts.reader ≡ beginning parts.link_in }
+        requires writes { receives_on parts.writer.replies ≡ sends_on replies.now }
+        requires unsent { view parts.writer.pass ≡ none_got (vec_len self.staff + 1) }
+        requires whole { parts.writer.is_broken ≡ false }
+        requires front { on_table_of parts.front ≡ idle (vec_len self.staff + 1) }
+        requires staff { All (λ s. IsStaffed (sends_on jobs.now) (sends_on replies.now) self.room.starter.settings s.worker s.kept.share (on_table_of s.front)) self.staff.items }
+        requires numbers { map (λ s. s.worker.number) self.staff.items ≡ range_with_len 0 (vec_len self.staff) }
+        requires handles { 4 ≤ vec_capacity self.handles }
+        requires none_started { self.handles.items ≡ [] }
+        requires ended { 4 ≤ vec_capacity self.ended }
+        requires none_ended { self.ended.items ≡ [] }
+        requires job_seat { IsSeatAt (sends_on jobs.now) self.room.own.passes.job_pass }
+        requires reply_seat { IsSeatAt (sends_on replies.now) self.room.own.passes.reply_pass }
+        requires unused { AreUnused self.room.own.passes }
+        requires number { self.room.own.passes.number ≡ vec_len self.staff }
+        requires own_front { on_table_of self.room.own.front ≡ idle self.room.own.passes.number }
+        requires work { receives_on self.room.starter.work ≡ sends_on jobs.now }
+        requires ring { sends_on self.room.starter.replies ≡ sends_on replies.now }
+        requires passes { 5 ≤ vec_capacity self.room.passes }
+        requires no_passes { self.room.passes.items ≡ [] }
+        requires handed_back { (5 ≤ vec_capacity self.room.handed_back) × (self.room.handed_back.items ≡ []) }
+        requires taken { 5 ≤ vec_capacity self.room.taken }
+        requires none_taken { self.room.taken.items ≡ [] }
+        ensures taken { IfSome result (λ o. vec_len o.taken ≡ vec_len self.staff + 1) }
+        ensures counted { IfSome result (λ o. o.taken.items ≡ map (λ js. length js) (takings_of o.passed.passes.value.items)) }
+        ensures numbers { IfSome result (λ o. numbers_of o.passed.passes.value.items ≡ range_with_len 0 (vec_len self.staff + 1)) }
+        ensures reads { IfSome result (λ o. ∥ HasReadAll I.receives (Some parts.link_in) o.passed.input (queued_of (view o.passed.read.value).put) (option_map shown o.passed.farewell.value) o.passed.is_job_handed_back ∥₁) }
+        ensures writes { IfSome result (λ o. ∥ HasWrittenAll O.sends (Some parts.link_out) (vec_len self.staff + 1) (made_by (did o.closed.table.log) (vec_len self.staff + 1)) (view o.passed.written.value) o.passed.is_broken ∥₁) }
+        ensures shared { IfSome result (λ o. IsShared (view o.passed.read.value) o.passed.passes.value.items (view o.passed.written.value)) }
+        ensures worked { IfSome result (λ o. WorkedEach (does_shared C.gives) self.room.starter.settings (did o.closed.table.log) (map (λ s. s.calls) self.staff.items) o.passed.passes.value.items o.passed.handed_back.items) }
+        ensures farewell { IfSome result (λ o. BidsFarewell (does_shared C.gives) self.room.starter.settings (did o.closed.table.log) (map (λ s. s.calls) self.staff.items) o.passed.farewell.value o.passed.passes.value.items o.passed.handed_back.items) }
+    {
+        let common: Shared<H, T, N, I, O, S> = parts.share(alloc)?;
+        let Crew {
+            staff,
+            handles,
+            ended,
+            room,
+        } = self;
+        let count = staff.len();
+        let settings = room.starter.settings;
+        let handles = start_staff(rt, &common, jobs, replies, settings, staff, handles);
+        let are_all = handles.len() == count;
+        let ended = join_all(rt, jobs, replies, settings, handles, ended);
+        if !are_all {
+            return None;
+        }
+        // All threads have ended, so it is the last.
+        let common = Arc::into_inner(common)?;
+        Some(room.end_all(rt, common, jobs, replies, ended))
     }
-    // All threads have ended, so it is the last.
-    let common = Arc::into_inner(common)?;
-    Some(end_all(rt, common, jobs, replies, ended, room))
 }

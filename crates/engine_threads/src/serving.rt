@@ -18,9 +18,8 @@ ghost use Rattle.engine_threads.specs.Served.{HasServed};
 
 use crate::ended::{Account, Ended, Sums};
 use crate::ending::Over;
-use crate::fronts::Fronts;
-use crate::grounds::Ground;
-use crate::queued::serve_queued;
+use crate::fronts::{Fronts, hall_of};
+use crate::queued::{Ground, serve_queued};
 use backing::Calls;
 use engine::{LinkIn, LinkOut, SessionEnd, Settings, remove_leftovers};
 use engine_roles::Shares;
@@ -31,7 +30,6 @@ use std::marker::Brand;
 use std::sync::Wait;
 use std::thread::Threads;
 use table::{Counts, Limits, Seeds, Table};
-use table_halls::Hall;
 use table_histories::Opened;
 use table_recorded::{Entry, Opening};
 
@@ -40,6 +38,45 @@ use table_recorded::{Entry, Opening};
 struct Links<I: LinkIn + Drop, O: LinkOut + Drop> {
     link_in: I,
     link_out: O,
+}
+
+/// Both ends, and what the threads share that needs no table.
+struct Host<H: Drop, I: LinkIn + Drop, O: LinkOut + Drop> {
+    rt: H,
+    dirs: Dirs,
+    link_in: I,
+    link_out: O,
+}
+
+impl<H: Drop, I: LinkIn + Drop, O: LinkOut + Drop> Drop for Host<H, I, O> {
+    // A call: else whoever drops it is checked for each of its parts.
+    fn drop(self) {
+        let Host {
+            rt: _,
+            dirs: _,
+            link_in: _,
+            link_out: _,
+        } = self;
+    }
+}
+
+/// None is want of memory.
+fn host_of<H: Clone + Drop, I: LinkIn + Drop, O: LinkOut + Drop>(
+    rt: &H,
+    alloc: Global,
+    links: Links<I, O>,
+) -> Option<Host<H, I, O>>
+    ensures { IfSome result (λ h. (h.link_in ≡ links.link_in) × (h.link_out ≡ links.link_out)) }
+{
+    let Links { link_in, link_out } = links;
+    let rt = rt.clone().ok()?;
+    let dirs = Dirs::new(alloc).ok()?;
+    Some(Host {
+        rt,
+        dirs,
+        link_in,
+        link_out,
+    })
 }
 
 /// Removes the files that are still hidden by the directory that is left, and adds up the shares.
@@ -89,52 +126,66 @@ fn ended_by(account: Account) -> Ended
     }
 }
 
-/// Serves with a table that was just opened, whose history is named. None where memory or a thread was wanting.
-fn serve_opened<
-    H: Threads + Wait + Clone + Send + Sync + Drop + 'static,
-    T: Ledgers + Send + Sync + 'static,
-    N: Opening + Send + Sync + 'static,
+impl<
+    H: Threads + Wait + Send + Sync + Drop + 'static,
     I: LinkIn + Send + Drop + 'static,
     O: LinkOut + Send + Drop + 'static,
-    C: Calls + Send + Drop + 'static,
->(
-    rt: &H,
-    alloc: Global,
-    opened: Opened<Entry<T>>,
-    table: Table<T>,
-    shares: Shares<T>,
-    links: Links<I, O>,
-    trees: Vec<C>,
-    limits: Limits,
-    settings: Settings,
-) -> Option<Account>
-    requires history { opened.table.shared.table_id ≡ N.history }
-    requires limits { limits ≡ N.limits }
-    requires threads { N.threads ≡ vec_len trees + 2 }
-    requires table { world_of table ≡ opened_world limits }
-    requires shares { All (λ p. p.totals ≡ nothing) shares.shares.items }
-    requires some { 0 < vec_len trees }
-    requires few { vec_len trees ≤ 4 }
-    ensures taken { IfSome result (λ a. vec_len a.taken ≡ vec_len trees) }
-    ensures numbers { IfSome result (λ a. numbers_of a.passed.passes.value.items ≡ range_with_len 0 (vec_len trees + 1)) }
-    ensures reads { IfSome result (λ a. ∥ HasReadAll I.receives (Some links.link_in) a.passed.input (queued_of (view a.passed.read.value).put) (option_map shown a.passed.farewell.value) a.passed.is_job_handed_back ∥₁) }
-    ensures shared { IfSome result (λ a. IsShared (view a.passed.read.value) a.passed.passes.value.items (view a.passed.written.value)) }
-    ensures served { IfSome result (λ a. ∥ ((history : List Made) × HasServed C.gives O.sends limits settings trees.items links.link_out a.passed a.sums.totals history) ∥₁) }
-{
-    let dirs = Dirs::new(alloc).ok()?;
-    let (hall, fronts) = Hall::<T, N>::new(alloc, opened, table, trees.len() + 2).ok()?;
-    let fronts = Fronts::new(fronts)?;
-    let Links { link_in, link_out } = links;
-    let ground = Ground {
-        rt: rt.clone().ok()?,
-        hall,
-        dirs,
-        link_in,
-        link_out,
-    };
-    let over = serve_queued(rt, alloc, ground, fronts, trees, shares, settings)?;
-    over.closed.attest(); // proof: its law
-    conclude(over)
+> Host<H, I, O> {
+    /// Serves with a table that was just opened, whose history is named. None where memory or a thread was wanting.
+    fn serve_opened<
+        T: Ledgers + Send + Sync + 'static,
+        N: Opening + Send + Sync + 'static,
+        C: Calls + Send + Drop + 'static,
+    >(
+        self,
+        rt: &H,
+        alloc: Global,
+        opened: Opened<Entry<T>>,
+        table: Table<T>,
+        shares: Shares<T>,
+        trees: Vec<C>,
+        limits: Limits,
+        settings: Settings,
+    ) -> Option<Account>
+        requires history { opened.table.shared.table_id ≡ N.history }
+        requires limits { limits ≡ N.limits }
+        requires threads { N.threads ≡ vec_len trees + 2 }
+        requires table { world_of table ≡ opened_world limits }
+        requires shares { All (λ p. p.totals ≡ nothing) shares.shares.items }
+        requires some { 0 < vec_len trees }
+        requires few { vec_len trees ≤ 4 }
+        ensures taken { IfSome result (λ a. vec_len a.taken ≡ vec_len trees) }
+        ensures numbers { IfSome result (λ a. numbers_of a.passed.passes.value.items ≡ range_with_len 0 (vec_len trees + 1)) }
+        ensures reads { IfSome result (λ a. ∥ HasReadAll I.receives (Some self.link_in) a.passed.input (queued_of (view a.passed.read.value).put) (option_map shown a.passed.farewell.value) a.passed.is_job_handed_back ∥₁) }
+        ensures shared { IfSome result (λ a. IsShared (view a.passed.read.value) a.passed.passes.value.items (view a.passed.written.value)) }
+        ensures served { IfSome result (λ a. ∥ ((history : List Made) × HasServed C.gives O.sends limits settings trees.items self.link_out a.passed a.sums.totals history) ∥₁) }
+    {
+        let (hall, fronts) = hall_of::<T, N>(alloc, opened, table, trees.len())?;
+        let Fronts {
+            workers,
+            starter,
+            writer,
+        } = fronts;
+        let Host {
+            rt: host,
+            dirs,
+            link_in,
+            link_out,
+        } = self;
+        let ground = Ground {
+            rt: host,
+            hall,
+            dirs,
+            link_in,
+            link_out,
+            writes: writer,
+            starts: starter,
+            shares,
+        };
+        let over = serve_queued(rt, alloc, settings, ground, workers, trees)?;
+        over.closed.attest(); // proof: its law
+        conclude(over)
+    }
 }
 
 /// Serves with a table whose ledgers are named. None where memory or a thread was wanting.
@@ -166,13 +217,12 @@ fn serve_table<
     ensures shared { IfSome result (λ a. IsShared (view a.passed.read.value) a.passed.passes.value.items (view a.passed.written.value)) }
     ensures served { IfSome result (λ a. ∥ ((history : List Made) × HasServed C.gives O.sends limits settings trees.items links.link_out a.passed a.sums.totals history) ∥₁) }
 {
+    let host = host_of(rt, alloc, links)?;
+    let opened = Opened::new(alloc).ok()?;
     let shares_wanted = trees.len() + 1;
     let (table, shares) = Table::<T>::open(alloc, limits, seeds, blanks, shares_wanted).ok()?;
     let shares = Shares::new(shares);
-    let opened = Opened::new(alloc).ok()?;
-    serve_opened::<H, T, Brand, I, O, C>(
-        rt, alloc, opened, table, shares, links, trees, limits, settings,
-    )
+    host.serve_opened::<T, Brand, C>(rt, alloc, opened, table, shares, trees, limits, settings)
 }
 
 /// Serves a client until its session ends, by one thread for each of 1 to 4 directories. Each takes whatever turn is due: it offers the

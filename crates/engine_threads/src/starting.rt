@@ -7,7 +7,7 @@ ghost use Rattle.engine_visits.specs.Visits.{on_table_of};
 ghost use Rattle.engine_threads.specs.Worked.{does_shared, IsOver, IsStaffed};
 
 use crate::places::Shared;
-use crate::working::{Staff, WorkerEnd, work_all};
+use crate::working::{Staff, WorkerEnd};
 use backing::Calls;
 use engine::{LinkIn, LinkOut, Settings};
 use engine_jobs::Job;
@@ -73,7 +73,7 @@ fn start_one<
         replies: Snapshot::of(replies),
         calls: Snapshot::of(&one.calls),
     };
-    match thread::spawn_with(rt, keeps, move || work_all(common, one)) {
+    match thread::spawn_with(rt, keeps, move || one.work_all(common)) {
         Ok(handle) => Some(handle),
         Err(_) => None,
     }

@@ -22,12 +22,23 @@ use table_histories::Front;
 use table_recorded::{Entry, Opening, Runs};
 
 /// A worker with its share, its front of the table's history, and its directory.
-#[derive(Drop)]
 pub struct Staff<T: Ledgers, N: Opening, C: Calls + Drop> {
     pub worker: Worker,
     pub kept: Kept<T>,
     pub front: Front<Entry<T>, Runs<N>>,
     pub calls: C,
+}
+
+impl<T: Ledgers, N: Opening, C: Calls + Drop> Drop for Staff<T, N, C> {
+    // A call: else whoever drops it is checked for each of its parts.
+    fn drop(self) {
+        let Staff {
+            worker: _,
+            kept: _,
+            front: _,
+            calls: _,
+        } = self;
+    }
 }
 
 /// What a worker leaves.
@@ -122,66 +133,63 @@ impl Rest {
     }
 }
 
-/// Takes turns until the session is over and nothing is left to do.
-pub fn work_all<
-    H: Wait + Drop,
-    T: Ledgers,
-    N: Opening,
-    I: LinkIn + Drop,
-    O: LinkOut + Drop,
-    C: Calls + Drop,
-    S: Source<I> + Sink<O>,
->(common: Shared<H, T, N, I, O, S>, staff: Staff<T, N, C>) -> WorkerEnd<T, N, C>
-    requires staffed { IsStaffed (receives_on staff.worker.jobs) (sends_on staff.worker.replies) staff.worker.session.settings staff.worker staff.kept.share (on_table_of staff.front) }
-    ensures number { result.passes.number ≡ staff.worker.number }
-    ensures given { result.given.value ≡ staff.calls }
-    ensures over { IsOver (receives_on staff.worker.jobs) (sends_on staff.worker.replies) (does_shared C.gives) staff.worker.session.settings staff.calls result.passes result.handed_back result.calls result.kept.share (on_table_of result.front) }
-{
-    let Staff {
-        mut worker,
-        mut kept,
-        front,
-        calls,
-    } = staff;
-    let given = Snapshot::of(&calls);
-    let mut served = Served {
-        calls,
-        dirs: &common.dirs,
-    };
-    let number = worker.number as usize;
-    let mut visitor = Visitor::new(&common.rt, &common.hall, front);
-    let mut rest = Rest::new(number);
-    let mut left = 0;
-    for _ in common.rt.forever() {
-        // Before the turns: once it is over nothing more comes.
-        let is_over = common.signs.is_over();
-        rest.look(&common);
-        if take_turns(
-            &common,
-            &mut worker,
-            &mut visitor,
-            &mut kept,
-            &mut served,
-            &mut left,
-        ) || read(&common, number)
-        {
-            rest.rise(&common);
-        } else if is_over {
-            break;
-        } else {
-            rest.sink(&common);
+impl<T: Ledgers, N: Opening, C: Calls + Drop> Staff<T, N, C> {
+    /// Takes turns until the session is over and nothing is left to do.
+    pub fn work_all<H: Wait + Drop, I: LinkIn + Drop, O: LinkOut + Drop, S: Source<I> + Sink<O>>(
+        self,
+        common: Shared<H, T, N, I, O, S>,
+    ) -> WorkerEnd<T, N, C>
+        requires staffed { IsStaffed (receives_on self.worker.jobs) (sends_on self.worker.replies) self.worker.session.settings self.worker self.kept.share (on_table_of self.front) }
+        ensures number { result.passes.number ≡ self.worker.number }
+        ensures given { result.given.value ≡ self.calls }
+        ensures over { IsOver (receives_on self.worker.jobs) (sends_on self.worker.replies) (does_shared C.gives) self.worker.session.settings self.calls result.passes result.handed_back result.calls result.kept.share (on_table_of result.front) }
+    {
+        let Staff {
+            mut worker,
+            mut kept,
+            front,
+            calls,
+        } = self;
+        let given = Snapshot::of(&calls);
+        let mut served = Served {
+            calls,
+            dirs: &common.dirs,
+        };
+        let number = worker.number as usize;
+        let mut visitor = Visitor::new(&common.rt, &common.hall, front);
+        let mut rest = Rest::new(number);
+        let mut left = 0;
+        for _ in common.rt.forever() {
+            // Before the turns: once it is over nothing more comes.
+            let is_over = common.signs.is_over();
+            rest.look(&common);
+            if take_turns(
+                &common,
+                &mut worker,
+                &mut visitor,
+                &mut kept,
+                &mut served,
+                &mut left,
+            ) || read(&common, number)
+            {
+                rest.rise(&common);
+            } else if is_over {
+                break;
+            } else {
+                rest.sink(&common);
+            }
         }
-    }
-    let Served { calls, dirs: _ } = served;
-    let front = visitor.into_front();
-    drop(common);
-    let handed_back = worker.handed_back;
-    WorkerEnd {
-        given,
-        passes: worker.into_passes(),
-        handed_back,
-        kept,
-        front,
-        calls,
+        let Served { calls, dirs: _ } = served;
+        let front = visitor.into_front();
+        drop(common);
+        let handed_back = worker.handed_back;
+        WorkerEnd {
+            given,
+            passes: worker.into_passes(),
+            handed_back,
+            kept,
+            front,
+            calls,
+        }
     }
 }

@@ -2,38 +2,32 @@ use Rattle.std.proofs.Common.{◌≡◌, ◌+◌, ◌≤◌, ◌∙◌, ℕ, Lis
 use Rattle.std.specs.List.{range_with_len}
 use Rattle.std.specs.Option.{option_map}
 use Rattle.crossbeam_channel.specs.Claims.{view}
-use Rattle.table_histories.specs.Views.{front}
 use Rattle.engine_queues.specs.Gathered.{numbers_of}
+use Rattle.engine_visits.specs.Visits.{idle}
 use Rattle.engine_reader.specs.Shown.{queued_of, shown}
 use Rattle.engine_roles.specs.Reads.{HasReadAll}
 use Rattle.engine_threads.specs.Ended.{IsShared}
 use Rattle.engine_threads.specs.Worked.{did}
 use Rattle.engine_threads.specs.declared.ended.Account.{Account}
 use Rattle.engine_threads.specs.declared.ended.Passed.{Passed}
-use Rattle.engine_threads.proofs.Lists.{ok_of, some_by, some_so}
+use Rattle.engine_threads.proofs.Lists.{some_by, some_so}
 use Rattle.engine_threads.proofs.Served.{has_served}
-use Rattle.engine_threads.proofs.serving.serve_opened.Goals as goal
+use Rattle.engine_threads.proofs.serving.Host.serve_opened.Goals as goal
 
 pub serve_queued-requires-clause-fronts : goal.serve_queued-requires-clause-fronts
 serve_queued-requires-clause-fronts g c κs within =
-    let made = ok_of _ c.new-2.result (c.in_ok-hall.hall, c.in_ok-hall.fronts) c.in_ok-hall.ensures.value c.new-2.ensures in
-    let count : c.len.result + 2 ≡ vec_len c.args.trees + 2 = (let a = c.len.ensures in omega arith) in
-    let fronts = made ∙ ap (λ (k : ℕ). map (λ index. front index [] []) (range_with_len 0 k)) count in
-    c.in_ok-fronts.ensures.workers (vec_len c.args.trees) fronts
+    let count : c.len.result ≡ vec_len c.args.trees = (let a = c.len.ensures in omega arith) in
+    c.in_ok-hall.ensures.workers ∙ ap (λ (k : ℕ). map idle (range_with_len 0 k)) count
 
 pub serve_queued-requires-clause-starter : goal.serve_queued-requires-clause-starter
 serve_queued-requires-clause-starter g c κs within =
-    let made = ok_of _ c.new-2.result (c.in_ok-hall.hall, c.in_ok-hall.fronts) c.in_ok-hall.ensures.value c.new-2.ensures in
-    let count : c.len.result + 2 ≡ vec_len c.args.trees + 2 = (let a = c.len.ensures in omega arith) in
-    let fronts = made ∙ ap (λ (k : ℕ). map (λ index. front index [] []) (range_with_len 0 k)) count in
-    c.in_ok-fronts.ensures.starter (vec_len c.args.trees) fronts
+    let count : c.len.result ≡ vec_len c.args.trees = (let a = c.len.ensures in omega arith) in
+    c.in_ok-hall.ensures.starter ∙ ap idle count
 
 pub serve_queued-requires-clause-writer : goal.serve_queued-requires-clause-writer
 serve_queued-requires-clause-writer g c κs within =
-    let made = ok_of _ c.new-2.result (c.in_ok-hall.hall, c.in_ok-hall.fronts) c.in_ok-hall.ensures.value c.new-2.ensures in
-    let count : c.len.result + 2 ≡ vec_len c.args.trees + 2 = (let a = c.len.ensures in omega arith) in
-    let fronts = made ∙ ap (λ (k : ℕ). map (λ index. front index [] []) (range_with_len 0 k)) count in
-    c.in_ok-fronts.ensures.writer (vec_len c.args.trees) fronts
+    let count : c.len.result ≡ vec_len c.args.trees = (let a = c.len.ensures in omega arith) in
+    c.in_ok-hall.ensures.writer ∙ ap (λ (k : ℕ). idle (k + 1)) count
 
 pub returns-clause-taken : goal.returns-clause-taken
 returns-clause-taken g c =
@@ -46,7 +40,7 @@ returns-clause-numbers g c =
 
 pub returns-clause-reads : goal.returns-clause-reads
 returns-clause-reads g c =
-    some_by (λ (p : Passed). ∥ HasReadAll g.I.LinkIn.receives (Some c.args.links.link_in) p.input (queued_of (view p.read.value).put) (option_map shown p.farewell.value) p.is_job_handed_back ∥₁) (λ (a : Account). a.passed) c.in_ok-over.over.passed c.conclude.result c.conclude.ensures.passed
+    some_by (λ (p : Passed). ∥ HasReadAll g.I.LinkIn.receives (Some c.args.self.link_in) p.input (queued_of (view p.read.value).put) (option_map shown p.farewell.value) p.is_job_handed_back ∥₁) (λ (a : Account). a.passed) c.in_ok-over.over.passed c.conclude.result c.conclude.ensures.passed
     c.in_ok-over.ensures.reads
 
 pub returns-clause-shared : goal.returns-clause-shared
@@ -60,5 +54,5 @@ returns-clause-served g c =
     let log = over.closed.table.log in
     let a = c.attest.ensures in
     let nobody : (index : ℕ) → c.args.trees.len + 2 ≤ index → did log index ≡ [] = λ index le. a.nobody index (subst (λ (k : ℕ). k ≤ index) (sym c.requires.threads) le) in
-    has_served g.C.Calls.gives g.O.LinkOut.sends c.args.settings c.args.trees.items c.args.links.link_out c.args.limits g.N.Opening.limits c.args.trees.len log over.passed c.conclude.result c.requires.limits c.args.trees.ok.0 a.history nobody
+    has_served g.C.Calls.gives g.O.LinkOut.sends c.args.settings c.args.trees.items c.args.self.link_out c.args.limits g.N.Opening.limits c.args.trees.len log over.passed c.conclude.result c.requires.limits c.args.trees.ok.0 a.history nobody
     e.worked e.farewell e.writes e.numbers c.conclude.ensures.passed c.conclude.ensures.totals

@@ -3,9 +3,9 @@ use Rattle.engine_visits.specs.Visits.{on_table_of}
 use Rattle.engine_workers.specs.Turns.{means}
 use Rattle.engine_threads.specs.Worked.{does_shared}
 use Rattle.engine_threads.proofs.Chains.{Stands}
-use Rattle.engine_threads.proofs.working.work_all.Given as goal
+use Rattle.engine_threads.proofs.working.Staff.work_all.Given as goal
 
 abbrev pub invariant-loop : goal.invariant-loop
 invariant-loop g l =
-    let w = l.fn.staff.worker in
-    Stands (does_shared g.C.Calls.gives) (receives_on w.jobs) (sends_on w.replies) w.session.settings w.number l.fn.staff.calls l.worker (means l.served l.kept.share (on_table_of l.visitor.front))
+    let w = l.fn.self.worker in
+    Stands (does_shared g.C.Calls.gives) (receives_on w.jobs) (sends_on w.replies) w.session.settings w.number l.fn.self.calls l.worker (means l.served l.kept.share (on_table_of l.visitor.front))

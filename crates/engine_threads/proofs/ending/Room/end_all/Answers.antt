@@ -12,7 +12,7 @@ use Rattle.engine_threads.specs.Worked.{BidsFarewell, WorkedEach, did, does_shar
 use Rattle.engine_threads.specs.declared.working.WorkerEnd.{WorkerEnd}
 use Rattle.engine_threads.proofs.Parting.{all_did, all_numbered, all_seated, bids_farewell, counts_are, did_last, each_worked, given_of, passes_are}
 use Rattle.engine_threads.proofs.Sharing.{shared_as}
-use Rattle.engine_threads.proofs.ending.end_all.Goals as goal
+use Rattle.engine_threads.proofs.ending.Room.end_all.Goals as goal
 
 pub gather-taken-requires-clause-seats : goal.gather-taken-requires-clause-seats
 gather-taken-requires-clause-seats g c =
@@ -21,7 +21,7 @@ gather-taken-requires-clause-seats g c =
     let jobs = sends_on c.args.jobs.now in
     let replies = sends_on c.args.replies.now in
     let does = does_shared g.C.Calls.gives in
-    let settings = c.args.room.starter.settings in
+    let settings = c.args.self.starter.settings in
     let ends = c.args.ends.items in
     let t = c.take_leave-leaving in
     let l = t.result in
@@ -37,7 +37,7 @@ gather-taken-requires-clause-numbers g c =
     let jobs = sends_on c.args.jobs.now in
     let replies = sends_on c.args.replies.now in
     let does = does_shared g.C.Calls.gives in
-    let settings = c.args.room.starter.settings in
+    let settings = c.args.self.starter.settings in
     let ends = c.args.ends.items in
     let t = c.take_leave-leaving in
     let l = t.result in
@@ -54,7 +54,7 @@ returns-clause-numbers g c =
     let jobs = sends_on c.args.jobs.now in
     let replies = sends_on c.args.replies.now in
     let does = does_shared g.C.Calls.gives in
-    let settings = c.args.room.starter.settings in
+    let settings = c.args.self.starter.settings in
     let ends = c.args.ends.items in
     let t = c.take_leave-leaving in
     let l = t.result in
@@ -77,7 +77,7 @@ returns-clause-worked g c =
     let jobs = sends_on c.args.jobs.now in
     let replies = sends_on c.args.replies.now in
     let does = does_shared g.C.Calls.gives in
-    let settings = c.args.room.starter.settings in
+    let settings = c.args.self.starter.settings in
     let ends = c.args.ends.items in
     let t = c.take_leave-leaving in
     let l = t.result in
@@ -97,7 +97,7 @@ returns-clause-farewell g c =
     let jobs = sends_on c.args.jobs.now in
     let replies = sends_on c.args.replies.now in
     let does = does_shared g.C.Calls.gives in
-    let settings = c.args.room.starter.settings in
+    let settings = c.args.self.starter.settings in
     let ends = c.args.ends.items in
     let t = c.take_leave-leaving in
     let l = t.result in

@@ -8,7 +8,7 @@ use Rattle.engine_visits.specs.Visits.{OnTable, idle, on_table_of}
 use Rattle.engine_workers.specs.Turns.{AnswersJob, means, outbox, standing}
 use Rattle.engine_workers.specs.Works.{newcomer}
 use Rattle.engine_threads.proofs.Chains.{answers_as}
-use Rattle.engine_threads.proofs.farewell.answer_last.Goals as goal
+use Rattle.engine_threads.proofs.farewell.Starter.answer_last.Goals as goal
 
 pub returns-clause-answered : goal.returns-clause-answered
 returns-clause-answered g c =
@@ -21,7 +21,7 @@ returns-clause-answered g c =
     let served = c.args.served.now in
     let by_session = does g.C.Calls.gives g.D.Folders.keeps in
     let number = e.ensures.number ∙ (a.ensures.rings.2 ∙ w.ensures.rings.2) in
-    let answers = answers_as by_session w.result.session.settings c.args.starter.settings w.result.number e.result.number c.args.job.now (view w.result.job_pass) (outbox (view w.result.reply_pass) w.result.handed_back) served.calls served.dirs c.args.kept.now.share (on_table_of v.result.front) settled
+    let answers = answers_as by_session w.result.session.settings c.args.self.settings w.result.number e.result.number c.args.job.now (view w.result.job_pass) (outbox (view w.result.reply_pass) w.result.handed_back) served.calls served.dirs c.args.kept.now.share (on_table_of v.result.front) settled
     (view a.new.self.job_pass) (view e.result.job_pass) (outbox (view a.new.self.reply_pass) a.new.self.handed_back) (outbox (view e.result.reply_pass) a.new.self.handed_back) (means a.new.served a.new.share (on_table_of a.new.visitor.front))
     w.ensures.settings (w.ensures.rings.2 ∙ sym number) (w.ensures.passes.0 ∙ u.takes_none) (ap₂ outbox (w.ensures.passes.1 ∙ (u.puts_none ∙ ap (λ (k : ℕ). sender k []) (sym number))) w.ensures.none_back)
     (ap on_table_of v.ensures ∙ (c.requires.front ∙ ap idle (sym number))) e.ensures.passes.0 (ap (λ (l : ReplyLane Reply). outbox l a.new.self.handed_back) e.ensures.passes.1) (a.ensures.answers settled c.in-Worked.is) in
@@ -30,6 +30,6 @@ returns-clause-answered g c =
       settled = settled;
       served = a.new.served;
       gained = a.new.share;
-      answers = subst (λ (o : OnTable). AnswersJob by_session c.args.starter.settings e.result.number c.args.job.now (newcomer e.result.number served.calls served.dirs c.args.kept.now.share) settled (standing (view e.result.job_pass) (outbox (view e.result.reply_pass) a.new.self.handed_back) (means a.new.served a.new.share o)))
+      answers = subst (λ (o : OnTable). AnswersJob by_session c.args.self.settings e.result.number c.args.job.now (newcomer e.result.number served.calls served.dirs c.args.kept.now.share) settled (standing (view e.result.job_pass) (outbox (view e.result.reply_pass) a.new.self.handed_back) (means a.new.served a.new.share o)))
           (ap on_table_of (sym c.into_front.ensures)) answers;
     }
