@@ -1,6 +1,7 @@
 //! The ends and passes of a number of workers, and of the one who starts them.
 
-ghost use Rattle.std.specs.Prelude.{◌≡◌, ◌<◌, ◌≤◌, ◌+◌, [], length, map, IfSome, vec_len, vec_capacity};
+ghost use Rattle.std.specs.Prelude.{◌≡◌, ◌<◌, ◌≤◌, ◌+◌, ◌++◌, ◌∷◌, [], length, map, IfSome, vec_len, vec_capacity};
+ghost use Rattle.std.specs.Vec.Iter.{into_iter_items};
 ghost use Rattle.std.specs.List.{All, range_with_len};
 ghost use Rattle.crossbeam_channel.specs.Claims.{view, IsSeatAt};
 ghost use Rattle.crossbeam_channel.specs.Ends.{sends_on, receives_on};
@@ -20,6 +21,7 @@ use engine_roles::{Kept, Shares};
 use engine_workers::{Reply, Worker};
 use ledger::Ledgers;
 use std::alloc::Global;
+use std::vec::IntoIter;
 use table_histories::Front;
 use table_recorded::{Entry, Opening, Runs};
 
@@ -127,6 +129,22 @@ fn staffed<T: Ledgers, N: Opening, C: Calls + Drop>(
     }
 }
 
+/// A share, a front and a directory for the next worker. None where one is missing.
+fn next_of<T: Ledgers, N: Opening, C: Calls + Drop>(
+    shares: &mut Shares<T>,
+    unseen: &mut IntoIter<Front<Entry<T>, Runs<N>>, Global>,
+    left: &mut IntoIter<C, Global>,
+) -> Option<(Kept<T>, Front<Entry<T>, Runs<N>>, C)>
+    ensures share { IfSome result (λ r. shares.old.shares.items ≡ shares.new.shares.items ++ r.0.share ∷ []) }
+    ensures front { IfSome result (λ r. into_iter_items unseen.old ≡ r.1 ∷ into_iter_items unseen.new) }
+    ensures calls { IfSome result (λ r. into_iter_items left.old ≡ r.2 ∷ into_iter_items left.new) }
+{
+    let kept = shares.take()?;
+    let calls = left.next()?;
+    let front = unseen.next()?;
+    Some((kept, front, calls))
+}
+
 /// A share, a front and a directory for each worker. None where one is missing.
 fn staff_all<T: Ledgers, N: Opening, C: Calls + Drop>(
     jobs: &JobSender<Job>,
@@ -153,9 +171,7 @@ fn staff_all<T: Ledgers, N: Opening, C: Calls + Drop>(
     let mut left = trees.into_iter();
     let mut unseen = fronts.into_iter();
     for worker in workers {
-        let kept = shares.take()?;
-        let front = unseen.next()?;
-        let calls = left.next()?;
+        let (kept, front, calls) = next_of(shares, &mut unseen, &mut left)?;
         staff.push_reserved(staffed(worker, kept, front, calls));
     }
     Some(staff)
