@@ -98,7 +98,7 @@ pub fn serve_socket_by<
 ) -> Result<SessionEnd, Unserved>
     ensures { ServesWorkers terms workers result }
 {
-    let seeds = new_seeds(rt)?;
     let folders = open_folders(host, root, workers)?;
+    let seeds = new_seeds(rt)?;
     serve_at(rt, folders, seeds, terms, path)
 }

@@ -84,8 +84,8 @@ pub(crate) fn open_seeded<
     ensures new { IfOk result (λ opened. opened.0 ≡ 0) }
     ensures why { IfErr result (λ why. why ≢ NoSocket) }
 {
-    let seeds = new_seeds(rt)?;
     let folder = open_folder(rt, root)?;
+    let seeds = new_seeds(rt)?;
     Ok((folder, seeds))
 }
 
