@@ -21,7 +21,7 @@ use errno::EINVAL;
 use std::fs::File;
 use std::io;
 use std::marker::Model;
-use std::mem::swap;
+use std::mem::replace;
 use std::rt::Files;
 use std::time::Clock;
 
@@ -131,10 +131,11 @@ impl<D: Disk + Drop> Calls for Folder<D> {
         told.into_answer(&mut self.failures)
     }
 
-    /// A long one is kept in the place of the one before it, which is handed back.
+    /// A long one is kept, in the place of the one before it. An empty one is left, since to clear a long one would take a while: the
+    /// library does so byte by byte.
     fn offer_room(&mut self, buffer: &mut Vec<u8>) {
         if buffer.len() >= WORTH_KEEPING {
-            swap(&mut self.spare, buffer);
+            self.spare = replace(buffer, Vec::new(self.ways.disk().alloc()));
         }
     }
 }
