@@ -1,10 +1,13 @@
 /* A mirror of one folder over libfuse's high-level library, served over a Unix socket to one client by one thread.
  *
- *     mirror ROOT SOCKET
+ *     mirror ROOT SOCKET [looks]
  *
  * It is what mirrord is compared with. What could be chosen is chosen so that libfuse is fast: paths are looked up from the open
  * folder, files stay open between OPEN and RELEASE and are read by pread, requests that have a handle ask for no path, and one
- * receive takes all bytes that are there. A reply is one writev, as libfuse makes it. */
+ * receive takes all bytes that are there. A reply is one writev, as libfuse makes it.
+ *
+ * With `looks` it looks as often as mirrord does at what stands at a path before it reads, writes, makes, removes, moves or lists there,
+ * so that libfuse is seen beside mirrord with the same calls of the system. It makes nothing of what it sees. */
 #define FUSE_USE_VERSION 31
 #define _GNU_SOURCE
 #include <fuse3/fuse.h>
@@ -24,6 +27,7 @@
 enum { ROOM = 1 << 18 };
 
 static int folder;                      /* the folder that is mirrored */
+static int looks;                       /* whether it looks as often as mirrord does */
 static char received[ROOM];             /* what was received and not handed on */
 static size_t received_begin, received_end;
 
@@ -36,6 +40,33 @@ static const char *below(const char *path)
 static int result(int answer)
 {
     return answer < 0 ? -errno : answer;
+}
+
+static void look(const char *path)
+{
+    struct stat st;
+    if (looks && path)
+        (void)!fstatat(folder, below(path), &st, AT_SYMLINK_NOFOLLOW);
+}
+
+/* The folder of a path that is not in the root. */
+static void look_above(const char *path)
+{
+    char above[4096];
+    const char *end = strrchr(path, '/');
+    if (!looks || end == path)
+        return;
+    snprintf(above, sizeof above, "%.*s", (int)(end - path), path);
+    look(above);
+}
+
+/* Each name of an open folder. */
+static void look_at_all(DIR *opened)
+{
+    struct dirent *entry;
+    struct stat st;
+    while (looks && (entry = readdir(opened)))
+        (void)!fstatat(dirfd(opened), entry->d_name, &st, AT_SYMLINK_NOFOLLOW);
 }
 
 static int do_getattr(const char *path, struct stat *st, struct fuse_file_info *fi)
@@ -52,6 +83,7 @@ static int do_mkdir(const char *path, mode_t mode)
 
 static int do_unlink(const char *path)
 {
+    look(path);
     return result(unlinkat(folder, below(path), 0));
 }
 
@@ -62,6 +94,9 @@ static int do_rmdir(const char *path)
 
 static int do_rename(const char *from, const char *to, unsigned flags)
 {
+    look_above(from);
+    look(from);
+    look(to);
     return flags ? -EINVAL : result(renameat(folder, below(from), folder, below(to)));
 }
 
@@ -74,6 +109,7 @@ static int do_open(const char *path, struct fuse_file_info *fi)
 
 static int do_create(const char *path, mode_t mode, struct fuse_file_info *fi)
 {
+    look(path);
     int fd = openat(folder, below(path), fi->flags | O_CREAT | O_EXCL | O_NOFOLLOW, mode);
     fi->fh = fd;
     return fd < 0 ? -errno : 0;
@@ -81,13 +117,13 @@ static int do_create(const char *path, mode_t mode, struct fuse_file_info *fi)
 
 static int do_read(const char *path, char *bytes, size_t size, off_t offset, struct fuse_file_info *fi)
 {
-    (void)path;
+    look(path);
     return result(pread(fi->fh, bytes, size, offset));
 }
 
 static int do_write(const char *path, const char *bytes, size_t size, off_t offset, struct fuse_file_info *fi)
 {
-    (void)path;
+    look(path);
     return result(pwrite(fi->fh, bytes, size, offset));
 }
 
@@ -102,7 +138,11 @@ static int do_opendir(const char *path, struct fuse_file_info *fi)
     int fd = openat(folder, below(path), O_RDONLY | O_DIRECTORY | O_NOFOLLOW);
     DIR *opened = fd < 0 ? 0 : fdopendir(fd);
     fi->fh = (uintptr_t)opened;
-    return opened ? 0 : -errno;
+    if (!opened)
+        return -errno;
+    look(path);
+    look_at_all(opened);
+    return 0;
 }
 
 /* The whole folder at once, with the attributes of each name where they are asked for; libfuse keeps it and makes the pages. */
@@ -132,7 +172,7 @@ static int do_releasedir(const char *path, struct fuse_file_info *fi)
 static void *do_init(struct fuse_conn_info *connection, struct fuse_config *config)
 {
     (void)connection;
-    config->nullpath_ok = 1;
+    config->nullpath_ok = !looks;
     return 0;
 }
 
@@ -197,7 +237,8 @@ int main(int count, char **words)
     static const struct fuse_custom_io io = {.writev = write_reply, .read = read_frame};
     char *names[] = {"mirror", 0};
     struct fuse_args args = FUSE_ARGS_INIT(1, names);
-    folder = count == 3 ? open(words[1], O_RDONLY | O_DIRECTORY) : -1;
+    looks = count == 4 && !strcmp(words[3], "looks");
+    folder = count == 3 + looks ? open(words[1], O_RDONLY | O_DIRECTORY) : -1;
     umask(0);
     struct fuse *fuse = folder < 0 ? 0 : fuse_new(&args, &operations, sizeof operations, 0);
     int client = fuse ? listen_on(words[2]) : -1;

@@ -4,8 +4,10 @@
 mod holding;
 mod joining;
 mod link;
+mod polling;
 mod writing;
 
 pub use holding::Holding;
 pub use link::StreamLink;
+pub use polling::Polling;
 pub use writing::write_flushed;

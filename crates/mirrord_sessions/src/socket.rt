@@ -8,7 +8,7 @@ use crate::place::Place;
 use crate::terms::Terms;
 use backing_folder::{Folder, System};
 use engine::SessionEnd;
-use engine_streams::Holding;
+use engine_streams::{Holding, Polling};
 use std::fs::File;
 use std::io::{BufReader, Write};
 use std::net::Net;
@@ -33,7 +33,7 @@ fn serve_client<H: Wait + Files<File = File> + Clock + AllocGlobal + Clone + Dro
     requires { folder ≡ 0 }
     ensures { ServesSocket terms result }
 {
-    let Ok(input) = BufReader::with_capacity(rt.alloc(), RECEIVED, stream) else {
+    let Ok(input) = BufReader::with_capacity(rt.alloc(), RECEIVED, Polling::new(stream)) else {
         return Err(Unserved::Memory);
     };
     let output = Holding::new(rt.alloc(), stream);

@@ -7,3 +7,5 @@ mod batches;
 mod held_back;
 #[cfg(test)]
 mod narrow;
+#[cfg(test)]
+mod polled;

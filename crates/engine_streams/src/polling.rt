@@ -1,0 +1,87 @@
+//! A socket that is asked again and again for a while before it is waited on.
+
+ghost use Rattle.std.specs.Prelude.{IfSome};
+ghost use Rattle.std.specs.Io.{ReadsAtMost};
+
+use std::io;
+use std::io::{ErrorKind, Read};
+use std::os::unix::net::UnixStream;
+
+/// How often one read asks at most before it waits: for some 20 microseconds.
+const ASKED: u32 = 64;
+
+/// How many reads in a row wait at once, after one that asked in vain.
+const WAITING: u8 = 15;
+
+/// Reads what comes over a socket. A client whose next request comes within some microseconds is not slept for, since to be woken takes
+/// longer than that. A slow one costs one such try in sixteen reads.
+///
+/// Between two reads the socket waits, so who writes to it meanwhile need not know.
+#[derive(Drop)]
+pub struct Polling<'a> {
+    stream: &'a UnixStream,
+    /// So many reads more wait at once.
+    waiting: u8,
+}
+
+/// Asks for what is there, without waiting, so often at most. None says that nothing came.
+fn ask(stream: &UnixStream, room: &mut [u8], times: u32) -> Option<io::Result<usize>>
+    ensures { IfSome result (λ read. ReadsAtMost read room.new) }
+{
+    let mut stream = stream;
+    for _ in 0..times {
+        match stream.read(room) {
+            Ok(count) => return Some(Ok(count)),
+            Err(error) => {
+                if error.kind() != ErrorKind::WouldBlock {
+                    return Some(Err(error));
+                }
+            }
+        }
+    }
+    None
+}
+
+impl<'a> Polling<'a> {
+    /// Reads of that socket, the first of which asks.
+    pub fn new(stream: &'a UnixStream) -> Polling<'a> {
+        Polling { stream, waiting: 0 }
+    }
+
+    /// Asks for a while. None says that nothing came, or that the socket cannot be asked.
+    fn poll(&self, room: &mut [u8]) -> Option<io::Result<usize>>
+        ensures { IfSome result (λ read. ReadsAtMost read room.new) }
+    {
+        if self.stream.set_nonblocking(true).is_err() {
+            return None;
+        }
+        let asked = ask(self.stream, room, ASKED);
+        // It was just set, so it can be set back.
+        let _ = self.stream.set_nonblocking(false);
+        asked
+    }
+
+    /// Waits until something comes.
+    fn wait(&self, room: &mut [u8]) -> io::Result<usize>
+        ensures { ReadsAtMost result room.new }
+    {
+        let mut stream = self.stream;
+        stream.read(room)
+    }
+}
+
+impl<'a> Read for Polling<'a> {
+    fn read(&mut self, buf: &mut [u8]) -> io::Result<usize> {
+        if self.waiting > 0 {
+            self.waiting -= 1;
+            return self.wait(buf);
+        }
+        match self.poll(buf) {
+            Some(read) => read,
+            None => {
+                self.waiting = WAITING;
+                self.wait(buf)
+            }
+        }
+    }
+}
