@@ -10,6 +10,9 @@ use std::alloc::{AllocError, Global};
 /// How each of these names begins.
 pub const RESERVED: &str = ".fuse_hidden";
 
+/// How many bytes each of them has.
+const LENGTH: usize = 28;
+
 /// How many digits the number and the counter have each.
 const DIGITS: u8 = 8;
 
@@ -26,7 +29,8 @@ pub fn hidden_name(alloc: Global, number: u64, counter: u32) -> Result<Name, All
     ensures name { IfOk result (λ n. n ≡ hidden_name number counter) }
     ensures lawful { IfOk result (λ n. IsLawfulName n) }
 {
-    let mut text = String::from_str(alloc, RESERVED)?;
+    let mut text = String::with_capacity(alloc, LENGTH)?;
+    text.push_str(RESERVED)?;
     push_digits(&mut text, number, DIGITS)?;
     push_digits(&mut text, u64::from(counter), DIGITS)?;
     let name = Name::new(text)?;

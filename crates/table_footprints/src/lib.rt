@@ -92,12 +92,13 @@ fn one_name(alloc: Global, name: Name) -> Result<Names, AllocError>
 }
 
 /// A copy of the names of a page, of those that a file may be hidden under, or of the first name of an exchange.
-fn copies(alloc: Global, want: &Want, case: Case) -> Result<Names, AllocError>
-    ensures { IfOk result (λ copies. copies ≡ copied_page want.now case) }
+fn copies(alloc: Global, want: &Want, _case: Case, candidates: &Names) -> Result<Names, AllocError>
+    requires { candidates.now ≡ hidden_in _case }
+    ensures { IfOk result (λ copies. copies ≡ copied_page want.now _case) }
 {
     match want {
         Want::Page { names, .. } => names.copy(),
-        Want::Remove { .. } | Want::Move { .. } => candidates(alloc, case),
+        Want::Remove { .. } | Want::Move { .. } => candidates.copy(),
         Want::Exchange { name, .. } => one_name(alloc, name.copy()?),
         Want::Node { .. }
         | Want::Name { .. }
@@ -112,8 +113,8 @@ fn recorded(alloc: Global, want: Want, reservation: Reservation) -> Result<NewRe
     ensures { IfOk result (IsRecord want reservation) }
 {
     let copy = copied(&want)?;
-    let copies = copies(alloc, &want, reservation.case)?;
     let candidates = candidates(alloc, reservation.case)?;
+    let copies = copies(alloc, &want, reservation.case, &candidates)?;
     let Reservation {
         case,
         held,

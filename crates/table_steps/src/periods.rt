@@ -93,6 +93,9 @@ impl State {
         ensures kept { IsKept self.new }
     {
         let _nodes = self.tree.len(); // proof: its law
+        if self.limits.counts == Counts::Bounded {
+            return;
+        }
         let n = self.flights.most_posted(id);
         self.make_room(n);
     }
