@@ -7,8 +7,8 @@ use std::io;
 use std::io::{ErrorKind, Read};
 use std::os::unix::net::UnixStream;
 
-/// How often one read asks at most before it waits: for some 20 microseconds.
-const ASKED: u32 = 64;
+/// How often one read asks at most before it waits: for some 30 microseconds.
+const ASKED: u32 = 128;
 
 /// How many reads in a row wait at once, after one that asked in vain.
 const WAITING: u8 = 15;
