@@ -10,11 +10,11 @@ use std::os::unix::net::UnixStream;
 /// How often one read asks at most before it waits: for some 30 microseconds.
 const ASKED: u32 = 128;
 
-/// How many reads in a row wait at once, after one that asked in vain.
-const WAITING: u8 = 15;
+/// How many reads in a row wait at once, after one that asked in vain. After each further one they are twice as many.
+const PAUSE: u8 = 15;
 
 /// Reads what comes over a socket. A client whose next request comes within some microseconds is not slept for, since to be woken takes
-/// longer than that. A slow one costs one such try in sixteen reads.
+/// longer than that. A slow one, or one that shares the only processor, costs one such try in 256 reads before long.
 ///
 /// Between two reads the socket waits, so who writes to it meanwhile need not know.
 #[derive(Drop)]
@@ -22,6 +22,8 @@ pub struct Polling<'a> {
     stream: &'a UnixStream,
     /// So many reads more wait at once.
     waiting: u8,
+    /// How many do after the next one that asks in vain.
+    pause: u8,
 }
 
 /// Asks for what is there, without waiting, so often at most. None says that nothing came.
@@ -45,7 +47,11 @@ fn ask(stream: &UnixStream, room: &mut [u8], times: u32) -> Option<io::Result<us
 impl<'a> Polling<'a> {
     /// Reads of that socket, the first of which asks.
     pub fn new(stream: &'a UnixStream) -> Polling<'a> {
-        Polling { stream, waiting: 0 }
+        Polling {
+            stream,
+            waiting: 0,
+            pause: PAUSE,
+        }
     }
 
     /// Asks for a while. None says that nothing came, or that the socket cannot be asked.
@@ -77,9 +83,13 @@ impl<'a> Read for Polling<'a> {
             return self.wait(buf);
         }
         match self.poll(buf) {
-            Some(read) => read,
+            Some(read) => {
+                self.pause = PAUSE;
+                read
+            }
             None => {
-                self.waiting = WAITING;
+                self.waiting = self.pause;
+                self.pause = self.pause.saturating_mul(2);
                 self.wait(buf)
             }
         }
