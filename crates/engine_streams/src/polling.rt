@@ -26,19 +26,28 @@ pub struct Polling<'a> {
     pause: u8,
 }
 
+/// What came while it was asked.
+#[derive(Drop)]
+struct Came {
+    read: io::Result<usize>,
+    /// Whether it was there as it was asked first.
+    at_once: bool,
+}
+
 /// Asks for what is there, without waiting, so often at most. None says that nothing came.
-fn ask(stream: &UnixStream, room: &mut [u8], times: u32) -> Option<io::Result<usize>>
-    ensures { IfSome result (λ read. ReadsAtMost read room.new) }
+fn ask(stream: &UnixStream, room: &mut [u8], times: u32) -> Option<Came>
+    ensures { IfSome result (λ came. ReadsAtMost came.read room.new) }
 {
     let mut stream = stream;
-    for _ in 0..times {
-        match stream.read(room) {
-            Ok(count) => return Some(Ok(count)),
-            Err(error) => {
-                if error.kind() != ErrorKind::WouldBlock {
-                    return Some(Err(error));
-                }
-            }
+    for time in 0..times {
+        let read = stream.read(room);
+        let waits = match &read {
+            Ok(_) => false,
+            Err(error) => error.kind() == ErrorKind::WouldBlock,
+        };
+        if !waits {
+            let at_once = time == 0;
+            return Some(Came { read, at_once });
         }
     }
     None
@@ -55,8 +64,8 @@ impl<'a> Polling<'a> {
     }
 
     /// Asks for a while. None says that nothing came, or that the socket cannot be asked.
-    fn poll(&self, room: &mut [u8]) -> Option<io::Result<usize>>
-        ensures { IfSome result (λ read. ReadsAtMost read room.new) }
+    fn poll(&self, room: &mut [u8]) -> Option<Came>
+        ensures { IfSome result (λ came. ReadsAtMost came.read room.new) }
     {
         if self.stream.set_nonblocking(true).is_err() {
             return None;
@@ -83,8 +92,11 @@ impl<'a> Read for Polling<'a> {
             return self.wait(buf);
         }
         match self.poll(buf) {
-            Some(read) => {
-                self.pause = PAUSE;
+            Some(Came { read, at_once }) => {
+                // What was there at once says nothing of whether asking pays.
+                if !at_once {
+                    self.pause = PAUSE;
+                }
                 read
             }
             None => {
