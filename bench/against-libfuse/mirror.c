@@ -15,6 +15,7 @@
 #include <dirent.h>
 #include <errno.h>
 #include <fcntl.h>
+#include <stddef.h>
 #include <stdio.h>
 #include <stdlib.h>
 #include <string.h>
@@ -60,6 +61,13 @@ static void look_above(const char *path)
     look(above);
 }
 
+/* Whether both paths are of names in one folder. */
+static int beside(const char *one, const char *other)
+{
+    size_t length = strrchr(one, '/') - one;
+    return strrchr(other, '/') - other == (ptrdiff_t)length && !strncmp(one, other, length);
+}
+
 /* Each name of an open folder. */
 static void look_at_all(DIR *opened)
 {
@@ -83,6 +91,7 @@ static int do_mkdir(const char *path, mode_t mode)
 
 static int do_unlink(const char *path)
 {
+    look_above(path);
     look(path);
     return result(unlinkat(folder, below(path), 0));
 }
@@ -96,6 +105,8 @@ static int do_rename(const char *from, const char *to, unsigned flags)
 {
     look_above(from);
     look(from);
+    if (!beside(from, to))
+        look_above(to);
     look(to);
     return flags ? -EINVAL : result(renameat(folder, below(from), folder, below(to)));
 }
@@ -109,6 +120,7 @@ static int do_open(const char *path, struct fuse_file_info *fi)
 
 static int do_create(const char *path, mode_t mode, struct fuse_file_info *fi)
 {
+    look_above(path);
     look(path);
     int fd = openat(folder, below(path), fi->flags | O_CREAT | O_EXCL | O_NOFOLLOW, mode);
     fi->fh = fd;
