@@ -21,8 +21,8 @@ def mirror(*words):
     return lambda tools, root, _: [tools.mirror, root, *words]
 
 
-def mirrord(*words):
-    return lambda tools, root, _: [tools.program, "device", "--root", root, *words]
+def mirrord(*words, other=False):
+    return lambda tools, root, _: [tools.other if other else tools.program, "device", "--root", root, *words]
 
 
 class Server:
@@ -32,8 +32,8 @@ class Server:
         self.title, self.command, self.mounts = title, command, mounts
 
 
-# Names and attributes are kept by the kernel for a second with each of them: so say mirrord's replies, and so it is by default with libfuse and mergerfs.
-# bindfs is one thread and mergerfs several, as they come; both stay in the foreground, so that their end can be waited for.
+# Each of them lets the kernel keep names and attributes for a second: so say mirrord's replies, and so it is with libfuse, bindfs and mergerfs where nothing
+# else is asked for. bindfs is one thread and mergerfs several, as they come; both stay in the foreground, so that their end can be waited for.
 SERVERS = {
     "plain": Server("plain folder"),
     "libfuse": Server("libfuse, 1 thread", mirror("1")),
@@ -44,6 +44,9 @@ SERVERS = {
     "single": Server("mirrord `-s`", mirrord("-s")),
     "two": Server("mirrord, 2 workers", mirrord("--workers", "2")),
     "four": Server("mirrord, 4 workers", mirrord("--workers", "4")),
+    "other": Server("other build, `-s`", mirrord("-s", other=True)),
+    "other2": Server("other build, 2 workers", mirrord("--workers", "2", other=True)),
+    "other4": Server("other build, 4 workers", mirrord("--workers", "4", other=True)),
 }
 
 
