@@ -8,6 +8,7 @@ import subprocess
 import sys
 import time
 
+import building
 from servers import Failed
 
 MAKE = """
@@ -55,8 +56,8 @@ class Sizes:
 class Stock:
     """What the programs begin with, made once beside the folders that are served."""
 
-    def __init__(self, place, sizes, seconds):
-        self.place, self.sizes, self.seconds = place, sizes, seconds
+    def __init__(self, place, sizes, seconds, cores):
+        self.place, self.sizes, self.seconds, self.cores = place, sizes, seconds, cores
         self.environment = {"PATH": os.environ["PATH"], "HOME": place, "LC_ALL": "C", "GIT_CONFIG_NOSYSTEM": "1"}
         for who in ("AUTHOR", "COMMITTER"):
             self.environment |= {f"GIT_{who}_NAME": "bench", f"GIT_{who}_EMAIL": "bench@localhost"}
@@ -76,7 +77,8 @@ class Stock:
     def run(self, *command, **words):
         """Runs a program to its end: what it printed. Where it takes too long nobody waits for it here, since its server may have to be killed first."""
         words.setdefault("stdin", subprocess.DEVNULL)
-        started = subprocess.Popen(list(map(str, command)), stdout=subprocess.PIPE, stderr=subprocess.STDOUT, cwd=self.place, env=self.environment, start_new_session=True, **words)
+        words |= dict(stdout=subprocess.PIPE, stderr=subprocess.STDOUT, cwd=self.place, env=self.environment, start_new_session=True)
+        started = building.start_on(self.cores, command, **words)
         try:
             output, _ = started.communicate(timeout=self.seconds)
         except subprocess.TimeoutExpired:

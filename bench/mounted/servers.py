@@ -5,6 +5,8 @@ import signal
 import subprocess
 import time
 
+import building
+
 LIBC = ctypes.CDLL(None, use_errno=True)
 CLONE_NEWNS, MS_NOSUID, MS_NODEV, MS_REC, MS_PRIVATE, MNT_DETACH, PR_SET_PDEATHSIG = 0x20000, 2, 4, 0x4000, 1 << 18, 2, 1
 DEVICE = "/dev/fuse"
@@ -83,19 +85,19 @@ class Mount:
         self.server, self.where, self.said, self.process = server, where, said, None
         self.folder = where if server.command else root
         if server.command:
-            self.start([str(word) for word in server.command(tools, root, where)])
+            self.start(server.command(tools, root, where), tools.given.cores[1:])
             self.wait_until_it_answers()
 
-    def start(self, command):
+    def start(self, command, cores):
         with open(self.said, "wb") as said:
             words = dict(stdout=subprocess.DEVNULL, stderr=said, preexec_fn=dies_with_us)
             if self.server.mounts:
-                self.process = subprocess.Popen(command, stdin=subprocess.DEVNULL, **words)
+                self.process = building.start_on(cores, command, stdin=subprocess.DEVNULL, **words)
                 return
             device = os.open(DEVICE, os.O_RDWR | os.O_CLOEXEC)
             try:
                 called("mount", b"mirror", os.fsencode(self.where), b"fuse.mirror", MS_NOSUID | MS_NODEV, f"fd={device},{OPTIONS}".encode())
-                self.process = subprocess.Popen(command, stdin=device, **words)
+                self.process = building.start_on(cores, command, stdin=device, **words)
             finally:
                 # The server's is the only one: where it ends, what is asked of the mount fails, and hangs no program.
                 os.close(device)
