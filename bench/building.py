@@ -42,14 +42,14 @@ def build_client(place):
     return compile_c(os.path.join(place, "client"), sorted(glob.glob(os.path.join(BENCH, "client", "*.c"))))
 
 
-def build_mirror(place):
-    """The mirror over libfuse; one line where the library is absent."""
+def build_mirror(place, behind="against-libfuse"):
+    """The mirror over libfuse that is behind a socket, or the one that is `mounted`; one line where the library is absent."""
     probe = subprocess.run([compiler(), "-E", "-DFUSE_USE_VERSION=31", "-D_FILE_OFFSET_BITS=64", "-include", "fuse3/fuse.h", "-x", "c", os.devnull],
                            capture_output=True)
     if probe.returncode:
         raise SystemExit("libfuse3-dev is not installed (fuse3/fuse.h is missing)")
-    source = os.path.join(BENCH, "against-libfuse", "mirror.c")
-    return compile_c(os.path.join(place, "mirror"), [source], "-D_FILE_OFFSET_BITS=64", "-lfuse3", "-lpthread")
+    sources = [os.path.join(BENCH, behind, "mirror.c"), os.path.join(BENCH, "against-libfuse", "operations.c")]
+    return compile_c(os.path.join(place, "mirror"), sources, "-D_FILE_OFFSET_BITS=64", "-lfuse3", "-lpthread")
 
 
 def prepared(client, place, name, known):
