@@ -49,9 +49,8 @@ def signal_server(server, number):
         os.killpg(server, number)
 
 
-def give_up():
+def end_mounts():
     """Ends all mounts with their servers, so that nothing waits for one any more: what waits for an answer cannot be killed."""
-    HUNG.set()
     for mount in MOUNTS:
         server = server_of(mount)
         if server:
@@ -66,7 +65,8 @@ def give_up():
 def limited(seconds, *processes):
     """All mounts are ended, and the processes' groups, where what is done takes longer."""
     def end():
-        give_up()
+        HUNG.set()
+        end_mounts()
         for process in processes:
             with contextlib.suppress(ProcessLookupError):
                 os.killpg(process.pid, signal.SIGKILL)
