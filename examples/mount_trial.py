@@ -80,6 +80,15 @@ def limited(seconds, *processes):
         sys.exit(f"it took more than {seconds} seconds, and the mount was ended")
 
 
+def until(holds, seconds=20):
+    """Whether it holds within that time."""
+    for _ in range(seconds * 20):
+        if holds():
+            return True
+        time.sleep(0.05)
+    return False
+
+
 def is_mounted(where):
     """Whether something is mounted there; it asks nothing of the mount."""
     with open("/proc/self/mounts") as file:
