@@ -108,6 +108,11 @@ def start(program, place, *words, **more):
     return mount, behind, mounted
 
 
+def ends_well(mount):
+    """Whether `examples/mount` ends with status 0. After an unmount by hand that takes as long as a namespace of mounts that was made meanwhile has the mount too."""
+    return until(lambda: mount.poll() is not None, SECONDS) and mount.returncode == 0
+
+
 def unmount(mounted, lazily=False):
     """Whether it could be unmounted; what is in use is tried again, since a command that has ended may be closing its files."""
     words = ["umount", *["-l"] * lazily, mounted] if os.getuid() == 0 else ["fusermount3", "-u", *["-z"] * lazily, mounted]
