@@ -1,0 +1,189 @@
+"""The commands that `examples/test-mount` runs in a mounted folder and in a plain one."""
+
+# What may be missing: a command that names one of them is skipped then.
+PROGRAMS = "git gunzip gzip install make patch python3 rsync setfattr setpriv tar xz".split()
+# `show` tells names, kinds, permission bits, owners, sizes of files and times of modification.
+SHOW = """show() { find "$@" -type d -printf '%p/ %m %U %G %T@\\n' -o -printf '%p %m %U %G %s %T@\\n' | sort; }; """
+
+COMMANDS = """
+ls
+ls -R
+cat a
+cat none
+cp a b
+cp a b c 2>&1
+mkdir d d/e
+mkdir d
+mkdir -p d/f/g/h
+cp b d/e/b
+cp -r d copy
+cat a b d/e/b > joined
+printf 'one\\ntwo\\nthree\\n' > lines
+printf 'four\\n' >> lines
+printf 'five\\nfour\\n' | tee -a lines
+wc -l lines
+wc -c a b lines
+grep -n t lines
+grep -rl hello . | sort
+head -n 2 lines
+tail -n 2 lines
+sort -r lines
+sort -o lines lines
+uniq -c lines
+diff lines a
+cmp a b
+mv b d/moved
+mv d/moved b
+mv -f a b
+mv d/f d/e/f
+rmdir d/e/f/g/h
+rmdir d
+dd if=/dev/zero of=zeros bs=64k count=40 status=none
+dd if=zeros of=some bs=1000 skip=3 count=5 seek=2 status=none
+dd if=a of=b conv=notrunc bs=1 seek=100 status=none 2>&1
+seq 1 200000 > numbers
+md5sum numbers
+tail -c 100 numbers
+truncate -s 1000 numbers
+truncate -s 5000 numbers
+md5sum numbers
+find . -type f -name 'b*' | sort
+find . -type d | sort
+find . -size +100k
+stat -c '%s %F' numbers
+test -f numbers && test -d d && test ! -e none
+echo *
+(exec 3< lines; rm lines; cat <&3; ls)
+(exec 3<> made; echo kept >&3; mv b made; cat /dev/fd/3 || true; ls) 2>/dev/null
+split -l 200 -d joined part-
+rm part-*
+rm none
+rm d
+rm -r copy
+du -a --apparent-size . | cut -f2 | sort
+awk '{ n += length($0) } END { print n }' joined
+tar -cf - . | tar -tf - | sort
+python3 -c "import mmap; f = open('zeros', 'r+b'); m = mmap.mmap(f.fileno(), 0); m[70000:70005] = b'mmaps'; m.flush(); m.close()"
+md5sum zeros
+for n in $(seq 1 60); do echo $n > d/file-$n; done
+ls d | wc -l
+cat d/file-* | md5sum
+find d -name 'file-*' -delete
+sync zeros
+mkdir 'a b' && echo odd > 'a b/c "d"' && cat 'a b/c "d"'
+rm -rf d 'a b'
+""".strip().split("\n")
+
+# What sets times, modes and owners, or goes by them. ELSEWHERE is a folder on another file system, where there is one.
+SETTING = r"""
+echo text > t && touch t && test $(($(date +%s) - $(stat -c %Y t))) -lt 60
+touch -d '2001-02-03 04:05:06.123456789' t && stat -c '%x %y' t
+touch -a -d '2002-02-03 04:05:06.5' t && stat -c '%x %y' t
+touch -m -d @1000000000.000000001 t && stat -c %y t
+touch -r t u && stat -c '%y' u && touch -d @999999999.5 u && touch -r u v && stat -c '%x %y' v
+touch -c none
+truncate -s 4 t && test t -nt u
+chmod 600 t && stat -c '%a %A' t
+chmod u+x,g+r t && stat -c %a t
+chmod 4755 t && stat -c '%a %A' t
+chmod 4755 t && echo more >> t && stat -c %a t && chmod 6755 t && truncate -s 3 t && stat -c %a t
+chmod 0 t && stat -c %a t && chmod 644 t && stat -c %a t
+mkdir -m 711 dm && stat -c %a dm
+chmod 1777 dm && stat -c %A dm && chmod 2750 dm && stat -c %A dm
+chmod 0 dm && stat -c %a dm && chmod 755 dm && stat -c %a dm
+chown "$(id -u):$(id -g)" t dm && stat -c '%u %g' t dm
+(umask 077; echo new > private; mkdir pd; stat -c %a private pd)
+(umask 0; echo new > public; mkdir qd; stat -c %a public qd)
+(umask 027; mkdir -p rd/e; echo > rd/e/f; stat -c %a rd rd/e rd/e/f)
+mkdir -p tree/sub/deep && seq 1 500 > tree/numbers && echo x > tree/sub/x && cp tree/numbers tree/sub/deep/n
+chmod 640 tree/sub/x && chmod 700 tree/sub && chmod 444 tree/sub/deep/n
+find tree -depth -exec touch -d '1999-12-31 23:59:59.987654321' {} + && show tree
+cp -p tree/sub/x kept && show kept
+for n in $(seq 1 50); do cp tree/sub/deep/n read-only; tail -1 read-only; rm -f read-only; done
+cp -a tree copied && show copied
+cp -a copied/. copied2 && show copied2
+cp -u tree/numbers copied/numbers && show copied/numbers
+install -m 640 t installed && stat -c %a installed
+install -d -m 700 made2 && stat -c %a made2
+mkdir -p "$ELSEWHERE/m" && seq 9 > "$ELSEWHERE/m/f" && chmod 640 "$ELSEWHERE/m/f" && touch -d @900000000.5 "$ELSEWHERE/m/f" "$ELSEWHERE/m" && mv -n "$ELSEWHERE/m" moved && show moved
+echo other > "$ELSEWHERE/t" && mv -n "$ELSEWHERE/t" t; cat t; rm -f "$ELSEWHERE/t"
+cp -a tree "$ELSEWHERE/out" && (cd "$ELSEWHERE" && show out) && rm -rf "$ELSEWHERE/out"
+tar -cf "$ELSEWHERE/x.tar" tree && mkdir x && tar -xf "$ELSEWHERE/x.tar" -C x && show x/tree
+tar -xf "$ELSEWHERE/x.tar" -C x && tar -df "$ELSEWHERE/x.tar" -C x && show x/tree
+tar -czf x.tgz tree && mkdir y && tar -xpzf x.tgz -C y && show y/tree && rm x.tgz
+rsync -a tree/ synced && show synced
+rsync -ai tree/ synced
+chmod 600 tree/numbers && seq 1 501 > tree/sub/x && rsync -ai tree/ synced | cut -c1-9,12-
+rsync -ai --delete tree/ synced && rm -r tree/sub/deep && rsync -ai --delete tree/ synced | grep -v '^\.d'
+gzip -9 tree/numbers && show tree/numbers.gz && gunzip tree/numbers.gz && show tree/numbers && md5sum tree/numbers
+xz tree/numbers && show tree/numbers.xz && xz -d tree/numbers.xz && show tree/numbers && md5sum tree/numbers
+seq 1 20 > before && seq 1 20 | sed s/7/seven/ > after && (diff -u --label before --label after before after > change.diff; chmod 640 before; patch before < change.diff; cat before; stat -c %a before)
+patch -R before < change.diff && md5sum before && rm change.diff after
+printf 'out: in\n\ttr a-z A-Z < in > out\n' > Makefile && echo one > in && make && cat out
+make; make -q; echo $?
+sleep 0.1; echo two > in && make && cat out && make
+touch -d 2001-01-01 in && make && touch -d 2031-01-01 in && make 2>&1 | grep -v 'modification time'; cat out; rm Makefile in out
+touch -d 2000-01-01 old && touch -d 2000-01-02 middle && touch -d 2000-01-03 recent && find . -maxdepth 1 -newer middle -name recent -o -newer middle -name old
+find . -maxdepth 1 -newermt 2000-01-01T12:00 ! -newermt 2000-01-04 | sort
+ls -t old middle recent
+test "$(ls -i t | cut -d' ' -f1)" = "$(stat -c %i t)" && find . -maxdepth 1 -inum "$(stat -c %i t)"
+find tree -perm 600 | sort
+find . -maxdepth 1 -user "$(id -u)" -name t
+printf 'one\ntwo\n' > words && chmod 640 words && sed -i s/one/1/ words && cat words && stat -c %a words
+chmod 755 words && sed -i.old 's/two/2/' words && cat words words.old && stat -c %a words words.old
+printf '#!/bin/sh\necho ran "$@"\n' > script && chmod +x script && ./script a b
+chmod -x script; ./script; echo $?
+chmod 500 script && ./script && rm -f script
+test -w t && test -r t && test ! -x t && echo as it is
+python3 -c "import shutil; shutil.copytree('copied', 'copied3')" && show copied3
+python3 -c "import os; os.utime('t', ns=(5, 1234567890123456789)); print(os.stat('t').st_mtime_ns, os.stat('t').st_atime_ns); os.truncate('t', 2); os.chmod('t', 0o640); print(oct(os.stat('t').st_mode), open('t').read())"
+python3 -c "import os, stat; f = os.open('ro', os.O_WRONLY | os.O_CREAT | os.O_EXCL, 0o400); os.write(f, b'kept'); os.fchmod(f, 0o440); os.utime(f, (7, 8)); os.close(f); print(oct(os.stat('ro').st_mode), os.stat('ro').st_mtime, open('ro').read())"
+find . -path ./g -prune -o -exec touch -d @1000000000.25 {} + && ls -lR --time-style=full-iso | awk '/^total/ { next } /^d/ { $5 = 0 } { $1 = $1; print }'
+git init -q g && cd g && git branch -q -M main && git config user.name a && git config user.email a@b && echo abc > f && mkdir d && echo e > d/e && chmod +x d/e && git add . && git commit -q -m one && git status --porcelain && git log --format=%H
+cd g && git status --porcelain && git diff --stat && git ls-files -s
+cd g && printf 'aXc\n' > f && git status --porcelain
+cd g && git diff | cat && git stash -q && cat f && git status --porcelain && git stash pop -q && cat f
+cd g && chmod -x d/e && git status --porcelain && chmod +x d/e && git status --porcelain
+cd g && git commit -q -a -m two && git checkout -q -b other && git rm -q d/e && git commit -q -m three && git checkout -q main && git merge -q other && ls && git log --format=%s
+git clone -q g c && cd c && git log --format=%H && git status --porcelain && ls -l f | cut -c1-10
+cd g && git gc -q && git fsck --no-progress && git status --porcelain && git count-objects | cut -d, -f1
+cd g && seq 1 300 | while read n; do echo $n > n$n; done && git add . && git commit -q -m many && git status --porcelain && git ls-files | wc -l
+git clone -q --bare g bare && git -C c pull -q && git -C c log --format=%s
+cd c && git reset -q --hard HEAD~1 && git clean -q -f && git status --porcelain && ls
+rm -rf g c bare
+rm -rf tree copied copied2 copied3 synced x y
+""".strip().split("\n")
+
+# The same for root alone.
+SETTING_AS_ROOT = r"""
+chown 1:2 t && stat -c '%u %g' t
+chown 3 t && chown :4 t && stat -c '%u %g' t
+mkdir -p own/d && echo > own/d/f && chown -R 1:2 own && show own | cut -d' ' -f1-4
+cp -a own own2 && chown -h 5 own2/d/f && stat -c '%u %g' own2 own2/d own2/d/f
+chmod 6755 t && chown 0:0 t && stat -c '%a %u %g' t
+tar -cf "$ELSEWHERE/o.tar" own && rm -r own && tar -xf "$ELSEWHERE/o.tar" && show own | cut -d' ' -f1-4
+mkdir sg && chgrp 5 sg && chmod 2775 sg && echo > sg/f && mkdir sg/d && show sg | cut -d' ' -f1-4
+install -o 7 -g 8 -m 604 t installed2 && stat -c '%a %u %g' installed2
+rsync -a own/ own3 && show own3 | cut -d' ' -f1-4
+rm -r own own2 own3 sg
+""".strip().split("\n")
+
+REFUSED = """
+ln -s joined link
+ln joined link
+mkfifo pipe
+setfattr -n user.a -v 1 joined
+fallocate -l 100 allocated
+""".strip().split("\n")
+
+REFUSED_WITH_HOST = """
+touch -d 1960-01-01 joined
+""".strip().split("\n")
+
+REFUSED_WITH_FIXED = """
+touch joined
+touch -d 2020-01-01 joined
+chmod 600 joined
+chown 1:1 joined
+cp -p joined kept
+""".strip().split("\n")
