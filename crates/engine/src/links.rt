@@ -44,6 +44,11 @@ pub trait LinkIn {
     fn receive(&mut self, room: &mut [u8]) -> Received
         ensures within { IsWithin result (length room.new) }
         ensures brought { receives self.old (heard result room.new) self.new };
+
+    /// Whether what came last had been there before it was asked for, so that more may wait. A link that cannot tell says no.
+    fn was_waiting(&self) -> bool {
+        false
+    }
 }
 
 /// The way back to a client, for replies.

@@ -1,3 +1,5 @@
+pub mod Devices
+pub mod Frames
 pub mod Joined
 pub mod Parts
 pub mod Passed

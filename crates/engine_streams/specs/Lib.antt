@@ -1,4 +1,6 @@
 pub mod Counting
+pub mod Device
+pub mod DeviceCounting
 pub mod Holding
 pub mod Joining
 pub mod Passing

@@ -3,6 +3,7 @@
 ghost use Rattle.std.specs.Prelude.{IfSome};
 ghost use Rattle.std.specs.Io.{ReadsAtMost};
 
+use crate::asking::Asking;
 use std::io;
 use std::io::{ErrorKind, Read};
 use std::os::unix::net::UnixStream;
@@ -10,20 +11,13 @@ use std::os::unix::net::UnixStream;
 /// How often one read asks at most before it waits: for some 30 microseconds.
 const ASKED: u32 = 128;
 
-/// How many reads in a row wait at once, after one that asked in vain. After each further one they are twice as many.
-const PAUSE: u8 = 15;
-
-/// Reads what comes over a socket. A client whose next request comes within some microseconds is not slept for, since to be woken takes
-/// longer than that. A slow one, or one that shares the only processor, costs one such try in 256 reads before long.
+/// Reads what comes over a socket. A client whose next request comes within some microseconds is not slept for.
 ///
 /// Between two reads the socket waits, so who writes to it meanwhile need not know.
 #[derive(Drop)]
 pub struct Polling<'a> {
     stream: &'a UnixStream,
-    /// So many reads more wait at once.
-    waiting: u8,
-    /// How many do after the next one that asks in vain.
-    pause: u8,
+    asking: Asking,
 }
 
 /// What came while it was asked.
@@ -58,8 +52,7 @@ impl<'a> Polling<'a> {
     pub fn new(stream: &'a UnixStream) -> Polling<'a> {
         Polling {
             stream,
-            waiting: 0,
-            pause: PAUSE,
+            asking: Asking::new(),
         }
     }
 
@@ -87,21 +80,16 @@ impl<'a> Polling<'a> {
 
 impl<'a> Read for Polling<'a> {
     fn read(&mut self, buf: &mut [u8]) -> io::Result<usize> {
-        if self.waiting > 0 {
-            self.waiting -= 1;
+        if !self.asking.begins() {
             return self.wait(buf);
         }
         match self.poll(buf) {
             Some(Came { read, at_once }) => {
-                // What was there at once says nothing of whether asking pays.
-                if !at_once {
-                    self.pause = PAUSE;
-                }
+                self.asking.came(at_once);
                 read
             }
             None => {
-                self.waiting = self.pause;
-                self.pause = self.pause.saturating_mul(2);
+                self.asking.in_vain();
                 self.wait(buf)
             }
         }

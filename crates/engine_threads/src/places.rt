@@ -24,12 +24,17 @@ pub struct Signs {
     pub queued: AtomicU64,
     /// How many of them were worked on.
     pub worked: AtomicU64,
+    /// For how many receives more it is taken that requests wait where they are received.
+    pub backlog: AtomicU64,
     /// Whether jobs take long: few were worked on while a thread watched, though there were some.
     pub is_slow: AtomicBool,
 }
 
 /// Fewer jobs than this that are worked on in the millisecond of a thread that watches are few.
 const FEW: u64 = 16;
+
+/// For how many receives after one that found a request waiting it is taken that further ones wait.
+const BACKLOG: u64 = 64;
 
 impl Signs {
     pub fn new() -> Signs {
@@ -40,6 +45,7 @@ impl Signs {
             receives: AtomicU64::new(0),
             queued: AtomicU64::new(0),
             worked: AtomicU64::new(0),
+            backlog: AtomicU64::new(0),
             is_slow: AtomicBool::new(false),
         }
     }
@@ -82,6 +88,21 @@ impl Signs {
     pub fn tell_watched(&self, before: u64) {
         let is_slow = self.is_busy() && self.worked().wrapping_sub(before) < FEW;
         self.is_slow.store(is_slow, Ordering::SeqCst);
+    }
+
+    /// What a receive brought had waited there, or not. Receives are made one after another.
+    pub fn tell_backlog(&self, was_waiting: bool) {
+        let left = if was_waiting {
+            BACKLOG
+        } else {
+            self.backlog.load(Ordering::SeqCst).saturating_sub(1)
+        };
+        self.backlog.store(left, Ordering::SeqCst);
+    }
+
+    /// Whether requests were seen to wait not long ago.
+    pub fn has_backlog(&self) -> bool {
+        self.backlog.load(Ordering::SeqCst) > 0
     }
 
     /// Whether jobs take long.

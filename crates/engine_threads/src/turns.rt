@@ -118,8 +118,14 @@ pub fn read<
         reader.turn(&common.rt);
     }
     let queued = reader.reader.next.saturating_sub(before);
+    let was_waiting = reader.link.was_waiting();
     let has_ended = is_broken || reader.end.is_some();
+    common.signs.tell_backlog(was_waiting);
     drop(reader);
+    if was_waiting {
+        // Nobody receives what may still wait there while this thread works.
+        common.sleepers.wake(1);
+    }
     tell_read(common, queued, has_ended);
     true
 }

@@ -64,7 +64,12 @@ struct Rest {
     has_slept: bool,
     /// How many receives had ended when it slept last.
     seen: u64,
+    /// How often it looked in vain since it did something or slept.
+    looks: u32,
 }
+
+/// How often a thread looks in vain before it sleeps, while requests wait for those who receive: to sleep and to be woken takes longer.
+const LOOKS: u32 = 200;
 
 impl Rest {
     fn new(number: usize) -> Rest {
@@ -73,6 +78,7 @@ impl Rest {
             is_lying: false,
             has_slept: false,
             seen: 0,
+            looks: 0,
         }
     }
 
@@ -100,13 +106,14 @@ impl Rest {
         O: LinkOut + Drop,
         S: Source<I> + Sink<O>,
     >(&mut self, common: &Common<H, T, N, I, O, S>) {
+        self.looks = 0;
         if self.is_lying {
             common.sleepers.get_up(self.number);
             self.is_lying = false;
         }
     }
 
-    /// It found nothing to do: it says that it will sleep, or sleeps if it had said so. While something is received one such thread looks
+    /// It found nothing to do: it looks again if requests wait; else it says that it will sleep, or sleeps if it had said so. While something is received one such thread looks
     /// again by itself, for a call of another may keep that one from the next receive.
     fn sink<
         H: Wait + Drop,
@@ -116,6 +123,10 @@ impl Rest {
         O: LinkOut + Drop,
         S: Source<I> + Sink<O>,
     >(&mut self, common: &Common<H, T, N, I, O, S>) {
+        if self.looks < LOOKS && common.signs.has_backlog() {
+            self.looks += 1;
+            return;
+        }
         if !self.is_lying {
             common.sleepers.lie_down(self.number);
             self.is_lying = true;
@@ -130,6 +141,7 @@ impl Rest {
         }
         self.is_lying = false;
         self.has_slept = true;
+        self.looks = 0;
     }
 }
 

@@ -1,11 +1,14 @@
 //! The program `mirrord`.
 #![tactic(auto)]
 
-use mirrord_programs::{Failure, Fault, run, tell};
+use mirrord_programs::{
+    Device, DeviceReplies, DeviceRequests, Failure, Fault, Standard, run, tell,
+};
 use mirrord_server::RECEIVED;
 use std::io::BufReader;
+use std::os::unix::fs::FileTypeExt;
 use std::process::ExitCode;
-use std::{env, io};
+use std::{env, fs, io};
 
 /// Ends with one line on standard error.
 fn fail(rt: &HostRuntime, fault: Fault) -> ExitCode {
@@ -19,6 +22,18 @@ fn words_of(rt: &HostRuntime) -> io::Result<Vec<String>> {
     Ok(words)
 }
 
+/// The kernel's device, where a character device stands on standard input.
+fn device_of(rt: &HostRuntime) -> Option<Device<DeviceRequests, DeviceReplies>> {
+    let standing = fs::metadata(rt, "/proc/self/fd/0").ok()?;
+    if !standing.file_type().is_char_device() {
+        return None;
+    }
+    Some(Device {
+        requests: DeviceRequests::new(),
+        replies: DeviceReplies,
+    })
+}
+
 fn main(rt: HostRuntime) -> ExitCode {
     let words = match words_of(&rt) {
         Ok(words) => words,
@@ -28,7 +43,12 @@ fn main(rt: HostRuntime) -> ExitCode {
         Ok(input) => input,
         Err(error) => return fail(&rt, Fault::from(error)),
     };
-    let (output, mut faults) = (io::writer(&rt), rt.stderr());
-    let ended = run(&rt, &rt, &words, input, output, &mut faults);
+    let standard = Standard {
+        input,
+        output: io::writer(&rt),
+        device: device_of(&rt),
+    };
+    let mut faults = rt.stderr();
+    let ended = run(&rt, &rt, &words, standard, &mut faults);
     ExitCode::from(ended.status)
 }

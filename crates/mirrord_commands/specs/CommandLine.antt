@@ -9,7 +9,7 @@ use Rattle.ops.specs.declared.attributes.Settings.TheVariants.{Fixed, Host}
 use Rattle.mirrord_sessions.specs.declared.terms.Bounds.{Bounds}
 use Rattle.mirrord_sessions.specs.declared.terms.Terms.{Terms}
 use Rattle.mirrord_commands.specs.declared.options.Options.{Options}
-use Rattle.mirrord_commands.specs.declared.options.Options.TheVariants.{Serve, Pipe, Hex, Refused}
+use Rattle.mirrord_commands.specs.declared.options.Options.TheVariants.{Serve, Pipe, Device, Hex, Refused}
 use Rattle.mirrord_commands.specs.declared.refusals.Refusal.{Refusal}
 use Rattle.mirrord_commands.specs.declared.refusals.Refusal.TheVariants.{Attributes, Owner}
 use Rattle.mirrord_commands.specs.declared.refusals.Refusal.TheVariants as refusals
@@ -41,8 +41,8 @@ abbrev pub word_rule : Text → (default : Text) → Rule
 word_rule id default = record (new_rule id) { long = Some id; action = Some Set; value_names = 1; defaults = default ∷ [] }
 
 -- whose attributes are told
-abbrev pub attributes_rule : Rule
-attributes_rule = record (new_rule (codes "attributes")) { long = Some (codes "attributes"); action = Some Set; value_names = 1; defaults = codes "fixed" ∷ [] }
+abbrev pub attributes_rule : (default : Text) → Rule
+attributes_rule default = word_rule (codes "attributes") default
 
 -- a flag
 abbrev pub flag_rule : Text → Rule
@@ -57,30 +57,45 @@ abbrev pub bounded : App → App
 bounded app = with_rule app (number_rule (codes "postings") 1 4294967295 (codes "1048576"))
 
 -- told how many nodes, open files and requests there may be, too
-abbrev pub limited : App → App
-limited app = with_rule (with_rule (with_rule app (number_rule (codes "nodes") 2 16777216 (codes "65536"))) (number_rule (codes "files") 1 1048576 (codes "4096"))) (number_rule (codes "requests") 1 65536 (codes "64"))
+abbrev pub limited : (nodes files : Text) → App → App
+limited nodes files app = with_rule (with_rule (with_rule app (number_rule (codes "nodes") 2 16777216 nodes)) (number_rule (codes "files") 1 1048576 files)) (number_rule (codes "requests") 1 65536 (codes "64"))
 
 -- told what bounds the lookup counts, too
-abbrev pub counted : App → App
-counted app = with_rule app (word_rule (codes "counts") (codes "bounded"))
+abbrev pub counted : (how : Text) → App → App
+counted how app = with_rule app (word_rule (codes "counts") how)
 
 -- the subcommands
 abbrev pub hex_app : App
 hex_app = bounded (with_rule (new_app (codes "hex")) (flag_rule (codes "sample")))
 
 -- told whose attributes are told, and a user and a group, too
-abbrev pub owned : App → App
-owned app = with_rule (with_rule (with_rule app attributes_rule) (user (codes "uid"))) (user (codes "gid"))
+abbrev pub owned : (attributes : Text) → App → App
+owned attributes app = with_rule (with_rule (with_rule app (attributes_rule attributes)) (user (codes "uid"))) (user (codes "gid"))
+
+-- told all that a session is served by, too, where this is taken if nothing is said of it
+abbrev pub served : (attributes nodes files counts : Text) → App → App
+served attributes nodes files counts app = bounded (counted counts (limited nodes files (owned attributes app)))
+
+-- for a client of any kind
+abbrev pub served_any : App → App
+served_any = served (codes "fixed") (codes "65536") (codes "4096") (codes "bounded")
+
+-- for a kernel, which heeds owners and modes, and gives lookups back late
+abbrev pub served_kernel : App → App
+served_kernel = served (codes "host") (codes "1048576") (codes "65536") (codes "free")
 
 abbrev pub pipe_app : App
-pipe_app = bounded (counted (limited (owned (with_rule (new_app (codes "pipe")) (text_rule (codes "root"))))))
+pipe_app = served_any (with_rule (new_app (codes "pipe")) (text_rule (codes "root")))
 
 -- told how many threads work on requests, too
 abbrev pub staffed : App → App
 staffed app = with_rule (with_rule app (number_rule (codes "workers") 1 4 (codes "2"))) single_rule
 
 abbrev pub serve_app : App
-serve_app = bounded (counted (limited (owned (staffed (with_rule (with_rule (new_app (codes "serve")) (text_rule (codes "root"))) (text_rule (codes "socket")))))))
+serve_app = served_any (staffed (with_rule (with_rule (new_app (codes "serve")) (text_rule (codes "root"))) (text_rule (codes "socket"))))
+
+abbrev pub device_app : App
+device_app = served_kernel (staffed (with_rule (new_app (codes "device")) (text_rule (codes "root"))))
 
 -- the program, whose version can be asked for, without its subcommands
 abbrev pub bare_app : App
@@ -88,8 +103,12 @@ bare_app = record (new_app (codes "mirrord")) {
   top = record (new_app (codes "mirrord")).top { has_version = true; subcommand_required = true; arg_required_else_help = true };
 }
 
+-- with those that serve a folder to a client who comes over a stream
+abbrev pub stream_app : App
+stream_app = with_subcommand (with_subcommand bare_app serve_app.top) pipe_app.top
+
 abbrev pub mirrord_app : App
-mirrord_app = with_subcommand (with_subcommand (with_subcommand bare_app serve_app.top) pipe_app.top) hex_app.top
+mirrord_app = with_subcommand (with_subcommand stream_app device_app.top) hex_app.top
 
 -- ---- what it asks for
 
@@ -160,8 +179,11 @@ IsAskedBy name rows (Serve root socket workers single terms) =
     (name ≡ codes "serve") × IsText (codes "root") rows root.now × IsText (codes "socket") rows socket.now
     × IsNumber 8 (codes "workers") rows workers × IsFlag (codes "single") rows single × AreTerms rows terms
 IsAskedBy name rows (Pipe root terms) = (name ≡ codes "pipe") × IsText (codes "root") rows root.now × AreTerms rows terms
-IsAskedBy name rows (Refused refusal) = ((name ≡ codes "serve") ⊎ (name ≡ codes "pipe")) × AreRefused rows refusal
-IsAskedBy name rows (Hex sample postings) = (name ≢ codes "serve") × (name ≢ codes "pipe") × IsFlag (codes "sample") rows sample × IsNumber 32 (codes "postings") rows postings
+IsAskedBy name rows (Device root workers single terms) =
+    (name ≡ codes "device") × IsText (codes "root") rows root.now
+    × IsNumber 8 (codes "workers") rows workers × IsFlag (codes "single") rows single × AreTerms rows terms
+IsAskedBy name rows (Refused refusal) = ((name ≡ codes "serve") ⊎ ((name ≡ codes "pipe") ⊎ (name ≡ codes "device"))) × AreRefused rows refusal
+IsAskedBy name rows (Hex sample postings) = (name ≢ codes "serve") × (name ≢ codes "pipe") × (name ≢ codes "device") × IsFlag (codes "sample") rows sample × IsNumber 32 (codes "postings") rows postings
 
 abbrev pub IsAsked : Option (Text × List Row) → Options → Type 0
 IsAsked None options = options ≡ Hex false 1048576

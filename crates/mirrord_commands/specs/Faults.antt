@@ -4,7 +4,7 @@ use Rattle.std.specs.Fmt.{decimal}
 use Rattle.mirrord_commands.specs.declared.faults.Fault.{Fault}
 use Rattle.mirrord_commands.specs.declared.faults.Fault.TheVariants.{FrameLength, Line, Link, Memory, Seed, Workers}
 use Rattle.mirrord_commands.specs.declared.faults.Failure.{Failure}
-use Rattle.mirrord_commands.specs.declared.faults.Failure.TheVariants.{Stopped, NoFolder, NoSocket, Refused}
+use Rattle.mirrord_commands.specs.declared.faults.Failure.TheVariants.{Stopped, NoFolder, NoSocket, NoDevice, Refused}
 use Rattle.mirrord_commands.specs.declared.refusals.Refusal.{Refusal}
 use Rattle.mirrord_commands.specs.declared.refusals.Refusal.TheVariants.{Attributes, Counts, Owner}
 
@@ -18,6 +18,7 @@ status_of (Stopped Seed) = 4
 status_of (Stopped Workers) = 4
 status_of (NoFolder root) = 4
 status_of (NoSocket path) = 4
+status_of NoDevice = 2
 status_of (Refused refusal) = 2
 
 -- how it is worded
@@ -38,6 +39,7 @@ abbrev pub message : Failure → List ℕ
 message (Stopped fault) = fault_message fault
 message (NoFolder root) = root.now ++ codes " is not a folder"
 message (NoSocket path) = codes "cannot listen on " ++ path.now
+message NoDevice = codes "standard input is not a character device"
 message (Refused refusal) = refusal_message refusal
 
 -- the one line on standard error

@@ -1,12 +1,12 @@
 //! The command line, as clap is told of it.
 
-ghost use Rattle.std.specs.Prelude.{◌≡◌, codes, false, IfOk, pos};
-ghost use Rattle.clap.specs.Words.{app_of, rule_of};
+ghost use Rattle.std.specs.Prelude.{◌≡◌, false, IfOk};
+ghost use Rattle.clap.specs.Words.{app_of};
 ghost use Rattle.clap.specs.declared.builder.command.Command.TheViews.{out-Command as fields_of};
-ghost use Rattle.mirrord_commands.specs.CommandLine.{attributes_rule, bare_app, bounded, counted, flag_rule, hex_app, limited, mirrord_app, owned, number_rule, pipe_app, serve_app, single_rule, staffed, text_rule, user, word_rule};
+ghost use Rattle.mirrord_commands.specs.CommandLine.{bare_app, device_app, hex_app, mirrord_app, pipe_app, serve_app, stream_app};
 
-use clap::builder::ValueParser;
-use clap::{Arg, ArgAction, Command};
+use crate::arguments::{flag, text_option, with_postings, with_terms, with_workers};
+use clap::Command;
 use std::alloc::{AllocError, Global};
 
 const ABOUT: &str = "A file system server that speaks the FUSE kernel protocol 7.31";
@@ -30,6 +30,13 @@ const PIPE: &str =
 const PIPE_EXAMPLE: &str =
     "Example: work off a file of requests\n    mirrord pipe --root /srv/files < requests > replies";
 
+const DEVICE: &str =
+    "Serves a folder to the kernel, whose FUSE device is standard input, until it is not mounted any more";
+
+const DEVICE_EXAMPLE: &str =
+    "examples/mount opens the device, mounts it and starts this program. What is taken where nothing is said \
+    is what a\nkernel as the client wants: attributes of the host, counts that nothing bounds, a million nodes.";
+
 const HEX: &str =
     "Serves a tree in memory: requests are read, and replies written, as lines of hexadecimal digits";
 
@@ -41,173 +48,7 @@ const ROOT: &str = "The folder that is served";
 
 const SOCKET: &str = "Where the socket is made; nothing may stand there";
 
-const WORKERS: &str =
-    "How many threads serve, from 1 to 4: each reads, works or writes, whatever is due";
-
-const SINGLE: &str = "One thread does all, one request after another, whatever --workers says";
-
-const ATTRIBUTES: &str =
-    "Whose attributes are told: fixed (of one owner, without times), or host (those of the folder, which can be set)";
-
-const UID: &str =
-    "The user that each file and folder is told to belong to, if not 0; with fixed attributes";
-
-const GID: &str =
-    "The group that each file and folder is told to belong to, if not 0; with fixed attributes";
-
-const NODES: &str = "How many files and folders the client may know at a time, the root among them";
-
-const FILES: &str = "How many files may be open at a time";
-
-const REQUESTS: &str = "How many requests may be in flight at a time";
-
-const COUNTS: &str =
-    "What bounds the lookup counts: bounded (by --postings), or free (by nothing; a period has two postings a node or more)";
-
-const POSTINGS: &str =
-    "How many entries of the ledger a period may have; the next begins where half of them are made";
-
-/// How many entries of the ledger a period may have if nothing else is said.
-pub const DEFAULT_POSTINGS: u32 = 1_048_576;
-
 const SAMPLE: &str = "Start with a file `a` holding `abc`, a folder `d` and an empty file `e`";
-
-/// An option whose value is text, and that must be there.
-fn text_option<'a>(alloc: Global, name: &'a str, value: &'a str, help: &'a str) -> Arg<'a>
-    ensures rule { rule_of result ≡ text_rule name.entry.now }
-    ensures local { result.global ≡ false }
-{
-    Arg::new(alloc, name)
-        .long(name)
-        .value_name(value)
-        .required(true)
-        .action(ArgAction::Set)
-        .help(help)
-}
-
-/// An option whose value is a number up to `most`.
-fn number_option<'a>(
-    alloc: Global,
-    name: &'a str,
-    least: u32,
-    most: u32,
-    default: &'a str,
-    help: &'a str,
-) -> Arg<'a>
-    ensures rule { rule_of result ≡ number_rule name.entry.now least most default.entry.now }
-    ensures local { result.global ≡ false }
-{
-    let parser = ValueParser::Signed(i64::from(least), i64::from(most));
-    Arg::new(alloc, name)
-        .long(name)
-        .value_name("N")
-        .value_parser(parser)
-        .default_value(default)
-        .action(ArgAction::Set)
-        .help(help)
-}
-
-/// The option of a user or a group.
-fn owner_option<'a>(alloc: Global, name: &'a str, help: &'a str) -> Arg<'a>
-    ensures rule { rule_of result ≡ user name.entry.now }
-    ensures local { result.global ≡ false }
-{
-    let parser = ValueParser::Signed(0, i64::from(u32::MAX));
-    Arg::new(alloc, name)
-        .long(name)
-        .value_name("N")
-        .value_parser(parser)
-        .action(ArgAction::Set)
-        .help(help)
-}
-
-/// An option whose value is a word.
-fn word_option<'a>(
-    alloc: Global,
-    name: &'a str,
-    value: &'a str,
-    default: &'a str,
-    help: &'a str,
-) -> Arg<'a>
-    ensures rule { rule_of result ≡ word_rule name.entry.now default.entry.now }
-    ensures local { result.global ≡ false }
-{
-    Arg::new(alloc, name)
-        .long(name)
-        .value_name(value)
-        .default_value(default)
-        .action(ArgAction::Set)
-        .help(help)
-}
-
-/// The option that says whose attributes are told.
-fn attributes_option<'a>(alloc: Global) -> Arg<'a>
-    ensures rule { rule_of result ≡ attributes_rule }
-    ensures local { result.global ≡ false }
-{
-    Arg::new(alloc, "attributes")
-        .long("attributes")
-        .value_name("WHOSE")
-        .default_value("fixed")
-        .action(ArgAction::Set)
-        .help(ATTRIBUTES)
-}
-
-/// A flag.
-fn flag<'a>(alloc: Global, name: &'a str, help: &'a str) -> Arg<'a>
-    ensures rule { rule_of result ≡ flag_rule name.entry.now }
-    ensures local { result.global ≡ false }
-{
-    Arg::new(alloc, name)
-        .long(name)
-        .action(ArgAction::SetTrue)
-        .help(help)
-}
-
-/// The flag of one thread.
-fn single_flag<'a>(alloc: Global) -> Arg<'a>
-    ensures rule { rule_of result ≡ single_rule }
-    ensures local { result.global ≡ false }
-{
-    flag(alloc, "single", SINGLE).short('s')
-}
-
-/// A command that is also told how many postings a period of the ledger may have.
-fn with_postings<'a>(alloc: Global, command: Command<'a>) -> Result<Command<'a>, AllocError>
-    ensures app { IfOk result (λ c. app_of c ≡ bounded (app_of command.entry)) }
-    ensures local { (fields_of command.entry).has_globals ≡ false → IfOk result (λ c. (fields_of c).has_globals ≡ false) }
-{
-    command.arg(number_option(alloc, "postings", 1, u32::MAX, "1048576", POSTINGS))
-}
-
-/// A command that is also told how many nodes, open files and requests there may be.
-fn with_limits<'a>(alloc: Global, command: Command<'a>) -> Result<Command<'a>, AllocError>
-    ensures app { IfOk result (λ c. app_of c ≡ limited (app_of command.entry)) }
-    ensures local { (fields_of command.entry).has_globals ≡ false → IfOk result (λ c. (fields_of c).has_globals ≡ false) }
-{
-    command
-        .arg(number_option(alloc, "nodes", 2, 16_777_216, "65536", NODES))?
-        .arg(number_option(alloc, "files", 1, 1_048_576, "4096", FILES))?
-        .arg(number_option(alloc, "requests", 1, 65_536, "64", REQUESTS))
-}
-
-/// A command that is also told what bounds the lookup counts.
-fn with_counts<'a>(alloc: Global, command: Command<'a>) -> Result<Command<'a>, AllocError>
-    ensures app { IfOk result (λ c. app_of c ≡ counted (app_of command.entry)) }
-    ensures local { (fields_of command.entry).has_globals ≡ false → IfOk result (λ c. (fields_of c).has_globals ≡ false) }
-{
-    command.arg(word_option(alloc, "counts", "HOW", "bounded", COUNTS))
-}
-
-/// A command that is also told how far the table may grow.
-fn with_bounds<'a>(alloc: Global, command: Command<'a>) -> Result<Command<'a>, AllocError>
-    ensures app { IfOk result (λ c. app_of c ≡ bounded (counted (limited (app_of command.entry)))) }
-    ensures local { (fields_of command.entry).has_globals ≡ false → IfOk result (λ c. (fields_of c).has_globals ≡ false) }
-{
-    let limited = with_limits(alloc, command)?;
-    let counted = with_counts(alloc, limited)?;
-    with_postings(alloc, counted)
-}
 
 fn hex_command<'a>(alloc: Global) -> Result<Command<'a>, AllocError>
     ensures app { IfOk result (λ c. app_of c ≡ hex_app) }
@@ -220,27 +61,6 @@ fn hex_command<'a>(alloc: Global) -> Result<Command<'a>, AllocError>
     with_postings(alloc, sampled)
 }
 
-/// A command that is also told whose attributes are told, and a user and a group.
-fn with_owner<'a>(alloc: Global, command: Command<'a>) -> Result<Command<'a>, AllocError>
-    ensures app { IfOk result (λ c. app_of c ≡ owned (app_of command.entry)) }
-    ensures local { (fields_of command.entry).has_globals ≡ false → IfOk result (λ c. (fields_of c).has_globals ≡ false) }
-{
-    command
-        .arg(attributes_option(alloc))?
-        .arg(owner_option(alloc, "uid", UID))?
-        .arg(owner_option(alloc, "gid", GID))
-}
-
-/// A command that is also told how many threads work on requests.
-fn with_workers<'a>(alloc: Global, command: Command<'a>) -> Result<Command<'a>, AllocError>
-    ensures app { IfOk result (λ c. app_of c ≡ staffed (app_of command.entry)) }
-    ensures local { (fields_of command.entry).has_globals ≡ false → IfOk result (λ c. (fields_of c).has_globals ≡ false) }
-{
-    command
-        .arg(number_option(alloc, "workers", 1, 4, "2", WORKERS))?
-        .arg(single_flag(alloc))
-}
-
 fn pipe_command<'a>(alloc: Global) -> Result<Command<'a>, AllocError>
     ensures app { IfOk result (λ c. app_of c ≡ pipe_app) }
     ensures local { IfOk result (λ c. (fields_of c).has_globals ≡ false) }
@@ -249,8 +69,7 @@ fn pipe_command<'a>(alloc: Global) -> Result<Command<'a>, AllocError>
         .about(PIPE)
         .after_help(PIPE_EXAMPLE)
         .arg(text_option(alloc, "root", "DIR", ROOT))?;
-    let owned = with_owner(alloc, rooted)?;
-    with_bounds(alloc, owned)
+    with_terms(alloc, "fixed", "65536", "4096", "bounded", rooted)
 }
 
 fn serve_command<'a>(alloc: Global) -> Result<Command<'a>, AllocError>
@@ -263,8 +82,19 @@ fn serve_command<'a>(alloc: Global) -> Result<Command<'a>, AllocError>
         .arg(text_option(alloc, "root", "DIR", ROOT))?
         .arg(text_option(alloc, "socket", "PATH", SOCKET))?;
     let staffed = with_workers(alloc, placed)?;
-    let owned = with_owner(alloc, staffed)?;
-    with_bounds(alloc, owned)
+    with_terms(alloc, "fixed", "65536", "4096", "bounded", staffed)
+}
+
+fn device_command<'a>(alloc: Global) -> Result<Command<'a>, AllocError>
+    ensures app { IfOk result (λ c. app_of c ≡ device_app) }
+    ensures local { IfOk result (λ c. (fields_of c).has_globals ≡ false) }
+{
+    let rooted = Command::new(alloc, "device")
+        .about(DEVICE)
+        .after_help(DEVICE_EXAMPLE)
+        .arg(text_option(alloc, "root", "DIR", ROOT))?;
+    let staffed = with_workers(alloc, rooted)?;
+    with_terms(alloc, "host", "1048576", "65536", "free", staffed)
 }
 
 /// The program without its subcommands.
@@ -280,15 +110,22 @@ fn bare_command<'a>(alloc: Global) -> Command<'a>
         .arg_required_else_help(true)
 }
 
+/// The program with those subcommands that serve a folder to a client who comes over a stream.
+fn stream_command<'a>(alloc: Global) -> Result<Command<'a>, AllocError>
+    ensures app { IfOk result (λ c. app_of c ≡ stream_app) }
+    ensures local { IfOk result (λ c. (fields_of c).has_globals ≡ false) }
+{
+    let serve = serve_command(alloc)?;
+    let pipe = pipe_command(alloc)?;
+    bare_command(alloc).subcommand(serve)?.subcommand(pipe)
+}
+
 /// The whole command line.
 pub fn command<'a>(alloc: Global) -> Result<Command<'a>, AllocError>
     ensures { IfOk result (λ c. app_of c ≡ mirrord_app) }
 {
-    let serve = serve_command(alloc)?;
-    let pipe = pipe_command(alloc)?;
+    let streams = stream_command(alloc)?;
+    let device = device_command(alloc)?;
     let hex = hex_command(alloc)?;
-    bare_command(alloc)
-        .subcommand(serve)?
-        .subcommand(pipe)?
-        .subcommand(hex)
+    streams.subcommand(device)?.subcommand(hex)
 }

@@ -38,6 +38,8 @@ pub enum Failure<'a> {
     NoFolder { root: &'a str },
     /// No client can be waited for there.
     NoSocket { path: &'a str },
+    /// Standard input is to be the kernel's FUSE device, and is no character device.
+    NoDevice,
     /// Its options cannot be.
     Refused(Refusal),
 }
@@ -48,7 +50,7 @@ impl<'a> Failure<'a> {
         ensures { result ≡ status_of self.entry }
     {
         match self {
-            Failure::Refused(_) => 2,
+            Failure::Refused(_) | Failure::NoDevice => 2,
             Failure::Stopped(Fault::FrameLength { .. }) => 3,
             Failure::Stopped(
                 Fault::Line { .. } | Fault::Link | Fault::Memory | Fault::Seed | Fault::Workers,
@@ -91,6 +93,7 @@ impl<'a> Display for Failure<'a> {
             Failure::Stopped(fault) => write!(f, "{fault}"),
             Failure::NoFolder { root } => write!(f, "{root} is not a folder"),
             Failure::NoSocket { path } => write!(f, "cannot listen on {path}"),
+            Failure::NoDevice => f.write_str("standard input is not a character device"),
             Failure::Refused(refusal) => write!(f, "{refusal}"),
         }
     }

@@ -1,12 +1,13 @@
 //! The command line: what its words ask for, why they are refused, and the line that says why a program failed.
 #![tactic(auto)]
 
+mod arguments;
 mod command;
 mod faults;
 mod options;
 mod refusals;
 
-pub use command::DEFAULT_POSTINGS;
+pub use arguments::DEFAULT_POSTINGS;
 pub use faults::{Failure, Fault, tell};
 pub use options::{Options, read_options};
 pub use refusals::Refusal;

@@ -5,7 +5,8 @@ ghost use Rattle.clap.specs.Words.{fault_of, found_of, kind_of, rows_of, subcomm
 ghost use Rattle.clap.specs.declared.error.kind.ErrorKind.TheVariants.{OutOfMemory};
 ghost use Rattle.mirrord_commands.specs.CommandLine.{mirrord_app, AreBounds, AreCounts, AreRefused, AreSettings, AreTerms, IsAsked, IsAskedBy, IsFlag, IsNumber, IsText, NumberReads, is_given};
 
-use crate::command::{DEFAULT_POSTINGS, command};
+use crate::arguments::DEFAULT_POSTINGS;
+use crate::command::command;
 use crate::refusals::Refusal;
 use clap::{ArgMatches, Error};
 use engine::Settings;
@@ -34,6 +35,17 @@ pub enum Options<'a> {
     Pipe {
         /// The folder.
         root: &'a str,
+        /// Whose attributes are told, and how far the table may grow.
+        terms: Terms,
+    },
+    /// Serve a folder over the kernel's FUSE device.
+    Device {
+        /// The folder.
+        root: &'a str,
+        /// How many threads serve, from 1 to 4.
+        workers: u8,
+        /// Whether one thread does all, whatever their number.
+        single: bool,
         /// Whose attributes are told, and how far the table may grow.
         terms: Terms,
     },
@@ -192,6 +204,21 @@ fn pipe_asked<'a>(matches: &ArgMatches<'a>) -> Options<'a>
     }
 }
 
+/// What `device` asks for.
+fn device_asked<'a>(matches: &ArgMatches<'a>) -> Options<'a>
+    ensures { IsAskedBy (codes "device") (rows_of (found_of matches.now)) result }
+{
+    match terms_in(matches) {
+        Ok(terms) => Options::Device {
+            root: text_in(matches, "root"),
+            workers: small_number_in(matches, "workers"),
+            single: flag_in(matches, "single"),
+            terms,
+        },
+        Err(refusal) => Options::Refused(refusal),
+    }
+}
+
 /// What a subcommand asks for.
 fn asked_by<'a>(name: &str, matches: &ArgMatches<'a>) -> Options<'a>
     ensures { IsAskedBy name.now (rows_of (found_of matches.now)) result }
@@ -201,6 +228,9 @@ fn asked_by<'a>(name: &str, matches: &ArgMatches<'a>) -> Options<'a>
     }
     if name == "pipe" {
         return pipe_asked(matches);
+    }
+    if name == "device" {
+        return device_asked(matches);
     }
     Options::Hex {
         sample: flag_in(matches, "sample"),

@@ -3,7 +3,7 @@
 use std::fmt;
 use std::fmt::Display;
 
-/// Why options of `serve` and `pipe` are refused.
+/// Why options of `serve`, `pipe` and `device` are refused.
 #[derive(Clone, Copy, Debug, PartialEq, Eq)]
 pub enum Refusal {
     /// `--attributes` is neither `fixed` nor `host`.

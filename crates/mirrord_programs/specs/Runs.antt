@@ -1,17 +1,23 @@
 -- Whole runs of the programs.
-use Rattle.std.specs.Prelude.{ℕ, ◌≡◌, ◌⊎◌, Bool, true, false, List, [], Option, Result}
+use Rattle.std.specs.Prelude.{ℕ, ◌≡◌, ◌⊎◌, Bool, true, false, List, [], Option, Some, None, Result}
 use Rattle.std.specs.Borrow.{Bor}
 use Rattle.clap.specs.Words.{IsAmong, Text, fault_of as refusals_of, subcommand_of, takes}
 use Rattle.clap.specs.declared.error.kind.ErrorKind.{ErrorKind}
 use Rattle.clap.specs.declared.error.kind.ErrorKind.TheVariants.{OutOfMemory}
 use Rattle.engine.specs.declared.ends.SessionEnd.{SessionEnd}
-use Rattle.mirrord_sessions.specs.Folders.{ServesSocket}
+use Rattle.engine_streams.specs.declared.device.DeviceFault.{DeviceFault}
+use Rattle.engine_streams.specs.Device.{Got}
+use Rattle.engine_streams.specs.declared.device.Device.{Device}
+use Rattle.mirrord_sessions.specs.Folders.{ServesDevice, ServesSocket}
 use Rattle.mirrord_sessions.specs.declared.folder.Unserved.{Unserved}
 use Rattle.mirrord_sessions.specs.declared.terms.Terms.{Terms}
-use Rattle.mirrord_server.specs.Workers.{ServesWorkers}
+use Rattle.mirrord_server.specs.Workers.{ServesDeviceBy, ServesWorkers}
+use Rattle.mirrord_commands.specs.declared.faults.Failure.TheVariants.{NoDevice}
+use Rattle.mirrord_commands.specs.Faults.{status_of}
 use Rattle.mirrord_commands.specs.CommandLine.{mirrord_app, IsAsked}
 use Rattle.mirrord_commands.specs.declared.options.Options.{Options}
-use Rattle.mirrord_commands.specs.declared.options.Options.TheVariants.{Serve, Pipe, Hex, Refused}
+use Rattle.mirrord_commands.specs.declared.options.Options.TheVariants as options
+use Rattle.mirrord_streams.specs.Ends.{Tells}
 use Rattle.mirrord_streams.specs.Runs.{IsEnded, IsRefusedBy, IsUnserved, RunsPipe, RunsSeeded}
 use Rattle.mirrord_programs.specs.declared.folders.Serving.{Serving}
 
@@ -27,6 +33,34 @@ pub record RunsServe (root path : Bor Text) (threads : Serving) (terms : Terms) 
   pub serves : ServesBy threads terms ended
   pub ends : IsEnded ended root path faults faults' status told
 
+-- ---- the program `device`
+
+-- what the kernel's device may tell of a read, and of a write of a reply
+pub record Kernel (R W : Type 0) : Type 1 where
+  pub gives : R → Got → R → Type 0
+  pub takes : W → List ℕ → Result ℕ DeviceFault → W → Type 0
+
+abbrev pub kernel : {R W : Type 0} → (R → Got → R → Type 0) → (W → List ℕ → Result ℕ DeviceFault → W → Type 0) → Kernel R W
+kernel gives takes = record { gives = gives; takes = takes }
+
+-- by one thread, or by threads
+abbrev pub ServesKernel : {R W : Type 0} → Kernel R W → Serving → Terms → Device R W → Result SessionEnd Unserved → Type 0
+ServesKernel by threads terms device ended =
+    (threads.single ≡ true → ServesDevice by.gives by.takes terms device.requests device.replies ended)
+    × (threads.single ≡ false → ServesDeviceBy by.gives by.takes terms threads.workers device.requests device.replies ended)
+
+-- A folder is served over the device.
+pub record IsDeviceServed {R W : Type 0} (by : Kernel R W) (root : Bor Text) (threads : Serving) (terms : Terms) (device : Device R W) (faults faults' : Option (List ℕ)) (status : ℕ) (told : Bool) : Type 0 where
+  pub ended : Result SessionEnd Unserved
+  pub serves : ServesKernel by threads terms device ended
+  pub path : Bor Text
+  pub ends : IsEnded ended root path faults faults' status told
+
+-- The same where the device is what stands on standard input; else it is refused.
+abbrev pub RunsDevice : {R W : Type 0} → Kernel R W → (root : Bor Text) → Serving → Terms → Option (Device R W) → (faults faults' : Option (List ℕ)) → (status : ℕ) → (told : Bool) → Type 0
+RunsDevice by root threads terms (Some device) faults faults' status told = IsDeviceServed by root threads terms device faults faults' status told
+RunsDevice by root threads terms None faults faults' status told = (status ≡ status_of NoDevice) × Tells (Some NoDevice) told faults faults'
+
 -- ---- from the command line
 
 -- why clap refuses a command line: one of the kinds that it has for those words, or want of memory. Words that it takes are
@@ -36,16 +70,18 @@ pub record IsRefused (words : List Text) (kind : ErrorKind) : Type 0 where
   pub memory : takes mirrord_app words ≡ true → kind ≡ OutOfMemory
 
 -- the program that was asked for
-abbrev pub RunsAsked : Options → (input output output' faults faults' : Option (List ℕ)) → (status : ℕ) → (told : Bool) → Type 0
-RunsAsked (Serve root socket workers single terms) input output output' faults faults' status told =
+abbrev pub RunsAsked : {R W : Type 0} → Kernel R W → Options → Option (Device R W) → (input output output' faults faults' : Option (List ℕ)) → (status : ℕ) → (told : Bool) → Type 0
+RunsAsked by (options.Serve root socket workers single terms) device input output output' faults faults' status told =
     RunsServe root socket (record { workers = workers; single = single }) terms faults faults' status told × (output' ≡ output)
-RunsAsked (Pipe root terms) input output output' faults faults' status told = RunsPipe root terms input output output' faults faults' status told
-RunsAsked (Refused refusal) input output output' faults faults' status told = IsRefusedBy refusal output output' faults faults' status told
-RunsAsked (Hex sampled postings) input output output' faults faults' status told = RunsSeeded sampled postings input output output' faults faults' status told
+RunsAsked by (options.Device root workers single terms) device input output output' faults faults' status told =
+    RunsDevice by root (record { workers = workers; single = single }) terms device faults faults' status told × (output' ≡ output)
+RunsAsked by (options.Pipe root terms) device input output output' faults faults' status told = RunsPipe root terms input output output' faults faults' status told
+RunsAsked by (options.Refused refusal) device input output output' faults faults' status told = IsRefusedBy refusal output output' faults faults' status told
+RunsAsked by (options.Hex sampled postings) device input output output' faults faults' status told = RunsSeeded sampled postings input output output' faults faults' status told
 
 -- The program does what the words ask for where clap has nothing against them. Else, or where memory is refused, it ends as a
 -- refusal does.
-abbrev pub RunsWords : List Text → (input output output' faults faults' : Option (List ℕ)) → (status : ℕ) → (told : Bool) → Type 0
-RunsWords words input output output' faults faults' status told =
-    ((refusals_of mirrord_app words ≡ []) × ((options : Options) × IsAsked (subcommand_of mirrord_app words) options × RunsAsked options input output output' faults faults' status told))
+abbrev pub RunsWords : {R W : Type 0} → Kernel R W → List Text → Option (Device R W) → (input output output' faults faults' : Option (List ℕ)) → (status : ℕ) → (told : Bool) → Type 0
+RunsWords by words device input output output' faults faults' status told =
+    ((refusals_of mirrord_app words ≡ []) × ((options : Options) × IsAsked (subcommand_of mirrord_app words) options × RunsAsked by options device input output output' faults faults' status told))
     ⊎ ((kind : ErrorKind) × IsRefused words kind × IsUnserved kind output output' faults faults' status told)

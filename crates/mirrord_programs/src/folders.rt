@@ -1,10 +1,12 @@
-//! The program `serve`, but for its command line.
+//! The programs `serve` and `device`, but for their command lines.
 
 ghost use Rattle.std.specs.Prelude.{◌≡◌};
-ghost use Rattle.mirrord_programs.specs.Runs.{RunsServe};
+ghost use Rattle.mirrord_programs.specs.Runs.{RunsDevice, RunsServe, kernel};
 
-use crate::standing::enter;
-use mirrord_server::{Terms, serve_socket, serve_socket_by};
+use crate::standing::{enter, enter_beside};
+use engine_streams::{Device, ReadRequest, WriteReply};
+use mirrord_commands::{Failure, tell};
+use mirrord_server::{Terms, serve_device, serve_device_by, serve_socket, serve_socket_by};
 use mirrord_streams::{Ended, failure_after, status_after, tell_any};
 use std::fs::File;
 use std::io::Write;
@@ -24,7 +26,15 @@ pub struct Serving {
     pub single: bool,
 }
 
-/// Serves the folder `root` to the first client that comes to a new socket at `path`: the program `serve` but for its command
+/// A folder, and how it is served.
+#[derive(Clone, Copy, Debug, PartialEq, Eq)]
+pub struct FolderServed<'a> {
+    pub root: &'a str,
+    pub threads: Serving,
+    pub terms: Terms,
+}
+
+/// Serves a folder to the first client that comes to a new socket at `path`: the program `serve` but for its command
 /// line. It reads nothing from the input and writes nothing to the output, which is handed back. The folder becomes the current one of
 /// the process, and stays it.
 pub fn serve_run<
@@ -45,17 +55,20 @@ pub fn serve_run<
 >(
     rt: &H,
     host: &HostRuntime,
-    root: &str,
+    served: FolderServed<'_>,
     path: &str,
-    threads: Serving,
-    terms: Terms,
     output: O,
     faults: &mut F,
 ) -> Ended<O>
-    ensures runs { RunsServe root.entry path.entry threads terms (F.contents faults.old) (F.contents faults.new) result.status result.told }
+    ensures runs { RunsServe served.entry.root path.entry served.entry.threads served.entry.terms (F.contents faults.old) (F.contents faults.new) result.status result.told }
     ensures output { result.output ≡ output }
 {
-    let entered = enter(host, root, path);
+    let FolderServed {
+        root,
+        threads,
+        terms,
+    } = served;
+    let entered = enter_beside(host, root, path);
     let (folder, socket) = match &entered {
         Some(socket) => (".", socket.as_str()),
         None => (root, path),
@@ -66,6 +79,66 @@ pub fn serve_run<
         serve_socket_by(rt, host, folder, socket, threads.workers, terms)
     };
     let failure = failure_after(ended, root, path);
+    Ended {
+        status: status_after(failure),
+        told: tell_any(faults, failure),
+        output,
+    }
+}
+
+/// The name of where the kernel's device stands.
+const STANDARD_INPUT: &str = "standard input";
+
+/// Serves a folder to the kernel over its device, which stands on standard input, until nothing is mounted there any more: the program
+/// `device` but for its command line. It writes nothing to the output, which is handed back. The folder becomes the current one of the
+/// process, and stays it.
+pub fn device_run<
+    H: Threads
+        + Wait
+        + RandomSource
+        + Files<File = File>
+        + Clock
+        + AllocGlobal
+        + Clone
+        + Send
+        + Sync
+        + Drop
+        + 'static,
+    R: ReadRequest + Send + Drop + 'static,
+    W: WriteReply + Send + Drop + 'static,
+    O: Write + Drop,
+    F: Write,
+>(
+    rt: &H,
+    host: &HostRuntime,
+    served: FolderServed<'_>,
+    device: Option<Device<R, W>>,
+    output: O,
+    faults: &mut F,
+) -> Ended<O>
+    ensures runs { RunsDevice (kernel R.gives W.takes) served.entry.root served.entry.threads served.entry.terms device (F.contents faults.old) (F.contents faults.new) result.status result.told }
+    ensures output { result.output ≡ output }
+{
+    let FolderServed {
+        root,
+        threads,
+        terms,
+    } = served;
+    let Some(device) = device else {
+        let failure = Failure::NoDevice;
+        return Ended {
+            status: failure.status(),
+            told: tell(faults, failure),
+            output,
+        };
+    };
+    let folder = enter(host, root);
+    let ended = if threads.single {
+        serve_device(rt, folder, terms, device)
+    } else {
+        serve_device_by(rt, host, folder, threads.workers, terms, device)
+    };
+    let failure = failure_after(ended, root, STANDARD_INPUT);
     Ended {
         status: status_after(failure),
         told: tell_any(faults, failure),

@@ -3,11 +3,14 @@
 
 mod folders;
 mod runs;
+mod standard;
 mod standing;
 
-pub use folders::{Serving, serve_run};
+pub use engine_streams::{Device, DeviceReplies, DeviceRequests};
+pub use folders::{FolderServed, Serving, device_run, serve_run};
 pub use mirrord_commands::{
     DEFAULT_POSTINGS, Failure, Fault, Options, Refusal, read_options, tell,
 };
 pub use mirrord_streams::{Ended, HexLink, hex_run, new_tree, pipe_run};
 pub use runs::run;
+pub use standard::Standard;

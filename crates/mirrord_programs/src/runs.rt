@@ -1,9 +1,11 @@
 //! Whole runs of the programs, but for the system around them.
 
 ghost use Rattle.std.specs.Prelude.{map};
-ghost use Rattle.mirrord_programs.specs.Runs.{RunsAsked, RunsWords};
+ghost use Rattle.mirrord_programs.specs.Runs.{RunsAsked, RunsWords, kernel};
 
-use crate::folders::{Serving, serve_run};
+use crate::folders::{FolderServed, Serving, device_run, serve_run};
+use crate::standard::Standard;
+use engine_streams::{ReadRequest, WriteReply};
 use mirrord_commands::{Options, read_options};
 use mirrord_streams::{Ended, explain, pipe_run, refuse, run_hex};
 use std::convert::AsStr;
@@ -32,10 +34,23 @@ fn run_asked<
         + 'static,
     I: BufRead + Drop,
     O: Write + Drop,
+    R: ReadRequest + Send + Drop + 'static,
+    W: WriteReply + Send + Drop + 'static,
     F: Write,
->(rt: &H, host: &HostRuntime, options: Options<'_>, input: I, output: O, faults: &mut F) -> Ended<O>
-    ensures { RunsAsked options.entry (I.remaining input) (O.contents output) (O.contents result.output) (F.contents faults.old) (F.contents faults.new) result.status result.told }
+>(
+    rt: &H,
+    host: &HostRuntime,
+    options: Options<'_>,
+    standard: Standard<I, O, R, W>,
+    faults: &mut F,
+) -> Ended<O>
+    ensures { RunsAsked (kernel R.gives W.takes) options.entry standard.device (I.remaining standard.input) (O.contents standard.output) (O.contents result.output) (F.contents faults.old) (F.contents faults.new) result.status result.told }
 {
+    let Standard {
+        input,
+        output,
+        device,
+    } = standard;
     match options {
         Options::Serve {
             root,
@@ -45,7 +60,26 @@ fn run_asked<
             terms,
         } => {
             let threads = Serving { workers, single };
-            serve_run(rt, host, root, socket, threads, terms, output, faults)
+            let served = FolderServed {
+                root,
+                threads,
+                terms,
+            };
+            serve_run(rt, host, served, socket, output, faults)
+        }
+        Options::Device {
+            root,
+            workers,
+            single,
+            terms,
+        } => {
+            let threads = Serving { workers, single };
+            let served = FolderServed {
+                root,
+                threads,
+                terms,
+            };
+            device_run(rt, host, served, device, output, faults)
         }
         Options::Pipe { root, terms } => pipe_run(rt, root, terms, input, output, faults),
         Options::Hex { sample, postings } => run_hex(rt, sample, postings, input, output, faults),
@@ -71,12 +105,20 @@ pub fn run<
     S: AsStr,
     I: BufRead + Drop,
     O: Write + Drop,
+    R: ReadRequest + Send + Drop + 'static,
+    W: WriteReply + Send + Drop + 'static,
     F: Write,
->(rt: &H, host: &HostRuntime, words: &[S], input: I, output: O, faults: &mut F) -> Ended<O>
-    ensures { RunsWords (map S.text words.entry.now) (I.remaining input) (O.contents output) (O.contents result.output) (F.contents faults.old) (F.contents faults.new) result.status result.told }
+>(
+    rt: &H,
+    host: &HostRuntime,
+    words: &[S],
+    standard: Standard<I, O, R, W>,
+    faults: &mut F,
+) -> Ended<O>
+    ensures { RunsWords (kernel R.gives W.takes) (map S.text words.entry.now) standard.device (I.remaining standard.input) (O.contents standard.output) (O.contents result.output) (F.contents faults.old) (F.contents faults.new) result.status result.told }
 {
     match read_options(rt.alloc(), words) {
-        Ok(options) => run_asked(rt, host, options, input, output, faults),
-        Err(error) => explain(&error, output, faults),
+        Ok(options) => run_asked(rt, host, options, standard, faults),
+        Err(error) => explain(&error, standard.output, faults),
     }
 }

@@ -4,11 +4,17 @@ use Rattle.std.specs.List.{range_with_len}
 use Rattle.crossbeam_channel.specs.Claims.{view}
 use Rattle.backing_folder.specs.Explained.{Tells}
 use Rattle.table_recorded.specs.Histories.{Made}
+use Rattle.engine.specs.Links.{Heard}
 use Rattle.engine.specs.declared.ends.SessionEnd.{SessionEnd}
 use Rattle.engine.specs.declared.ends.SessionEnd.TheVariants as end
+use Rattle.engine.specs.declared.links.Sent.{Sent}
 use Rattle.engine_reader.specs.Shown.{queued_of, shown}
 use Rattle.engine_roles.specs.Reads.{HasReadAll}
+use Rattle.engine_streams.specs.Device as device
+use Rattle.engine_streams.specs.declared.device.DeviceFault.{DeviceFault}
+use Rattle.engine_streams.specs.Device.{Got, OnDevice}
 use Rattle.engine_streams.specs.Streams.{Streaming, Receives, Sends}
+use Rattle.engine_streams.specs.declared.device.NoDevice.{NoDevice}
 use Rattle.engine_threads.specs.Ended.{EndsAs, IsShared}
 use Rattle.engine_threads.specs.Served.{HasServed}
 use Rattle.engine_queues.specs.Gathered.{numbers_of}
@@ -17,19 +23,36 @@ use Rattle.mirrord_sessions.specs.Sessions.{limits_of}
 use Rattle.mirrord_sessions.specs.declared.folder.Unserved.{Unserved}
 use Rattle.mirrord_sessions.specs.declared.terms.Terms.{Terms}
 
--- So many folders, of which no call was made, are served by a thread each: what one link hears are the jobs, another link is offered the
--- replies, and one history has all calls on the table. The links are some streams.
-pub record AreServed (terms : Terms) (workers : ℕ) (over : SessionEnd) : Type 0 where
-  pub input : Streaming
-  pub output : Streaming
+-- what a link may bring, and what may become of bytes that are sent over another
+pub record BothEnds (I O : Type 0) : Type 1 where
+  pub receives : I → Heard → I → Type 0
+  pub sends : O → List ℕ → Sent → O → Type 0
+
+abbrev pub both_ends : {I O : Type 0} → (I → Heard → I → Type 0) → (O → List ℕ → Sent → O → Type 0) → BothEnds I O
+both_ends receives sends = record { receives = receives; sends = sends }
+
+-- So many folders, of which no call was made, are served by a thread each: what one link hears are the jobs, the other link is offered the
+-- replies, and one history has all calls on the table.
+pub record AreServed {I O : Type 0} (by : BothEnds I O) (terms : Terms) (workers : ℕ) (input : I) (output : O) (over : SessionEnd) : Type 0 where
   pub account : Account
   pub numbers : numbers_of account.passed.passes.value.items ≡ range_with_len 0 (workers + 1)
-  pub reads : ∥ HasReadAll Receives (Some input) account.passed.input (queued_of (view account.passed.read.value).put) (option_map shown account.passed.farewell.value) account.passed.is_job_handed_back ∥₁
+  pub reads : ∥ HasReadAll by.receives (Some input) account.passed.input (queued_of (view account.passed.read.value).put) (option_map shown account.passed.farewell.value) account.passed.is_job_handed_back ∥₁
   pub shared : IsShared (view account.passed.read.value) account.passed.passes.value.items (view account.passed.written.value)
-  pub served : ∥ ((history : List Made) × HasServed Tells Sends (limits_of terms.bounds) terms.settings (replicate workers 0) output account.passed account.sums.totals history) ∥₁
+  pub served : ∥ ((history : List Made) × HasServed Tells by.sends (limits_of terms.bounds) terms.settings (replicate workers 0) output account.passed account.sums.totals history) ∥₁
   pub ends : EndsAs account.passed.input account.passed.is_broken over
 
 -- the same, unless there is no memory or no thread, or their number is not from 1 to 4
+abbrev pub ServesLinks : {I O : Type 0} → BothEnds I O → Terms → (workers : ℕ) → I → O → SessionEnd → Type 0
+ServesLinks by terms workers input output over =
+    AreServed by terms workers input output over ⊎ ((over ≡ end.Memory) ⊎ ((over ≡ end.NoWorkers) × ((workers ≡ 0) ⊎ (4 < workers))))
+
+-- over some streams
 abbrev pub ServesWorkers : Terms → (workers : ℕ) → Result SessionEnd Unserved → Type 0
-ServesWorkers terms workers (Ok over) = AreServed terms workers over ⊎ ((over ≡ end.Memory) ⊎ ((over ≡ end.NoWorkers) × ((workers ≡ 0) ⊎ (4 < workers))))
+ServesWorkers terms workers (Ok over) = (input output : Streaming) × ServesLinks (both_ends Receives Sends) terms workers input output over
 ServesWorkers terms workers (Err why) = Unit {0}
+
+-- Over the kernel's device, of which nothing was read before: one link has the requests, and another the replies.
+abbrev pub ServesDeviceBy : {R W : Type 0} → (R → Got → R → Type 0) → (W → List ℕ → Result ℕ DeviceFault → W → Type 0) → Terms → (workers : ℕ) → R → W → Result SessionEnd Unserved → Type 0
+ServesDeviceBy gives takes terms workers requests replies (Ok over) =
+    (none : NoDevice) × ServesLinks (both_ends (device.Receives gives) (device.Sends takes)) terms workers (device.unused requests none) (device.unused none replies) over
+ServesDeviceBy gives takes terms workers requests replies (Err why) = Unit {0}

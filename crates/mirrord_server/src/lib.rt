@@ -1,10 +1,13 @@
-//! A folder of the system that several threads serve over a Unix socket.
+//! A folder of the system that several threads serve, over a Unix socket or the kernel's FUSE device.
 #![tactic(auto)]
 
+mod device;
 mod socket;
 mod workers;
 
+pub use device::serve_device_by;
 pub use mirrord_sessions::{
-    Bounds, RECEIVED, Served, Terms, Unserved, serve_alone, serve_folder, serve_known, serve_socket,
+    Bounds, RECEIVED, Served, Terms, Unserved, serve_alone, serve_device, serve_folder,
+    serve_known, serve_socket,
 };
 pub use socket::serve_socket_by;

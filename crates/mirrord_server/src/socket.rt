@@ -5,8 +5,10 @@ ghost use Rattle.mirrord_server.specs.Workers.{ServesWorkers};
 
 use crate::workers::{HostFolder, open_folders, serve_workers};
 use engine::SessionEnd;
+use engine_streams::StreamLink;
 use mirrord_sessions::{Place, RECEIVED, Terms, Unserved, new_seeds};
 use std::fs::File;
+use std::io;
 use std::io::BufReader;
 use std::net::Net;
 use std::os::unix::net::UnixStream;
@@ -43,7 +45,9 @@ fn serve_first<H: Threads + Wait + AllocGlobal + Clone + Send + Sync + Drop + 's
     ensures { ServesWorkers terms (vec_len folders) result }
 {
     let (input, output) = meet(rt, place)?;
-    Ok(serve_workers(rt, folders, seeds, terms, input, output))
+    let link_in = StreamLink::new(rt.alloc(), input, io::sink());
+    let link_out = StreamLink::new(rt.alloc(), io::empty(), output);
+    Ok(serve_workers(rt, folders, seeds, terms, link_in, link_out))
 }
 
 /// Serves the first client that connects to a new socket at `path`, whose file is removed then.
@@ -74,8 +78,8 @@ fn serve_at<
     ended
 }
 
-/// Serves the folder at `root` as `serve_socket` does, but by threads: one reads, so many work on requests, from 1 to 4, each with a
-/// folder of its own on the same root, and one writes the replies. The folders are of the `host`, which is the same system.
+/// Serves the folder at `root` as `serve_socket` does, but by so many threads, from 1 to 4, each of which reads, works on requests or writes
+/// replies, whatever is due, and has a folder of its own on the same root. The folders are of the `host`, which is the same system.
 pub fn serve_socket_by<
     H: Threads
         + Wait

@@ -1,17 +1,13 @@
 //! A folder of the system, served by threads.
 
-ghost use Rattle.std.specs.Prelude.{◌≡◌, IfOk, Ok, replicate, vec_len};
-ghost use Rattle.mirrord_server.specs.Workers.{ServesWorkers};
+ghost use Rattle.std.specs.Prelude.{◌≡◌, IfOk, replicate, vec_len};
+ghost use Rattle.mirrord_server.specs.Workers.{ServesLinks, both_ends};
 
 use backing_folder::{Folder, System};
-use engine::SessionEnd;
-use engine_streams::StreamLink;
+use engine::{LinkIn, LinkOut, SessionEnd};
 use engine_threads::serve_threads;
 use mirrord_sessions::{Terms, Unserved, open_folder};
 use std::fs::ReadDir;
-use std::io;
-use std::io::BufReader;
-use std::os::unix::net::UnixStream;
 use std::sync::Wait;
 use std::thread::Threads;
 use table::Seeds;
@@ -38,21 +34,23 @@ pub(crate) fn open_folders(
     Ok(folders)
 }
 
-/// Serves by as many workers as there are folders a client who is heard from `input` and gets the replies by `output`.
-pub(crate) fn serve_workers<H: Threads + Wait + AllocGlobal + Clone + Send + Sync + Drop + 'static>(
+/// Serves by as many workers as there are folders a client who is heard from one link and gets the replies by another.
+pub(crate) fn serve_workers<
+    H: Threads + Wait + AllocGlobal + Clone + Send + Sync + Drop + 'static,
+    I: LinkIn + Send + Drop + 'static,
+    O: LinkOut + Send + Drop + 'static,
+>(
     rt: &H,
     folders: Vec<HostFolder>,
     seeds: Seeds,
     terms: Terms,
-    input: BufReader<UnixStream>,
-    output: UnixStream,
+    link_in: I,
+    link_out: O,
 ) -> SessionEnd
     requires { folders.items ≡ replicate (vec_len folders) 0 }
-    ensures { ServesWorkers terms (vec_len folders) (Ok result) }
+    ensures { ServesLinks (both_ends I.receives O.sends) terms (vec_len folders) link_in link_out result }
 {
     let _names: Option<ReadDir> = None; // proof: a type that a folder's calls name
-    let link_in = StreamLink::new(rt.alloc(), input, io::sink());
-    let link_out = StreamLink::new(rt.alloc(), io::empty(), output);
     let ended = serve_threads(
         rt,
         rt.alloc(),

@@ -6,9 +6,12 @@ use Rattle.engine.specs.declared.ends.SessionEnd.{SessionEnd}
 use Rattle.engine.specs.declared.ends.SessionEnd.TheVariants as end
 use Rattle.mirrord_sessions.specs.declared.terms.Terms.{Terms}
 use Rattle.backing_folder.specs.Explained.{Tells}
+use Rattle.engine_streams.specs.Device as device
+use Rattle.engine_streams.specs.declared.device.DeviceFault.{DeviceFault}
+use Rattle.engine_streams.specs.Device.{Got, OnDevice}
 use Rattle.engine_streams.specs.Passing.{broken_in, taken_in}
 use Rattle.engine_streams.specs.Streams.{Streaming, Receives, Sends, unused}
-use Rattle.mirrord_sessions.specs.Sessions.{IsServed}
+use Rattle.mirrord_sessions.specs.Sessions.{IsServed, ServesLink}
 use Rattle.mirrord_sessions.specs.declared.folder.Unserved.{Unserved}
 use Rattle.mirrord_sessions.specs.declared.folder.Unserved.TheVariants.{NoSocket}
 
@@ -39,3 +42,9 @@ ServesFolder terms input output (Err why) output' = (why ≢ NoSocket) × (outpu
 abbrev pub ServesSocket : Terms → Result SessionEnd Unserved → Type 0
 ServesSocket terms (Ok over) = (input output output' : Option (List ℕ)) × IsFolderServed terms input output over output'
 ServesSocket terms (Err why) = Unit {0}
+
+-- A folder that no call was made of is served over the kernel's device, of which nothing was read before. Else nothing is read or written.
+abbrev pub ServesDevice : {R W : Type 0} → (R → Got → R → Type 0) → (W → List ℕ → Result ℕ DeviceFault → W → Type 0) → Terms → R → W → Result SessionEnd Unserved → Type 0
+ServesDevice {R = R} {W = W} gives takes terms requests replies (Ok over) =
+    (last : OnDevice R W) × ServesLink terms (traffic (device.Receives gives) (device.Sends takes)) Tells 0 (device.unused requests replies) over last
+ServesDevice gives takes terms requests replies (Err why) = why ≢ NoSocket

@@ -1,5 +1,5 @@
 -- A session with a table of its own.
-use Rattle.std.specs.Prelude.{max, ◌≡◌, ◌⊎◌, List, ℕ, ◌*◌}
+use Rattle.std.specs.Prelude.{max, ◌≡◌, ◌⊎◌, ℕ, ◌*◌}
 use Rattle.std.specs.Borrow.{Bor}
 use Rattle.backing.specs.Calls.{Asked}
 use Rattle.backing.specs.declared.call.Answer.{Answer}

@@ -12,7 +12,7 @@ ghost use Rattle.table_recorded.specs.Runs.{Makes};
 
 use ledger::{Ledgers, Share};
 use std::alloc::{AllocError, Global};
-use std::sync::{Condvar, Mutex, Wait};
+use std::sync::{Condvar, Mutex, MutexGuard, Wait};
 use table::{Answered, Begin, Outcome, Settled, Table, Ticket};
 use table_files::OpenFile;
 use table_histories::{Front, History, Opened};
@@ -26,6 +26,9 @@ pub struct Hall<T: Ledgers, O: Opening> {
     table: Mutex<Recorded<T, O>>,
     finished: Condvar,
 }
+
+/// How often the table is asked for before it is waited for.
+const ASKED: u32 = 128;
 
 /// The table and its whole history, once all who shared them have ended.
 #[derive(Drop)]
@@ -101,6 +104,17 @@ impl<T: Ledgers, O: Opening> Hall<T, O> {
         }
     }
 
+    /// The table, once nobody else has it. Who has it gives it back within a microsecond or two, and to sleep and to be woken takes longer, so
+    /// it is asked for a while before it is waited for.
+    fn enter<H: Wait>(&self, rt: &H) -> MutexGuard<'_, Recorded<T, O>> {
+        for _ in 0..ASKED {
+            if let Some(table) = self.table.try_lock() {
+                return table;
+            }
+        }
+        self.table.lock(rt)
+    }
+
     /// Ends the period of the ledger where that is due, and takes up a request. Where another one is in its way this waits until some
     /// request has finished, and then answers Busy.
     pub fn begin<H: Wait>(
@@ -112,7 +126,7 @@ impl<T: Ledgers, O: Opening> Hall<T, O> {
     ) -> Begin
         ensures { Makes (opened_world O.limits) (Call.began unique want result) me.old me.new }
     {
-        let mut table = self.table.lock(rt);
+        let mut table = self.enter(rt);
         let begin = table.begin(&self.history, me, unique, want);
         if is_busy(&begin) {
             // No finish falls between: it takes the lock.
@@ -135,7 +149,7 @@ impl<T: Ledgers, O: Opening> Hall<T, O> {
         ensures entries { share.new.totals.entries ≡ share.old.totals.entries + entries_in result.given }
         ensures index { share.new.index ≡ share.old.index }
     {
-        let mut table = self.table.lock(rt);
+        let mut table = self.enter(rt);
         let answered = table.finish(&self.history, me, share, ticket, outcome);
         drop(table);
         self.finished.notify_all();
@@ -156,7 +170,7 @@ impl<T: Ledgers, O: Opening> Hall<T, O> {
         ensures entries { share.new.totals.entries ≡ share.old.totals.entries }
         ensures index { share.new.index ≡ share.old.index }
     {
-        let mut table = self.table.lock(rt);
+        let mut table = self.enter(rt);
         table.settle(&self.history, me, share, answered, taken)
     }
 
@@ -173,7 +187,7 @@ impl<T: Ledgers, O: Opening> Hall<T, O> {
         ensures entries { share.new.totals.entries ≡ share.old.totals.entries }
         ensures index { share.new.index ≡ share.old.index }
     {
-        let mut table = self.table.lock(rt);
+        let mut table = self.enter(rt);
         table.forget(&self.history, me, share, number, n)
     }
 
@@ -186,7 +200,7 @@ impl<T: Ledgers, O: Opening> Hall<T, O> {
     ) -> Option<OpenFile>
         ensures { Makes (opened_world O.limits) (Call.looked fh result) me.old me.new }
     {
-        let mut table = self.table.lock(rt);
+        let mut table = self.enter(rt);
         table.find(&self.history, me, fh)
     }
 }

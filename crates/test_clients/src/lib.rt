@@ -1,8 +1,10 @@
-//! What the scripted clients of the tests share: handles of open folders, which a client reads from the replies to its requests.
+//! What the scripted clients of the tests share: handles of open folders, which a client reads from the replies to its requests, and a device.
 #![tactic(auto)]
 
+mod devices;
 mod plain_folders;
 
+pub use devices::{Log, ScriptedReplies, ScriptedRequests, Written};
 pub use plain_folders::PlainFolders;
 use std::alloc::{AllocError, Global};
 

@@ -1,8 +1,10 @@
-//! Replies that are offered together over a stream: what becomes of each, and how they are written.
+//! Links over streams and over a device: what comes, what becomes of each reply, and how replies are written.
 #![tactic(auto)]
 
 #[cfg(test)]
 mod batches;
+#[cfg(test)]
+mod devices;
 #[cfg(test)]
 mod held_back;
 #[cfg(test)]

@@ -1,8 +1,10 @@
-//! Tests of the programs that serve a folder: over standard input and output, and over a socket with a client of its own.
+//! Tests of the programs that serve a folder: over standard input and output, over a socket with a client of its own, and over a device.
 #![tactic(auto)]
 
 #[cfg(test)]
 mod bad_ends;
+#[cfg(test)]
+mod devices;
 #[cfg(test)]
 mod frames;
 #[cfg(test)]

@@ -9,7 +9,7 @@ use crate::frames::{
 };
 use crate::host::Host;
 use crate::places::{Shown, expect, new_folder, place_of, shown_at};
-use mirrord_programs::run;
+use mirrord_programs::{Standard, run};
 use std::io::{Read, Write};
 use std::os::unix::net::UnixStream;
 use std::test::Fail;
@@ -119,14 +119,8 @@ fn be_server(
         "100",
     ];
     let mut faults = Vec::new(rt.alloc());
-    let ended = run(
-        rt,
-        host,
-        &words,
-        b"".as_slice(),
-        Vec::new(rt.alloc()),
-        &mut faults,
-    );
+    let standard = Standard::of_streams(b"".as_slice(), Vec::new(rt.alloc()));
+    let ended = run(rt, host, &words, standard, &mut faults);
     let is_told = faults.as_slice() == fault.as_bytes();
     (ended.status, is_told && ended.output.is_empty())
 }

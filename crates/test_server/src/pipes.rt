@@ -6,7 +6,7 @@ use crate::frames::{
 };
 use crate::host::Host;
 use crate::places::{Shown, expect, new_folder};
-use mirrord_programs::run;
+use mirrord_programs::{Standard, run};
 use std::io::Write;
 use std::test::Fail;
 
@@ -44,7 +44,8 @@ pub fn run_words<H: Host, O: Write + Drop>(
 ) -> Result<Outcome<O>, Fail> {
     let input = bytes_of(rt.alloc(), asks)?;
     let mut faults = Vec::new(rt.alloc());
-    let ended = run(rt, host, words, input.as_slice(), output, &mut faults);
+    let standard = Standard::of_streams(input.as_slice(), output);
+    let ended = run(rt, host, words, standard, &mut faults);
     Ok(Outcome {
         status: ended.status,
         output: ended.output,

@@ -1,6 +1,6 @@
 //! The frames that the tests send and the replies that they wait for, in hexadecimal digits. Spaces are for reading.
 
-use mirrord_programs::{DEFAULT_POSTINGS, hex_run, run};
+use mirrord_programs::{DEFAULT_POSTINGS, Standard, hex_run, run};
 use std::alloc::{AllocError, Global};
 use std::fs::File;
 use std::io;
@@ -174,14 +174,8 @@ pub fn run_words<
     let alloc = rt.alloc();
     let input = lines_of(alloc, lines)?;
     let mut faults = Vec::new(alloc);
-    let ended = run(
-        rt,
-        host,
-        words,
-        input.as_slice(),
-        Vec::new(alloc),
-        &mut faults,
-    );
+    let standard = Standard::of_streams(input.as_slice(), Vec::new(alloc));
+    let ended = run(rt, host, words, standard, &mut faults);
     Ok(Run {
         status: ended.status,
         output: ended.output,

@@ -1,0 +1,39 @@
+//! A folder of the system, served over the kernel's FUSE device by threads.
+
+ghost use Rattle.mirrord_server.specs.Workers.{ServesDeviceBy};
+
+use crate::workers::{open_folders, serve_workers};
+use engine::SessionEnd;
+use engine_streams::{Device, DeviceLink, NoDevice, ReadRequest, WriteReply};
+use mirrord_sessions::{Terms, Unserved, new_seeds};
+use std::random::RandomSource;
+use std::sync::Wait;
+use std::thread::Threads;
+
+/// Serves the folder at `root` as `serve_device` does, but by so many threads, from 1 to 4, each of which reads, works on requests or writes
+/// replies, whatever is due, and has a folder of its own on the same root. The folders are of the `host`, which is the same system.
+pub fn serve_device_by<
+    H: Threads + Wait + RandomSource + AllocGlobal + Clone + Send + Sync + Drop + 'static,
+    R: ReadRequest + Send + Drop + 'static,
+    W: WriteReply + Send + Drop + 'static,
+>(
+    rt: &H,
+    host: &HostRuntime,
+    root: &str,
+    workers: u8,
+    terms: Terms,
+    device: Device<R, W>,
+) -> Result<SessionEnd, Unserved>
+    ensures { ServesDeviceBy R.gives W.takes terms workers device.requests device.replies result }
+{
+    let folders = open_folders(host, root, workers)?;
+    let seeds = new_seeds(rt)?;
+    let Device { requests, replies } = device;
+    let Ok(link_in) = DeviceLink::new(rt.alloc(), requests, NoDevice) else {
+        return Err(Unserved::Memory);
+    };
+    let Ok(link_out) = DeviceLink::new(rt.alloc(), NoDevice, replies) else {
+        return Err(Unserved::Memory);
+    };
+    Ok(serve_workers(rt, folders, seeds, terms, link_in, link_out))
+}

@@ -1,0 +1,31 @@
+//! A folder of the system, served over the kernel's FUSE device by one thread.
+
+ghost use Rattle.mirrord_sessions.specs.Folders.{ServesDevice};
+
+use crate::folder::{Unserved, open_seeded};
+use crate::hosting::serve_alone;
+use crate::terms::Terms;
+use engine::SessionEnd;
+use engine_streams::{Device, DeviceLink, ReadRequest, WriteReply};
+use std::fs::File;
+use std::random::RandomSource;
+use std::rt::Files;
+use std::sync::Wait;
+use std::time::Clock;
+
+/// Serves the folder at `root` to the kernel whose requests and replies go over `device`, until nothing is mounted there any more.
+pub fn serve_device<
+    H: Wait + RandomSource + Files<File = File> + Clock + AllocGlobal + Clone + Drop,
+    R: ReadRequest + Drop,
+    W: WriteReply + Drop,
+>(rt: &H, root: &str, terms: Terms, device: Device<R, W>) -> Result<SessionEnd, Unserved>
+    ensures { ServesDevice R.gives W.takes terms device.requests device.replies result }
+{
+    let (folder, seeds) = open_seeded(rt, root)?;
+    let Device { requests, replies } = device;
+    let Ok(mut link) = DeviceLink::new(rt.alloc(), requests, replies) else {
+        return Err(Unserved::Memory);
+    };
+    let end = serve_alone(rt, rt.alloc(), seeds, folder, &mut link, terms);
+    Ok(end)
+}

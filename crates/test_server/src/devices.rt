@@ -1,0 +1,290 @@
+//! The program `device`, over a device that tells what a row says, from its words to its exit status.
+
+use crate::frames::{AGREED, ENTRY_A, INIT, LOOKUP_A, bytes_of};
+use crate::host::Host;
+use crate::places::{Shown, expect, new_folder};
+use mirrord_programs::{Device, Standard, run};
+use std::alloc::Global;
+use std::io;
+use std::sync::{Arc, Mutex};
+use std::test::Fail;
+use test_clients::Written::{Errno, Part, Whole};
+use test_clients::{Log, ScriptedReplies, ScriptedRequests, Written};
+
+/// CREATE of `n` in the root, unique 5.
+const CREATE_N: &str =
+    "3a000000 23000000 0500000000000000 0100000000000000 00000000 00000000 00000000 00000000 \
+    02000000 a4810000 00000000 00000000 6e00";
+
+/// LOOKUP `n` in the root, unique 7.
+const LOOKUP_N: &str =
+    "2a000000 01000000 0700000000000000 0100000000000000 00000000 00000000 00000000 00000000 6e00";
+
+/// The entry of `n`, which is empty: node 2, born for the second time, of user 1000 and group 100.
+const ENTRY_OF_N_REBORN: &str = "90000000 00000000 0700000000000000 \
+    0200000000000000 0100000000000000 0100000000000000 0100000000000000 00000000 00000000 \
+    0200000000000000 0000000000000000 0000000000000000 \
+    0000000000000000 0000000000000000 0000000000000000 00000000 00000000 00000000 \
+    a4810000 01000000 e8030000 64000000 00000000 00100000 00000000";
+
+/// RELEASE of node 2 by the handle 1, unique 8, and EBADF for it.
+const RELEASE: &str =
+    "40000000 12000000 0800000000000000 0200000000000000 00000000 00000000 00000000 00000000 \
+    0100000000000000 00000000 00000000 0000000000000000";
+
+const NO_HANDLE: &str = "10000000 f7ffffff 0800000000000000";
+
+/// OPENDIR of the root, unique 3.
+const OPEN_ROOT: &str =
+    "30000000 1b000000 0300000000000000 0100000000000000 00000000 00000000 00000000 00000000 00000000 00000000";
+
+/// A run of the program on a new folder with the file `a`. Behind the reads nothing is mounted any more, and behind the writes all are whole.
+#[derive(Clone, Copy)]
+struct Run<'a> {
+    /// Names the row where it comes otherwise.
+    says: &'a str,
+    reads: &'a [Result<&'a str, i32>],
+    writes: &'a [Written],
+    /// The bytes of each write that took some.
+    told: &'a [&'a str],
+    status: u8,
+    /// What is written on standard error.
+    fault: &'a str,
+}
+
+/// EINTR is 4, EAGAIN 11, ENOENT 2, ENODEV 19, EIO 5.
+const RUNS: &[Run] = &[
+    Run {
+        says: "nothing is mounted",
+        reads: &[],
+        writes: &[],
+        told: &[],
+        status: 0,
+        fault: "",
+    },
+    Run {
+        says: "a file is looked up, and the folder is unmounted",
+        reads: &[Ok(INIT), Ok(LOOKUP_A)],
+        writes: &[],
+        told: &[AGREED, ENTRY_A],
+        status: 0,
+        fault: "",
+    },
+    Run {
+        says: "reads that are made again",
+        reads: &[
+            Err(4),
+            Ok(INIT),
+            Err(2),
+            Err(11),
+            Ok(LOOKUP_A),
+            Err(4),
+            Err(19),
+        ],
+        writes: &[],
+        told: &[AGREED, ENTRY_A],
+        status: 0,
+        fault: "",
+    },
+    Run {
+        says: "a read fails",
+        reads: &[Ok(INIT), Err(5), Ok(LOOKUP_A)],
+        writes: &[],
+        told: &[AGREED],
+        status: 4,
+        fault: "mirrord: the link failed\n",
+    },
+    Run {
+        says: "writes that are made again",
+        reads: &[Ok(INIT), Ok(LOOKUP_A)],
+        writes: &[Errno(4), Whole, Errno(4), Errno(4)],
+        told: &[AGREED, ENTRY_A],
+        status: 0,
+        fault: "",
+    },
+    Run {
+        says: "nobody waits for the greeting any more",
+        reads: &[Ok(INIT), Ok(LOOKUP_A)],
+        writes: &[Errno(2)],
+        told: &[ENTRY_A],
+        status: 0,
+        fault: "",
+    },
+    Run {
+        says: "a write fails",
+        reads: &[Ok(INIT), Ok(LOOKUP_A)],
+        writes: &[Errno(5)],
+        told: &[],
+        status: 4,
+        fault: "mirrord: the link failed\n",
+    },
+    Run {
+        says: "nothing is mounted any more as a reply is written",
+        reads: &[Ok(INIT), Ok(LOOKUP_A)],
+        writes: &[Whole, Errno(19)],
+        told: &[AGREED],
+        status: 4,
+        fault: "mirrord: the link failed\n",
+    },
+    Run {
+        says: "a write takes a part",
+        reads: &[Ok(INIT), Ok(LOOKUP_A)],
+        writes: &[Whole, Part(0)],
+        told: &[AGREED, ""],
+        status: 4,
+        fault: "mirrord: the link failed\n",
+    },
+    Run {
+        says: "nobody waits for the entry of a file that was made: it is given back, and its handle closed",
+        reads: &[Ok(INIT), Ok(CREATE_N), Ok(LOOKUP_N), Ok(RELEASE)],
+        writes: &[Whole, Errno(2)],
+        told: &[AGREED, ENTRY_OF_N_REBORN, NO_HANDLE],
+        status: 0,
+        fault: "",
+    },
+];
+
+type Scripted = Device<ScriptedRequests, ScriptedReplies>;
+
+fn device_of(alloc: Global, run: &Run, log: &Log) -> io::Result<Scripted> {
+    let mut reads = Vec::new(alloc);
+    for read in run.reads {
+        reads.push(match read {
+            Ok(frame) => Ok(bytes_of(alloc, &[*frame])?),
+            Err(errno) => Err(*errno),
+        })?;
+    }
+    let writes = Vec::from_slice(alloc, run.writes)?;
+    Ok(Device {
+        requests: ScriptedRequests::new(reads),
+        replies: ScriptedReplies::new(writes, Arc::try_clone(log)?),
+    })
+}
+
+/// How the program ended, and what it wrote on standard error.
+#[derive(Drop)]
+struct Outcome {
+    status: u8,
+    faults: Vec<u8>,
+}
+
+fn run_over<H: Host>(
+    rt: &H,
+    host: &HostRuntime,
+    root: &str,
+    by: &str,
+    device: Option<Scripted>,
+) -> Outcome {
+    let words = [
+        "mirrord",
+        "device",
+        by,
+        "--root",
+        root,
+        "--attributes=fixed",
+        "--uid=1000",
+        "--gid=100",
+    ];
+    let standard = Standard {
+        input: io::empty(),
+        output: io::sink(),
+        device,
+    };
+    let mut faults = Vec::new(rt.alloc());
+    let ended = run(rt, host, &words, standard, &mut faults);
+    Outcome {
+        status: ended.status,
+        faults,
+    }
+}
+
+/// Whether the writes that took bytes are those, in that order.
+fn is_told(alloc: Global, log: &Log, told: &[&str]) -> io::Result<bool> {
+    let Some(taken) = log.try_lock() else {
+        return Ok(false);
+    };
+    if taken.len() != told.len() {
+        return Ok(false);
+    }
+    for (bytes, reply) in taken.iter().zip(told) {
+        if bytes.as_slice() != bytes_of(alloc, &[*reply])?.as_slice() {
+            return Ok(false);
+        }
+    }
+    Ok(true)
+}
+
+#[test]
+fn device_is_served_as_the_rows_say(rt: HostRuntime) -> Result<(), Fail> {
+    let alloc = rt.alloc();
+    for row in RUNS {
+        let root = new_folder(&rt, "device")?;
+        let log: Log = Arc::new(alloc, Mutex::new(Vec::new(alloc)))?;
+        let device = device_of(alloc, row, &log)?;
+        let out = run_over(&rt, &rt, root.as_str(), "-s", Some(device));
+        let is_told = is_told(alloc, &log, row.told)?;
+        if !is_told || out.status != row.status || out.faults.as_slice() != row.fault.as_bytes() {
+            return Err(Fail::from((row.says, is_told, out.status)));
+        }
+        expect(&rt, root.as_str(), &[("a", Shown::File(3))])?;
+    }
+    Ok(())
+}
+
+/// By workers, one request: what comes of it does not rest on their order.
+#[test]
+fn device_is_served_by_workers(rt: HostRuntime) -> Result<(), Fail> {
+    let alloc = rt.alloc();
+    for by in ["--workers=1", "--workers=2", "--workers=4"] {
+        for row in &RUNS[..2] {
+            let root = new_folder(&rt, "device-workers")?;
+            let log: Log = Arc::new(alloc, Mutex::new(Vec::new(alloc)))?;
+            let device = device_of(alloc, row, &log)?;
+            let out = run_over(&rt, &rt, root.as_str(), by, Some(device));
+            if out.status != 0 || !is_told(alloc, &log, row.told)? {
+                return Err(Fail::from((row.says, by, out.status)));
+            }
+        }
+    }
+    Ok(())
+}
+
+/// More folders than may be open at a time are opened, and nobody waits for the replies: each is closed again, and one more can be opened.
+#[test]
+fn opened_folders_that_nobody_waits_for_are_closed(rt: HostRuntime) -> Result<(), Fail> {
+    let alloc = rt.alloc();
+    let root = new_folder(&rt, "device-folders")?;
+    let mut reads = Vec::new(alloc);
+    let mut writes = Vec::new(alloc);
+    reads.push(Ok(bytes_of(alloc, &[INIT])?))?;
+    writes.push(Whole)?;
+    for _ in 0..4_200u32 {
+        reads.push(Ok(bytes_of(alloc, &[OPEN_ROOT])?))?;
+        writes.push(Errno(2))?;
+    }
+    reads.push(Ok(bytes_of(alloc, &[OPEN_ROOT])?))?;
+    let log: Log = Arc::new(alloc, Mutex::new(Vec::new(alloc)))?;
+    let device = Device {
+        requests: ScriptedRequests::new(reads),
+        replies: ScriptedReplies::new(writes, Arc::try_clone(&log)?),
+    };
+    let out = run_over(&rt, &rt, root.as_str(), "-s", Some(device));
+    assert_eq!(rt; out.status, 0);
+    let Some(taken) = log.try_lock() else {
+        return Err(Fail::from(("log", 0usize)));
+    };
+    assert_eq!(rt; taken.len(), 2);
+    assert_eq!(rt; taken[1].len(), 32);
+    Ok(())
+}
+
+#[test]
+fn no_device_is_told(rt: HostRuntime) -> Result<(), Fail> {
+    let root = new_folder(&rt, "no-device")?;
+    let out = run_over(&rt, &rt, root.as_str(), "-s", None);
+    assert_eq!(rt; out.status, 2);
+    assert!(rt;
+        out.faults.as_slice() == b"mirrord: standard input is not a character device\n".as_slice()
+    );
+    Ok(())
+}
