@@ -24,7 +24,7 @@ pub struct Signs {
     pub queued: AtomicU64,
     /// How many of them were worked on.
     pub worked: AtomicU64,
-    /// For how many receives more it is taken that requests wait where they are received.
+    /// How often of late a receive found that a request had waited there: each that does counts four, each other one less.
     pub backlog: AtomicU64,
     /// Whether jobs take long: few were worked on while a thread watched, though there were some.
     pub is_slow: AtomicBool,
@@ -33,8 +33,11 @@ pub struct Signs {
 /// Fewer jobs than this that are worked on in the millisecond of a thread that watches are few.
 const FEW: u64 = 16;
 
-/// For how many receives after one that found a request waiting it is taken that further ones wait.
-const BACKLOG: u64 = 64;
+/// Above this, which is so where more than one receive in five finds a request waiting, threads are wanted that receive.
+const BACKLOG: u64 = 16;
+
+/// What it is counted up to.
+const MOST_BACKLOG: u64 = 64;
 
 impl Signs {
     pub fn new() -> Signs {
@@ -92,17 +95,18 @@ impl Signs {
 
     /// What a receive brought had waited there, or not. Receives are made one after another.
     pub fn tell_backlog(&self, was_waiting: bool) {
-        let left = if was_waiting {
-            BACKLOG
+        let before = self.backlog.load(Ordering::SeqCst);
+        let after = if was_waiting {
+            before.saturating_add(4).min(MOST_BACKLOG)
         } else {
-            self.backlog.load(Ordering::SeqCst).saturating_sub(1)
+            before.saturating_sub(1)
         };
-        self.backlog.store(left, Ordering::SeqCst);
+        self.backlog.store(after, Ordering::SeqCst);
     }
 
-    /// Whether requests were seen to wait not long ago.
+    /// Whether requests wait where they are received, by what receives of late found.
     pub fn has_backlog(&self) -> bool {
-        self.backlog.load(Ordering::SeqCst) > 0
+        self.backlog.load(Ordering::SeqCst) > BACKLOG
     }
 
     /// Whether jobs take long.

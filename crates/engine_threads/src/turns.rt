@@ -122,7 +122,7 @@ pub fn read<
     let has_ended = is_broken || reader.end.is_some();
     common.signs.tell_backlog(was_waiting);
     drop(reader);
-    if was_waiting {
+    if was_waiting && common.signs.has_backlog() {
         // Nobody receives what may still wait there while this thread works.
         common.sleepers.wake(1);
     }
