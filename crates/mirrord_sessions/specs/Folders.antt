@@ -43,7 +43,7 @@ abbrev pub ServesSocket : Terms → Result SessionEnd Unserved → Type 0
 ServesSocket terms (Ok over) = (input output output' : Option (List ℕ)) × IsFolderServed terms input output over output'
 ServesSocket terms (Err why) = Unit {0}
 
--- A folder that no call was made of is served over the kernel's device, of which nothing was read before. Else nothing is read or written.
+-- A folder that no call was made of is served over the kernel's device, of which nothing was read before; or there was no session.
 abbrev pub ServesDevice : {R W : Type 0} → (R → Got → R → Type 0) → (W → List ℕ → Result ℕ DeviceFault → W → Type 0) → Terms → R → W → Result SessionEnd Unserved → Type 0
 ServesDevice {R = R} {W = W} gives takes terms requests replies (Ok over) =
     (last : OnDevice R W) × ServesLink terms (traffic (device.Receives gives) (device.Sends takes)) Tells 0 (device.unused requests replies) over last
