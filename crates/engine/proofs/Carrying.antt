@@ -13,7 +13,7 @@ use Rattle.wire.specs.declared.greeting.Negotiated.{Negotiated}
 use Rattle.wire.specs.declared.pairs.Forgotten.{Forgotten}
 use Rattle.wire.specs.declared.reply.ReplyBody.{ReplyBody}
 use Rattle.wire.specs.declared.request.Request.{Request}
-use Rattle.ops.specs.declared.attributes.Settings.{Settings}
+use Rattle.terms.specs.declared.settings.Settings.{Settings}
 use Rattle.ops.specs.declared.intents.FolderUse.{FolderUse}
 use Rattle.ops.specs.declared.intents.FolderUse.TheVariants.{ReadNames, ReadEntries, GiveUp, Sync}
 use Rattle.ops.specs.Intents.{Intent, intent}

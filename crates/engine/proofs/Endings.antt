@@ -7,7 +7,7 @@ use Rattle.handles.specs.declared.listing.ListingFault.TheVariants.{Memory}
 use Rattle.ops.specs.Ahead.{end_of, outcome_of, LooksAtEach}
 use Rattle.ops.specs.Replies.{opened_reply, reply_to}
 use Rattle.ops.specs.Scripts.{listed_end, plan_of, End, Follows, Made}
-use Rattle.ops.specs.declared.attributes.Settings.{Settings}
+use Rattle.terms.specs.declared.settings.Settings.{Settings}
 use Rattle.ops.specs.declared.findings.ScriptResult.{ScriptResult}
 use Rattle.ops.specs.declared.findings.Found.{Found}
 use Rattle.ops.specs.declared.findings.ScriptResult.TheVariants as findings

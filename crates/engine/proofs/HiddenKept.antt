@@ -4,7 +4,7 @@ use Rattle.paths.specs.Prefixes.{Names}
 use Rattle.table_hiding.specs.Hiding.{KeepsHidden}
 use Rattle.table_hiding.proofs.Keeping.{begins_keep, begun_unreserved, finishes_keep, forgets_keep, left_marked, settles_keep}
 use Rattle.table_steps.specs.World.{IsLawfulWorld, World}
-use Rattle.ops.specs.declared.attributes.Settings.{Settings}
+use Rattle.terms.specs.declared.settings.Settings.{Settings}
 use Rattle.ops.specs.Scripts.{Made}
 use Rattle.engine.specs.declared.ends.SessionEnd.{SessionEnd}
 use Rattle.engine.specs.Hiding.{hiding}

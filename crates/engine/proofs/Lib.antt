@@ -13,3 +13,4 @@ pub mod Unreserved
 pub mod Carrying
 pub mod HiddenKept
 pub mod Behind
+pub mod KnownRuns

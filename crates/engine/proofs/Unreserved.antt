@@ -5,7 +5,7 @@ use Rattle.std.proofs.lemmas.Bool.{cases_Bool, true≢false}
 use Rattle.std.proofs.lemmas.List.Elements.{All-cons, All-from_get_or, All-head, All-nil, All-tail}
 use Rattle.std.proofs.lemmas.List.Folds.{list_any_at}
 use Rattle.errno.specs.declared.TheConstants.{EINVAL, EPERM}
-use Rattle.hidden_names.specs.Hidden.{is_reserved}
+use Rattle.paths.specs.Hidden.{is_reserved}
 use Rattle.paths.specs.Prefixes.{Name}
 use Rattle.table_files.specs.declared.data.Access.{Access}
 use Rattle.table_files.specs.declared.data.Need.{Need}
@@ -15,7 +15,7 @@ use Rattle.backing.specs.declared.call.Child.{Child}
 use Rattle.wire.specs.declared.request.Operation.{Operation}
 use Rattle.wire.specs.declared.request.Operation.TheVariants as ops
 use Rattle.wire.specs.declared.request.Request.{Request}
-use Rattle.ops.specs.declared.attributes.Settings.{Settings}
+use Rattle.terms.specs.declared.settings.Settings.{Settings}
 use Rattle.ops.specs.Intents.{Intent, access_of, by_handle, create_intent, has_handle, intended, intent, names_of, needed_to_set, open_intent, refused, rename_intent, reserved_errno, set_intent, sets_other}
 use Rattle.ops.specs.Intents as intents
 use Rattle.ops.specs.Pages.{page_want}

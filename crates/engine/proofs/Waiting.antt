@@ -5,7 +5,7 @@ use Rattle.table_requests.specs.declared.data.Want.{Want}
 use Rattle.handles.specs.Calls.{FolderCall}
 use Rattle.ops.specs.Intents.{HasName, want_of}
 use Rattle.ops.specs.Pages.{Paged}
-use Rattle.ops.specs.declared.attributes.Settings.{Settings}
+use Rattle.terms.specs.declared.settings.Settings.{Settings}
 use Rattle.ops.specs.declared.wanted.Wanted.{Wanted}
 use Rattle.ops.specs.declared.wanted.Wanted.TheVariants as wanted
 use Rattle.wire.specs.Written.{reply_bytes}

@@ -4,7 +4,7 @@ use Rattle.wire.specs.Requests.{IsFramed}
 use Rattle.wire.specs.Stream.{BeginsBadly, IsPartial}
 use Rattle.engine.specs.declared.ends.SessionEnd.{SessionEnd}
 use Rattle.engine.specs.declared.ends.SessionEnd.TheVariants as ends
-use Rattle.ops.specs.declared.attributes.Settings.{Settings}
+use Rattle.terms.specs.declared.settings.Settings.{Settings}
 use Rattle.engine.specs.Links.{Piece}
 use Rattle.engine.specs.Serving.{Behaviour, Environment, Hears, Traffic, Works, around}
 use Rattle.engine.specs.Tables.{Table}

@@ -6,7 +6,7 @@ use Rattle.table_requests.specs.declared.data.Want.{Want}
 use Rattle.table_steps.proofs.Refusing.{refusal_bits}
 use Rattle.table_steps.specs.Answers.{Claim, Answer, Settlement}
 use Rattle.table_steps.specs.World.{Answered, RequestInFlight, RequestsInFlight, Work, Working, World, opened_world, with_entry}
-use Rattle.table_steps.specs.declared.data.Limits.{Limits}
+use Rattle.terms.specs.declared.limits.Limits.{Limits}
 use Rattle.table_steps.specs.Steps.{Begins, Finishes, Forgets, Settles, answered}
 use Rattle.table_steps.specs.declared.data.Outcome.{Outcome}
 use Rattle.table_steps.specs.declared.data.Begin.TheVariants.{Go, Refused}

@@ -13,3 +13,4 @@ pub mod Alone
 pub mod Reaching
 pub mod Hearing
 pub mod Hiding
+pub mod Known

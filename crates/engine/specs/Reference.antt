@@ -26,7 +26,7 @@ use Rattle.engine.specs.declared.classes.Class.{Class}
 use Rattle.engine.specs.declared.classes.Class.TheVariants.{Ignored, Unexpected, InitFrame, DestroyFrame, Asking}
 use Rattle.engine.specs.declared.links.Sent.{Sent}
 use Rattle.engine.specs.declared.links.Sent.TheVariants.{Taken, Untaken, Broken}
-use Rattle.ops.specs.declared.attributes.Settings.{Settings}
+use Rattle.terms.specs.declared.settings.Settings.{Settings}
 use Rattle.engine.specs.declared.ends.SessionEnd.{SessionEnd}
 use Rattle.engine.specs.declared.ends.SessionEnd.TheVariants as ends
 use Rattle.engine.specs.Chain.{Chain}

@@ -11,7 +11,7 @@ use Rattle.engine.specs.declared.ends.SessionEnd.TheVariants as ends
 use Rattle.engine.specs.declared.links.Sent.{Sent}
 use Rattle.engine.specs.declared.served.Served.{Served}
 use Rattle.handles.specs.Calls.{FolderCall}
-use Rattle.ops.specs.declared.attributes.Settings.{Settings}
+use Rattle.terms.specs.declared.settings.Settings.{Settings}
 use Rattle.engine.specs.Chain.{Chain}
 use Rattle.engine.specs.Links.{Heard, Piece, Ended, Broke, Event, In, Out, Happens}
 use Rattle.engine.specs.Reference.{Turn, Offer, Stop, AtEnd, Lost, IsSession, ending, sent_in}

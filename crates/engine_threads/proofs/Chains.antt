@@ -4,21 +4,21 @@ use Rattle.crossbeam_channel.specs.Claims.{view, IsSeatAt}
 use Rattle.crossbeam_channel.specs.Ends.{sends_on, receives_on}
 use Rattle.ledger.specs.Shares.{Part, nothing}
 use Rattle.table_steps.specs.Answers.{Settlement}
-use Rattle.ops.specs.declared.attributes.Settings.{Settings}
+use Rattle.terms.specs.declared.settings.Settings.{Settings}
 use Rattle.engine.proofs.Runs.{chain_append, chain_one}
 use Rattle.engine.specs.Serving.{Behaviour}
 use Rattle.engine.specs.declared.served.Served.{Served}
-use Rattle.engine_jobs.specs.declared.jobs.Job.{Job}
+use Rattle.engine_queues.specs.declared.job.Job.{Job}
 use Rattle.engine_queues.specs.Jobs.{hand}
 use Rattle.engine_queues.specs.Letters.{sender}
 use Rattle.engine_queues.specs.declared.jobs.Hand.{Hand}
 use Rattle.engine_queues.specs.declared.passes.Passes.{Passes}
-use Rattle.engine_roles.specs.Queues.{JobQueue, ReplyQueue}
-use Rattle.engine_visits.specs.Visits.{OnTable, idle}
-use Rattle.engine_workers.specs.Turns.{AnswersJob, Means, Outbox, Standing, Worked, means, outbox, standing, takes}
-use Rattle.engine_workers.specs.Works.{HasWorked, WorkedAll, newcomer}
-use Rattle.engine_workers.specs.declared.replies.Reply.{Reply}
-use Rattle.engine_workers.specs.declared.working.Worker.{Worker}
+use Rattle.engine_turns.specs.Queues.{JobQueue, ReplyQueue}
+use Rattle.engine_turns.specs.Visits.{OnTable, idle}
+use Rattle.engine_turns.specs.Turns.{AnswersJob, Means, Outbox, Standing, Worked, means, outbox, standing, takes}
+use Rattle.engine_turns.specs.Works.{HasWorked, WorkedAll, newcomer}
+use Rattle.engine_turns.specs.declared.replies.Reply.{Reply}
+use Rattle.engine_turns.specs.declared.working.Worker.{Worker}
 use Rattle.engine_threads.specs.Worked.{AnswersFarewell, HasWorkedFrom, IsOver}
 
 module _ {C D : Type 0} (does : Behaviour C D) (settings : Settings) (number : ℕ) where

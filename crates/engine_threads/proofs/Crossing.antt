@@ -7,30 +7,30 @@ use Rattle.std.specs.contracts.impls.GlobalAllocator.TheImpl.{ghosts}
 use Rattle.std.specs.contracts.sync.Arc as Arc
 use Rattle.engine.specs.declared.links.LinkIn as ins
 use Rattle.engine.specs.declared.links.LinkOut as out
-use Rattle.engine_roles.proofs.Crossing.{front_send, worker_send, writer_role_send}
-use Rattle.engine_roles.proofs.reading.ReaderRole.TheSendSync as reader
-use Rattle.engine_roles.proofs.shares.Kept.TheSendSync as kept
-use Rattle.engine_roles.specs.contracts.shares.Kept as Kept
-use Rattle.engine_roles.specs.contracts.reading.ReaderRole as ReaderRole
-use Rattle.engine_roles.specs.contracts.writing.WriterRole as WriterRole
-use Rattle.engine_roles.specs.declared.origins.Sink as sink
-use Rattle.engine_roles.specs.declared.origins.Source as source
-use Rattle.engine_roles.proofs.sleepers.Sleepers.TheSendSync as sleepers
-use Rattle.engine_roles.specs.contracts.sleepers.Sleepers as Sleepers
+use Rattle.engine_turns.proofs.Crossing.{front_send, worker_send, writer_role_send}
+use Rattle.engine_turns.proofs.reader_role.ReaderRole.TheSendSync as reader
+use Rattle.engine_turns.proofs.shares.Kept.TheSendSync as kept
+use Rattle.engine_turns.specs.contracts.shares.Kept as Kept
+use Rattle.engine_turns.specs.contracts.reader_role.ReaderRole as ReaderRole
+use Rattle.engine_turns.specs.contracts.writer_role.WriterRole as WriterRole
+use Rattle.engine_turns.specs.declared.origins.Sink as sink
+use Rattle.engine_turns.specs.declared.origins.Source as source
+use Rattle.engine_turns.proofs.sleepers.Sleepers.TheSendSync as sleepers
+use Rattle.engine_turns.specs.contracts.sleepers.Sleepers as Sleepers
 use Rattle.engine_threads.proofs.places.Signs.TheSendSync as signs
 use Rattle.engine_threads.specs.contracts.places.Signs as Signs
 use Rattle.handles.proofs.dirs.Dirs.TheSendSync as dirs
 use Rattle.handles.specs.contracts.dirs.Dirs as Dirs
-use Rattle.table_halls.proofs.halls.Hall.TheSendSync as hall
-use Rattle.table_halls.specs.contracts.halls.Hall as Hall
-use Rattle.table_recorded.specs.declared.entries.Opening as opening
+use Rattle.table_shared.proofs.halls.Hall.TheSendSync as hall
+use Rattle.table_shared.specs.contracts.halls.Hall as Hall
+use Rattle.table_shared.specs.declared.entries.Opening as opening
 use Rattle.engine_threads.specs.contracts.places.Common as Common
 use Rattle.engine_threads.specs.contracts.working.Staff as Staff
 use Rattle.engine_threads.specs.contracts.working.WorkerEnd as WorkerEnd
-use Rattle.engine_jobs.specs.contracts.jobs.Job as Job
+use Rattle.engine_queues.specs.contracts.job.Job as Job
 use Rattle.engine_queues.proofs.passes.Passes.TheSendSync as passes
 use Rattle.engine_queues.specs.contracts.passes.Passes as Passes
-use Rattle.engine_workers.specs.contracts.replies.Reply as Reply
+use Rattle.engine_turns.specs.contracts.replies.Reply as Reply
 use Rattle.ledger.specs.declared.ledgers.Ledgers.{Ghosts}
 
 module _ (T N C : RattleType) (n : opening.Ghosts N.Denot) (g : Ghosts T.Denot) where

@@ -4,8 +4,8 @@ use Rattle.std.proofs.Math.Logic.{∥∥₁_elim}
 use Rattle.engine.specs.Links.{Heard, Piece, Ended, Broke}
 use Rattle.engine.specs.declared.ends.SessionEnd.{SessionEnd}
 use Rattle.engine.specs.declared.ends.SessionEnd.TheVariants as ends
-use Rattle.engine_roles.specs.Reads.{HasReadAll}
-use Rattle.engine_reader.specs.Verdicts.{KeepsNone, Progress, Queued, ReadsAs, Stops, and_then}
+use Rattle.engine_turns.specs.Reads.{HasReadAll}
+use Rattle.engine_turns.specs.Verdicts.{KeepsNone, Progress, Queued, ReadsAs, Stops, and_then}
 
 -- some workers served
 abbrev Serves : SessionEnd → Type 0

@@ -9,9 +9,9 @@ use Rattle.table_requests.specs.declared.data.Want.{Want}
 use Rattle.table_steps.specs.World.{IsLawfulWorld, World, opened_world}
 use Rattle.table_steps.specs.declared.data.Begin.{Begin}
 use Rattle.table_steps.specs.declared.data.Begin.TheVariants.{Busy, Go, Refused}
-use Rattle.table_steps.specs.declared.data.Limits.{Limits}
-use Rattle.table_recorded.specs.Histories.{IsHistory, Made, calls_by, calls_if, unless_busy}
-use Rattle.table_recorded.specs.Runs.{Call, IsStep, began, finished, forgot, looked, settled}
+use Rattle.terms.specs.declared.limits.Limits.{Limits}
+use Rattle.table_shared.specs.Histories.{IsHistory, Made, calls_by, calls_if, unless_busy}
+use Rattle.table_shared.specs.Runs.{Call, IsStep, began, finished, forgot, looked, settled}
 use Rattle.engine_threads.proofs.Unreserved.{AreUnreserved, IsUnreservedCall}
 
 -- a begin that had to wait is not told, and names nothing that is kept

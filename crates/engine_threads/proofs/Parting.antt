@@ -3,18 +3,18 @@ use Rattle.std.proofs.Common.{◌≡◌, ℕ, suc, ◌+◌, List, [], ◌∷◌,
 use Rattle.std.specs.List.{All, range_with_len}
 use Rattle.std.proofs.lemmas.List.Elements.{All-cons, All-head, All-nil, All-push, All-same, All-tail, All-pop}
 use Rattle.crossbeam_channel.specs.Claims.{IsSeatAt}
-use Rattle.ops.specs.declared.attributes.Settings.{Settings}
+use Rattle.terms.specs.declared.settings.Settings.{Settings}
 use Rattle.engine.specs.Serving.{Behaviour}
-use Rattle.engine_jobs.specs.declared.jobs.Job.{Job}
+use Rattle.engine_queues.specs.declared.job.Job.{Job}
 use Rattle.engine_queues.specs.Gathered.{AreSeated, numbers_of}
 use Rattle.engine_queues.specs.declared.passes.Passes.{Passes}
-use Rattle.engine_roles.specs.Queues.{JobQueue, ReplyQueue}
-use Rattle.engine_workers.specs.declared.replies.Reply.{Reply}
-use Rattle.table_histories.specs.declared.views.View.{View}
-use Rattle.table_recorded.specs.Histories.{calls_of}
-use Rattle.table_recorded.specs.Runs.{Call}
-use Rattle.table_recorded.specs.declared.entries.Entry.{Entry}
-use Rattle.engine_visits.specs.Visits.{OnTable, on_table_of}
+use Rattle.engine_turns.specs.Queues.{JobQueue, ReplyQueue}
+use Rattle.engine_turns.specs.declared.replies.Reply.{Reply}
+use Rattle.shared_history.specs.declared.views.View.{View}
+use Rattle.table_shared.specs.Histories.{calls_of}
+use Rattle.table_shared.specs.Runs.{Call}
+use Rattle.table_shared.specs.declared.entries.Entry.{Entry}
+use Rattle.engine_turns.specs.Visits.{OnTable, on_table_of}
 use Rattle.engine_threads.specs.Worked.{AnswersFarewell, BidsFarewell, HasWorkedFrom, IsOver, WorkedEach, made_by}
 use Rattle.engine_threads.specs.declared.working.WorkerEnd.{WorkerEnd}
 use Rattle.engine_threads.proofs.Chains.{index_from, index_last}

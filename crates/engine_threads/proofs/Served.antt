@@ -5,16 +5,16 @@ use Rattle.std.proofs.Math.Logic.{∥∥₁_map}
 use Rattle.crossbeam_channel.specs.Claims.{view}
 use Rattle.ledger.specs.Sums.{totals_over}
 use Rattle.ledger.specs.declared.shares.Totals.{Totals}
-use Rattle.ops.specs.declared.attributes.Settings.{Settings}
+use Rattle.terms.specs.declared.settings.Settings.{Settings}
 use Rattle.backing.specs.Calls.{Asked}
 use Rattle.backing.specs.declared.call.Answer.{Answer}
 use Rattle.table_steps.specs.World.{opened_world}
-use Rattle.table_steps.specs.declared.data.Limits.{Limits}
-use Rattle.table_recorded.specs.Histories.{IsHistory, Made, history_of, last_world}
-use Rattle.table_recorded.specs.Runs.{Log}
+use Rattle.terms.specs.declared.limits.Limits.{Limits}
+use Rattle.table_shared.specs.Histories.{IsHistory, Made, history_of, last_world}
+use Rattle.table_shared.specs.Runs.{Log}
 use Rattle.engine.specs.declared.links.Sent.{Sent}
 use Rattle.engine_queues.specs.Gathered.{numbers_of}
-use Rattle.engine_roles.specs.Writes.{HasWrittenAll}
+use Rattle.engine_turns.specs.Writes.{HasWrittenAll}
 use Rattle.engine_threads.specs.Served.{HasServed}
 use Rattle.engine_threads.specs.Worked.{BidsFarewell, WorkedEach, did, does_shared, made_by}
 use Rattle.engine_threads.proofs.Histories.{history_keeps}

@@ -1,7 +1,7 @@
 -- What passes tell together is told of what is seen of them.
 use Rattle.std.proofs.Common.{◌≡◌, List, sym, subst}
 use Rattle.std.specs.List.{flat_map}
-use Rattle.engine_jobs.specs.declared.jobs.Job.{Job}
+use Rattle.engine_queues.specs.declared.job.Job.{Job}
 use Rattle.engine_queues.specs.Gathered.{puts_of, takings_of}
 use Rattle.engine_queues.specs.Jobs.{Accounts}
 use Rattle.engine_queues.specs.Letters.{IsWhole}
@@ -10,7 +10,7 @@ use Rattle.engine_queues.specs.declared.letters.Letter.{Letter}
 use Rattle.engine_queues.specs.declared.letters.ReplyLane.{ReplyLane}
 use Rattle.engine_queues.specs.declared.passes.Passes.{Passes}
 use Rattle.engine_threads.specs.Ended.{IsShared}
-use Rattle.engine_workers.specs.declared.replies.Reply.{Reply}
+use Rattle.engine_turns.specs.declared.replies.Reply.{Reply}
 
 pub shared_as : (read read' : Hand Job) (passes passes' : List (Passes Job Reply)) (written written' : ReplyLane Reply) → read' ≡ read → passes' ≡ passes → written' ≡ written
     → (left : List Job) → Accounts read.put (flat_map (λ js. js) (takings_of passes)) left

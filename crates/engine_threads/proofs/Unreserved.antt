@@ -12,9 +12,9 @@ use Rattle.table_steps.specs.Answers.{Answer, Settlement}
 use Rattle.table_steps.specs.declared.data.Begin.{Begin}
 use Rattle.table_steps.specs.declared.data.Begin.TheVariants.{Busy, Go, Refused}
 use Rattle.table_requests.specs.declared.data.Want.{Want}
-use Rattle.table_recorded.specs.Histories.{unless_busy}
-use Rattle.table_recorded.specs.Runs.{Call, began, finished, forgot, looked, settled}
-use Rattle.ops.specs.declared.attributes.Settings.{Settings}
+use Rattle.table_shared.specs.Histories.{unless_busy}
+use Rattle.table_shared.specs.Runs.{Call, began, finished, forgot, looked, settled}
+use Rattle.terms.specs.declared.settings.Settings.{Settings}
 use Rattle.wire.specs.Requests.{opcode_in}
 use Rattle.engine.specs.Chain.{Chain}
 use Rattle.engine.specs.Classes.{class}
@@ -22,19 +22,19 @@ use Rattle.engine.specs.Reference.{Turn, is_taken}
 use Rattle.engine.specs.Serving.{Behaviour}
 use Rattle.engine.specs.declared.links.Sent.{Sent}
 use Rattle.engine.proofs.Carrying.{Carries, frame_carried}
-use Rattle.engine_jobs.specs.declared.jobs.Job.{Job}
-use Rattle.engine_jobs.specs.declared.left.Left.{Left}
+use Rattle.engine_queues.specs.declared.job.Job.{Job}
+use Rattle.engine_queues.specs.declared.left.Left.{Left}
 use Rattle.engine_queues.specs.Gathered.{numbers_of}
 use Rattle.engine_queues.specs.declared.letters.Letter.{Letter}
 use Rattle.engine_queues.specs.declared.letters.ReplyLane.{ReplyLane}
 use Rattle.engine_queues.specs.declared.passes.Passes.{Passes}
-use Rattle.engine_roles.specs.Writes.{HasWrittenAll, unsent, writing}
-use Rattle.engine_visits.specs.Visits.{Fresh, Given, Known, OnTable, Settled, Visited, left_in, settlement_of, settling, then_made, visits}
-use Rattle.engine_workers.specs.Batches.{WritesOne, Writing}
-use Rattle.engine_workers.specs.Rights.{IsJobHandled}
-use Rattle.engine_workers.specs.Turns.{AnswersJob, Ending, IsEnded, Met, Offers, Outbox, PutsReply, Standing, Worked, ending, handed_back, is_put, means, none, outbox, settles_of, standing, takes}
-use Rattle.engine_workers.specs.Works.{WorkedAll, newcomer}
-use Rattle.engine_workers.specs.declared.replies.Reply.{Reply}
+use Rattle.engine_turns.specs.Writes.{HasWrittenAll, unsent, writing}
+use Rattle.engine_turns.specs.Visits.{Fresh, Given, Known, OnTable, Settled, Visited, left_in, settlement_of, settling, then_made, visits}
+use Rattle.engine_turns.specs.Batches.{WritesOne, Writing}
+use Rattle.engine_turns.specs.Rights.{IsJobHandled}
+use Rattle.engine_turns.specs.Turns.{AnswersJob, Ending, IsEnded, Met, Offers, Outbox, PutsReply, Standing, Worked, ending, handed_back, is_put, means, none, outbox, settles_of, standing, takes}
+use Rattle.engine_turns.specs.Works.{WorkedAll, newcomer}
+use Rattle.engine_turns.specs.declared.replies.Reply.{Reply}
 use Rattle.engine_threads.specs.Worked.{AnswersFarewell, BidsFarewell, HasWorkedFrom, WorkedEach, made_by}
 use Rattle.engine_threads.proofs.Lists.{last_same, range_more}
 

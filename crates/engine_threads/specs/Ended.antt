@@ -7,7 +7,7 @@ use Rattle.ledger.specs.declared.shares.Totals.{Totals}
 use Rattle.table_steps.specs.World.{IsLawfulWorld, World}
 use Rattle.engine.specs.declared.ends.SessionEnd.{SessionEnd}
 use Rattle.engine.specs.declared.ends.SessionEnd.TheVariants.{LinkBroken}
-use Rattle.engine_jobs.specs.declared.jobs.Job.{Job}
+use Rattle.engine_queues.specs.declared.job.Job.{Job}
 use Rattle.engine_queues.specs.Gathered.{puts_of, takings_of}
 use Rattle.engine_queues.specs.Jobs.{Accounts}
 use Rattle.engine_queues.specs.Letters.{IsWhole}
@@ -15,7 +15,7 @@ use Rattle.engine_queues.specs.declared.jobs.Hand.{Hand}
 use Rattle.engine_queues.specs.declared.letters.Letter.{Letter}
 use Rattle.engine_queues.specs.declared.letters.ReplyLane.{ReplyLane}
 use Rattle.engine_queues.specs.declared.passes.Passes.{Passes}
-use Rattle.engine_workers.specs.declared.replies.Reply.{Reply}
+use Rattle.engine_turns.specs.declared.replies.Reply.{Reply}
 
 -- what the ledger of a lawful table holds, and these shares sum to it
 pub record IsGathered (totals : Totals) : Type 0 where

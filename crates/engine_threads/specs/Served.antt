@@ -3,16 +3,16 @@ use Rattle.std.specs.Prelude.{◌≡◌, ◌≤◌, ◌+◌, ℕ, List, [], leng
 use Rattle.crossbeam_channel.specs.Claims.{view}
 use Rattle.ledger.specs.Sums.{totals_over}
 use Rattle.ledger.specs.declared.shares.Totals.{Totals}
-use Rattle.ops.specs.declared.attributes.Settings.{Settings}
+use Rattle.terms.specs.declared.settings.Settings.{Settings}
 use Rattle.backing.specs.Calls.{Asked}
 use Rattle.backing.specs.declared.call.Answer.{Answer}
 use Rattle.table_hiding.specs.Hiding.{KeepsHidden}
 use Rattle.table_steps.specs.World.{opened_world}
-use Rattle.table_steps.specs.declared.data.Limits.{Limits}
-use Rattle.table_recorded.specs.Histories.{IsHistory, Made, calls_by, last_world}
-use Rattle.table_recorded.specs.Runs.{Call}
+use Rattle.terms.specs.declared.limits.Limits.{Limits}
+use Rattle.table_shared.specs.Histories.{IsHistory, Made, calls_by, last_world}
+use Rattle.table_shared.specs.Runs.{Call}
 use Rattle.engine.specs.declared.links.Sent.{Sent}
-use Rattle.engine_roles.specs.Writes.{HasWrittenAll}
+use Rattle.engine_turns.specs.Writes.{HasWrittenAll}
 use Rattle.engine_threads.specs.Worked.{BidsFarewell, WorkedEach, does_shared, made_by}
 use Rattle.engine_threads.specs.declared.ended.Passed.{Passed}
 

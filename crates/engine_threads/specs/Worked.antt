@@ -5,25 +5,25 @@ use Rattle.crossbeam_channel.specs.Claims.{view, IsSeatAt}
 use Rattle.crossbeam_channel.specs.Ends.{sends_on, receives_on}
 use Rattle.ledger.specs.Shares.{Part, nothing}
 use Rattle.table_steps.specs.Answers.{Settlement}
-use Rattle.ops.specs.declared.attributes.Settings.{Settings}
+use Rattle.terms.specs.declared.settings.Settings.{Settings}
 use Rattle.backing.specs.Calls.{Asked}
 use Rattle.backing.specs.declared.call.Answer.{Answer}
 use Rattle.handles.specs.Calls.{Shares}
 use Rattle.handles.specs.declared.limits.FolderLimits.{FolderLimits}
 use Rattle.engine.specs.Serving.{Behaviour, does}
-use Rattle.engine_jobs.specs.declared.jobs.Job.{Job}
+use Rattle.engine_queues.specs.declared.job.Job.{Job}
 use Rattle.engine_queues.specs.Jobs.{hand}
 use Rattle.engine_queues.specs.Letters.{sender}
 use Rattle.engine_queues.specs.declared.passes.Passes.{Passes}
-use Rattle.engine_roles.specs.Queues.{JobQueue, ReplyQueue}
+use Rattle.engine_turns.specs.Queues.{JobQueue, ReplyQueue}
 use Rattle.engine.specs.declared.served.Served.{Served}
-use Rattle.table_recorded.specs.Histories.{calls_by, history_of}
-use Rattle.table_recorded.specs.Runs.{Call, Log}
-use Rattle.engine_visits.specs.Visits.{OnTable, idle}
-use Rattle.engine_workers.specs.Turns.{AnswersJob, means, outbox, standing}
-use Rattle.engine_workers.specs.Works.{HasWorked, newcomer}
-use Rattle.engine_workers.specs.declared.replies.Reply.{Reply}
-use Rattle.engine_workers.specs.declared.working.Worker.{Worker}
+use Rattle.table_shared.specs.Histories.{calls_by, history_of}
+use Rattle.table_shared.specs.Runs.{Call, Log}
+use Rattle.engine_turns.specs.Visits.{OnTable, idle}
+use Rattle.engine_turns.specs.Turns.{AnswersJob, means, outbox, standing}
+use Rattle.engine_turns.specs.Works.{HasWorked, newcomer}
+use Rattle.engine_turns.specs.declared.replies.Reply.{Reply}
+use Rattle.engine_turns.specs.declared.working.Worker.{Worker}
 
 -- calls of a directory, and of the open folders that all threads share
 abbrev pub does_shared : {C : Type 0} → (C → Asked → Answer → C → Type 0) → Behaviour C (Bor FolderLimits)

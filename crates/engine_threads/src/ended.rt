@@ -7,11 +7,11 @@ ghost use Rattle.engine_queues.specs.Gathered.{takings_of};
 ghost use Rattle.engine_threads.specs.Ended.{AreCounts, IsGathered};
 
 use engine::SessionEnd;
-use engine_jobs::Job;
+use engine_queues::Job;
 use engine_queues::jobs::JobPass;
 use engine_queues::letters::ReplyPass;
 use engine_queues::passes::Passes;
-use engine_workers::Reply;
+use engine_turns::Reply;
 use ledger::{Ledgers, Share, Totals};
 use std::snapshot::Snapshot;
 use table::Table;

@@ -6,10 +6,10 @@ ghost use Rattle.std.specs.Option.{option_map};
 ghost use Rattle.crossbeam_channel.specs.Claims.{view, IsSeatAt};
 ghost use Rattle.crossbeam_channel.specs.Ends.{sends_on, receives_on};
 ghost use Rattle.engine_queues.specs.Gathered.{numbers_of, takings_of};
-ghost use Rattle.engine_visits.specs.Visits.{idle, on_table_of};
-ghost use Rattle.engine_reader.specs.Shown.{queued_of, shown};
-ghost use Rattle.engine_roles.specs.Reads.{HasReadAll};
-ghost use Rattle.engine_roles.specs.Writes.{HasWrittenAll};
+ghost use Rattle.engine_turns.specs.Visits.{idle, on_table_of};
+ghost use Rattle.engine_turns.specs.Shown.{queued_of, shown};
+ghost use Rattle.engine_turns.specs.Reads.{HasReadAll};
+ghost use Rattle.engine_turns.specs.Writes.{HasWrittenAll};
 ghost use Rattle.engine_threads.specs.Ended.{IsShared};
 ghost use Rattle.engine_threads.specs.Worked.{did, does_shared, made_by, AreUnused, BidsFarewell, IsOver, WorkedEach};
 
@@ -21,19 +21,16 @@ use crate::turns::offer_queued;
 use crate::working::WorkerEnd;
 use backing::Calls;
 use engine::{LinkIn, LinkOut};
-use engine_jobs::Job;
+use engine_queues::Job;
 use engine_queues::gathering::gather;
 use engine_queues::jobs::JobSender;
 use engine_queues::letters::ReplySender;
 use engine_queues::passes::Passes;
-use engine_reader::ReaderEnd;
-use engine_roles::{Shares, Sink, Source, WriterEnd};
-use engine_workers::Reply;
+use engine_turns::{ReaderEnd, Reply, Shares, Sink, Source, WriterEnd};
 use ledger::Ledgers;
 use std::snapshot::Snapshot;
 use std::sync::Wait;
-use table_halls::Closed;
-use table_recorded::Opening;
+use table_shared::{Closed, Opening};
 
 /// What the threads of a session have left.
 #[derive(Drop)]

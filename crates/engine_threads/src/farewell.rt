@@ -4,25 +4,22 @@ ghost use Rattle.std.specs.Prelude.{◌≡◌};
 ghost use Rattle.crossbeam_channel.specs.Claims.{IsSeatAt};
 ghost use Rattle.crossbeam_channel.specs.Ends.{sends_on, receives_on};
 ghost use Rattle.engine.specs.Serving.{does};
-ghost use Rattle.engine_visits.specs.Visits.{idle, on_table_of};
+ghost use Rattle.engine_turns.specs.Visits.{idle, on_table_of};
 ghost use Rattle.engine_threads.specs.Worked.{AreUnused, AnswersFarewell, AnswersLast};
 
 use backing::Calls;
 use engine::{Served, Settings};
-use engine_jobs::Job;
+use engine_queues::Job;
 use engine_queues::jobs::JobReceiver;
 use engine_queues::letters::ReplySender;
 use engine_queues::passes::Passes;
-use engine_roles::Kept;
-use engine_visits::Visitor;
-use engine_workers::{Reply, Turn, Worker};
+use engine_turns::{Kept, Reply, Turn, Visitor, Worker};
 use handles::Folders;
 use ledger::Ledgers;
+use shared_history::Front;
 use std::alloc::Global;
 use std::sync::Wait;
-use table_halls::Hall;
-use table_histories::Front;
-use table_recorded::{Entry, Opening, Runs};
+use table_shared::{Entry, Hall, Opening, Runs};
 
 /// What the starter needs to answer the frame that ended the session.
 pub struct Starter {

@@ -2,17 +2,16 @@
 
 ghost use Rattle.std.specs.Prelude.{◌≡◌, ◌≤◌, ◌+◌, ℕ, [], map, IfSome};
 ghost use Rattle.std.specs.List.{range_with_len};
-ghost use Rattle.table_histories.specs.Views.{front};
+ghost use Rattle.shared_history.specs.Views.{front};
 ghost use Rattle.table_steps.specs.Kept.{world_of};
 ghost use Rattle.table_steps.specs.World.{opened_world};
-ghost use Rattle.engine_visits.specs.Visits.{idle, on_table_of};
+ghost use Rattle.engine_turns.specs.Visits.{idle, on_table_of};
 
 use ledger::Ledgers;
+use shared_history::{Front, Opened};
 use std::alloc::Global;
 use table::Table;
-use table_halls::Hall;
-use table_histories::{Front, Opened};
-use table_recorded::{Entry, Opening, Runs};
+use table_shared::{Entry, Hall, Opening, Runs};
 
 /// The fronts of the workers by their numbers, of the starter, and of the writer.
 #[derive(Drop)]

@@ -7,23 +7,22 @@ ghost use Rattle.crossbeam_channel.specs.Claims.{view, IsSeatAt};
 ghost use Rattle.crossbeam_channel.specs.Ends.{sends_on, receives_on};
 ghost use Rattle.ledger.specs.Shares.{nothing};
 ghost use Rattle.engine_queues.specs.Letters.{writer};
-ghost use Rattle.engine_visits.specs.Visits.{idle, on_table_of};
+ghost use Rattle.engine_turns.specs.Visits.{idle, on_table_of};
 ghost use Rattle.engine_threads.specs.Worked.{AreUnused, IsHired, IsStaffed};
 
 use crate::working::Staff;
 use backing::Calls;
 use engine::Settings;
-use engine_jobs::Job;
+use engine_queues::Job;
 use engine_queues::jobs::{Cut, JobPass, JobReceiver, JobSender};
 use engine_queues::letters::{ReplyPass, ReplySender, Roles};
 use engine_queues::passes::Passes;
-use engine_roles::{Kept, Shares};
-use engine_workers::{Reply, Worker};
+use engine_turns::{Kept, Reply, Shares, Worker};
 use ledger::Ledgers;
+use shared_history::Front;
 use std::alloc::Global;
 use std::vec::IntoIter;
-use table_histories::Front;
-use table_recorded::{Entry, Opening, Runs};
+use table_shared::{Entry, Opening, Runs};
 
 /// The passes of the next worker.
 pub fn cut_passes(

@@ -4,26 +4,24 @@ ghost use Rattle.std.specs.Prelude.{◌≡◌, ◌<◌, ◌≤◌, ◌+◌, ◌+
 ghost use Rattle.std.specs.List.{All};
 ghost use Rattle.crossbeam_channel.specs.Claims.{IsSeatAt};
 ghost use Rattle.crossbeam_channel.specs.Ends.{sends_on, receives_on};
-ghost use Rattle.table_recorded.specs.Histories.{calls_of};
-ghost use Rattle.engine_visits.specs.Visits.{idle, on_table_of};
+ghost use Rattle.table_shared.specs.Histories.{calls_of};
+ghost use Rattle.engine_turns.specs.Visits.{idle, on_table_of};
 ghost use Rattle.engine_threads.specs.Worked.{did, does_shared, AnswersFarewell, AreUnused};
 
 use crate::farewell::{Bid, Starter, ThreadEnd, bid_farewell};
 use crate::working::WorkerEnd;
 use backing::Calls;
 use engine::Served;
-use engine_jobs::Job;
+use engine_queues::Job;
 use engine_queues::jobs::JobSender;
 use engine_queues::letters::ReplySender;
 use engine_queues::passes::Passes;
-use engine_roles::{Kept, Shares};
-use engine_workers::Reply;
+use engine_turns::{Kept, Reply, Shares};
 use handles::Dirs;
 use ledger::Ledgers;
 use std::snapshot::Snapshot;
 use std::sync::Wait;
-use table_halls::{Closed, Hall};
-use table_recorded::Opening;
+use table_shared::{Closed, Hall, Opening};
 
 /// What the workers and the starter leave, once the frame that ended the session is answered.
 #[derive(Drop)]

@@ -1,13 +1,12 @@
 //! What the threads of a session share.
 
 use engine::{LinkIn, LinkOut};
-use engine_roles::{ReaderRole, Sink, Sleepers, Source, WriterRole};
+use engine_turns::{ReaderRole, Sink, Sleepers, Source, WriterRole};
 use handles::Dirs;
 use ledger::Ledgers;
 use std::sync::atomic::{AtomicBool, AtomicU64, Ordering};
 use std::sync::{Arc, Mutex};
-use table_halls::Hall;
-use table_recorded::Opening;
+use table_shared::{Hall, Opening};
 
 /// What threads tell one another without a lock.
 #[derive(Drop)]

@@ -8,10 +8,10 @@ ghost use Rattle.std.specs.Option.{option_map};
 ghost use Rattle.ledger.specs.Shares.{nothing};
 ghost use Rattle.engine_queues.specs.Gathered.{numbers_of, takings_of};
 ghost use Rattle.engine_queues.specs.Jobs.{hand};
-ghost use Rattle.engine_visits.specs.Visits.{idle, on_table_of};
-ghost use Rattle.engine_reader.specs.Shown.{queued_of, reading, shown};
-ghost use Rattle.engine_roles.specs.Reads.{beginning, HasReadAll};
-ghost use Rattle.engine_roles.specs.Writes.{none_got, HasWrittenAll};
+ghost use Rattle.engine_turns.specs.Visits.{idle, on_table_of};
+ghost use Rattle.engine_turns.specs.Shown.{queued_of, reading, shown};
+ghost use Rattle.engine_turns.specs.Reads.{beginning, HasReadAll};
+ghost use Rattle.engine_turns.specs.Writes.{none_got, HasWrittenAll};
 ghost use Rattle.engine_threads.specs.Ended.{IsShared};
 ghost use Rattle.engine_threads.specs.Worked.{did, does_shared, made_by, AreUnused, BidsFarewell, IsStaffed, WorkedEach};
 
@@ -24,19 +24,17 @@ use crate::running::Parts;
 use crate::working::Staff;
 use backing::Calls;
 use engine::{LinkIn, LinkOut, Settings};
-use engine_jobs::Job;
+use engine_queues::Job;
 use engine_queues::passes::Passes;
-use engine_roles::Shares;
-use engine_workers::Reply;
+use engine_turns::{Reply, Shares};
 use handles::Dirs;
 use ledger::Ledgers;
+use shared_history::Front;
 use std::alloc::Global;
 use std::marker::Brand;
 use std::sync::Wait;
 use std::thread::Threads;
-use table_halls::Hall;
-use table_histories::Front;
-use table_recorded::{Entry, Opening, Runs};
+use table_shared::{Entry, Hall, Opening, Runs};
 
 /// What a session has before its queues, beside its workers.
 pub struct Ground<H: Drop, T: Ledgers, N: Opening, I: LinkIn + Drop, O: LinkOut + Drop> {

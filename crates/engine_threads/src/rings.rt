@@ -4,18 +4,16 @@ ghost use Rattle.std.specs.Prelude.{◌≡◌, ◌<◌, [], true, false, length,
 ghost use Rattle.crossbeam_channel.specs.Claims.{view, IsSeatAt};
 ghost use Rattle.crossbeam_channel.specs.Ends.{sends_on, receives_on};
 ghost use Rattle.engine_queues.specs.Jobs.{hand};
-ghost use Rattle.engine_roles.specs.Writes.{none_got};
+ghost use Rattle.engine_turns.specs.Writes.{none_got};
 
 use crate::farewell::Starter;
 use crate::turns::JOINED;
 use crossbeam_channel::bounded_with;
 use engine::Settings;
-use engine_jobs::Job;
+use engine_queues::Job;
 use engine_queues::jobs::{Fair, Hand, JobPass, JobReceiver, JobSender};
 use engine_queues::letters::{InOrder, Letter, ReplyLane, ReplyPass, ReplyReceiver, ReplySender};
-use engine_reader::Reader;
-use engine_roles::{Kept, Shares};
-use engine_workers::{Reply, Writer};
+use engine_turns::{Kept, Reader, Reply, Shares, Writer};
 use ledger::Ledgers;
 use std::alloc::Global;
 

@@ -8,13 +8,12 @@ use crate::running::Crew;
 use crate::starting::Working;
 use crate::working::{Staff, WorkerEnd};
 use backing::Calls;
-use engine_jobs::Job;
+use engine_queues::Job;
 use engine_queues::passes::Passes;
-use engine_roles::Shares;
-use engine_workers::Reply;
+use engine_turns::{Reply, Shares};
 use ledger::Ledgers;
 use std::alloc::Global;
-use table_recorded::Opening;
+use table_shared::Opening;
 
 /// Room for what all leave, with nothing in it.
 pub struct Rooms<T: Ledgers, N: Opening, C: Calls + Drop> {

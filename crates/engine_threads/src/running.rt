@@ -6,10 +6,10 @@ ghost use Rattle.crossbeam_channel.specs.Claims.{view, IsSeatAt};
 ghost use Rattle.crossbeam_channel.specs.Ends.{sends_on, receives_on};
 ghost use Rattle.std.specs.Option.{option_map};
 ghost use Rattle.engine_queues.specs.Gathered.{numbers_of, takings_of};
-ghost use Rattle.engine_visits.specs.Visits.{idle, on_table_of};
-ghost use Rattle.engine_reader.specs.Shown.{queued_of, reading, shown};
-ghost use Rattle.engine_roles.specs.Reads.{beginning, HasReadAll};
-ghost use Rattle.engine_roles.specs.Writes.{none_got, HasWrittenAll};
+ghost use Rattle.engine_turns.specs.Visits.{idle, on_table_of};
+ghost use Rattle.engine_turns.specs.Shown.{queued_of, reading, shown};
+ghost use Rattle.engine_turns.specs.Reads.{beginning, HasReadAll};
+ghost use Rattle.engine_turns.specs.Writes.{none_got, HasWrittenAll};
 ghost use Rattle.engine_threads.specs.Ended.{IsShared};
 ghost use Rattle.engine_threads.specs.Worked.{did, does_shared, made_by, AreUnused, BidsFarewell, IsStaffed, WorkedEach};
 
@@ -19,20 +19,17 @@ use crate::starting::{Working, join_all, start_all};
 use crate::working::{Staff, WorkerEnd};
 use backing::Calls;
 use engine::{LinkIn, LinkOut, Settings};
-use engine_jobs::Job;
+use engine_queues::Job;
 use engine_queues::jobs::JobSender;
 use engine_queues::letters::ReplySender;
-use engine_reader::Reader;
-use engine_roles::{Kept, ReaderRole, Sink, Sleepers, Source, WriterRole};
-use engine_workers::{Reply, Writer};
+use engine_turns::{Kept, Reader, ReaderRole, Reply, Sink, Sleepers, Source, Writer, WriterRole};
 use handles::Dirs;
 use ledger::Ledgers;
+use shared_history::Front;
 use std::alloc::Global;
 use std::sync::{Arc, Mutex, Wait};
 use std::thread::Threads;
-use table_halls::Hall;
-use table_histories::Front;
-use table_recorded::{Entry, Opening, Runs};
+use table_shared::{Entry, Hall, Opening, Runs};
 
 /// What the threads of a session will share.
 pub struct Parts<H: Drop, T: Ledgers, N: Opening, I: LinkIn + Drop, O: LinkOut + Drop> {

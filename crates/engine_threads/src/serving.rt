@@ -6,11 +6,11 @@ ghost use Rattle.engine.specs.declared.ends.SessionEnd.TheVariants as end;
 ghost use Rattle.std.specs.List.{All, range_with_len};
 ghost use Rattle.std.specs.Option.{option_map};
 ghost use Rattle.engine_queues.specs.Gathered.{numbers_of, takings_of};
-ghost use Rattle.engine_reader.specs.Shown.{queued_of, shown};
-ghost use Rattle.engine_roles.specs.Reads.{HasReadAll};
+ghost use Rattle.engine_turns.specs.Shown.{queued_of, shown};
+ghost use Rattle.engine_turns.specs.Reads.{HasReadAll};
 ghost use Rattle.ledger.specs.Shares.{nothing};
 ghost use Rattle.ledger.specs.Sums.{totals_over};
-ghost use Rattle.table_recorded.specs.Histories.{Made, history_of, last_world};
+ghost use Rattle.table_shared.specs.Histories.{Made, history_of, last_world};
 ghost use Rattle.table_steps.specs.Kept.{world_of};
 ghost use Rattle.table_steps.specs.World.{opened_world};
 ghost use Rattle.engine_threads.specs.Ended.{EndsAs, IsShared};
@@ -22,16 +22,16 @@ use crate::fronts::{Fronts, hall_of};
 use crate::queued::{Ground, serve_queued};
 use backing::Calls;
 use engine::{LinkIn, LinkOut, SessionEnd, Settings, remove_leftovers};
-use engine_roles::Shares;
+use engine_turns::Shares;
 use handles::Dirs;
 use ledger::{Blanks, Ledgers};
+use shared_history::Opened;
 use std::alloc::Global;
 use std::marker::Brand;
 use std::sync::Wait;
 use std::thread::Threads;
 use table::{Counts, Limits, Seeds, Table};
-use table_histories::Opened;
-use table_recorded::{Entry, Opening};
+use table_shared::{Entry, Opening};
 
 /// Both ends of the way to a client.
 #[derive(Drop)]

@@ -3,24 +3,23 @@
 ghost use Rattle.std.specs.Prelude.{◌≡◌, ◌<◌, ◌≤◌, [], map, IfSome, vec_len, vec_capacity};
 ghost use Rattle.std.specs.List.{All};
 ghost use Rattle.crossbeam_channel.specs.Ends.{sends_on, receives_on};
-ghost use Rattle.engine_visits.specs.Visits.{on_table_of};
+ghost use Rattle.engine_turns.specs.Visits.{on_table_of};
 ghost use Rattle.engine_threads.specs.Worked.{does_shared, IsOver, IsStaffed};
 
 use crate::places::Shared;
 use crate::working::{Staff, WorkerEnd};
 use backing::Calls;
 use engine::{LinkIn, LinkOut, Settings};
-use engine_jobs::Job;
+use engine_queues::Job;
 use engine_queues::jobs::JobSender;
 use engine_queues::letters::ReplySender;
-use engine_roles::{Sink, Source};
-use engine_workers::Reply;
+use engine_turns::{Reply, Sink, Source};
 use ledger::Ledgers;
 use std::snapshot::Snapshot;
 use std::sync::{Arc, Wait};
 use std::thread;
 use std::thread::{Promise, PromisedHandle, Threads};
-use table_recorded::Opening;
+use table_shared::Opening;
 
 /// What a worker's thread keeps.
 #[derive(Drop)]
@@ -36,7 +35,7 @@ pub struct WorkerKeeps<C> {
 impl<T: Ledgers, N: Opening, C: Calls + Drop> Promise<WorkerEnd<T, N, C>> for WorkerKeeps<C> {
     ghost use Rattle.std.specs.Prelude.{◌≡◌};
     ghost use Rattle.crossbeam_channel.specs.Ends.{sends_on};
-    ghost use Rattle.engine_visits.specs.Visits.{on_table_of};
+    ghost use Rattle.engine_turns.specs.Visits.{on_table_of};
     ghost use Rattle.engine_threads.specs.Worked.{does_shared, IsOver};
 
     ghost kept_by = { λ p r. (r.passes.number ≡ p.number) × (r.given.value ≡ p.calls.value) × IsOver (sends_on p.jobs.value) (sends_on p.replies.value) (does_shared C.gives) p.settings p.calls.value r.passes r.handed_back r.calls r.kept.share (on_table_of r.front) };

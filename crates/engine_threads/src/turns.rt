@@ -4,23 +4,20 @@ ghost use Rattle.std.specs.Prelude.{◌≡◌, List, Option};
 ghost use Rattle.crossbeam_channel.specs.Claims.{view};
 ghost use Rattle.crossbeam_channel.specs.Ends.{sends_on, receives_on};
 ghost use Rattle.table_steps.specs.Answers.{Settlement};
-ghost use Rattle.engine_visits.specs.Visits.{on_table_of};
-ghost use Rattle.engine_workers.specs.Turns.{means, outbox, standing};
-ghost use Rattle.engine_workers.specs.Works.{WorkedAll};
+ghost use Rattle.engine_turns.specs.Visits.{on_table_of};
+ghost use Rattle.engine_turns.specs.Turns.{means, outbox, standing};
+ghost use Rattle.engine_turns.specs.Works.{WorkedAll};
 ghost use Rattle.engine_threads.specs.Worked.{does_shared};
 
 use crate::places::Common;
 use backing::Calls;
 use engine::{LinkIn, LinkOut, Served};
-use engine_roles::{Kept, Sink, Source, WriterRole};
-use engine_visits::Visitor;
-use engine_workers::{BATCH, Turn, Worker};
+use engine_turns::{BATCH, Kept, Sink, Source, Turn, Visitor, Worker, WriterRole};
 use handles::Dirs;
 use ledger::Ledgers;
 use std::sync::atomic::Ordering;
 use std::sync::{MutexGuard, Wait};
-use table_halls::Hall;
-use table_recorded::Opening;
+use table_shared::{Hall, Opening};
 
 /// How many jobs a thread works on before it has to see that none of their replies waits. They go out together then. Four threads leave no
 /// more replies than their queue has places, so nobody waits for a place there: where all threads did, nobody would be left who offers.

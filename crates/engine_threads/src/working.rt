@@ -2,24 +2,22 @@
 
 ghost use Rattle.std.specs.Prelude.{◌≡◌};
 ghost use Rattle.crossbeam_channel.specs.Ends.{sends_on, receives_on};
-ghost use Rattle.engine_visits.specs.Visits.{on_table_of};
+ghost use Rattle.engine_turns.specs.Visits.{on_table_of};
 ghost use Rattle.engine_threads.specs.Worked.{does_shared, IsOver, IsStaffed};
 
 use crate::places::{Common, Shared};
 use crate::turns::{read, take_turns};
 use backing::Calls;
 use engine::{LinkIn, LinkOut, Served};
-use engine_jobs::Job;
+use engine_queues::Job;
 use engine_queues::passes::Passes;
-use engine_roles::{Kept, Sink, Source};
-use engine_visits::Visitor;
-use engine_workers::{Reply, Worker};
+use engine_turns::{Kept, Reply, Sink, Source, Visitor, Worker};
 use ledger::Ledgers;
+use shared_history::Front;
 use std::snapshot::Snapshot;
 use std::sync::Wait;
 use std::sync::atomic::Ordering;
-use table_histories::Front;
-use table_recorded::{Entry, Opening, Runs};
+use table_shared::{Entry, Opening, Runs};
 
 /// A worker with its share, its front of the table's history, and its directory.
 pub struct Staff<T: Ledgers, N: Opening, C: Calls + Drop> {

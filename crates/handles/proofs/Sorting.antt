@@ -16,7 +16,7 @@ use Rattle.backing.specs.declared.call.Kind.TheVariants.{Folder, File}
 use Rattle.backing.specs.declared.call.Child.{Child}
 use Rattle.backing.specs.Calls.{kind_in, EachOnce}
 use Rattle.handles.specs.Names.{is_lawful, by_name}
-use Rattle.hidden_names.specs.Hidden.{is_reserved}
+use Rattle.paths.specs.Hidden.{is_reserved}
 use Rattle.handles.specs.Listings.{is_each_once, are_lawful, IsInOrder, Shows, folder_at}
 use Rattle.handles.proofs.Orders.{by_name_total, same_from_equal, equal_from_same, equal_flips, below_from}
 

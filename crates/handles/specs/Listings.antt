@@ -7,7 +7,7 @@ use Rattle.backing.specs.declared.call.Kind.TheVariants as kinds
 use Rattle.backing.specs.declared.call.Child.{Child}
 use Rattle.backing.specs.Calls.{kind_in}
 use Rattle.handles.specs.Names.{is_lawful, by_name}
-use Rattle.hidden_names.specs.Hidden.{is_reserved}
+use Rattle.paths.specs.Hidden.{is_reserved}
 use Rattle.handles.specs.declared.listing.ListingFault.{ListingFault}
 use Rattle.handles.specs.declared.listing.ListingFault.TheVariants.{Lawless, Memory}
 

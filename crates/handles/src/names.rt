@@ -5,11 +5,11 @@ ghost use Rattle.std.specs.List.{AllPass, filter};
 ghost use Rattle.std.specs.List.Sorted.{IsPermutation, IsSorted, IsStrictlySortedBy};
 ghost use Rattle.handles.specs.Listings.{are_lawful, IsInOrder};
 ghost use Rattle.handles.specs.Names.{is_lawful, by_name};
-ghost use Rattle.hidden_names.specs.Hidden.{is_reserved};
+ghost use Rattle.paths.specs.Hidden.{is_reserved};
 
 use backing::{Child, Children};
-use hidden_names::is_reserved;
 use paths::Name;
+use paths::reserved::is_reserved;
 use std::cmp::Ordering;
 
 /// The most bytes of a name (own).

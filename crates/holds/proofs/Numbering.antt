@@ -6,8 +6,8 @@ use Rattle.std.specs.Cmp.Lexicographic.{bytes_decides, pointwise_decides}
 use Rattle.std.proofs.lemmas.Bool.{cases_Bool, cond-false, cond-true, false≢true}
 use Rattle.std.proofs.lemmas.List.Folds.{list_any-append}
 use Rattle.paths.specs.Prefixes.{Names, is_prefix}
-use Rattle.steady_map.specs.Living.{found, joined, live, living}
-use Rattle.steady_map.proofs.Entries.{none_living}
+use Rattle.collections.specs.Living.{found, joined, live, living}
+use Rattle.collections.proofs.Entries.{none_living}
 use Rattle.indexmap.specs.IndexMap.{IndexMap}
 use Rattle.holds.specs.declared.held.Held.{Held}
 use Rattle.holds.specs.declared.numbers.Holders.{Holders}

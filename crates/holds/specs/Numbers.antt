@@ -2,7 +2,7 @@
 use Rattle.std.specs.Prelude.{ℕ, ◌+◌, ◌*◌, ◌^◌, ◌<◌, ◌≤◌, ◌≡◌, ◌⊎◌, nat_eq, if◌then◌else◌, Bool, List, Some, Any, unwrap_or}
 use Rattle.std.specs.Cmp.Lexicographic.{pointwise}
 use Rattle.paths.specs.Prefixes.{Names}
-use Rattle.steady_map.specs.Living.{found, live, places}
+use Rattle.collections.specs.Living.{found, live, places}
 use Rattle.holds.specs.declared.held.Held.{Held}
 use Rattle.holds.specs.declared.numbers.Holders.{Holders}
 use Rattle.holds.specs.declared.numbers.HoldNumbers.{HoldNumbers}

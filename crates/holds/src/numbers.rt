@@ -5,18 +5,18 @@
 
 ghost use Rattle.std.specs.Prelude.{◌≡◌, ◌<◌, ◌≤◌, ◌+◌, ◌*◌, ◌^◌, ◌↔◌, ◌++◌, ◌∷◌, [], true, false, if◌then◌else◌, Any, IfOk, IsTrue, OnErr, OnOk, length};
 ghost use Rattle.paths.specs.Prefixes.{Names};
-ghost use Rattle.steady_map.specs.Living.{live, places};
+ghost use Rattle.collections.specs.Living.{live, places};
 ghost use Rattle.holds.specs.Conflicts.{is_among};
 ghost use Rattle.holds.specs.Numbers.{Adds, AreNumbers, HasPlaces, IsHeldUp, Raises, counted_in, holders_on, is_same_path, no_holders};
 
 use crate::finding::contains;
 use crate::held::Held;
 use crate::names_under::NameUnder;
+use collections::steady_map::{make_places, put_back, replace, set, take, value_by, value_of};
 use indexmap::IndexMap;
 use paths::{Name, Path};
 use std::alloc::{AllocError, Global};
 use std::hash::RandomState;
-use steady_map::{make_places, put_back, replace, set, take, value_by, value_of};
 
 /// How many requests hold a path.
 #[derive(Clone, Copy)]

@@ -4,17 +4,17 @@ use Rattle.std.specs.Str.Parse.{IsNumeral, without_leading_plus, digits_value}
 use Rattle.clap.specs.Words.{App, Row, Rule, Text, first_of, new_app, new_rule, one_of, with_rule, with_subcommand}
 use Rattle.clap.specs.declared.builder.action.ArgAction.TheVariants.{Set, SetTrue}
 use Rattle.clap.specs.declared.builder.value_parser.ValueParser.TheVariants.{Signed}
-use Rattle.ops.specs.declared.attributes.Settings.{Settings}
-use Rattle.ops.specs.declared.attributes.Settings.TheVariants.{Fixed, Host}
-use Rattle.mirrord_sessions.specs.declared.terms.Bounds.{Bounds}
-use Rattle.mirrord_sessions.specs.declared.terms.Terms.{Terms}
+use Rattle.terms.specs.declared.settings.Settings.{Settings}
+use Rattle.terms.specs.declared.settings.Settings.TheVariants.{Fixed, Host}
+use Rattle.terms.specs.declared.terms.Bounds.{Bounds}
+use Rattle.terms.specs.declared.terms.Terms.{Terms}
 use Rattle.mirrord_commands.specs.declared.options.Options.{Options}
 use Rattle.mirrord_commands.specs.declared.options.Options.TheVariants.{Serve, Pipe, Device, Hex, Refused}
 use Rattle.mirrord_commands.specs.declared.refusals.Refusal.{Refusal}
 use Rattle.mirrord_commands.specs.declared.refusals.Refusal.TheVariants.{Attributes, Owner}
 use Rattle.mirrord_commands.specs.declared.refusals.Refusal.TheVariants as refusals
-use Rattle.table_steps.specs.declared.data.Counts.{Counts}
-use Rattle.table_steps.specs.declared.data.Counts.TheVariants.{Bounded, Free}
+use Rattle.terms.specs.declared.limits.Counts.{Counts}
+use Rattle.terms.specs.declared.limits.Counts.TheVariants.{Bounded, Free}
 
 -- ---- what may be written
 

@@ -9,11 +9,9 @@ use crate::arguments::DEFAULT_POSTINGS;
 use crate::command::command;
 use crate::refusals::Refusal;
 use clap::{ArgMatches, Error};
-use engine::Settings;
-use mirrord_sessions::{Bounds, Terms};
 use std::alloc::Global;
 use std::convert::AsStr;
-use table::Counts;
+use terms::{Bounds, Counts, Settings, Terms};
 
 /// What a command line asks for.
 #[derive(Clone, Copy, Debug, PartialEq, Eq)]

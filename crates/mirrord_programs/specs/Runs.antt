@@ -10,15 +10,15 @@ use Rattle.engine_streams.specs.Device.{Got}
 use Rattle.engine_streams.specs.declared.device.Device.{Device}
 use Rattle.mirrord_sessions.specs.Folders.{ServesDevice, ServesSocket}
 use Rattle.mirrord_sessions.specs.declared.folder.Unserved.{Unserved}
-use Rattle.mirrord_sessions.specs.declared.terms.Terms.{Terms}
+use Rattle.terms.specs.declared.terms.Terms.{Terms}
 use Rattle.mirrord_server.specs.Workers.{ServesDeviceBy, ServesWorkers}
 use Rattle.mirrord_commands.specs.declared.faults.Failure.TheVariants.{NoDevice}
 use Rattle.mirrord_commands.specs.Faults.{status_of}
 use Rattle.mirrord_commands.specs.CommandLine.{mirrord_app, IsAsked}
 use Rattle.mirrord_commands.specs.declared.options.Options.{Options}
 use Rattle.mirrord_commands.specs.declared.options.Options.TheVariants as options
-use Rattle.mirrord_streams.specs.Ends.{Tells}
-use Rattle.mirrord_streams.specs.Runs.{IsEnded, IsRefusedBy, IsUnserved, RunsPipe, RunsSeeded}
+use Rattle.mirrord_sessions.specs.Ends.{Tells}
+use Rattle.mirrord_sessions.specs.Runs.{IsEnded, IsRefusedBy, IsUnserved, RunsPipe, RunsSeeded}
 use Rattle.mirrord_programs.specs.declared.folders.Serving.{Serving}
 
 -- ---- the program `serve`

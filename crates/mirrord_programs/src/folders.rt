@@ -7,7 +7,7 @@ use crate::standing::{enter, enter_beside};
 use engine_streams::{Device, ReadRequest, WriteReply};
 use mirrord_commands::{Failure, tell};
 use mirrord_server::{Terms, serve_device, serve_device_by, serve_socket, serve_socket_by};
-use mirrord_streams::{Ended, failure_after, status_after, tell_any};
+use mirrord_sessions::{Ended, failure_after, status_after, tell_any};
 use std::fs::File;
 use std::io::Write;
 use std::net::Net;

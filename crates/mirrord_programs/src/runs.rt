@@ -7,7 +7,7 @@ use crate::folders::{FolderServed, Serving, device_run, serve_run};
 use crate::standard::Standard;
 use engine_streams::{ReadRequest, WriteReply};
 use mirrord_commands::{Options, read_options};
-use mirrord_streams::{Ended, explain, pipe_run, refuse, run_hex};
+use mirrord_sessions::{Ended, explain, pipe_run, refuse, run_hex};
 use std::convert::AsStr;
 use std::fs::File;
 use std::io::{BufRead, Write};

@@ -3,18 +3,18 @@ use Rattle.std.proofs.Common.{ℕ, ◌+◌, ◌<◌, ◌≡◌, ◌⊎◌, List,
 use Rattle.std.specs.List.{range_with_len}
 use Rattle.crossbeam_channel.specs.Claims.{view}
 use Rattle.backing_folder.specs.Explained.{Tells}
-use Rattle.table_recorded.specs.Histories.{Made}
+use Rattle.table_shared.specs.Histories.{Made}
 use Rattle.engine.specs.declared.ends.SessionEnd.{SessionEnd}
 use Rattle.engine.specs.declared.ends.SessionEnd.TheVariants as end
-use Rattle.engine_reader.specs.Shown.{queued_of, shown}
-use Rattle.engine_roles.specs.Reads.{HasReadAll}
+use Rattle.engine_turns.specs.Shown.{queued_of, shown}
+use Rattle.engine_turns.specs.Reads.{HasReadAll}
 use Rattle.engine_threads.specs.Ended.{EndsAs, IsShared}
 use Rattle.engine_threads.specs.Served.{HasServed}
 use Rattle.engine_queues.specs.Gathered.{numbers_of}
 use Rattle.engine_threads.specs.declared.ended.Account.{Account}
-use Rattle.mirrord_sessions.specs.Sessions.{limits_of}
+use Rattle.terms.specs.Limits.{limits_of}
 use Rattle.mirrord_server.specs.Workers.{ServesLinks, BothEnds}
-use Rattle.mirrord_sessions.specs.declared.terms.Terms.{Terms}
+use Rattle.terms.specs.declared.terms.Terms.{Terms}
 
 -- by what was made of the folders
 pub served_by : {I O : Type 0} (by : BothEnds I O) (terms : Terms) (workers : ℕ) (folders : List ℕ) (input : I) (output : O) (account : Option Account) (over : SessionEnd)

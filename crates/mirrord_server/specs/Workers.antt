@@ -3,13 +3,13 @@ use Rattle.std.specs.Prelude.{ℕ, ◌<◌, ◌+◌, ◌≡◌, ◌⊎◌, List,
 use Rattle.std.specs.List.{range_with_len}
 use Rattle.crossbeam_channel.specs.Claims.{view}
 use Rattle.backing_folder.specs.Explained.{Tells}
-use Rattle.table_recorded.specs.Histories.{Made}
+use Rattle.table_shared.specs.Histories.{Made}
 use Rattle.engine.specs.Links.{Heard}
 use Rattle.engine.specs.declared.ends.SessionEnd.{SessionEnd}
 use Rattle.engine.specs.declared.ends.SessionEnd.TheVariants as end
 use Rattle.engine.specs.declared.links.Sent.{Sent}
-use Rattle.engine_reader.specs.Shown.{queued_of, shown}
-use Rattle.engine_roles.specs.Reads.{HasReadAll}
+use Rattle.engine_turns.specs.Shown.{queued_of, shown}
+use Rattle.engine_turns.specs.Reads.{HasReadAll}
 use Rattle.engine_streams.specs.Device as device
 use Rattle.engine_streams.specs.declared.device.DeviceFault.{DeviceFault}
 use Rattle.engine_streams.specs.Device.{Got, OnDevice}
@@ -19,9 +19,9 @@ use Rattle.engine_threads.specs.Ended.{EndsAs, IsShared}
 use Rattle.engine_threads.specs.Served.{HasServed}
 use Rattle.engine_queues.specs.Gathered.{numbers_of}
 use Rattle.engine_threads.specs.declared.ended.Account.{Account}
-use Rattle.mirrord_sessions.specs.Sessions.{limits_of}
+use Rattle.terms.specs.Limits.{limits_of}
 use Rattle.mirrord_sessions.specs.declared.folder.Unserved.{Unserved}
-use Rattle.mirrord_sessions.specs.declared.terms.Terms.{Terms}
+use Rattle.terms.specs.declared.terms.Terms.{Terms}
 
 -- what a link may bring, and what may become of bytes that are sent over another
 pub record BothEnds (I O : Type 0) : Type 1 where

@@ -6,7 +6,7 @@ use Rattle.backing_folder.specs.Explained.{Tells}
 use Rattle.engine_streams.specs.Device.{Got, OnDevice, Receives, Sends, unused}
 use Rattle.engine_streams.specs.declared.device.DeviceFault.{DeviceFault}
 use Rattle.mirrord_sessions.specs.Sessions.{ServesLink}
-use Rattle.mirrord_sessions.specs.declared.terms.Terms.{Terms}
+use Rattle.terms.specs.declared.terms.Terms.{Terms}
 
 -- from its beginning
 pub device_served : {R W : Type 0} (gives : R → Got → R → Type 0) (takes : W → List ℕ → Result ℕ DeviceFault → W → Type 0) (terms : Terms) (requests : R) (replies : W) (folder : ℕ) (first last : OnDevice R W) (over : SessionEnd)

@@ -6,8 +6,8 @@ use Rattle.backing.specs.declared.call.Answer.{Answer}
 use Rattle.engine.specs.Serving.{Gives, Traffic, made_of, turns_of}
 use Rattle.engine.proofs.Runs.{chain_append}
 use Rattle.engine.specs.declared.ends.SessionEnd.{SessionEnd}
-use Rattle.mirrord_sessions.specs.declared.terms.Terms.{Terms}
-use Rattle.engine_workers.proofs.KnownRuns.{known_run}
+use Rattle.terms.specs.declared.terms.Terms.{Terms}
+use Rattle.engine.proofs.KnownRuns.{known_run}
 use Rattle.mirrord_sessions.specs.Known.{KnownCalls, ServesKnown}
 use Rattle.mirrord_sessions.specs.Sessions.{ServesLink}
 

@@ -1,3 +1,5 @@
 pub mod Devices
 pub mod KnownRuns
 pub mod Streaming
+pub mod Sampling
+pub mod Writing

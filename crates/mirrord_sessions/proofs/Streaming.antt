@@ -2,7 +2,7 @@
 use Rattle.std.proofs.Common.{ℕ, ◌≡◌, List, [], Option, inl, inr, subst}
 use Rattle.engine.specs.Serving.{events_of, traffic}
 use Rattle.engine.specs.declared.ends.SessionEnd.{SessionEnd}
-use Rattle.mirrord_sessions.specs.declared.terms.Terms.{Terms}
+use Rattle.terms.specs.declared.terms.Terms.{Terms}
 use Rattle.backing_folder.specs.Explained.{Tells}
 use Rattle.mirrord_sessions.specs.Folders.{IsFolderServed, ServesStream}
 use Rattle.mirrord_sessions.specs.Sessions.{ServesLink}

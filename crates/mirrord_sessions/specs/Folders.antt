@@ -4,7 +4,7 @@ use Rattle.std.specs.Io.KnownBytes.{Appends, Consumes}
 use Rattle.engine.specs.Serving.{events_of, heard_of, traffic}
 use Rattle.engine.specs.declared.ends.SessionEnd.{SessionEnd}
 use Rattle.engine.specs.declared.ends.SessionEnd.TheVariants as end
-use Rattle.mirrord_sessions.specs.declared.terms.Terms.{Terms}
+use Rattle.terms.specs.declared.terms.Terms.{Terms}
 use Rattle.backing_folder.specs.Explained.{Tells}
 use Rattle.engine_streams.specs.Device as device
 use Rattle.engine_streams.specs.declared.device.DeviceFault.{DeviceFault}

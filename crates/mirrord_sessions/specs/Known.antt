@@ -6,8 +6,8 @@ use Rattle.backing.specs.declared.call.Answer.{Answer}
 use Rattle.engine.specs.Serving.{made_of, turns_of, Traffic}
 use Rattle.engine.specs.declared.ends.SessionEnd.{SessionEnd}
 use Rattle.engine.specs.declared.ends.SessionEnd.TheVariants as end
-use Rattle.engine_workers.specs.Known.{KnownRun}
-use Rattle.mirrord_sessions.specs.declared.terms.Terms.{Terms}
+use Rattle.engine.specs.Known.{KnownRun}
+use Rattle.terms.specs.declared.terms.Terms.{Terms}
 use Rattle.mirrord_sessions.specs.Sessions.{IsServed}
 
 -- what calls of a directory may answer that tells the tree in it and its count of failures

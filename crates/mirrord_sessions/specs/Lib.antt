@@ -1,3 +1,8 @@
 pub mod Folders
 pub mod Known
 pub mod Sessions
+pub mod Counting
+pub mod Ends
+pub mod Lines
+pub mod Runs
+pub mod Samples

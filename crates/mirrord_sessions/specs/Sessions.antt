@@ -1,5 +1,5 @@
 -- A session with a table of its own.
-use Rattle.std.specs.Prelude.{max, ◌≡◌, ◌⊎◌, ℕ, ◌*◌}
+use Rattle.std.specs.Prelude.{◌≡◌, ◌⊎◌}
 use Rattle.std.specs.Borrow.{Bor}
 use Rattle.backing.specs.Calls.{Asked}
 use Rattle.backing.specs.declared.call.Answer.{Answer}
@@ -10,27 +10,9 @@ use Rattle.engine.specs.Serving.{around, does, IsSessionRun, Traffic}
 use Rattle.engine.specs.Tables.{worlds}
 use Rattle.engine.specs.declared.ends.SessionEnd.{SessionEnd}
 use Rattle.engine.specs.declared.ends.SessionEnd.TheVariants as end
-use Rattle.mirrord_sessions.specs.declared.terms.Bounds.{Bounds}
-use Rattle.mirrord_sessions.specs.declared.terms.Terms.{Terms}
+use Rattle.terms.specs.declared.terms.Terms.{Terms}
 use Rattle.table_steps.specs.World.{World, opened_world}
-use Rattle.table_steps.specs.declared.data.Limits.{Limits}
-use Rattle.table_steps.specs.declared.data.Counts.{Counts}
-use Rattle.table_steps.specs.declared.data.Counts.TheVariants.{Bounded, Free}
-
--- where counts are free a period may have at least two postings a node
-abbrev pub postings_of : Counts → (nodes postings : ℕ) → ℕ
-postings_of Bounded nodes postings = postings
-postings_of Free nodes postings = max postings (2 * nodes)
-
--- how far a table may grow; the root always has room
-abbrev pub limits_of : Bounds → Limits
-limits_of bounds = record {
-  nodes = max bounds.nodes 1;
-  postings = postings_of bounds.counts (max bounds.nodes 1) bounds.postings;
-  counts = bounds.counts;
-  flights = bounds.requests;
-  files = bounds.files;
-}
+use Rattle.terms.specs.Limits.{limits_of}
 
 -- how far the open folders may grow (own)
 abbrev pub folder_limits : FolderLimits

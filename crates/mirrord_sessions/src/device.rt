@@ -4,7 +4,6 @@ ghost use Rattle.mirrord_sessions.specs.Folders.{ServesDevice};
 
 use crate::folder::{Unserved, open_seeded};
 use crate::hosting::serve_alone;
-use crate::terms::Terms;
 use engine::SessionEnd;
 use engine_streams::{Device, DeviceLink, ReadRequest, WriteReply};
 use std::fs::File;
@@ -12,6 +11,7 @@ use std::random::RandomSource;
 use std::rt::Files;
 use std::sync::Wait;
 use std::time::Clock;
+use terms::Terms;
 
 /// Serves the folder at `root` to the kernel whose requests and replies go over `device`, until nothing is mounted there any more.
 pub fn serve_device<

@@ -5,7 +5,6 @@ ghost use Rattle.mirrord_sessions.specs.Folders.{IsFolderServed, ServesFolder};
 ghost use Rattle.mirrord_sessions.specs.declared.folder.Unserved.TheVariants.{NoSocket};
 
 use crate::hosting::serve_alone;
-use crate::terms::Terms;
 use backing_folder::{Folder, System};
 use engine::SessionEnd;
 use engine_streams::StreamLink;
@@ -17,6 +16,7 @@ use std::rt::Files;
 use std::sync::Wait;
 use std::time::Clock;
 use table::Seeds;
+use terms::Terms;
 
 /// Why nothing is served.
 #[derive(Clone, Copy, Debug, PartialEq, Eq)]

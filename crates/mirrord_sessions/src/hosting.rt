@@ -5,7 +5,6 @@ ghost use Rattle.engine.specs.Serving.{traffic};
 ghost use Rattle.mirrord_sessions.specs.Known.{known_calls, ServesKnown};
 ghost use Rattle.mirrord_sessions.specs.Sessions.{folder_limits, ServesLink};
 
-use crate::terms::Terms;
 use backing::{Calls, KnownTree};
 use engine::{Link, Served, SessionEnd, serve};
 use handles::Dirs;
@@ -14,6 +13,7 @@ use std::alloc::Global;
 use std::marker::Brand;
 use std::sync::Wait;
 use table::{Seeds, Table};
+use terms::Terms;
 
 /// Serves a tree and these open folders over a link with a table of one share.
 fn serve_new<H: Wait, T: Ledgers, L: Link, C: Calls + Drop>(

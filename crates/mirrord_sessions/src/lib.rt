@@ -1,16 +1,26 @@
-//! Sessions that one thread serves: with a table of their own, from a folder of the system, over a stream, a Unix socket or the kernel's FUSE device.
+//! Sessions that one thread serves: with a table of their own, from a folder of the system, over a stream or a Unix socket. With them the
+//! programs over a reader and a writer, `pipe` and `hex`, and how each program ends.
 #![tactic(auto)]
 
 mod device;
+mod ended;
 mod folder;
+mod hexadecimal;
 mod hosting;
 mod place;
+mod refused;
+mod runs;
+mod samples;
 mod socket;
-mod terms;
 
 pub use device::serve_device;
+pub use ended::{Ended, failure_after, failure_of, status_after, tell_any};
 pub use folder::{Served, Unserved, new_seeds, open_folder, serve_folder};
+pub use hexadecimal::HexLink;
 pub use hosting::{serve_alone, serve_known};
 pub use place::Place;
+pub use refused::{explain, refuse};
+pub use runs::{hex_run, pipe_run, run_hex};
+pub use samples::new_tree;
 pub use socket::{RECEIVED, serve_socket};
 pub use terms::{Bounds, Terms};

@@ -5,7 +5,6 @@ ghost use Rattle.mirrord_sessions.specs.Folders.{ServesSocket};
 
 use crate::folder::{Unserved, open_seeded, serve_opened};
 use crate::place::Place;
-use crate::terms::Terms;
 use backing_folder::{Folder, System};
 use engine::SessionEnd;
 use engine_streams::{Holding, Polling};
@@ -18,6 +17,7 @@ use std::rt::Files;
 use std::sync::Wait;
 use std::time::Clock;
 use table::Seeds;
+use terms::Terms;
 
 /// How many bytes one receive of the system takes at most.
 pub const RECEIVED: usize = 131_072;

@@ -15,7 +15,7 @@ use Rattle.wire.proofs.Listed.{given_len, length-dirent, plus_parts}
 use Rattle.ops.specs.Folders.{names_bytes}
 use Rattle.ops.specs.Replies.{entries_bytes, first, kind_of, plus_entry, plus_from}
 use Rattle.ops.specs.declared.findings.Found.{Found}
-use Rattle.ops.specs.declared.attributes.Settings.{Settings}
+use Rattle.terms.specs.declared.settings.Settings.{Settings}
 
 filled : (n : ℕ) → n + (8 - n % 8) % 8 ≡ (n + 7) / 8 * 8
 filled n = omega arith

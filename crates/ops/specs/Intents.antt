@@ -9,7 +9,7 @@ use Rattle.table_files.specs.declared.data.Need.{Need}
 use Rattle.table_files.specs.declared.data.Need.TheVariants as need
 use Rattle.table_requests.specs.declared.data.Want.{Want}
 use Rattle.table_requests.specs.declared.data.Want.TheVariants as wants
-use Rattle.hidden_names.specs.Hidden.{is_reserved}
+use Rattle.paths.specs.Hidden.{is_reserved}
 use Rattle.wire.specs.declared.reply.ReplyBody.{ReplyBody}
 use Rattle.wire.specs.declared.reply.ReplyBody.TheVariants.{Failed, StatFs}
 use Rattle.wire.specs.Pairs.{pairs_in}
@@ -21,8 +21,8 @@ use Rattle.ops.specs.declared.intents.FolderUse.{FolderUse}
 use Rattle.ops.specs.declared.intents.FolderUse.TheVariants as uses
 use Rattle.ops.specs.declared.intents.Intent.{Intent as Coded}
 use Rattle.ops.specs.declared.intents.Intent.TheVariants as coded
-use Rattle.ops.specs.declared.attributes.Settings.{Settings}
-use Rattle.ops.specs.declared.attributes.Settings.TheVariants.{Fixed, Host}
+use Rattle.terms.specs.declared.settings.Settings.{Settings}
+use Rattle.terms.specs.declared.settings.Settings.TheVariants.{Fixed, Host}
 use Rattle.ops.specs.declared.wanted.Wanted.{Wanted}
 use Rattle.ops.specs.declared.wanted.Wanted.TheVariants as wanted
 

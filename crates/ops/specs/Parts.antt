@@ -7,8 +7,8 @@ use Rattle.backing.specs.declared.call.Time.{Time}
 use Rattle.wire.specs.declared.request.NewAttributes.{NewAttributes}
 use Rattle.wire.specs.declared.request.Time.{Time as Told}
 use Rattle.ops.specs.declared.parts.Parts.{Parts}
-use Rattle.ops.specs.declared.attributes.Settings.{Settings}
-use Rattle.ops.specs.declared.attributes.Settings.TheVariants.{Fixed, Host}
+use Rattle.terms.specs.declared.settings.Settings.{Settings}
+use Rattle.terms.specs.declared.settings.Settings.TheVariants.{Fixed, Host}
 
 -- a value counts where its bit of `valid` is set
 abbrev pub counted : {X : Type 0} → (valid bit : ℕ) → X → Option X

@@ -23,8 +23,8 @@ use Rattle.wire.specs.declared.reply.ReplyBody.TheVariants as body
 use Rattle.ops.specs.declared.findings.Found.{Found}
 use Rattle.ops.specs.declared.findings.ScriptResult.{ScriptResult}
 use Rattle.ops.specs.declared.findings.ScriptResult.TheVariants as findings
-use Rattle.ops.specs.declared.attributes.Settings.{Settings}
-use Rattle.ops.specs.declared.attributes.Settings.TheVariants.{Fixed, Host}
+use Rattle.terms.specs.declared.settings.Settings.{Settings}
+use Rattle.terms.specs.declared.settings.Settings.TheVariants.{Fixed, Host}
 use Rattle.ops.specs.Pages.{Paged}
 
 abbrev pub kind_of : Told → Kind

@@ -9,7 +9,7 @@ ghost use Rattle.ops.specs.Replies.{entries_bytes, first, plus_entry};
 ghost use Rattle.wire.specs.Dirents.{plus_bytes};
 ghost use Rattle.wire.specs.declared.reply.ReplyBody.TheVariants.{Data as Told};
 
-use crate::attributes::{Settings, kind_of};
+use crate::attributes::kind_of;
 use crate::findings::Found;
 use crate::replies::entry_of;
 use backing::Child;
@@ -19,6 +19,7 @@ use payload::Payload;
 use std::alloc::{AllocError, Global};
 use std::marker::Model;
 use table_requests::{Given, Names, Want};
+use terms::Settings;
 use wire::{ReplyBody, encode_plus_dirent};
 
 /// A page with entries of its own, which outlives its listing.

@@ -2,15 +2,15 @@
 
 ghost use Rattle.std.specs.Prelude.{◌≡◌};
 ghost use Rattle.std.specs.List.{list_any};
-ghost use Rattle.hidden_names.specs.Hidden.{is_reserved};
+ghost use Rattle.paths.specs.Hidden.{is_reserved};
 ghost use Rattle.ops.specs.Intents.{intent_in, has_handle, intended, intent, names_of, needed_to_set, refused, reserved_errno, rename_intent, set_intent, sets_details, sets_other, sets_size};
 
-use crate::attributes::Settings;
 use crate::opening::{by_handle, create_intent, open_intent};
 use crate::wanted::Wanted;
 use errno::{EINVAL, ENOENT, EPERM};
-use hidden_names::is_reserved;
+use paths::reserved::is_reserved;
 use table_files::Need;
+use terms::Settings;
 use wire::{Forgotten, Operation, ReplyBody, Request};
 
 /// What a request needs.

@@ -21,7 +21,6 @@ mod setting;
 mod telling;
 mod wanted;
 
-pub use attributes::Settings;
 pub use entries::{Paged, entries_reply};
 pub use findings::{Found, ScriptResult};
 pub use folders::names_reply;
@@ -29,4 +28,5 @@ pub use intents::{FolderUse, Intent, intent_of};
 pub use looks::Looked;
 pub use replies::{file_reply, opened_reply, reply_to};
 pub use script::Script;
+pub use terms::Settings;
 pub use wanted::Wanted;

@@ -4,8 +4,8 @@ ghost use Rattle.std.specs.Prelude.{◌≡◌, ◌<◌, ◌==◌};
 ghost use Rattle.std.specs.Int.{bit_at};
 ghost use Rattle.ops.specs.Parts.{counted, made_with, new_time, parts_of, permissions_of, time_at};
 
-use crate::attributes::Settings;
 use backing::{NewTime, Time};
+use terms::Settings;
 use wire::NewAttributes;
 
 /// What is set of a node, each part if it is asked for.

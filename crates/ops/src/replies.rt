@@ -5,12 +5,13 @@ ghost use Rattle.ops.specs.Ahead.{IsOfNoPage};
 ghost use Rattle.ops.specs.Pages.{Paged};
 ghost use Rattle.ops.specs.Replies.{created_reply, entry_of, entry_reply, file_reply, first, handle_reply, opened_reply, reply_to};
 
-use crate::attributes::{Settings, attributes_of};
+use crate::attributes::attributes_of;
 use crate::findings::{Found, ScriptResult};
 use errno::{EBADF, EIO, ENFILE};
 use table::Answered;
 use table_files::OpenFile;
 use table_requests::Given;
+use terms::Settings;
 use wire::{Entry, ReplyBody};
 
 /// What was given for the first name of a request, if anything.

@@ -4,9 +4,8 @@
 ghost use Rattle.std.specs.Prelude.{◌≡◌, ◌<◌, [], IfOk, OnErr};
 ghost use Rattle.ops.specs.Ahead.{calls_left, end_of, plan_ahead, plan_ending, told_of, unless, LooksAtEach};
 ghost use Rattle.ops.specs.Scripts.{after, at_names, if_done, look, next_of, plan_of, release, AsksNext, End, Over, Plan};
-ghost use Rattle.ops.specs.declared.attributes.Settings.{Settings as Whose};
+ghost use Rattle.terms.specs.declared.settings.Settings.{Settings as Whose};
 
-use crate::attributes::Settings;
 use crate::findings::ScriptResult;
 use crate::hiding::{Hiding, start_unlink, unhidden};
 use crate::judging::{errno_in, judge};
@@ -20,6 +19,7 @@ use errno::EIO;
 use paths::Path;
 use std::alloc::{AllocError, Global};
 use table::Ticket;
+use terms::Settings;
 use wire::Operation;
 
 /// How a script ends.

@@ -3,7 +3,7 @@ use Rattle.std.proofs.Common.{ℕ, ◌≡◌, ◌⊎◌, inl, inr, refl, sym, ap
 use Rattle.ledger.specs.declared.shares.Totals.{Totals}
 use Rattle.ledger.specs.Shares.{Part, plus}
 use Rattle.ledger.specs.Sums.{totals_over}
-use Rattle.table_steps.specs.declared.data.Counts.TheVariants.{Bounded, Free}
+use Rattle.terms.specs.declared.limits.Counts.TheVariants.{Bounded, Free}
 use Rattle.table_steps.specs.declared.state.State.{State}
 use Rattle.table_steps.specs.Kept.{IsKept, IsWhole, world_of}
 use Rattle.table_steps.specs.Steps.{ClosesPeriod, MakesRoom}

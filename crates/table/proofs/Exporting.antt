@@ -28,7 +28,8 @@ use Rattle.table_image.specs.declared.data.Hold.{Hold}
 use Rattle.table_image.specs.declared.data.Image.{Image}
 use Rattle.table_image.specs.declared.data.Record.{Record}
 use Rattle.table_image.specs.declared.data.Stage.TheVariants.{Working, Answered}
-use Rattle.table_image.specs.Law.{AreApart, AreCounts, AreHoldsCounted, AreKnown, IsGivenPath, IsKnownFile, IsLawfulImage, periods_in, is_kept, is_pinned, exclusive_of, sharers_of}
+use Rattle.table_law.specs.Law.{IsGivenPath, IsKnownFile}
+use Rattle.table_image.specs.ImageLaw.{AreApart, AreCounts, AreHoldsCounted, AreKnown, IsLawfulImage, periods_in, is_kept, is_pinned, exclusive_of, sharers_of}
 use Rattle.table_image.proofs.Exported.{ListsBelow, ListsBelow-all, IsLawfulImage-shows, Mirrors, is_pinned-mirrors, ids-mirrors}
 use Rattle.table_steps.specs.declared.state.State.{State}
 use Rattle.table.specs.Copies.{IsCopyOf, held_of, exclusive_in_all, sharers_in, stage_of}

@@ -19,7 +19,7 @@ use Rattle.table_requests.specs.Listed.{InFlight, flight_in, requests_of, HaveOw
 use Rattle.table_requests.proofs.Lookups.{flight_in_found, found_flight}
 use Rattle.table_image.specs.declared.data.Hold.{Hold}
 use Rattle.table_image.specs.declared.data.Record.{Record}
-use Rattle.table_image.specs.Law.{AreCounts, exclusive_of, holds_exclusively, sharers_of, shares}
+use Rattle.table_image.specs.ImageLaw.{AreCounts, exclusive_of, holds_exclusively, sharers_of, shares}
 use Rattle.table_image.specs.Parts.{IsStored}
 use Rattle.table_image.proofs.Counted.{among_contains, contains_among, count_none, count_some, stored_not_absent}
 use Rattle.table_image.proofs.Exported.{IsHeldBySome, ListsHeld, Stores}

@@ -1,6 +1,6 @@
 -- How far the last period has come is one thing.
 use Rattle.std.proofs.Common.{ℕ, ◌+◌, ◌≡◌, length, subst, sym, ◌∙◌, arith}
-use Rattle.sums.proofs.Once.{sum_once}
+use Rattle.collections.proofs.Once.{sum_once}
 use Rattle.table_steps.specs.World.{World}
 use Rattle.table.specs.Made.{IsDueBy, IsMade}
 use Rattle.table.specs.Renewing.{IsDue}

@@ -7,7 +7,7 @@ use Rattle.table_image.specs.declared.data.Image.{Image}
 use Rattle.table_image.specs.declared.data.Record.{Record}
 use Rattle.table_image.specs.declared.data.Stage.{Stage as Shown}
 use Rattle.table_image.specs.declared.data.Stage.TheVariants as shown
-use Rattle.table_image.specs.Law.{AreHoldsCounted, periods_in}
+use Rattle.table_image.specs.ImageLaw.{AreHoldsCounted, periods_in}
 use Rattle.table_steps.specs.World.{Answered, RequestInFlight, Stage, Working, World}
 
 abbrev pub stage_shown : Stage → Shown

@@ -2,7 +2,7 @@
 use Rattle.std.specs.Prelude.{ℕ, ◌<◌, ◌≡◌, ◌↔◌, true, List, Some, All, AllPairs, Contains}
 use Rattle.std.specs.List.{AllZip}
 use Rattle.paths.specs.Prefixes.{Names}
-use Rattle.hidden_names.specs.Hidden.{is_reserved}
+use Rattle.paths.specs.Hidden.{is_reserved}
 use Rattle.tree.specs.declared.nodes.Key.{Key}
 use Rattle.tree.specs.declared.nodes.Node.{Node}
 use Rattle.tree.specs.declared.nodes.Place.TheVariants.{Named}

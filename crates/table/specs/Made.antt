@@ -1,6 +1,6 @@
 -- How far the last period of a table has come.
 use Rattle.std.specs.Prelude.{ℕ, ◌+◌, ◌*◌, ◌/◌, ◌<◌, ◌≤◌, ◌≡◌, length}
-use Rattle.sums.specs.Sum.{IsSum}
+use Rattle.collections.specs.Sum.{IsSum}
 use Rattle.table.specs.declared.periods.Made.{Made}
 use Rattle.table_steps.specs.World.{World}
 

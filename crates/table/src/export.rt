@@ -3,7 +3,7 @@
 ghost use Rattle.std.specs.Prelude.{◌≡◌, ◌+◌, ◌↔◌, [], ◌∷◌, All, IfOk, IsTrue, OnOk};
 ghost use Rattle.std.specs.List.{AllZip};
 ghost use Rattle.table_image.proofs.Exported.{IsHeldBySome, ListsBelow, ListsHeld, Stores};
-ghost use Rattle.table_image.specs.Law.{AreCounts, IsLawfulImage};
+ghost use Rattle.table_image.specs.ImageLaw.{AreCounts, IsLawfulImage};
 ghost use Rattle.table_image.specs.Parts.{IsStored};
 ghost use Rattle.table.specs.Copies.{IsCopyOf, held_of, exclusive_in_all, sharers_in, stage_of};
 ghost use Rattle.table.specs.Exports.{Exports};

@@ -5,9 +5,9 @@ ghost use Rattle.table_steps.specs.Kept.{IsKept, world_of};
 ghost use Rattle.table.specs.Leftovers.{AreLeftBelow, AreLeftovers, IsHidden};
 ghost use Rattle.tree.specs.Places.{at_in};
 
-use hidden_names::is_reserved;
 use holds::Paths;
 use paths::Path;
+use paths::reserved::is_reserved;
 use std::alloc::{AllocError, Global};
 use table_steps::State;
 use tree::{Node, Place, Tree};

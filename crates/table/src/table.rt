@@ -6,7 +6,7 @@ ghost use Rattle.ledger.specs.Shares.{nothing, plus, sum_of};
 ghost use Rattle.ledger.specs.Periods.{up_to};
 ghost use Rattle.ledger.specs.Sums.{totals_of, totals_over};
 ghost use Rattle.table.specs.Made.{IsMade};
-ghost use Rattle.table_image.specs.Law.{IsLawfulImage};
+ghost use Rattle.table_image.specs.ImageLaw.{IsLawfulImage};
 ghost use Rattle.table.specs.Exports.{Exports};
 ghost use Rattle.table.specs.Leftovers.{AreLeftovers};
 ghost use Rattle.table_steps.specs.Kept.{world_of};

@@ -5,9 +5,9 @@ use Rattle.std.proofs.lemmas.Bool.{cases_eq, cond-false, cond-true, eq-eqb, ne_e
 use Rattle.std.proofs.lemmas.Option.{none-some, same_Some}
 use mathlib.Core.Path.{fun_ext}
 use Rattle.indexmap.specs.IndexMap.{IndexMap}
-use Rattle.steady_map.specs.Living.{found, live}
-use Rattle.sums.specs.Sum.{IsSum}
-use Rattle.sums.proofs.Changing.{part_of_sum, sum_changed, sum_with, sum_without}
+use Rattle.collections.specs.Living.{found, live}
+use Rattle.collections.specs.Sum.{IsSum}
+use Rattle.collections.proofs.Changing.{part_of_sum, sum_changed, sum_with, sum_without}
 use Rattle.table_files.specs.Counts.{AddUpTo, openings_in}
 
 at_number : {X : Type 0} (n m : ℕ) (x y : X) → n ≡ m → (if nat_eq n m then x else y) ≡ x

@@ -9,8 +9,8 @@ use Rattle.std.proofs.lemmas.List.Sums.{count_by-le-length, sum_by-remove, sum_b
 use Rattle.std.specs.declared.alloc.Global.{Global}
 use Rattle.std.specs.Map.{lookup}
 use Rattle.indexmap.specs.IndexMap.{IndexMap, IsUnchanged}
-use Rattle.steady_map.specs.Living.{found, joined, living, places}
-use Rattle.sums.specs.Sum.{IsSum}
+use Rattle.collections.specs.Living.{found, joined, living, places}
+use Rattle.collections.specs.Sum.{IsSum}
 use Rattle.table_files.specs.Counts.{AddUpTo, openings_in}
 use Rattle.table_files.specs.declared.counts.Counts.{Counts}
 use Rattle.table_files.specs.declared.data.OpenFile.{OpenFile}

@@ -7,8 +7,8 @@ use Rattle.std.proofs.lemmas.Bool.{cases_Bool, cases_eq, cases_lt, eq-eqb, eqb-t
 use Rattle.std.proofs.lemmas.List.Folds.{Any-from_list_any, list_any_at}
 use Rattle.std.proofs.lemmas.List.Sums.{sum_by-cons}
 use Rattle.std.specs.declared.alloc.Global.{Global}
-use Rattle.sums.specs.Sum.{IsSum}
-use Rattle.sums.proofs.Keyed.{HaveOwnKeys, found_at, not_found, sum_found, where_found}
+use Rattle.collections.specs.Sum.{IsSum}
+use Rattle.collections.proofs.Keyed.{HaveOwnKeys, found_at, not_found, sum_found, where_found}
 use Rattle.table_files.specs.declared.data.OpenFile.{OpenFile}
 use Rattle.table_files.specs.declared.listed.OpenEntry.{OpenEntry}
 use Rattle.table_files.specs.Handles.{AreOpenEntries, of_node}

@@ -9,7 +9,7 @@ use Rattle.std.proofs.lemmas.List.Folds.{list_any-append}
 use Rattle.std.proofs.lemmas.List.Quantifiers.{all_pairs_push, all_pairs_remove}
 use mathlib.Core.Path.{fun_ext}
 use Rattle.std.specs.declared.alloc.Global.{Global}
-use Rattle.sums.proofs.Keyed.{found_at, found-push, found-remove}
+use Rattle.collections.proofs.Keyed.{found_at, found-push, found-remove}
 use Rattle.table_files.specs.declared.data.Access.TheVariants.{Both}
 use Rattle.table_files.specs.declared.data.OpenFile.{OpenFile}
 use Rattle.table_files.specs.declared.listed.OpenEntry.{OpenEntry}

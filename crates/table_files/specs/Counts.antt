@@ -1,8 +1,8 @@
 -- How many files of each node are open, by the node's number.
 use Rattle.std.specs.Prelude.{ℕ, ◌+◌, ◌-◌, ◌<◌, ◌≡◌, nat_eq, Option, Some, unwrap_or}
 use Rattle.indexmap.specs.IndexMap.{IndexMap}
-use Rattle.steady_map.specs.Living.{found, live}
-use Rattle.sums.specs.Sum.{IsSum}
+use Rattle.collections.specs.Living.{found, live}
+use Rattle.collections.specs.Sum.{IsSum}
 
 module _ {S : Type 0} where
   -- how many files of the node are open, as it is kept

@@ -1,6 +1,6 @@
 -- Open files, as contracts see them: by their handles.
 use Rattle.std.specs.Prelude.{ℕ, ◌+◌, ◌-◌, ◌||◌, ◌<◌, ◌≤◌, ◌≡◌, ◌==◌, ◌↔◌, Bool, true, false, if◌then◌else◌, Option, Some, None}
-use Rattle.sums.specs.Sum.{IsSum}
+use Rattle.collections.specs.Sum.{IsSum}
 use Rattle.table_files.specs.declared.data.Access.{Access}
 use Rattle.table_files.specs.declared.data.Access.TheVariants as access
 use Rattle.table_files.specs.declared.data.Need.{Need}

@@ -2,7 +2,7 @@
 use Rattle.std.specs.Prelude.{ℕ, ◌+◌, ◌*◌, ◌<◌, ◌≤◌, ◌≡◌, ◌==◌, Bool, All, AllPairs, List, Vec, count_by, find, length, option_map, vec_len, vec_capacity}
 use Rattle.std.specs.List.{list_any}
 use Rattle.std.specs.declared.alloc.Global.{Global}
-use Rattle.steady_map.specs.Living.{places}
+use Rattle.collections.specs.Living.{places}
 use Rattle.table_files.specs.Counts.{AddUpTo, openings_in}
 use Rattle.table_files.specs.declared.counts.Counts.{Counts}
 use Rattle.table_files.specs.declared.listed.OpenEntry.{OpenEntry}

@@ -2,12 +2,12 @@
 
 ghost use Rattle.std.specs.Prelude.{◌≡◌, ◌<◌, ◌≤◌, ◌+◌, ◌-◌, ◌*◌, ◌^◌, ℕ, nat_eq, if◌then◌else◌, IsOk, OnOk};
 ghost use Rattle.indexmap.specs.IndexMap.{IsUnchanged};
-ghost use Rattle.steady_map.specs.Living.{live, places};
+ghost use Rattle.collections.specs.Living.{live, places};
 ghost use Rattle.table_files.specs.Counts.{openings_in, AddUpTo};
 
+use collections::steady_map::{make_places, put, set, take_out, value_of};
 use indexmap::IndexMap;
 use std::alloc::{AllocError, Global};
-use steady_map::{make_places, put, set, take_out, value_of};
 
 /// How many files of each node are open: a number stands there for each node with one.
 #[derive(Drop)]

@@ -1,7 +1,7 @@
 //! Open files, each under a handle of its own.
 
 ghost use Rattle.std.specs.Prelude.{◌≡◌, ◌<◌, ◌≤◌, ◌+◌, ◌^◌, ◌==◌, AllPairs, IfNone, IfSome, IsOk, OnOk};
-ghost use Rattle.sums.specs.Sum.{IsSum};
+ghost use Rattle.collections.specs.Sum.{IsSum};
 ghost use Rattle.table_files.specs.declared.listed.OpenEntry.{OpenEntry};
 ghost use Rattle.table_files.specs.OpenEntry.{file_in, files_of, opened_in};
 ghost use Rattle.table_files.specs.Handles.{AreOpenEntries, after_close, after_open, no_files, of_node};

@@ -13,8 +13,8 @@ use Rattle.table_requests.specs.declared.data.Case.TheVariants as cases
 use Rattle.table_requests.specs.declared.data.Want.{Want}
 use Rattle.table_requests.specs.declared.data.Want.TheVariants as wants
 use Rattle.paths.specs.Prefixes.{Names, path_bytes}
-use Rattle.sums.specs.Sum.{IsSum}
-use Rattle.sums.proofs.Once.{sum_once}
+use Rattle.collections.specs.Sum.{IsSum}
+use Rattle.collections.proofs.Once.{sum_once}
 use Rattle.tree.specs.declared.nodes.Node.{Node}
 use Rattle.tree.specs.declared.nodes.Place.{Place}
 use Rattle.tree.specs.declared.nodes.Place.TheVariants as place

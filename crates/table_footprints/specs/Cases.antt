@@ -7,7 +7,7 @@ use Rattle.table_requests.specs.declared.data.Case.TheVariants as cases
 use Rattle.table_requests.specs.declared.data.Want.{Want}
 use Rattle.table_requests.specs.declared.data.Want.TheVariants as wants
 use Rattle.paths.specs.Prefixes.{Name, Names, path_bytes}
-use Rattle.sums.specs.Sum.{IsSum}
+use Rattle.collections.specs.Sum.{IsSum}
 use Rattle.tree.specs.declared.nodes.Node.{Node}
 use Rattle.tree.specs.Places.{Lookup, Nodes, IsFree, IsNamed, IsPathOf, at_in}
 use Rattle.table_footprints.specs.Footprints.{Footprint, AtName, are_same, footprint_of}

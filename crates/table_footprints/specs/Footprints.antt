@@ -3,7 +3,7 @@
 use Rattle.std.specs.Prelude.{ℕ, zero, suc, ◌++◌, ◌==◌, ◌&&◌, Bool, true, false, List, [], ◌∷◌, Option, Some, None, length, map}
 use Rattle.table_files.specs.declared.data.Access.{Access}
 use Rattle.table_files.specs.declared.data.Need.TheVariants.{Any}
-use Rattle.hidden_names.specs.Hidden.{candidate, hidden_name}
+use Rattle.paths.specs.Hidden.{candidate, hidden_name}
 use Rattle.paths.specs.Prefixes.{Name, is_name}
 use Rattle.tree.specs.declared.nodes.Key.{Key}
 use Rattle.table_requests.specs.declared.data.Case.{Case}

@@ -1,7 +1,7 @@
 -- A change of names keeps marked nodes at reserved names, where it moves a name that is not reserved or moves it to one that is.
 use Rattle.std.proofs.Common.{ℕ, ◌≡◌, ◌⊎◌, Bool, true, false, Some, None, refl, sym, ap, ◌∙◌, subst, inl, inr}
 use Rattle.std.proofs.lemmas.Bool.{cases_eq}
-use Rattle.hidden_names.specs.Hidden.{is_reserved}
+use Rattle.paths.specs.Hidden.{is_reserved}
 use Rattle.paths.specs.Prefixes.{Names}
 use Rattle.tree.specs.declared.nodes.Node.{Node}
 use Rattle.tree.specs.Moves.{after_cut, after_exchange, after_move, at_path}

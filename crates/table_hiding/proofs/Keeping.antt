@@ -3,7 +3,7 @@ use Rattle.std.proofs.Common.{ℕ, ◌≡◌, ◌⊎◌, Bool, true, List, [], �
 use Rattle.std.proofs.lemmas.Bool.{cases_eq, true≢false}
 use Rattle.std.proofs.lemmas.List.{reverse-reverse}
 use Rattle.std.proofs.lemmas.Option.{none-some, same_Some}
-use Rattle.hidden_names.specs.Hidden.{is_reserved}
+use Rattle.paths.specs.Hidden.{is_reserved}
 use Rattle.paths.specs.Prefixes.{Name, Names}
 use Rattle.tree.specs.declared.nodes.Key.{Key}
 use Rattle.tree.specs.declared.nodes.Node.{Node}
@@ -18,7 +18,7 @@ use Rattle.table.proofs.Closing.{renewed_is}
 use Rattle.table_steps.specs.Answers.{Answer, Settlement}
 use Rattle.table_steps.specs.declared.data.Begin.{Begin}
 use Rattle.table_steps.specs.declared.data.Begin.TheVariants.{Go, Busy, Refused}
-use Rattle.table_steps.specs.declared.data.Limits.{Limits}
+use Rattle.terms.specs.declared.limits.Limits.{Limits}
 use Rattle.table_steps.specs.declared.data.Outcome.{Outcome}
 use Rattle.table_steps.specs.World.{IsLawfulWorld, World, opened_world}
 use Rattle.table_hiding.specs.Hiding.{ArePathsOfMarked, IsBegunUnreserved, IsUnreserved, KeepsHidden}

@@ -2,7 +2,7 @@
 use Rattle.std.proofs.Common.{ℕ, zero, suc, ◌≡◌, Bool, true, false, List, [], ◌∷◌, ◌++◌, Option, Some, None, All, Contains, map, refl, sym, ap, ◌∙◌, subst}
 use Rattle.std.specs.List.{slice_get}
 use Rattle.std.proofs.lemmas.List.Elements.{All-contains, All-head, All-map, All-nil, All-push, All-tail}
-use Rattle.hidden_names.specs.Hidden.{candidate, hidden_name, is_reserved}
+use Rattle.paths.specs.Hidden.{candidate, hidden_name, is_reserved}
 use Rattle.paths.specs.Prefixes.{Name}
 use Rattle.table_requests.specs.declared.data.Case.{Case}
 use Rattle.table_requests.specs.declared.data.Case.TheVariants as cases

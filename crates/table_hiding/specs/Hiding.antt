@@ -2,7 +2,7 @@
 use Rattle.std.specs.Prelude.{ℕ, ◌<◌, ◌≡◌, ◌↔◌, true, false, List, [], ◌∷◌, Some, All, AllPairs, Contains}
 use Rattle.std.specs.List.{AllZip}
 use Rattle.paths.specs.Prefixes.{Name, Names}
-use Rattle.hidden_names.specs.Hidden.{is_reserved}
+use Rattle.paths.specs.Hidden.{is_reserved}
 use Rattle.tree.specs.declared.nodes.Node.{Node}
 use Rattle.tree.specs.Places.{Lookup, IsPathOf}
 use Rattle.table_requests.specs.declared.data.Want.{Want}

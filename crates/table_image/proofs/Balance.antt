@@ -15,7 +15,7 @@ use Rattle.ledger.proofs.Touches.{cases_pair}
 use Rattle.tree.specs.declared.nodes.Node.{Node}
 use Rattle.tree.specs.Listed.{node_at, IsDistinct}
 use Rattle.tree.proofs.LookupLemmas.{with_same, with_other}
-use Rattle.table_image.specs.Law.{IsUnborne}
+use Rattle.table_law.specs.Law.{IsUnborne}
 use Rattle.table_image.specs.Parts.{AreCountsExact, AreOthersSettled, entered_in_all, given_in_all, counts_in_all}
 
 -- ---- without the postings of living nodes

@@ -14,7 +14,7 @@ use Rattle.table_image.specs.declared.data.Hold.{Hold}
 use Rattle.table_image.specs.declared.data.Record.{Record}
 use Rattle.table_image.specs.declared.data.Stage.{Stage}
 use Rattle.table_image.specs.declared.data.Stage.TheVariants.{Working, Answered}
-use Rattle.table_image.specs.Law.{is_working, shares, holds_exclusively, AreHoldsCounted}
+use Rattle.table_image.specs.ImageLaw.{is_working, shares, holds_exclusively, AreHoldsCounted}
 use Rattle.table_image.specs.Parts.{IsHoldCount, HaveOtherPaths, IsStored, AreStored}
 
 -- ---- counts and paths

@@ -18,7 +18,8 @@ use Rattle.paths.specs.Prefixes.{Names}
 use Rattle.table_image.specs.declared.data.Hold.{Hold}
 use Rattle.table_image.specs.declared.data.Image.{Image}
 use Rattle.table_image.specs.declared.data.Record.{Record}
-use Rattle.table_image.specs.Law.{AreApart, AreHoldsCounted, AreKnown, IsCountOf, IsKnownFile, IsLawful, IsLawfulImage, is_kept, is_pinned, periods_in}
+use Rattle.table_law.specs.Law.{IsKnownFile, IsLawful}
+use Rattle.table_image.specs.ImageLaw.{AreApart, AreHoldsCounted, AreKnown, IsCountOf, IsLawfulImage, is_kept, is_pinned, periods_in}
 use Rattle.table_image.specs.Parts.{IsStored}
 
 -- ---- the law, from what is said of each number

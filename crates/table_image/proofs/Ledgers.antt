@@ -13,7 +13,7 @@ use Rattle.ledger.specs.Periods.{Periods, posted, up_to}
 use Rattle.ledger.specs.Sums.{number_of, generation_of, is_birth, entered_by, given_by, births_of, entries_of, given_back_of, IsAllowed, IsNeverNegative}
 use Rattle.ledger.proofs.Balances.{entered_in, given_in}
 use Rattle.ledger.proofs.SumsLemmas.{never_negative-push}
-use Rattle.table_image.specs.Law.{IsBegun, MayOpen, MayStand, IsOrdered}
+use Rattle.table_law.specs.Law.{IsBegun, MayOpen, MayStand, IsOrdered}
 use Rattle.table_image.specs.Parts.{Begins}
 
 -- ---- births

@@ -12,7 +12,8 @@ use Rattle.ledger.specs.Sums.{births_of, carried_by, is_opening, IsCarriedOver}
 use Rattle.tree.specs.Places.{Lookup}
 use Rattle.table_image.specs.declared.data.Image.{Image}
 use Rattle.table_image.specs.declared.data.ImageOne.{ImageOne}
-use Rattle.table_image.specs.Law.{IsBegun, IsLawful, IsLawfulImage, IsOrdered, MayStand}
+use Rattle.table_law.specs.Law.{IsBegun, IsLawful, IsOrdered, MayStand}
+use Rattle.table_image.specs.ImageLaw.{IsLawfulImage}
 use Rattle.table_image.specs.LawOne.{IsLawfulImageOne, IsLawfulOne, IsOrderedOne, MayStandOne, births_among}
 
 -- with nothing closed no posting is an opening

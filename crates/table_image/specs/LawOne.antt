@@ -8,7 +8,8 @@ use Rattle.tree.specs.declared.nodes.Node.{Node}
 use Rattle.tree.specs.Places.{Lookup, IsTree}
 use Rattle.tree.specs.Listed.{node_at, IsDistinct}
 use Rattle.table_image.specs.declared.data.ImageOne.{ImageOne}
-use Rattle.table_image.specs.Law.{AreAlive, AreApart, AreHoldsCounted, AreKnown, AreMarksNamed, HasPlainRoot, HaveReasons, IsCounted, IsKnownFile, is_kept}
+use Rattle.table_law.specs.Law.{AreAlive, AreMarksNamed, HasPlainRoot, HaveReasons, IsCounted, IsKnownFile}
+use Rattle.table_image.specs.ImageLaw.{AreApart, AreHoldsCounted, AreKnown, is_kept}
 
 -- how often number n was born
 abbrev pub births_among : ℕ → List Posting → ℕ

@@ -2,7 +2,8 @@
 
 ghost use Rattle.std.specs.Prelude.{◌↔◌, IsTrue};
 ghost use Rattle.tree.specs.Listed.{node_at, IsDistinct};
-ghost use Rattle.table_image.specs.Law.{IsLawful, is_kept};
+ghost use Rattle.table_law.specs.Law.{IsLawful};
+ghost use Rattle.table_image.specs.ImageLaw.{is_kept};
 ghost use Rattle.table_image.specs.Parts.{AreBooked, AreNodesKept};
 
 mod births;
@@ -64,7 +65,7 @@ fn keep_law(
 }
 
 impl Image {
-    ghost use Rattle.table_image.specs.Law.{IsLawfulImage};
+    ghost use Rattle.table_image.specs.ImageLaw.{IsLawfulImage};
 
     /// Whether the image keeps the law of a table. It may hold any data.
     pub fn lawful(&self) -> bool

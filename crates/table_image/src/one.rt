@@ -7,7 +7,7 @@ use crate::data::{Image, ImageOne};
 use ledger::Totals;
 
 impl Image {
-    ghost use Rattle.table_image.specs.Law.{IsLawfulImage};
+    ghost use Rattle.table_image.specs.ImageLaw.{IsLawfulImage};
     ghost use Rattle.table_image.specs.LawOne.{IsLawfulImageOne};
 
     /// The same data, with no period closed. It takes no memory, and is lawful where the image was.

@@ -5,7 +5,7 @@ use Rattle.std.proofs.lemmas.List.Folds.{list_any-append, list_any_at, Any-from_
 use Rattle.std.specs.Prelude.{sum_by}
 use Rattle.std.proofs.lemmas.List.Sums.{sum_by-cons}
 use mathlib.Core.Path.{fun_ext}
-use Rattle.sums.specs.Sum.{IsSum}
+use Rattle.collections.specs.Sum.{IsSum}
 use Rattle.std.specs.declared.alloc.Global.{Global}
 use Rattle.table_requests.specs.declared.data.RequestInFlight.{RequestInFlight}
 use Rattle.table_requests.specs.RequestMaps.{files_promised, pins_number, pinning, nodes_promised, postings_promised, AreLawfulRequests, IsTallied}

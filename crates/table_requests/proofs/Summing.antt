@@ -1,7 +1,7 @@
 -- What the requests in flight weigh together.
 use Rattle.std.proofs.Common.{ℕ, List, sum_by}
-use Rattle.sums.specs.Sum.{IsSum}
-use Rattle.sums.proofs.Listing.{sum_listed}
+use Rattle.collections.specs.Sum.{IsSum}
+use Rattle.collections.proofs.Listing.{sum_listed}
 use Rattle.table_requests.specs.declared.data.RequestInFlight.{RequestInFlight}
 use Rattle.table_requests.specs.Listed.{HaveOwnIds, flight_in}
 

@@ -5,7 +5,7 @@ use Rattle.std.proofs.lemmas.Option.{same_Some}
 use Rattle.paths.specs.Prefixes.{Names as Path}
 use Rattle.table_files.specs.Handles.{Files, IsOpen}
 use Rattle.table_footprints.specs.Footprints.{Footprint}
-use Rattle.table_image.specs.Law.{HasReason, HaveReasons}
+use Rattle.table_law.specs.Law.{HasReason, HaveReasons}
 use Rattle.table_runs.specs.Laws.{AreForgottenGone, IsKeptByCount}
 use Rattle.table_steps.specs.Steps.{Forgets, Takes}
 use Rattle.table.specs.Renewing.{ForgetsAnew}

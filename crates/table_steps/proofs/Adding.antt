@@ -1,7 +1,7 @@
 -- What stands adds up to one number.
 use Rattle.std.proofs.Common.{◌≡◌, ap, ◌∙◌}
 use Rattle.table_requests.specs.declared.data.Promise.{Promise}
-use Rattle.sums.proofs.Once.{sum_once}
+use Rattle.collections.proofs.Once.{sum_once}
 use Rattle.table_steps.specs.World.{IsTally, Tally, World}
 
 promise_same : (p q : Promise) → p.nodes ≡ q.nodes → p.postings ≡ q.postings → p.files ≡ q.files → p ≡ q

@@ -19,7 +19,7 @@ use Rattle.tree.proofs.Transfers.{changed_count, changed_generation, changed_mar
 use Rattle.table_footprints.specs.Asked.{HasPath, IsProperPrefix, IsThere}
 use Rattle.table_footprints.specs.Footprints.{Location, AtName, AtNode}
 use Rattle.table_steps.specs.Steps.{Hides, none_there, one_there}
-use Rattle.table_image.specs.Law.{IsBegun}
+use Rattle.table_law.specs.Law.{IsBegun}
 use Rattle.table_steps.specs.Upheld.{IsBooked}
 use Rattle.table_steps.specs.World.{HaveNodes}
 use Rattle.table_steps.proofs.Lawful.{named_not_root}

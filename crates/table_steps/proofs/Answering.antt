@@ -22,7 +22,7 @@ use Rattle.table_steps.proofs.Ends.{ends_answered}
 use Rattle.table_steps.proofs.Filing.{kept_same}
 use Rattle.table_steps.proofs.Viewed.{IsFewer, at_work, fewer_at_work, fewer_held, fewer_idle, fewer_provided, fewer_ready, flights_with, recorded_at}
 use Rattle.table_steps.proofs.Few.{few_with, none_dropped}
-use Rattle.table_steps.specs.declared.data.Counts.TheVariants.{Free}
+use Rattle.terms.specs.declared.limits.Counts.TheVariants.{Free}
 use Rattle.table_requests.specs.declared.data.Stage.{Stage as Recording}
 
 -- ---- none is worked on

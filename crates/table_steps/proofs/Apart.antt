@@ -12,7 +12,7 @@ use Rattle.table_requests.specs.declared.data.Stage.TheVariants as recorded
 use Rattle.table_requests.specs.declared.data.Work.{Work as RecordedWork}
 use Rattle.table_requests.specs.RequestMaps as flying
 use Rattle.tree.specs.Places.{Lookup, IsTree}
-use Rattle.table_image.specs.Law.{IsGivenPath}
+use Rattle.table_law.specs.Law.{IsGivenPath}
 use Rattle.table_footprints.specs.Asked.{Holds}
 use Rattle.table_footprints.specs.Laws.{IsGrounded}
 use Rattle.table_footprints.specs.Footprints.{Footprint}

@@ -13,7 +13,7 @@ use Rattle.ledger.proofs.Touches.{Touches, cases_pair, entries_of-touched, given
 use Rattle.tree.specs.declared.nodes.Node.{Node}
 use Rattle.tree.specs.Places.{Lookup, with_node}
 use Rattle.tree.proofs.LookupLemmas.{with_same, with_other, with_some, cases_option}
-use Rattle.table_image.specs.Law.{IsBegun, MayStand, IsCounted, IsBornInOrder, HasPlainRoot, AreMarksNamed, AreAlive}
+use Rattle.table_law.specs.Law.{IsBegun, MayStand, IsCounted, IsBornInOrder, HasPlainRoot, AreMarksNamed, AreAlive}
 use Rattle.table_steps.specs.Swept.{IsSwept}
 use Rattle.table_steps.specs.Upheld.{IsBooked}
 use Rattle.table_steps.proofs.Ordered.{IsOrdered-push, begun_more}

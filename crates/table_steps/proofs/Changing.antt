@@ -8,7 +8,7 @@ use Rattle.tree.specs.Places.{Lookup, Nodes, at_in, IsTree}
 use Rattle.tree.specs.Moves.{after_cut, after_exchange, after_move}
 use Rattle.table_files.specs.OpenEntry.{files_of}
 use Rattle.table_requests.specs.Listed.{requests_of}
-use Rattle.table_image.specs.Law.{HasReason, HaveReasons}
+use Rattle.table_law.specs.Law.{HasReason, HaveReasons}
 use Rattle.table_footprints.specs.Footprints as footprints
 use Rattle.table_steps.specs.Keeping.{kept_by}
 use Rattle.table_steps.specs.declared.state.State.{State}

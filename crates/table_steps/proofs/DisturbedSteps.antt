@@ -5,8 +5,8 @@ use Rattle.std.proofs.lemmas.Option.{none-some, same_Some}
 use Rattle.ledger.specs.Periods.{Periods}
 use Rattle.paths.specs.Prefixes.{Name, Names}
 use Rattle.paths.proofs.PrefixLemmas.{is_prefix-same}
-use Rattle.sums.specs.Sum.{IsSum}
-use Rattle.sums.proofs.Changing.{part_of_sum, sum_without}
+use Rattle.collections.specs.Sum.{IsSum}
+use Rattle.collections.proofs.Changing.{part_of_sum, sum_without}
 use Rattle.table_files.specs.declared.data.OpenFile.{OpenFile}
 use Rattle.table_files.specs.Handles.{Files, IsOpen, of_node}
 use Rattle.table_footprints.specs.Asked.{HasPath, IsPrefixAt, IsThere}

@@ -9,7 +9,7 @@ use Rattle.table_requests.specs.declared.data.Given.{Given}
 use Rattle.tree.specs.declared.nodes.Key.{Key}
 use Rattle.tree.specs.Places.{Lookup}
 use Rattle.table_files.specs.Handles.{Files}
-use Rattle.table_image.specs.Law.{HaveReasons}
+use Rattle.table_law.specs.Law.{HaveReasons}
 use Rattle.table_footprints.specs.Footprints.{Opening, stays}
 use Rattle.table_steps.specs.Answers.{Answer}
 use Rattle.table_steps.specs.Ending.{ChangesNames, giving}

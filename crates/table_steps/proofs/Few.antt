@@ -7,8 +7,8 @@ use Rattle.table_requests.specs.declared.data.RequestInFlight.{RequestInFlight a
 use Rattle.table_requests.specs.declared.data.Stage.{Stage as Recording}
 use Rattle.table_requests.specs.declared.data.Stage.TheVariants as recorded
 use Rattle.table_requests.specs.RequestMaps.{RequestMaps, is_working, most_posted, with_flight, without_flight}
-use Rattle.table_steps.specs.declared.data.Counts.TheVariants.{Free}
-use Rattle.table_steps.specs.declared.data.Limits.{Limits}
+use Rattle.terms.specs.declared.limits.Counts.TheVariants.{Free}
+use Rattle.terms.specs.declared.limits.Limits.{Limits}
 use Rattle.table_steps.specs.Kept.{AreFew}
 
 module _ (limits : Limits) (old new : RequestMaps) (id : ℕ) where

@@ -19,7 +19,7 @@ use Rattle.paths.specs.Prefixes.{Name, Names}
 use Rattle.tree.specs.declared.nodes.Key.{Key}
 use Rattle.tree.specs.Places.{Lookup, IsPathOf, IsTree}
 use Rattle.tree.proofs.Climbing.{path_same}
-use Rattle.table_image.specs.Law.{HaveReasons}
+use Rattle.table_law.specs.Law.{HaveReasons}
 use Rattle.table_footprints.specs.Footprints.{page_keys, stays}
 use Rattle.table_steps.specs.declared.state.State.{State}
 use Rattle.table_steps.specs.Ending.{EntersName, GivesAll, MayEnter, MayFill, giving}

@@ -18,7 +18,7 @@ use Rattle.table_files.specs.OpenEntry.{Filing, files_of}
 use Rattle.table_files.specs.Handles.{AreOpenEntries}
 use Rattle.table_requests.specs.RequestMaps.{AreLawfulRequests}
 use Rattle.table_requests.specs.Listed.{InFlight, requests_of}
-use Rattle.table_image.specs.Law.{HaveReasons}
+use Rattle.table_law.specs.Law.{HaveReasons}
 use Rattle.table_steps.specs.Upheld.{IsUpheld}
 use Rattle.table_steps.specs.Keeping.{kept_by}
 use Rattle.table_steps.specs.declared.state.State.{State}

@@ -9,7 +9,7 @@ use Rattle.tree.specs.declared.nodes.Node.{Node}
 use Rattle.tree.specs.declared.nodes.Place.TheVariants.{Root, Named}
 use Rattle.tree.specs.Places.{Lookup, with_node, IsNamed, IsTree}
 use Rattle.tree.proofs.LookupLemmas.{with_same}
-use Rattle.table_image.specs.Law.{HaveReasons, AreAlive, IsBegun, IsLawful}
+use Rattle.table_law.specs.Law.{HaveReasons, AreAlive, IsBegun, IsLawful}
 use Rattle.table_steps.specs.Upheld.{IsUpheld}
 use Rattle.table_steps.specs.Swept.{IsSwept}
 use Rattle.table_steps.specs.Sweeping.{IsPruned}

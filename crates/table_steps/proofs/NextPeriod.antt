@@ -15,13 +15,13 @@ use Rattle.ledger.specs.Closing.{AreAllAlive, Closes, opening_of}
 use Rattle.ledger.specs.Periods.{Periods, up_to}
 use Rattle.ledger.specs.Sums.{births_closed, births_of, count_of, entries_of, generation_of, given_back_of, is_opening, number_of, IsCarriedOver}
 use Rattle.ledger.proofs.Closed.{closed_absent, closed_births, closed_given, closed_never, closed_present}
-use Rattle.sums.specs.Sum.{IsSum}
-use Rattle.sums.proofs.Members.{cases_in, first_in, later_in}
-use Rattle.sums.proofs.Once.{sum_once}
+use Rattle.collections.specs.Sum.{IsSum}
+use Rattle.collections.proofs.Members.{cases_in, first_in, later_in}
+use Rattle.collections.proofs.Once.{sum_once}
 use Rattle.tree.specs.declared.nodes.Node.{Node}
 use Rattle.tree.specs.Places.{Lookup, IsAlive, IsCensus}
 use Rattle.tree.proofs.LookupLemmas.{cases_option}
-use Rattle.table_image.specs.Law.{IsBegun, IsOrdered, MayOpen, MayStand}
+use Rattle.table_law.specs.Law.{IsBegun, IsOrdered, MayOpen, MayStand}
 use Rattle.table_steps.specs.Living.{AreLiving, IsLivingUpTo, AreLivingUpTo, opening_at}
 use Rattle.table_steps.specs.Steps.{AreOpenings, IsOpeningOf}
 use Rattle.table_steps.specs.Upheld.{IsBooked, IsUpheld}

@@ -23,7 +23,7 @@ use Rattle.table_steps.specs.declared.acts.Entries.{Entries as Entered}
 use Rattle.table_steps.specs.declared.acts.Entries.TheVariants.{Nothing, One, Page}
 use Rattle.table_steps.specs.declared.acts.Opens.{Opens as Opening_}
 use Rattle.table_steps.specs.declared.acts.Opens.TheVariants as opens
-use Rattle.table_steps.specs.declared.data.Limits.{Limits}
+use Rattle.terms.specs.declared.limits.Limits.{Limits}
 use Rattle.table_steps.specs.declared.state.State.{State}
 use Rattle.table_steps.specs.Answers.{Answer}
 use Rattle.table_steps.specs.Ending.{GivesAll, HasEnded, HasFileRoom, IsEnding, MayOpen, MayOpenGiven, OpensAt, IsGivenFor, OpensGiven, OpensNode, exclusive_in, is_page, giving, keys_in, name_at, with_in}

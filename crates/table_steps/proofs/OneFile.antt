@@ -6,7 +6,7 @@ use Rattle.table_files.specs.declared.data.Access.{Access}
 use Rattle.table_files.specs.declared.data.OpenFile.{OpenFile}
 use Rattle.table_files.specs.OpenEntry.{Filing, files_of}
 use Rattle.table_files.specs.Handles.{Files, AreOpenEntries, IsOpen, Opened, after_open}
-use Rattle.table_image.specs.Law.{HasNode, HaveReasons}
+use Rattle.table_law.specs.Law.{HasNode, HaveReasons}
 use Rattle.table_steps.specs.Upheld.{IsUpheld}
 use Rattle.tree.specs.declared.nodes.Node.{Node}
 use Rattle.tree.specs.declared.nodes.Key.{Key}

@@ -7,7 +7,7 @@ use Rattle.std.proofs.lemmas.List.Elements.{Contains-append_left}
 use Rattle.ledger.specs.declared.postings.Posting.{Posting}
 use Rattle.ledger.specs.declared.postings.Posting.TheVariants.{Born, Opening}
 use Rattle.ledger.specs.Periods.{Periods, posted, unclosed, up_to}
-use Rattle.table_image.specs.Law.{IsBegun, MayStand, IsOrdered}
+use Rattle.table_law.specs.Law.{IsBegun, MayStand, IsOrdered}
 
 stands_push : (ps : Periods) (p : Posting) → IsOrdered ps → MayStand ps p → (i : ℕ) (d : Posting) → i < length (ps.last ++ p ∷ []) → (b : Bool) → nat_lt i (length ps.last) ≡ b
     → MayStand (up_to i (posted ps p)) (get_or (ps.last ++ p ∷ []) i d)

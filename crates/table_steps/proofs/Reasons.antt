@@ -9,7 +9,7 @@ use Rattle.tree.specs.declared.nodes.Place.{Place}
 use Rattle.tree.specs.declared.nodes.Place.TheVariants.{Root, Named, Cut}
 use Rattle.tree.specs.Places.{Lookup, Nodes, with_node, without, IsNamed, HasChild, IsTree}
 use Rattle.tree.proofs.LookupLemmas.{without_some, without_other, with_other, with_same, with_some, cases_option}
-use Rattle.table_image.specs.Law.{HasReason, HaveReasons}
+use Rattle.table_law.specs.Law.{HasReason, HaveReasons}
 use Rattle.table_steps.specs.Swept.{IsNeedless, IsSwept}
 use Rattle.tree.proofs.Climbing.{cut_unnamed}
 use Rattle.table_steps.specs.Sweeping.{HaveReasonsAside, IsAmong, HaveReasonsBut, IsPruned, IsSameRest, listed, parent_in}

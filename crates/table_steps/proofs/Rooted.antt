@@ -38,7 +38,7 @@ use Rattle.table_steps.specs.World.{RequestsInFlight, IsStanding}
 use Rattle.table_steps.proofs.Guarding.{not_empty}
 use Rattle.table_steps.proofs.Viewed.{are_kept}
 use Rattle.table_steps.proofs.Few.{none_dropped}
-use Rattle.table_steps.specs.declared.data.Counts.TheVariants.{Free}
+use Rattle.terms.specs.declared.limits.Counts.TheVariants.{Free}
 use Rattle.table_requests.specs.declared.data.Stage.{Stage as Recording}
 
 -- ---- footprints

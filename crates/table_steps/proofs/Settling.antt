@@ -35,8 +35,8 @@ use Rattle.table_steps.proofs.Reasons.{HaveReasons-none, HaveReasons-some, HaveR
 use Rattle.table_steps.proofs.Viewed.{IsFewer, are_kept, fewer_held, fewer_provided, fewer_ready, fewer_without, flights_without, found_in}
 use Rattle.table_steps.proofs.Few.{few_without}
 use Rattle.std.proofs.lemmas.List.{length-drop}
-use Rattle.table_steps.specs.declared.data.Counts.{Counts}
-use Rattle.table_steps.specs.declared.data.Counts.TheVariants.{Bounded, Free}
+use Rattle.terms.specs.declared.limits.Counts.{Counts}
+use Rattle.terms.specs.declared.limits.Counts.TheVariants.{Bounded, Free}
 
 -- what a stage says of a request that is answered
 abbrev before_in : Stage → ℕ

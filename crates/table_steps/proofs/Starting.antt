@@ -18,7 +18,7 @@ use Rattle.table_requests.specs.RequestMaps as flying
 use Rattle.table_requests.specs.RequestMaps.{Adds, RequestMaps, AreLawfulRequests, nodes_promised, postings_promised, pins_number}
 use Rattle.table_requests.specs.Listed.{InFlight, requests_of}
 use Rattle.table_requests.proofs.ById.{Adds_found}
-use Rattle.table_image.specs.Law.{AreAlive, IsGivenPath}
+use Rattle.table_law.specs.Law.{AreAlive, IsGivenPath}
 use Rattle.table_steps.specs.Upheld.{IsUpheld}
 use Rattle.ledger.specs.Sums.{totals_over}
 use Rattle.ledger.specs.Periods.{Periods}
@@ -32,7 +32,7 @@ use Rattle.table_footprints.specs.NewRequests.{IsNewRequest, IsProvided, footpri
 use Rattle.table_footprints.specs.Footprints.{AtName, AtNode, Footprint, Location, closed_change, hidden_in, is_same, names_under, footprint_of}
 use Rattle.table_footprints.proofs.Members.{in_any}
 use Rattle.table_footprints.proofs.FootprintLemmas.{are_grounded}
-use Rattle.table_steps.specs.declared.data.Limits.{Limits}
+use Rattle.terms.specs.declared.limits.Limits.{Limits}
 use Rattle.table_steps.specs.declared.state.State.{State}
 use Rattle.table_steps.specs.Beginning.{Allows, ClosesFile, IsRoomForOne, IsSameButRoom}
 use Rattle.table_steps.specs.Keeping.{kept_by}

@@ -9,7 +9,7 @@ use Rattle.tree.proofs.LookupLemmas.{cases_option}
 use Rattle.table_steps.specs.declared.data.Begin.{Begin}
 use Rattle.table_steps.specs.declared.data.Begin.TheVariants.{Go, Busy, Refused}
 use Rattle.table_steps.specs.declared.data.Outcome.{Outcome}
-use Rattle.table_steps.specs.declared.data.Limits.{Limits}
+use Rattle.terms.specs.declared.limits.Limits.{Limits}
 use Rattle.table_steps.specs.declared.state.State.{State}
 use Rattle.table_steps.specs.Answers.{Answer, Settlement}
 use Rattle.table_steps.specs.Kept.{IsKept, world_of}

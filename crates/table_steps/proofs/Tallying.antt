@@ -10,7 +10,7 @@ use Rattle.table_requests.specs.declared.data.Stage.TheVariants as recorded
 use Rattle.table_requests.specs.declared.data.Promise.{Promise}
 use Rattle.table_requests.specs.RequestMaps.{RequestMaps, IsTallied, files_promised, nodes_promised, postings_promised}
 use Rattle.table_requests.specs.Listed.{requests_of}
-use Rattle.sums.specs.Sum.{IsSum}
+use Rattle.collections.specs.Sum.{IsSum}
 use Rattle.tree.specs.Places.{IsCensus, at_in}
 use Rattle.table_steps.specs.declared.state.State.{State}
 use Rattle.table_steps.specs.Kept.{AreProvided, flight_of, stage_of, tally_of, world_of}

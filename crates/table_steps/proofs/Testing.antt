@@ -10,7 +10,7 @@ use Rattle.tree.specs.Places.{at_in}
 use Rattle.table_footprints.specs.declared.data.NewRequest.{NewRequest}
 use Rattle.table_footprints.specs.Asked.{promise_of}
 use Rattle.table_footprints.specs.NewRequests.{IsNewRequest, footprint_in}
-use Rattle.table_steps.specs.declared.data.Counts.TheVariants.{Bounded, Free}
+use Rattle.terms.specs.declared.limits.Counts.TheVariants.{Bounded, Free}
 use Rattle.table_steps.specs.declared.state.State.{State}
 use Rattle.table_steps.specs.Beginning.{Allows, Forbids, IsTooMuch}
 use Rattle.table_steps.specs.Kept.{flights_in, tally_of, world_of}

@@ -6,7 +6,7 @@ use Rattle.table_requests.specs.declared.data.Case.{Case}
 use Rattle.table_requests.specs.declared.data.Case.TheVariants as cases
 use Rattle.table_requests.specs.declared.data.Want.{Want}
 use Rattle.table_requests.specs.declared.data.Want.TheVariants as wants
-use Rattle.sums.specs.Sum.{IsSum}
+use Rattle.collections.specs.Sum.{IsSum}
 use Rattle.tree.specs.Places.{IsTree}
 use Rattle.table_footprints.specs.Footprints.{Used, footprint_of}
 use Rattle.table_footprints.specs.Cases.{IsCase, Seen}

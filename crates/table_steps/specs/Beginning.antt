@@ -7,7 +7,7 @@ use Rattle.table_requests.specs.declared.data.Case.{Case}
 use Rattle.table_requests.specs.declared.data.Handle.{Handle}
 use Rattle.table_requests.specs.declared.data.Promise.{Promise}
 use Rattle.table_requests.specs.Listed.{requests_of}
-use Rattle.table_steps.specs.declared.data.Counts.TheVariants.{Bounded, Free}
+use Rattle.terms.specs.declared.limits.Counts.TheVariants.{Bounded, Free}
 use Rattle.table_steps.specs.declared.state.State.{State}
 use Rattle.table_requests.specs.declared.data.Want.{Want}
 use Rattle.table_footprints.specs.Cases.{IsFootprint}

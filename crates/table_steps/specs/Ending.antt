@@ -27,7 +27,7 @@ use Rattle.table_steps.specs.declared.keys.Keys.{Keys}
 use Rattle.table_steps.specs.declared.keys.FolderKeys.{FolderKeys}
 use Rattle.table_steps.specs.declared.acts.Opens.{Opens}
 use Rattle.table_steps.specs.declared.acts.Opens.TheVariants as opens
-use Rattle.table_steps.specs.declared.data.Counts.TheVariants.{Free}
+use Rattle.terms.specs.declared.limits.Counts.TheVariants.{Free}
 use Rattle.table_steps.specs.declared.state.State.{State}
 use Rattle.table_steps.specs.Entries.{Enters}
 use Rattle.table_steps.specs.Keeping.{kept_by}

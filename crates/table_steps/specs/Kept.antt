@@ -15,8 +15,8 @@ use Rattle.ledger.specs.Postings.{Postings}
 use Rattle.ledger.specs.Sums.{totals_over}
 use Rattle.tree.specs.Places.{Nodes, at_in}
 use Rattle.table_footprints.specs.NewRequests.{IsProvided, footprint_in}
-use Rattle.table_steps.specs.declared.data.Counts.TheVariants.{Bounded, Free}
-use Rattle.table_steps.specs.declared.data.Limits.{Limits}
+use Rattle.terms.specs.declared.limits.Counts.TheVariants.{Bounded, Free}
+use Rattle.terms.specs.declared.limits.Limits.{Limits}
 use Rattle.table_steps.specs.declared.state.State.{State}
 use Rattle.table_steps.specs.Keeping.{kept_by}
 use Rattle.table_steps.specs.World.{AreHeld, AreReady, AreUndisturbed, Answered, RequestInFlight, RequestsInFlight, HaveNodes, Stage, Tally, Work, Working, World}

@@ -4,7 +4,7 @@ use Rattle.errno.specs.declared.TheConstants.{EAGAIN, EBADF, ENFILE}
 use Rattle.std.specs.List.{slice_get}
 use Rattle.table_files.specs.declared.data.OpenFile.{OpenFile}
 use Rattle.table_files.specs.Handles.{Files, allows}
-use Rattle.table_image.specs.Law.{HaveReasons}
+use Rattle.table_law.specs.Law.{HaveReasons}
 use Rattle.table_requests.specs.declared.data.Given.{Given}
 use Rattle.table_requests.specs.declared.data.Want.{Want}
 use Rattle.holds.specs.declared.held.Held.{Held}
@@ -22,7 +22,7 @@ use Rattle.tree.specs.Places.{Lookup, with_node}
 use Rattle.table_footprints.specs.Asked.{ArePaths, HasPath, Holds, IsPin, IsSound, IsThere, IsUnsound, promise_of}
 use Rattle.table_footprints.specs.Cases.{IsFootprint}
 use Rattle.table_footprints.specs.Footprints.{AtName, AtNode, Change, Footprint, Location, Opening, Used, cuts, exchanges, hides, is_same, moves, replaces, stays}
-use Rattle.table_steps.specs.declared.data.Counts.TheVariants.{Free}
+use Rattle.terms.specs.declared.limits.Counts.TheVariants.{Free}
 use Rattle.table_steps.specs.declared.data.Begin.{Begin}
 use Rattle.table_steps.specs.declared.data.Begin.TheVariants.{Go, Busy, Refused}
 use Rattle.table_steps.specs.declared.data.Outcome.{Outcome}

@@ -10,7 +10,7 @@ use Rattle.ledger.specs.Postings.{Postings}
 use Rattle.ledger.specs.Periods.{Periods}
 use Rattle.ledger.specs.Sums.{totals_over}
 use Rattle.table_steps.specs.Steps.{files_without}
-use Rattle.table_image.specs.Law.{HasReason}
+use Rattle.table_law.specs.Law.{HasReason}
 use Rattle.table_steps.specs.Upheld.{IsBooked}
 
 abbrev pub IsAmong : ℕ → List ℕ → Type 0

@@ -4,7 +4,7 @@ use Rattle.ledger.specs.Periods.{Periods}
 use Rattle.ledger.specs.Sums.{IsCarriedOver}
 use Rattle.tree.specs.declared.nodes.Node.{Node}
 use Rattle.tree.specs.Places.{Lookup, IsTree}
-use Rattle.table_image.specs.Law.{AreAlive, AreMarksNamed, HasPlainRoot, HaveReasons, IsBegun, IsBornInOrder, IsCounted}
+use Rattle.table_law.specs.Law.{AreAlive, AreMarksNamed, HasPlainRoot, HaveReasons, IsBegun, IsBornInOrder, IsCounted}
 
 -- the life of each node but the root was begun in the last period, or went on when it began
 abbrev pub AreBegun : Lookup → Periods → Type 0

@@ -14,11 +14,11 @@ use Rattle.table_files.specs.Handles.{Files, IsOpen, no_files}
 use Rattle.tree.specs.declared.nodes.Key.{Key}
 use Rattle.tree.specs.declared.nodes.Node.{Node}
 use Rattle.tree.specs.Places.{Lookup, IsNamed, no_nodes, root_node, with_node}
-use Rattle.table_image.specs.Law.{HasNode, IsGivenPath}
+use Rattle.table_law.specs.Law.{HasNode, IsGivenPath}
 use Rattle.table_steps.specs.Upheld.{IsUpheld}
-use Rattle.sums.specs.Sum.{IsSum}
-use Rattle.table_steps.specs.declared.data.Counts.TheVariants.{Bounded, Free}
-use Rattle.table_steps.specs.declared.data.Limits.{Limits}
+use Rattle.collections.specs.Sum.{IsSum}
+use Rattle.terms.specs.declared.limits.Counts.TheVariants.{Bounded, Free}
+use Rattle.terms.specs.declared.limits.Limits.{Limits}
 use Rattle.table_footprints.specs.Asked.{Holds, IsMisplaced, IsThere, promise_of}
 use Rattle.table_footprints.specs.Cases.{Seen}
 use Rattle.table_footprints.specs.Footprints.{AtName, AtNode, Footprint, Location, are_same, cuts, footprint_of}

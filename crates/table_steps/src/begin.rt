@@ -12,7 +12,7 @@ ghost use Rattle.table_footprints.specs.NewRequests.{IsNewRequest};
 ghost use Rattle.table_footprints.specs.Cases.{seen_of};
 ghost use Rattle.table_footprints.specs.Footprints.{AtName, are_same, closed_change, is_same, footprint_of};
 
-use crate::data::{Begin, Counts, Ticket};
+use crate::data::{Begin, Ticket};
 use crate::state::State;
 use errno::{EAGAIN, EBADF, ENFILE, ENOMEM};
 use paths::Name;
@@ -20,6 +20,7 @@ use std::alloc::AllocError;
 use table_files::{Files, Need};
 use table_footprints::{NewRequest, new_request};
 use table_requests::{Case, Handle, Promise, RequestInFlight, Stage, Want, Work};
+use terms::Counts;
 
 /// Whether both are that of one name under one node.
 fn is_one_name(parent: u64, name: &Name, other_parent: u64, other: &Name) -> bool

@@ -9,13 +9,14 @@ ghost use Rattle.table_requests.specs.Listed.{requests_of};
 ghost use Rattle.table_requests.specs.RequestMaps.{most_posted_by};
 
 use crate::acts::{Acts, Change, acts_of};
-use crate::data::{Answered, Counts, Outcome, Ticket};
+use crate::data::{Answered, Outcome, Ticket};
 use crate::give::give_none;
 use crate::hiding::{hide, replace};
 use crate::places::{alter, losing};
 use crate::state::State;
 use crate::sweep::sweep_change;
 use table_requests::{Givens, Work};
+use terms::Counts;
 
 /// The same answer with the handle of the file that was opened.
 fn with_file(answered: Answered, opened: Option<u64>) -> Answered

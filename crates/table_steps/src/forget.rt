@@ -4,10 +4,10 @@ ghost use Rattle.std.specs.Prelude.{◌≡◌, ◌<◌};
 ghost use Rattle.table_steps.specs.Steps.{Forgets};
 ghost use Rattle.table_steps.specs.Kept.{IsKept, world_of};
 
-use crate::data::Counts;
 use crate::state::State;
 use crate::sweep::sweep;
 use ledger::Posting;
+use terms::Counts;
 
 impl State {
     /// Takes the smaller of `n` and the node's count from it, and says how much.

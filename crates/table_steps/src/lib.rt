@@ -22,10 +22,11 @@ mod settle;
 mod state;
 mod sweep;
 
-pub use data::{Answered, Begin, Counts, Limits, Outcome, Seeds, Settled, Ticket};
+pub use data::{Answered, Begin, Outcome, Seeds, Settled, Ticket};
 pub use found::FoundNames;
 pub use laws::{
     acts_are_own, begun_are_ready, ends_are_harmless, entries_are_harmless, ledgers_are_grown,
     others_are_left, sums_are_kept, sweeps_are_harmless, tallies_are_fixed,
 };
 pub use state::State;
+pub use terms::{Counts, Limits};

@@ -9,10 +9,10 @@ ghost use Rattle.table_requests.specs.Listed.{requests_of};
 ghost use Rattle.table_requests.specs.RequestMaps.{most_posted_by};
 ghost use Rattle.tree.specs.Places.{IsAlive, at_in};
 
-use crate::data::Counts;
 use crate::state::State;
 use ledger::{Ledger, NextPeriod};
 use std::mem;
+use terms::Counts;
 use tree::{Node, Tree};
 
 /// The node that bears the number.

@@ -11,12 +11,13 @@ ghost use Rattle.table_steps.specs.Kept.{IsKept, world_of};
 ghost use Rattle.tree.specs.Places.{at_in};
 
 use crate::closing::close;
-use crate::data::{Answered, Counts, Settled};
+use crate::data::{Answered, Settled};
 use crate::state::State;
 use crate::sweep::sweep_pins;
 use ledger::{Ledger, Posting};
 use table_files::Files;
 use table_requests::{Ended, RequestsInFlight};
+use terms::Counts;
 use tree::Tree;
 
 /// Takes an entry of the node back, if its count is above 0.

@@ -5,11 +5,12 @@ ghost use Rattle.ledger.specs.Periods.{unclosed};
 ghost use Rattle.table_steps.specs.Kept.{IsKept, IsWhole, world_of};
 ghost use Rattle.table_steps.specs.World.{IsLawfulWorld, opened_world};
 
-use crate::data::{Counts, Limits, Seeds};
+use crate::data::Seeds;
 use ledger::Ledger;
 use std::alloc::{AllocError, Global};
 use table_files::Files;
 use table_requests::RequestsInFlight;
+use terms::{Counts, Limits};
 use tree::Tree;
 
 /// The parts of a table, without the shares of its workers.

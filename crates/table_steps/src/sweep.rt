@@ -1,7 +1,7 @@
 //! Dropping nodes that nothing keeps.
 
 ghost use Rattle.std.specs.Prelude.{true, false, ◌≡◌, ◌≤◌, ◌<◌, ◌+◌, ◌⊎◌, ℕ, Some, None, IfNone, IfSome, MatchOption, [], ◌∷◌, ◌++◌};
-ghost use Rattle.table_image.specs.Law.{HasReason, HaveReasons};
+ghost use Rattle.table_law.specs.Law.{HasReason, HaveReasons};
 ghost use Rattle.table_steps.specs.Keeping.{kept_by};
 ghost use Rattle.table_steps.specs.Swept.{IsNeedless, IsSwept};
 ghost use Rattle.table_steps.specs.Sweeping.{HaveReasonsAside, HaveReasonsBut, IsPruned, IsSameRest, listed, parent_at, parent_in};

@@ -8,8 +8,8 @@ use std::alloc::Global;
 use std::io;
 use std::sync::{Arc, Mutex};
 use std::test::Fail;
-use test_clients::Written::{Errno, Part, Whole};
-use test_clients::{Log, ScriptedReplies, ScriptedRequests, Written};
+use test_support::Written::{Errno, Part, Whole};
+use test_support::{Log, ScriptedReplies, ScriptedRequests, Written};
 
 /// CREATE of `n` in the root, unique 5.
 const CREATE_N: &str =

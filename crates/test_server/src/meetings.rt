@@ -15,7 +15,7 @@ use std::os::unix::net::UnixStream;
 use std::test::Fail;
 use std::time::Duration;
 use std::{io, thread};
-use test_clients::Handles;
+use test_support::Handles;
 
 /// What a client does next.
 #[derive(Clone, Copy)]

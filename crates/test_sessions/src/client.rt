@@ -13,7 +13,7 @@ use std::alloc::{AllocError, Global};
 use std::random::RandomSource;
 use std::sync::Wait;
 use table::{Limits, Seeds, Table};
-use test_clients::Handles;
+use test_support::Handles;
 
 /// Gives its frames one after another, and takes all replies but one. It records what passes. Handles of open folders stand in its
 /// frames and replies as the places in which they came (`Handles`).

@@ -13,7 +13,7 @@ use std::random::RandomSource;
 use std::sync::Wait;
 use std::test::Fail;
 use table::Limits;
-use test_clients::PlainFolders;
+use test_support::PlainFolders;
 
 /// OPENDIR of the root, unique 3.
 const OPEN: &str =

@@ -16,7 +16,7 @@ use std::random::RandomSource;
 use std::sync::Wait;
 use std::test::Fail;
 use table::Limits;
-use test_clients::PlainFolders;
+use test_support::PlainFolders;
 use wire::{Operation, Request, encode_request};
 
 /// A session over the sample names.

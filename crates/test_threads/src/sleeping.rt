@@ -1,6 +1,6 @@
 //! Threads that sleep while there is nothing to do.
 
-use engine_roles::Sleepers;
+use engine_turns::Sleepers;
 use std::test::Fail;
 
 // Nobody wakes it: it would sleep for ever, if it did not look again by itself.

@@ -1,9 +1,9 @@
 -- A node is put into the slab, and then its number is written: it is there, with no links yet, and all others are as before.
 use Rattle.std.proofs.Common.{ℕ, ◌+◌, ◌≡◌, Some, None, sym, ap, ◌∙◌}
 use Rattle.slab.specs.Slab.{Slab, get, Updates}
-use Rattle.tree_children.specs.declared.Linked.{Linked}
-use Rattle.tree_children.specs.Links.{IsLawful, kin_at, kin_or, no_kin}
-use Rattle.tree_children.proofs.Written.{kin_kept}
+use Rattle.collections.specs.declared.children.Linked.{Linked}
+use Rattle.collections.specs.Links.{IsLawful, kin_at, kin_or, no_kin}
+use Rattle.collections.proofs.Written.{kin_kept}
 use Rattle.tree.specs.declared.nodes.Node.{Node}
 use Rattle.tree.specs.Children.{parents_in}
 use Rattle.tree.specs.Places.{Lookup, with_node}

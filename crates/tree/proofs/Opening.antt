@@ -6,18 +6,18 @@ use Rattle.std.specs.Map.{lookup}
 use mathlib.Core.Path.{fun_ext}
 use Rattle.indexmap.specs.IndexMap.{IndexMap}
 use Rattle.slab.specs.Slab.{Slab, get, Updates}
-use Rattle.steady_map.specs.Living.{joined, living}
+use Rattle.collections.specs.Living.{joined, living}
 use Rattle.tree.specs.declared.nodes.Key.{Key}
 use Rattle.tree.specs.declared.nodes.Node.{Node}
 use Rattle.tree.specs.Keys.{same_key}
 use Rattle.tree.specs.Places.{Lookup, IsTree, IsNamed, no_nodes, with_node, root_node}
 use Rattle.tree.specs.Listed.{counts_of}
 use Rattle.tree.specs.Stored.{slot_at, listed, IsStored}
-use Rattle.tree_children.specs.declared.Linked.{Linked}
-use Rattle.tree_children.specs.declared.Kin.{Kin}
-use Rattle.tree_children.specs.Links.{IsLawful, kin_at, kin_or, linked_at, no_kin}
-use Rattle.tree_children.proofs.Linking.{linked_bare}
-use Rattle.tree_children.proofs.Written.{kin_kept, linked_none, linked_of}
+use Rattle.collections.specs.declared.children.Linked.{Linked}
+use Rattle.collections.specs.declared.children.Kin.{Kin}
+use Rattle.collections.specs.Links.{IsLawful, kin_at, kin_or, linked_at, no_kin}
+use Rattle.collections.proofs.Linking.{linked_bare}
+use Rattle.collections.proofs.Written.{kin_kept, linked_none, linked_of}
 use Rattle.tree.specs.Children.{node_parent, parents_in}
 use Rattle.tree.proofs.Relating.{parent_same, parents_with}
 use Rattle.tree.proofs.Bearing.{IsTree-root, root_named}

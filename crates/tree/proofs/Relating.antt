@@ -4,9 +4,9 @@ use Rattle.std.proofs.lemmas.Bool.{cases_eq}
 use Rattle.std.proofs.lemmas.Option.{none-some, same_Some}
 use Rattle.slab.specs.Slab.{Slab}
 use Rattle.paths.specs.Prefixes.{Name}
-use Rattle.tree_children.specs.declared.Linked.{Linked}
-use Rattle.tree_children.specs.Links.{IsLawful, kin_at, with_parent}
-use Rattle.tree_children.proofs.Written.{if_other, if_same, lawful_as, lawful_kept}
+use Rattle.collections.specs.declared.children.Linked.{Linked}
+use Rattle.collections.specs.Links.{IsLawful, kin_at, with_parent}
+use Rattle.collections.proofs.Written.{if_other, if_same, lawful_as, lawful_kept}
 use Rattle.tree.specs.declared.nodes.Node.{Node}
 use Rattle.tree.specs.declared.nodes.Place.{Place}
 use Rattle.tree.specs.declared.nodes.Place.TheVariants.{Root, Named, Cut}

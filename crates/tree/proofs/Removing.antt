@@ -5,10 +5,10 @@ use Rattle.std.proofs.lemmas.Bool.Decides.{nat_tests}
 use Rattle.std.proofs.lemmas.Option.{none-some}
 use mathlib.Core.Path.{fun_ext}
 use Rattle.slab.specs.Slab.{Slab, Updates}
-use Rattle.tree_children.specs.declared.Linked.{Linked}
-use Rattle.tree_children.specs.Links.{IsLawful, kin_at, kin_or, with_parent}
-use Rattle.tree_children.proofs.Linking.{bare_kin}
-use Rattle.tree_children.proofs.Written.{if_other, if_same, kin_kept, lawful_as, linked_of}
+use Rattle.collections.specs.declared.children.Linked.{Linked}
+use Rattle.collections.specs.Links.{IsLawful, kin_at, kin_or, with_parent}
+use Rattle.collections.proofs.Linking.{bare_kin}
+use Rattle.collections.proofs.Written.{if_other, if_same, kin_kept, lawful_as, linked_of}
 use Rattle.tree.specs.declared.nodes.Node.{Node}
 use Rattle.tree.specs.Children.{parents_in}
 use Rattle.tree.specs.Places.{Lookup, HasChild, with_node, without}

@@ -7,12 +7,12 @@ use Rattle.std.specs.FinMap as map
 use Rattle.std.specs.Prelude.{option_map}
 use mathlib.Core.Path.{fun_ext}
 use Rattle.slab.specs.Slab.{Slab, get, slab_len, Updates}
-use Rattle.sums.specs.Sum.{IsSum}
-use Rattle.sums.proofs.Changing.{part_of_sum, sum_changed, sum_with, sum_without}
-use Rattle.sums.proofs.Once.{sum_once}
-use Rattle.tree_children.specs.declared.Linked.{Linked}
-use Rattle.tree_children.specs.Links.{value_of}
-use Rattle.tree_children.proofs.Written.{linked_none, linked_of, value_some, value_updated}
+use Rattle.collections.specs.Sum.{IsSum}
+use Rattle.collections.proofs.Changing.{part_of_sum, sum_changed, sum_with, sum_without}
+use Rattle.collections.proofs.Once.{sum_once}
+use Rattle.collections.specs.declared.children.Linked.{Linked}
+use Rattle.collections.specs.Links.{value_of}
+use Rattle.collections.proofs.Written.{linked_none, linked_of, value_some, value_updated}
 use Rattle.tree.specs.declared.nodes.Node.{Node}
 use Rattle.tree.specs.Places.{Lookup, Nodes, at_in, with_node, without, IsTree, IsCensus}
 use Rattle.tree.specs.Listed.{node_at, next_of, IsDistinct, IsLeastFree, IsGrown, nodes_of, counts_of}

@@ -9,7 +9,7 @@ use Rattle.slab.specs.Slab.{Slab, get, with_value}
 use Rattle.slab.proofs.SlabLemmas.{Updates-with_value}
 use Rattle.std.specs.Prelude.{IfNone, IfSome}
 use Rattle.std.specs.Map.{lookup}
-use Rattle.steady_map.specs.Living.{found, joined, living}
+use Rattle.collections.specs.Living.{found, joined, living}
 use Rattle.paths.specs.Prefixes.{Name}
 use Rattle.tree.specs.declared.nodes.Key.{Key}
 use Rattle.tree.specs.declared.nodes.Node.{Node}
@@ -19,9 +19,9 @@ use Rattle.tree.specs.Keys.{same_key}
 use Rattle.tree.specs.Moves.{cut_node, moved_node}
 use Rattle.tree.specs.Places.{Lookup, with_node, IsNamed, IsFree, IsTree}
 use Rattle.tree.specs.Stored.{slot_at, IsIndexed, IsStored}
-use Rattle.tree_children.specs.declared.Linked.{Linked}
-use Rattle.tree_children.specs.Links.{kin_at, kin_or}
-use Rattle.tree_children.proofs.Written.{kin_kept}
+use Rattle.collections.specs.declared.children.Linked.{Linked}
+use Rattle.collections.specs.Links.{kin_at, kin_or}
+use Rattle.collections.proofs.Written.{kin_kept}
 use Rattle.tree.specs.Children.{parents_in, place_parent}
 use Rattle.tree.proofs.Relating.{parent_here, parent_same, parents_with, related_as}
 use Rattle.tree.proofs.Climbing.{place_same, cut_unnamed}

@@ -5,7 +5,7 @@ use Rattle.std.proofs.lemmas.Bool.Decides.{nat_tests}
 use Rattle.std.proofs.lemmas.Option.{same_Some}
 use mathlib.Core.Path.{fun_ext}
 use Rattle.indexmap.specs.IndexMap.{IndexMap}
-use Rattle.steady_map.specs.Living.{found}
+use Rattle.collections.specs.Living.{found}
 use Rattle.tree.specs.declared.nodes.Key.{Key}
 use Rattle.tree.specs.declared.nodes.Node.{Node}
 use Rattle.tree.specs.Keys.{same_key}

@@ -3,9 +3,9 @@ use Rattle.std.specs.Prelude.{ℕ, ◌+◌, ◌*◌, ◌≤◌, ◌≡◌, ◌^�
 use Rattle.indexmap.specs.IndexMap.{IndexMap}
 use Rattle.std.specs.declared.alloc.Global.{Global}
 use Rattle.slab.specs.Slab.{Slab, slab_len}
-use Rattle.steady_map.specs.Living.{found, live, places}
-use Rattle.tree_children.specs.declared.Linked.{Linked}
-use Rattle.tree_children.specs.Links.{IsLawful, value_at}
+use Rattle.collections.specs.Living.{found, live, places}
+use Rattle.collections.specs.declared.children.Linked.{Linked}
+use Rattle.collections.specs.Links.{IsLawful, value_at}
 use Rattle.tree.specs.Children.{parents_in}
 use Rattle.tree.specs.declared.nodes.Key.{Key}
 use Rattle.tree.specs.declared.nodes.Node.{Node}

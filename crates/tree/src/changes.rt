@@ -2,11 +2,11 @@
 
 ghost use Rattle.std.specs.Prelude.{true, false, ◌≡◌, ◌≢◌, ◌≤◌, ◌+◌, ◌*◌, ◌^◌, ℕ, List, None, Some, vec_len, vec_capacity};
 ghost use Rattle.slab.specs.Slab.{slab_len, HasRoomFor};
-ghost use Rattle.steady_map.specs.Living.{live, places};
+ghost use Rattle.collections.specs.Living.{live, places};
 ghost use Rattle.tree.specs.declared.nodes.Key.{Key};
 ghost use Rattle.tree.specs.declared.nodes.Node.{Node};
 ghost use Rattle.tree.specs.declared.nodes.Place.TheVariants as Place;
-ghost use Rattle.tree_children.specs.Links.{IsLawful};
+ghost use Rattle.collections.specs.Links.{IsLawful};
 ghost use Rattle.tree.specs.Children.{parents_in};
 ghost use Rattle.tree.specs.Places.{IsAlive, IsNamed, HasChild, IsFree, Leads, with_node, without, born_node};
 ghost use Rattle.tree.specs.Listed.{counts_of};
@@ -16,8 +16,8 @@ ghost use Rattle.tree.specs.Stored.{slot_at, listed, IsIndexed, IsStored};
 use crate::leaves::cut_leaves;
 use crate::nodes::{Key, Node, Place};
 use crate::writes::{Store, find_in, forget_place, mark, replace_place, write_number};
-use steady_map::put;
-use tree_children::{add_child, key_of, unlinked};
+use collections::children::{add_child, key_of, unlinked};
+use collections::steady_map::put;
 
 /// Cuts a node that has no children.
 pub(crate) fn cut_leaf(store: &mut Store, number: u64)

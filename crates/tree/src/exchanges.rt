@@ -2,9 +2,9 @@
 
 ghost use Rattle.std.specs.Prelude.{ℕ, ◌≡◌, ◌≢◌, ◌≤◌, ◌*◌, Option, Some};
 ghost use Rattle.slab.specs.Slab.{Slab, slab_len};
-ghost use Rattle.steady_map.specs.Living.{live, places};
+ghost use Rattle.collections.specs.Living.{live, places};
 ghost use Rattle.tree.specs.declared.nodes.Node.{Node};
-ghost use Rattle.tree_children.specs.Links.{IsLawful, kin_at, with_parent};
+ghost use Rattle.collections.specs.Links.{IsLawful, kin_at, with_parent};
 ghost use Rattle.tree.specs.Children.{parents_in};
 ghost use Rattle.tree.specs.Places.{IsAlive, IsNamed, with_node};
 ghost use Rattle.tree.specs.Listed.{counts_of};
@@ -14,9 +14,9 @@ ghost use Rattle.tree.specs.Stored.{slot_at, listed, IsIndexed, IsStored};
 use crate::changes::place_number;
 use crate::nodes::{Key, Node, Place};
 use crate::writes::{Store, find_in, replace_place};
+use collections::children::{Linked, add_child, remove_child};
+use collections::steady_map::set;
 use slab::Slab;
-use steady_map::set;
-use tree_children::{Linked, add_child, remove_child};
 
 /// Each of the two nodes stands where the other stood.
 fn swap_places(nodes: &mut Slab<Linked<Node>>, one: u64, two: u64)

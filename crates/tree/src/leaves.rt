@@ -2,7 +2,7 @@
 
 ghost use Rattle.std.specs.Prelude.{true, false, ◌≡◌, ◌≢◌, ◌<◌, ◌≤◌, ◌+◌, ◌*◌, ◌^◌, ℕ, List, None, Some, vec_len, vec_capacity};
 ghost use Rattle.slab.specs.Slab.{slab_len};
-ghost use Rattle.steady_map.specs.Living.{live, places};
+ghost use Rattle.collections.specs.Living.{live, places};
 ghost use Rattle.tree.specs.declared.nodes.Node.{Node};
 ghost use Rattle.tree.specs.Places.{IsNamed, IsTree, HasChild, with_node};
 ghost use Rattle.tree.specs.Listed.{counts_of};
@@ -12,7 +12,7 @@ ghost use Rattle.tree.specs.Stored.{slot_at, listed, IsIndexed, IsStored};
 use crate::changes::cut_leaf;
 use crate::lookups::parent_of;
 use crate::writes::Store;
-use tree_children::newest_child;
+use collections::children::newest_child;
 
 /// Cuts the node, and all below it: from it down to a child without children, which goes, and up again. What is cut is listed.
 pub(crate) fn cut_leaves(store: &mut Store, newly_cut: &mut Vec<u64>, number: u64)

@@ -13,10 +13,10 @@ ghost use Rattle.tree.specs.Moves.{IsFault};
 ghost use Rattle.tree.specs.Stored.{slot_at, listed};
 
 use crate::nodes::{Node, Place, TreeFault};
+use collections::children::{Linked, value_in};
 use paths::{Name, Path};
 use slab::Slab;
 use std::alloc::{AllocError, Global};
-use tree_children::{Linked, value_in};
 
 /// No path has more bytes.
 const PATH_BYTES: usize = 4096;

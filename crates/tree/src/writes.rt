@@ -2,12 +2,12 @@
 
 ghost use Rattle.std.specs.Prelude.{◌≡◌, ◌<◌, ◌≤◌, ◌+◌, ◌*◌, ℕ, Option, None, Some, if◌then◌else◌, OnOk};
 ghost use Rattle.slab.specs.Slab.{Slab, get, slab_len, ContainsKey, Updates};
-ghost use Rattle.steady_map.specs.Living.{found, live, places};
+ghost use Rattle.collections.specs.Living.{found, live, places};
 ghost use Rattle.tree.specs.declared.nodes.Key.{Key};
 ghost use Rattle.tree.specs.declared.nodes.Node.{Node};
 ghost use Rattle.tree.specs.declared.nodes.Place.TheVariants as Place;
-ghost use Rattle.tree_children.specs.declared.Linked.{Linked};
-ghost use Rattle.tree_children.specs.Links.{IsLawful, kin_at, with_parent};
+ghost use Rattle.collections.specs.declared.children.Linked.{Linked};
+ghost use Rattle.collections.specs.Links.{IsLawful, kin_at, with_parent};
 ghost use Rattle.tree.specs.Children.{place_parent};
 ghost use Rattle.tree.specs.Keys.{same_key};
 ghost use Rattle.tree.specs.Places.{IsAlive, with_node};
@@ -15,13 +15,13 @@ ghost use Rattle.tree.specs.Listed.{counts_of};
 ghost use Rattle.tree.specs.Stored.{slot_at, listed, IsStored};
 
 use crate::nodes::{Key, Node, Place};
+use collections::children::{Linked, key_of, remove_child};
+use collections::steady_map::{make_places, put, take_out, value_of};
 use indexmap::IndexMap;
 use slab::Slab;
 use std::alloc::AllocError;
 use std::hash::RandomState;
 use std::mem;
-use steady_map::{make_places, put, take_out, value_of};
-use tree_children::{Linked, key_of, remove_child};
 
 /// The nodes, and where to find them.
 #[derive(Drop)]

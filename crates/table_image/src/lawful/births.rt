@@ -3,7 +3,7 @@
 ghost use Rattle.std.specs.Prelude.{◌≡◌, ◌↔◌, ◌+◌, ◌-◌, ◌*◌, ◌<◌, ◌≤◌, ◌^◌, false, IsTrue, IfSome, IfNone, length, sum_by};
 ghost use Rattle.ledger.specs.declared.postings.Posting.TheVariants as Posting;
 ghost use Rattle.ledger.specs.Sums.{births_closed, births_of, carried_by, is_birth, IsCarriedOver};
-ghost use Rattle.table_image.specs.Law.{IsOrdered};
+ghost use Rattle.table_law.specs.Law.{IsOrdered};
 ghost use Rattle.table_image.specs.Parts.{after_closed, births_summed};
 
 use ledger::{KeptBirths, Posting, Totals};

@@ -4,7 +4,7 @@ ghost use Rattle.std.specs.Prelude.{◌≡◌, ◌≢◌, ◌↔◌, ◌+◌, �
 ghost use Rattle.ledger.specs.Periods.{unclosed};
 ghost use Rattle.ledger.specs.Sums.{number_of, entries_of, given_back_of, IsNeverNegative};
 ghost use Rattle.tree.specs.Listed.{node_at, IsDistinct};
-ghost use Rattle.table_image.specs.Law.{HasPlainRoot, IsBornInOrder, IsCounted, IsOrdered, IsUnborne};
+ghost use Rattle.table_law.specs.Law.{HasPlainRoot, IsBornInOrder, IsCounted, IsOrdered, IsUnborne};
 ghost use Rattle.table_image.specs.Parts.{after_closed, births_summed, BearLastBirths, BearsLastBirth, AreCountsExact, IsCountExact, AreOthersSettled, counts_in_all, IsRootPlain};
 
 use crate::lawful::births::last_generation;

@@ -3,7 +3,7 @@
 ghost use Rattle.std.specs.Prelude.{◌≡◌, ◌≢◌, ◌↔◌, ◌==◌, IsTrue, All, AllPairs, Any};
 ghost use Rattle.table_image.specs.declared.data.Hold.{Hold};
 ghost use Rattle.table_image.specs.declared.data.Stage.TheVariants as Stage;
-ghost use Rattle.table_image.specs.Law.{is_working, shares, holds_exclusively, sharers_of, exclusive_of, AreHoldsCounted, AreClear, AreApart};
+ghost use Rattle.table_image.specs.ImageLaw.{is_working, shares, holds_exclusively, sharers_of, exclusive_of, AreHoldsCounted, AreClear, AreApart};
 ghost use Rattle.table_image.specs.Parts.{IsStored, IsHoldCount, HaveOtherPaths, AreStored};
 
 use crate::data::{Hold, Record, Stage};

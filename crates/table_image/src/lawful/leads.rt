@@ -4,7 +4,8 @@ ghost use Rattle.std.specs.Prelude.{◌≡◌, ◌↔◌, ◌<◌, ◌≤◌, �
 ghost use Rattle.tree.specs.Places.{IsPathOf};
 ghost use Rattle.tree.specs.Listed.{node_at};
 ghost use Rattle.holds.specs.Conflicts.{IsHeld};
-ghost use Rattle.table_image.specs.Law.{IsGivenPath, IsKnown, AreKnown};
+ghost use Rattle.table_law.specs.Law.{IsGivenPath};
+ghost use Rattle.table_image.specs.ImageLaw.{IsKnown, AreKnown};
 ghost use Rattle.table_image.specs.Parts.{ArePrefixesHeld};
 
 use crate::data::Record;

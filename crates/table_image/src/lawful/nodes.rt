@@ -7,7 +7,7 @@ ghost use Rattle.tree.specs.declared.nodes.Key.{Key};
 ghost use Rattle.tree.specs.declared.nodes.Place.TheVariants as Place;
 ghost use Rattle.tree.specs.Places.{IsTree, IsRooted, IsNamed, Leads};
 ghost use Rattle.tree.specs.Listed.{node_at, IsDistinct};
-ghost use Rattle.table_image.specs.Law.{AreMarksNamed};
+ghost use Rattle.table_law.specs.Law.{AreMarksNamed};
 ghost use Rattle.table_image.specs.Parts.{HasOneRoot, AreNamesApart, AreAllReached, StandApart, IsMarkNamed, IsRootAlone, IsReached};
 
 use tree::{Node, Place};

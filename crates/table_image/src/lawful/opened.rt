@@ -4,7 +4,7 @@ ghost use Rattle.std.specs.Prelude.{◌≡◌, ◌≢◌, ◌↔◌, IsTrue, All
 ghost use Rattle.table_files.specs.declared.listed.OpenEntry.{OpenEntry};
 ghost use Rattle.table_files.specs.OpenEntry.{opened_in};
 ghost use Rattle.tree.specs.Listed.{node_at};
-ghost use Rattle.table_image.specs.Law.{AreAlive, HasNode, IsKnownFile};
+ghost use Rattle.table_law.specs.Law.{AreAlive, HasNode, IsKnownFile};
 ghost use Rattle.table_image.specs.Parts.{HaveOtherHandles, IsOfLiving};
 
 use crate::lawful::nodes::find;

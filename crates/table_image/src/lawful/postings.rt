@@ -2,7 +2,7 @@
 
 ghost use Rattle.std.specs.Prelude.{◌≡◌, ◌↔◌, ◌+◌, ◌<◌, ◌^◌, true, IsTrue, All};
 ghost use Rattle.ledger.specs.Sums.{number_of, generation_of, births_of, entries_of, given_back_of, is_opening, carried_by, totals_by, IsAllowed, IsNeverNegative};
-ghost use Rattle.table_image.specs.Law.{IsBegun, IsOrdered, MayOpen, MayStand};
+ghost use Rattle.table_law.specs.Law.{IsBegun, IsOrdered, MayOpen, MayStand};
 ghost use Rattle.table_image.specs.Parts.{Begins, after_closed, births_summed, entered_in_all, given_in_all};
 
 use crate::lawful::births::{births_closed, last_generation};

@@ -5,7 +5,8 @@ ghost use Rattle.tree.specs.declared.nodes.Node.{Node};
 ghost use Rattle.table_image.specs.declared.data.Record.{Record};
 ghost use Rattle.tree.specs.Places.{HasChild};
 ghost use Rattle.tree.specs.Listed.{node_at, IsDistinct};
-ghost use Rattle.table_image.specs.Law.{AreAlive, HaveReasons, is_kept, is_pinned};
+ghost use Rattle.table_law.specs.Law.{AreAlive, HaveReasons};
+ghost use Rattle.table_image.specs.ImageLaw.{is_kept, is_pinned};
 ghost use Rattle.table_image.specs.Parts.{IsLiving, PinsLiving, HaveOtherIds, IsChildOf, IsReasoned};
 
 use crate::data::Record;

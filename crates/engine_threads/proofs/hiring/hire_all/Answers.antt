@@ -2,7 +2,7 @@ use Rattle.std.proofs.Common.{◌≡◌, ◌∙◌, ◌+◌, ◌++◌, ◌∷◌
 use Rattle.std.proofs.lemmas.List.Elements.{All-push, All-same}
 use Rattle.std.specs.List.{range_with_len}
 use Rattle.crossbeam_channel.specs.Ends.{sends_on}
-use Rattle.engine_workers.specs.declared.working.Worker.{Worker}
+use Rattle.engine_turns.specs.declared.working.Worker.{Worker}
 use Rattle.engine_threads.specs.Worked.{IsHired}
 use Rattle.engine_threads.proofs.Lists.{map_last, range_more}
 use Rattle.engine_threads.proofs.hiring.hire_all.Goals as goal

@@ -1,7 +1,7 @@
 use Rattle.std.proofs.Common.{◌≡◌, map, sym, ap, ◌∙◌, rules, vec_len}
 use Rattle.std.specs.List.{range_with_len}
-use Rattle.engine_visits.specs.Visits.{idle}
-use Rattle.engine_workers.specs.declared.working.Worker.{Worker}
+use Rattle.engine_turns.specs.Visits.{idle}
+use Rattle.engine_turns.specs.declared.working.Worker.{Worker}
 use Rattle.engine_threads.proofs.Lists.{map_through}
 use Rattle.engine_threads.proofs.hiring.hire_staff.Goals as goal
 

@@ -3,8 +3,8 @@ use Rattle.std.proofs.lemmas.List.Elements.{All-pop}
 use Rattle.std.specs.Vec.Iter.{into_iter_items}
 use Rattle.crossbeam_channel.specs.Ends.{sends_on}
 use Rattle.ledger.specs.Shares.{Part, nothing}
-use Rattle.engine_visits.specs.Visits.{idle, on_table_of}
-use Rattle.engine_workers.specs.declared.working.Worker.{Worker}
+use Rattle.engine_turns.specs.Visits.{idle, on_table_of}
+use Rattle.engine_turns.specs.declared.working.Worker.{Worker}
 use Rattle.engine_threads.specs.Worked.{IsHired, IsStaffed}
 use Rattle.engine_threads.specs.declared.working.Staff.{Staff}
 use Rattle.engine_threads.proofs.Lists.{all_made, first_of, in_step, next_given, one_more, others_of}

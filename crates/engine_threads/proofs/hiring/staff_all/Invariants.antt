@@ -3,7 +3,7 @@ use Rattle.std.specs.List.{All}
 use Rattle.std.specs.Vec.Iter.{into_iter_items, into_iter_len}
 use Rattle.crossbeam_channel.specs.Ends.{sends_on}
 use Rattle.ledger.specs.Shares.{nothing}
-use Rattle.engine_visits.specs.Visits.{idle, on_table_of}
+use Rattle.engine_turns.specs.Visits.{idle, on_table_of}
 use Rattle.engine_threads.specs.Worked.{IsHired, IsStaffed}
 use Rattle.engine_threads.proofs.hiring.staff_all.Given as goal
 

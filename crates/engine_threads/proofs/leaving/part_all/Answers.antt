@@ -1,10 +1,10 @@
 use Rattle.std.proofs.Common.{◌≡◌, ◌∙◌, suc, length, map, List, ◌∷◌, ◌++◌, [], refl, sym, ap, append_assoc, arith}
 use Rattle.std.proofs.lemmas.List.Elements.{All-cons, All-same}
 use Rattle.std.specs.Vec.Iter.{into_iter_items}
-use Rattle.table_recorded.specs.Histories.{calls_of}
-use Rattle.engine_jobs.specs.declared.jobs.Job.{Job}
+use Rattle.table_shared.specs.Histories.{calls_of}
+use Rattle.engine_queues.specs.declared.job.Job.{Job}
 use Rattle.engine_queues.specs.declared.passes.Passes.{Passes}
-use Rattle.engine_workers.specs.declared.replies.Reply.{Reply}
+use Rattle.engine_turns.specs.declared.replies.Reply.{Reply}
 use Rattle.engine_threads.specs.declared.working.WorkerEnd.{WorkerEnd}
 use Rattle.engine_threads.specs.Worked.{did}
 use Rattle.engine_threads.proofs.Lists.{next_put}

@@ -1,7 +1,7 @@
 use Rattle.std.specs.Prelude.{◌≡◌, ◌+◌, ◌++◌, ◌≤◌, length, map, vec_len, vec_capacity}
 use Rattle.std.specs.List.{All}
 use Rattle.std.specs.Vec.Iter.{into_iter_items, into_iter_len}
-use Rattle.table_recorded.specs.Histories.{calls_of}
+use Rattle.table_shared.specs.Histories.{calls_of}
 use Rattle.engine_threads.specs.Worked.{did}
 use Rattle.engine_threads.proofs.leaving.part_all.Given as goal
 

@@ -1,8 +1,8 @@
 use Rattle.std.proofs.Common.{IfSome, map, sym, subst}
 use Rattle.std.specs.List.{All}
 use Rattle.crossbeam_channel.specs.Ends.{sends_on}
-use Rattle.ops.specs.declared.attributes.Settings.{Settings}
-use Rattle.engine_visits.specs.Visits.{on_table_of}
+use Rattle.terms.specs.declared.settings.Settings.{Settings}
+use Rattle.engine_turns.specs.Visits.{on_table_of}
 use Rattle.engine_threads.specs.Worked.{BidsFarewell, IsStaffed, WorkedEach, did, does_shared}
 use Rattle.engine_threads.specs.declared.working.Staff.{Staff}
 use Rattle.engine_threads.proofs.queued.serve_hired.Goals as goal

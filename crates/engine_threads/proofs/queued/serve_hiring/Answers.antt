@@ -2,7 +2,7 @@ use Rattle.std.proofs.Common.{◌≡◌, ◌+◌, ℕ, List, Some, IfSome, subst
 use Rattle.std.specs.List.{range_with_len}
 use Rattle.crossbeam_channel.specs.Claims.{view}
 use Rattle.engine_queues.specs.Gathered.{numbers_of}
-use Rattle.engine_roles.specs.Writes.{HasWrittenAll}
+use Rattle.engine_turns.specs.Writes.{HasWrittenAll}
 use Rattle.engine_threads.specs.Worked.{BidsFarewell, WorkedEach, did, does_shared, made_by}
 use Rattle.engine_threads.proofs.queued.serve_hiring.Goals as goal
 

@@ -3,9 +3,9 @@ use Rattle.std.specs.Option.{option_map}
 use Rattle.std.proofs.lemmas.List.Elements.{All-same}
 use Rattle.crossbeam_channel.specs.Claims.{view}
 use Rattle.ledger.specs.Shares.{Part, nothing}
-use Rattle.table_recorded.specs.Histories.{Made}
-use Rattle.engine_reader.specs.Shown.{queued_of, shown}
-use Rattle.engine_roles.specs.Reads.{HasReadAll}
+use Rattle.table_shared.specs.Histories.{Made}
+use Rattle.engine_turns.specs.Shown.{queued_of, shown}
+use Rattle.engine_turns.specs.Reads.{HasReadAll}
 use Rattle.engine_threads.specs.Served.{HasServed}
 use Rattle.engine_threads.proofs.Lists.{none_posted, ok_of}
 use Rattle.engine_threads.proofs.serving.serve_table.Goals as goal

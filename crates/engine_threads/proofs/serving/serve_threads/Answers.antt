@@ -3,9 +3,9 @@ use Rattle.std.specs.Option.{option_map}
 use Rattle.crossbeam_channel.specs.Claims.{view}
 use Rattle.engine.specs.declared.ends.SessionEnd.{SessionEnd}
 use Rattle.engine.specs.declared.ends.SessionEnd.TheVariants as ends
-use Rattle.engine_reader.specs.Shown.{queued_of, shown}
-use Rattle.engine_roles.specs.Reads.{HasReadAll}
-use Rattle.table_recorded.specs.Histories.{Made}
+use Rattle.engine_turns.specs.Shown.{queued_of, shown}
+use Rattle.engine_turns.specs.Reads.{HasReadAll}
+use Rattle.table_shared.specs.Histories.{Made}
 use Rattle.engine_threads.specs.Ended.{EndsAs}
 use Rattle.engine_threads.specs.Served.{HasServed}
 use Rattle.engine_threads.specs.declared.ended.Account.{Account}

@@ -2,7 +2,7 @@ use Rattle.std.specs.Prelude.{◌≡◌, ◌+◌, ◌++◌, ◌≤◌, length, m
 use Rattle.std.specs.List.{All}
 use Rattle.std.specs.Vec.Iter.{into_iter_items, into_iter_len}
 use Rattle.crossbeam_channel.specs.Ends.{sends_on}
-use Rattle.engine_visits.specs.Visits.{on_table_of}
+use Rattle.engine_turns.specs.Visits.{on_table_of}
 use Rattle.engine_threads.specs.Worked.{does_shared, IsOver}
 use Rattle.engine_threads.proofs.starting.join_all.Given as goal
 

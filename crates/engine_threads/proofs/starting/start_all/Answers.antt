@@ -2,7 +2,7 @@ use Rattle.std.proofs.Common.{◌≡◌, suc, length, ap, arith}
 use Rattle.std.specs.Vec.Iter.{into_iter_items}
 use Rattle.std.specs.declared.thread.PromisedHandle.{PromisedHandle}
 use Rattle.crossbeam_channel.specs.Ends.{sends_on}
-use Rattle.engine_visits.specs.Visits.{on_table_of}
+use Rattle.engine_turns.specs.Visits.{on_table_of}
 use Rattle.engine_threads.specs.Worked.{IsStaffed}
 use Rattle.engine_threads.specs.declared.starting.WorkerKeeps.{WorkerKeeps}
 use Rattle.engine_threads.specs.declared.working.Staff.{Staff}

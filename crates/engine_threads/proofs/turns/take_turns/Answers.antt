@@ -1,7 +1,7 @@
 use Rattle.std.proofs.Common.{[], ◌∙◌, refl}
 use Rattle.crossbeam_channel.specs.Claims.{view}
-use Rattle.engine_visits.specs.Visits.{on_table_of}
-use Rattle.engine_workers.specs.Turns.{means, outbox, standing}
+use Rattle.engine_turns.specs.Visits.{on_table_of}
+use Rattle.engine_turns.specs.Turns.{means, outbox, standing}
 use Rattle.engine_threads.specs.Worked.{does_shared}
 use Rattle.engine_threads.proofs.Chains.{works_on}
 use Rattle.engine_threads.proofs.turns.take_turns.Goals as goal

@@ -1,8 +1,8 @@
 use Rattle.std.specs.Prelude.{◌≡◌}
 use Rattle.crossbeam_channel.specs.Claims.{view}
 use Rattle.crossbeam_channel.specs.Ends.{sends_on, receives_on}
-use Rattle.engine_visits.specs.Visits.{on_table_of}
-use Rattle.engine_workers.specs.Turns.{means, outbox, standing}
+use Rattle.engine_turns.specs.Visits.{on_table_of}
+use Rattle.engine_turns.specs.Turns.{means, outbox, standing}
 use Rattle.engine_threads.specs.Worked.{does_shared}
 use Rattle.engine_threads.proofs.Chains.{Works}
 use Rattle.engine_threads.proofs.turns.take_turns.Given as goal

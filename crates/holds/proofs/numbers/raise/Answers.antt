@@ -1,7 +1,7 @@
 use Rattle.std.proofs.Common.{◌+◌, ◌<◌, Option, Some, None, sym, ap, ◌∙◌, subst, arith}
 use Rattle.std.specs.Prelude.{unwrap_or}
 use Rattle.std.proofs.lemmas.Option.{same_Some}
-use Rattle.steady_map.specs.Living.{found, weight}
+use Rattle.collections.specs.Living.{found, weight}
 use Rattle.holds.specs.declared.numbers.Holders.{Holders}
 use Rattle.holds.specs.Numbers.{is_same_path, no_holders}
 use Rattle.holds.proofs.Numbering.{held_still, put_at, rewritten, risen, told_at}

@@ -1,6 +1,6 @@
 use Rattle.std.proofs.Common.{◌+◌, ◌≡◌, ◌≤◌, take}
 use Rattle.paths.specs.Prefixes.{Names}
-use Rattle.steady_map.specs.Living.{live, places}
+use Rattle.collections.specs.Living.{live, places}
 use Rattle.holds.specs.Numbers.{AreNumbers, counted_in, holders_on}
 use Rattle.holds.proofs.numbers.raise_all.Given as goal
 

@@ -1,7 +1,7 @@
 use Rattle.std.proofs.Common.{List, IfSome, subst, vec_len}
 use Rattle.backing_folder.specs.Explained.{Tells}
-use Rattle.table_recorded.specs.Histories.{Made}
-use Rattle.table_steps.specs.declared.data.Limits.{Limits}
+use Rattle.table_shared.specs.Histories.{Made}
+use Rattle.terms.specs.declared.limits.Limits.{Limits}
 use Rattle.engine_threads.specs.Served.{HasServed}
 use Rattle.mirrord_server.specs.Workers.{both_ends}
 use Rattle.mirrord_server.proofs.Threads.{served_by}

@@ -1,6 +1,6 @@
 use Rattle.std.proofs.Common.{◌≡◌, ◌≢◌, All, rules, arith, sym, ap, ◌∙◌, inl, inr}
 use Rattle.table_image.specs.declared.data.Hold.{Hold}
-use Rattle.table_image.specs.Law.{IsCountOf}
+use Rattle.table_image.specs.ImageLaw.{IsCountOf}
 use Rattle.table_image.proofs.Counted.{stored_or_absent}
 use Rattle.table_image.proofs.Exported.{ListsHeld-push, Stores-push}
 use Rattle.table.specs.Copies.{exclusive_in_all, sharers_in}

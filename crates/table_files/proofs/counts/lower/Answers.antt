@@ -1,6 +1,6 @@
 use Rattle.std.proofs.Common.{refl, sym, ap, ◌∙◌, Some, ◌≡◌, ◌-◌, arith}
 use Rattle.std.specs.Prelude.{nat_eq}
-use Rattle.steady_map.specs.Living.{found, weight}
+use Rattle.collections.specs.Living.{found, weight}
 use Rattle.table_files.proofs.Counting.{another_closed, last_closed, of_some}
 use Rattle.table_files.proofs.counts.lower.Goals as goal
 

@@ -2,7 +2,7 @@ use Rattle.std.proofs.Common.{◌≡◌, arith}
 use Rattle.std.proofs.lemmas.Bool.{false≢true}
 use Rattle.table_files.specs.OpenEntry.{files_of}
 use Rattle.table_files.specs.Handles.{of_node}
-use Rattle.sums.proofs.Once.{sum_once}
+use Rattle.collections.proofs.Once.{sum_once}
 use Rattle.table_footprints.proofs.closing.is_last.Goals as goal
 
 pub returns-then-openings-ne1 : goal.returns-then-openings-ne1

@@ -3,7 +3,7 @@ use Rattle.ledger.specs.Periods.{Periods}
 use Rattle.ledger.specs.Shares.{nothing}
 use Rattle.ledger.specs.Sums.{IsCarriedOver}
 use Rattle.tree.specs.Listed.{node_at}
-use Rattle.table_image.specs.Law.{HasPlainRoot, IsBornInOrder}
+use Rattle.table_law.specs.Law.{HasPlainRoot, IsBornInOrder}
 use Rattle.table_image.proofs.Ledgers.{ordered_with}
 use Rattle.table_image.proofs.lawful.keep_books.Goals as goal
 use Rattle.table_image.proofs.lawful.keep_books.Goals.{then-are_carried_over, else-are_carried_over, then-has_plain_root, else-has_plain_root}

@@ -1,4 +1,4 @@
-use Rattle.table_steps.specs.declared.data.Counts.TheVariants.{Bounded}
+use Rattle.terms.specs.declared.limits.Counts.TheVariants.{Bounded}
 use Rattle.test_threads.proofs.writes.write_anew.Given as goal
 
 -- the history that is just opened

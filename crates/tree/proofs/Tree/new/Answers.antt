@@ -1,6 +1,6 @@
 use Rattle.std.proofs.Common.{◌≡◌, ◌+◌, [], List, Option, is_some, count_by, arith, refl, sym, ap, ◌∙◌, subst}
 use Rattle.slab.specs.Slab.{Slab, slab_len}
-use Rattle.tree_children.specs.declared.Linked.{Linked}
+use Rattle.collections.specs.declared.children.Linked.{Linked}
 use Rattle.tree.specs.declared.nodes.Node.{Node}
 use Rattle.tree.specs.Places.{IsTree}
 use Rattle.tree.proofs.Opening.{root_at, root_counts, root_stored, root_tree}

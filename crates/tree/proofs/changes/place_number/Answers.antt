@@ -1,7 +1,7 @@
 use Rattle.std.proofs.Common.{Some, None, refl, sym, ap, ◌∙◌}
 use Rattle.tree.specs.declared.nodes.Key.{Key}
-use Rattle.tree_children.specs.Links.{with_parent}
-use Rattle.tree_children.proofs.Written.{if_same}
+use Rattle.collections.specs.Links.{with_parent}
+use Rattle.collections.proofs.Written.{if_same}
 use Rattle.tree.specs.Children.{parents_in, place_parent}
 use Rattle.tree.specs.Moves.{moved_node}
 use Rattle.tree.specs.Places.{Lookup}

@@ -1,6 +1,6 @@
 use Rattle.std.proofs.Common.{◌≡◌, None, reverse, refl, sym, ◌∙◌, subst, arith}
 use Rattle.std.proofs.lemmas.Option.{none-some}
-use Rattle.steady_map.specs.Living.{found}
+use Rattle.collections.specs.Living.{found}
 use Rattle.tree.specs.Keys.{same_key}
 use Rattle.tree.specs.Moves.{Exchanges, moved_node}
 use Rattle.tree.specs.Places.{Lookup, IsFree, IsNamed, IsTree}

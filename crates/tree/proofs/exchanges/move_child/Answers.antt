@@ -1,6 +1,6 @@
 use Rattle.std.proofs.Common.{Some, None, refl}
-use Rattle.tree_children.specs.Links.{with_parent}
-use Rattle.tree_children.proofs.Written.{if_same, lawful_as, there_as}
+use Rattle.collections.specs.Links.{with_parent}
+use Rattle.collections.proofs.Written.{if_same, lawful_as, there_as}
 use Rattle.tree.proofs.Relating.{parent_twice}
 use Rattle.tree.proofs.exchanges.move_child.Goals as goal
 

@@ -1,11 +1,11 @@
 use Rattle.std.proofs.Common.{◌≡◌, ◌==◌, if◌then◌else◌, Option, ℕ, Some, refl, ap, ◌∙◌, is_some, inl, inr}
 use Rattle.std.proofs.lemmas.Bool.{cases_Bool, cond-false, cond-true}
-use Rattle.steady_map.specs.Living.{found}
+use Rattle.collections.specs.Living.{found}
 use Rattle.tree.specs.declared.nodes.Node.{Node}
 use Rattle.tree.specs.Keys.{same_key}
 use Rattle.tree.specs.Moves.{moved_node}
-use Rattle.tree_children.specs.Links.{with_parent}
-use Rattle.tree_children.proofs.Written.{if_other}
+use Rattle.collections.specs.Links.{with_parent}
+use Rattle.collections.proofs.Written.{if_other}
 use Rattle.tree.specs.Children.{parents_in}
 use Rattle.tree.specs.declared.nodes.Key.{Key}
 use Rattle.tree.specs.Places.{IsAlive, IsNamed, Lookup, with_node}

@@ -1,6 +1,6 @@
 use Rattle.std.proofs.Common.{◌≡◌, ◌≤◌, ◌+◌, ◌*◌, ◌-◌, vec_len, vec_capacity}
 use Rattle.slab.specs.Slab.{slab_len}
-use Rattle.steady_map.specs.Living.{places}
+use Rattle.collections.specs.Living.{places}
 use Rattle.tree.specs.Listed.{counts_of}
 use Rattle.tree.specs.Moves.{ListsCuts}
 use Rattle.tree.specs.Stored.{slot_at, listed, IsStored}

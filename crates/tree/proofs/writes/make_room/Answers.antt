@@ -1,6 +1,6 @@
 use Rattle.std.proofs.Common.{refl, ap}
 use Rattle.slab.specs.Slab.{Slab}
-use Rattle.tree_children.specs.declared.Linked.{Linked}
+use Rattle.collections.specs.declared.children.Linked.{Linked}
 use Rattle.tree.specs.declared.nodes.Node.{Node}
 use Rattle.tree.proofs.Storing.{stored_same}
 use Rattle.tree.proofs.writes.make_room.Goals as goal

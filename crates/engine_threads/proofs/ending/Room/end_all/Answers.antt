@@ -2,12 +2,12 @@ use Rattle.std.proofs.Common.{◌≡◌, ◌+◌, ◌∙◌, ℕ, List, Option, 
 use Rattle.std.specs.List.{All, range_with_len}
 use Rattle.crossbeam_channel.specs.Claims.{view, IsSeatAt}
 use Rattle.crossbeam_channel.specs.Ends.{sends_on}
-use Rattle.table_recorded.specs.Histories.{calls_of}
-use Rattle.table_recorded.specs.Runs.{Log}
-use Rattle.engine_jobs.specs.declared.jobs.Job.{Job}
+use Rattle.table_shared.specs.Histories.{calls_of}
+use Rattle.table_shared.specs.Runs.{Log}
+use Rattle.engine_queues.specs.declared.job.Job.{Job}
 use Rattle.engine_queues.specs.Gathered.{AreSeated, numbers_of}
 use Rattle.engine_queues.specs.declared.passes.Passes.{Passes}
-use Rattle.engine_workers.specs.declared.replies.Reply.{Reply}
+use Rattle.engine_turns.specs.declared.replies.Reply.{Reply}
 use Rattle.engine_threads.specs.Worked.{BidsFarewell, WorkedEach, did, does_shared}
 use Rattle.engine_threads.specs.declared.working.WorkerEnd.{WorkerEnd}
 use Rattle.engine_threads.proofs.Parting.{all_did, all_numbered, all_seated, bids_farewell, counts_are, did_last, each_worked, given_of, passes_are}

@@ -3,10 +3,10 @@ use Rattle.crossbeam_channel.specs.Claims.{view}
 use Rattle.engine.specs.Serving.{does}
 use Rattle.engine_queues.specs.Letters.{sender}
 use Rattle.engine_queues.specs.declared.letters.ReplyLane.{ReplyLane}
-use Rattle.engine_workers.specs.declared.replies.Reply.{Reply}
-use Rattle.engine_visits.specs.Visits.{OnTable, idle, on_table_of}
-use Rattle.engine_workers.specs.Turns.{AnswersJob, means, outbox, standing}
-use Rattle.engine_workers.specs.Works.{newcomer}
+use Rattle.engine_turns.specs.declared.replies.Reply.{Reply}
+use Rattle.engine_turns.specs.Visits.{OnTable, idle, on_table_of}
+use Rattle.engine_turns.specs.Turns.{AnswersJob, means, outbox, standing}
+use Rattle.engine_turns.specs.Works.{newcomer}
 use Rattle.engine_threads.proofs.Chains.{answers_as}
 use Rattle.engine_threads.proofs.farewell.Starter.answer_last.Goals as goal
 

@@ -1,7 +1,7 @@
 use Rattle.std.proofs.Common.{[], map, sym, ap, ◌∙◌}
 use Rattle.std.specs.List.{range_with_len}
-use Rattle.table_histories.specs.Views.{front}
-use Rattle.engine_visits.specs.Visits.{on_table_of}
+use Rattle.shared_history.specs.Views.{front}
+use Rattle.engine_turns.specs.Visits.{on_table_of}
 use Rattle.engine_threads.proofs.Lists.{last_two, map_through}
 use Rattle.engine_threads.proofs.fronts.Fronts.new.Goals as goal
 

@@ -2,10 +2,10 @@ use Rattle.std.proofs.Common.{◌≡◌, ◌+◌, ℕ, List, Some, IfSome, map, 
 use Rattle.std.specs.List.{All, range_with_len}
 use Rattle.crossbeam_channel.specs.Claims.{view}
 use Rattle.crossbeam_channel.specs.Ends.{sends_on}
-use Rattle.ops.specs.declared.attributes.Settings.{Settings}
+use Rattle.terms.specs.declared.settings.Settings.{Settings}
 use Rattle.engine_queues.specs.Gathered.{numbers_of}
-use Rattle.engine_roles.specs.Writes.{HasWrittenAll}
-use Rattle.engine_visits.specs.Visits.{on_table_of}
+use Rattle.engine_turns.specs.Writes.{HasWrittenAll}
+use Rattle.engine_turns.specs.Visits.{on_table_of}
 use Rattle.engine_threads.specs.Worked.{BidsFarewell, IsStaffed, WorkedEach, did, does_shared, made_by}
 use Rattle.engine_threads.specs.declared.working.Staff.{Staff}
 use Rattle.engine_threads.proofs.queued.Ground.serve_staffed.Goals as goal

@@ -3,9 +3,9 @@ use Rattle.std.specs.List.{range_with_len}
 use Rattle.std.specs.Option.{option_map}
 use Rattle.crossbeam_channel.specs.Claims.{view}
 use Rattle.engine_queues.specs.Gathered.{numbers_of}
-use Rattle.engine_visits.specs.Visits.{idle}
-use Rattle.engine_reader.specs.Shown.{queued_of, shown}
-use Rattle.engine_roles.specs.Reads.{HasReadAll}
+use Rattle.engine_turns.specs.Visits.{idle}
+use Rattle.engine_turns.specs.Shown.{queued_of, shown}
+use Rattle.engine_turns.specs.Reads.{HasReadAll}
 use Rattle.engine_threads.specs.Ended.{IsShared}
 use Rattle.engine_threads.specs.Worked.{did}
 use Rattle.engine_threads.specs.declared.ended.Account.{Account}

@@ -1,8 +1,8 @@
 use Rattle.std.proofs.Common.{refl, sym, ap, ap₂, subst, ◌∙◌}
 use Rattle.crossbeam_channel.specs.Claims.{view}
 use Rattle.crossbeam_channel.specs.Ends.{sends_on, receives_on}
-use Rattle.engine_visits.specs.Visits.{OnTable, on_table_of}
-use Rattle.engine_workers.specs.Turns.{means, outbox}
+use Rattle.engine_turns.specs.Visits.{OnTable, on_table_of}
+use Rattle.engine_turns.specs.Turns.{means, outbox}
 use Rattle.engine_threads.specs.Worked.{IsOver, does_shared}
 use Rattle.engine_threads.proofs.Chains.{Stands, has_begun, is_over, stands_as, stands_on}
 use Rattle.engine_threads.proofs.working.Staff.work_all.Goals as goal

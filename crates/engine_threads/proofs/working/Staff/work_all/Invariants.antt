@@ -1,6 +1,6 @@
 use Rattle.crossbeam_channel.specs.Ends.{sends_on, receives_on}
-use Rattle.engine_visits.specs.Visits.{on_table_of}
-use Rattle.engine_workers.specs.Turns.{means}
+use Rattle.engine_turns.specs.Visits.{on_table_of}
+use Rattle.engine_turns.specs.Turns.{means}
 use Rattle.engine_threads.specs.Worked.{does_shared}
 use Rattle.engine_threads.proofs.Chains.{Stands}
 use Rattle.engine_threads.proofs.working.Staff.work_all.Given as goal

@@ -1,6 +1,6 @@
 use Rattle.std.proofs.Common.{◌+◌, ◌<◌, ◌↔◌, IsTrue, All, List, length, drop, rules, arith, subst}
 use Rattle.table_image.specs.declared.data.Record.{Record}
-use Rattle.table_image.specs.Law.{AreClear}
+use Rattle.table_image.specs.ImageLaw.{AreClear}
 use Rattle.table_image.proofs.Pairs.{slice_from, pairs_below-more, pairs_after}
 use Rattle.table_image.proofs.lawful.held.are_apart.Goals as goal
 

@@ -1,4 +1,4 @@
-use Rattle.table_image.specs.Law.{AreClear}
+use Rattle.table_image.specs.ImageLaw.{AreClear}
 use Rattle.table_image.proofs.Pairs.{PairsBelow}
 use Rattle.table_image.proofs.lawful.held.are_apart.Given as goal
 

@@ -5,7 +5,7 @@ use Rattle.table_files.specs.declared.listed.OpenEntry.{OpenEntry}
 use Rattle.table_files.specs.OpenEntry.{opened_in}
 use Rattle.tree.specs.Places.{Lookup, IsAlive}
 use Rattle.tree.specs.Listed.{node_at}
-use Rattle.table_image.specs.Law.{AreAlive}
+use Rattle.table_law.specs.Law.{AreAlive}
 use Rattle.table_image.specs.Parts.{IsOfLiving}
 use Rattle.table_image.proofs.lawful.opened.are_files_alive.Goals as goal
 

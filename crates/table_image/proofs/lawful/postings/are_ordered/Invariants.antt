@@ -1,5 +1,5 @@
 use Rattle.std.proofs.Common.{take}
-use Rattle.table_image.specs.Law.{IsOrdered}
+use Rattle.table_law.specs.Law.{IsOrdered}
 use Rattle.table_image.specs.Parts.{after_closed}
 use Rattle.table_image.proofs.lawful.postings.are_ordered.Given as goal
 

@@ -3,7 +3,8 @@ use Rattle.std.proofs.lemmas.Bool.{or_cases, or_left, or_right}
 use Rattle.tree.specs.Places.{Lookup}
 use Rattle.tree.specs.Listed.{node_at}
 use Rattle.table_files.specs.OpenEntry.{opened_in}
-use Rattle.table_image.specs.Law.{AreAlive, is_pinned}
+use Rattle.table_law.specs.Law.{AreAlive}
+use Rattle.table_image.specs.ImageLaw.{is_pinned}
 use Rattle.table_image.proofs.lawful.records.are_all_alive.Goals as goal
 
 either_alive : (at : Lookup) (p q : ℕ → Bool) → AreAlive at p → AreAlive at q → AreAlive at (λ n. p n || q n)

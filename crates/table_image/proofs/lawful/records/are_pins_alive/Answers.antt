@@ -5,7 +5,8 @@ use Rattle.std.proofs.lemmas.List.Folds.{Any-from_list_any, list_any_at}
 use Rattle.tree.specs.Places.{Lookup}
 use Rattle.tree.specs.Listed.{node_at}
 use Rattle.table_image.specs.declared.data.Record.{Record}
-use Rattle.table_image.specs.Law.{AreAlive, is_pinned}
+use Rattle.table_law.specs.Law.{AreAlive}
+use Rattle.table_image.specs.ImageLaw.{is_pinned}
 use Rattle.table_image.specs.Parts.{IsLiving, PinsLiving}
 use Rattle.table_image.proofs.lawful.records.are_pins_alive.Goals as goal
 

@@ -1,7 +1,8 @@
 use Rattle.std.proofs.Common.{ℕ, ◌↔◌, IsTrue, All, rules, sym, ◌∙◌, subst}
 use Rattle.tree.specs.Listed.{node_at}
 use Rattle.tree.proofs.LookupLemmas.{node_at_number}
-use Rattle.table_image.specs.Law.{HasReason, is_kept}
+use Rattle.table_law.specs.Law.{HasReason}
+use Rattle.table_image.specs.ImageLaw.{is_kept}
 use Rattle.table_image.specs.Parts.{IsReasoned}
 use Rattle.table_image.proofs.Listed.{each_led, each_listed}
 use Rattle.table_image.proofs.lawful.records.have_reasons.Goals as goal

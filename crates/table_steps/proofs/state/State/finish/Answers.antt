@@ -6,7 +6,7 @@ use Rattle.table_steps.specs.Steps.{Finishes}
 use Rattle.table_steps.proofs.Answering.{answer_kept, ending, finishes_found, finishes_none}
 use Rattle.table_steps.proofs.state.State.finish.Goals as goal
 use Rattle.table_requests.specs.RequestMaps.{most_posted_by}
-use Rattle.table_steps.specs.declared.data.Counts.TheVariants.{Free}
+use Rattle.terms.specs.declared.limits.Counts.TheVariants.{Free}
 
 pub returns-in_default-clause-finishes : goal.returns-in_default-clause-finishes
 returns-in_default-clause-finishes c =

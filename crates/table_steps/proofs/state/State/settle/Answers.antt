@@ -10,7 +10,7 @@ use Rattle.table_steps.specs.Kept.{IsKept, world_of}
 use Rattle.table_steps.proofs.Settling.{taken_nearly, settle_kept, Settles-found, Settles-none, settle_room}
 use Rattle.table_steps.proofs.state.State.settle.Goals as goal
 use Rattle.table_requests.specs.RequestMaps.{most_posted_by}
-use Rattle.table_steps.specs.declared.data.Counts.TheVariants.{Free}
+use Rattle.terms.specs.declared.limits.Counts.TheVariants.{Free}
 
 pub returns-in_default-clause-settles : goal.returns-in_default-clause-settles
 returns-in_default-clause-settles c =

@@ -1,0 +1,11 @@
+pub mod Members
+pub mod Once
+pub mod Seen
+pub mod Listing
+pub mod Keyed
+pub mod Changing
+pub mod Entries
+pub mod Sifting
+pub mod Written
+pub mod Linking
+pub mod Unlinking

@@ -1,0 +1,14 @@
+use Rattle.std.proofs.Common.{None, sym, ap, arith}
+use Rattle.collections.specs.Living.{joined, living, weight}
+use Rattle.collections.proofs.Entries.{living_set}
+use Rattle.collections.proofs.steady_map.take.Goals as goal
+
+pub returns-in-Some-clause-live : goal.returns-in-Some-clause-live
+returns-in-Some-clause-live g c =
+    let t = g.K.PartialEq.eq c.args.key.now in
+    let es = c.args.map.now.entries in
+    let wrote = c.get_mut.follows.holds None in
+    let set = living_set t es None c.in-Some.place.now (sym c.in-Some.ensures.value) in
+    let after = ap living wrote.0 in
+    let before = ap (λ o. weight (joined o)) c.in-Some.ensures.value in
+    omega (arith, set, after, before)

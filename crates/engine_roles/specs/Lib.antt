@@ -1,3 +1,0 @@
-pub mod Queues
-pub mod Reads
-pub mod Writes

@@ -1,0 +1,72 @@
+-- A job that was handled, and its reply.
+use Rattle.std.proofs.Common.{◌≡◌, ℕ, false, List, [], ◌++◌, Option, Some, None, refl, sym, ap, ◌∙◌, append-nil, append_assoc, arith}
+use Rattle.std.proofs.lemmas.Option.{none-some}
+use Rattle.ledger.specs.Shares.{Part}
+use Rattle.table_steps.specs.Answers.{Settlement}
+use Rattle.terms.specs.declared.settings.Settings.{Settings}
+use Rattle.engine.specs.Reference.{Offer}
+use Rattle.engine.specs.Serving.{Behaviour}
+use Rattle.engine.specs.declared.served.Served.{Served}
+use Rattle.engine_queues.specs.declared.letters.Letter.{Letter}
+use Rattle.table_shared.specs.Runs.{Call}
+use Rattle.engine_turns.specs.Visits.{OnTable, Visited, left_in, then_all}
+use Rattle.engine_turns.specs.Rights.{IsRight}
+use Rattle.engine.specs.Batches.{bytes_of}
+use Rattle.engine_turns.specs.Slips.{bytes_in}
+use Rattle.engine_turns.specs.Turns.{Means, MeetsJob, Met, Writes, means}
+use Rattle.engine_queues.specs.declared.job.Job.{Job}
+use Rattle.engine_queues.specs.declared.left.Left.{Left}
+use Rattle.engine_turns.specs.declared.replies.Reply.{Reply}
+use Rattle.engine_turns.specs.declared.working.Turn.{Turn}
+use Rattle.engine_turns.specs.declared.working.Turn.TheVariants.{Worked, Nothing}
+use Rattle.engine.specs.declared.bytes.Bytes.{Bytes}
+
+abbrev bytes_or : List ℕ → Option (List ℕ) → List ℕ
+bytes_or d None = d
+bytes_or d (Some bytes) = bytes
+
+-- what is written is right
+pub right_of : {C D : Type 0} (does : Behaviour C D) (settings : Settings) (job : Job) (old new : Means C D) (said : Option Bytes) (visited : Visited) (bytes : Bytes)
+    → MeetsJob does settings job old (record { said = bytes_in said; visited = visited }) new → said ≡ Some bytes → IsRight settings job (bytes_of bytes) (left_in visited)
+right_of does settings job old new said visited bytes m is = by_offer m.turn.offer refl m.writes where
+  by_offer : (o : Option Offer) → m.turn.offer ≡ o → Writes o (bytes_in said) → IsRight settings job (bytes_of bytes) (left_in visited)
+  by_offer None e w = absurd (none-some (bytes_of bytes) (sym w ∙ ap bytes_in is))
+  by_offer (Some offer) e w = record {
+    turn = m.turn;
+    before = old.on_table;
+    visited = visited;
+    after = new.on_table;
+    handled = m.handled;
+    offer = offer;
+    offered = e;
+    written = record { bytes_are = ap (bytes_or []) (sym (ap bytes_in is) ∙ w.0); sent = w.1 };
+    left_is = refl;
+  }
+
+-- the share stays where the reply is put
+pub met_on : {C D : Type 0} (does : Behaviour C D) (settings : Settings) (job : Job) (old : Means C D) (served : Served C D) (mid after : Part) (handled : OnTable) (met : Met)
+    → MeetsJob does settings job old met (means served mid handled) → after.totals.entries ≡ mid.totals.entries → after.index ≡ mid.index → MeetsJob does settings job old met (means served after handled)
+met_on does settings job old served mid after handled met m e i = record {
+  turn = m.turn;
+  handled = m.handled;
+  draws = m.draws;
+  writes = m.writes;
+  gains = record { entries = (let g = m.gains.entries in omega arith); index = i ∙ m.gains.index; by_is = m.gains.by_is };
+}
+
+-- the settle that a turn tells
+abbrev pub settled_by : Turn → Option Settlement
+settled_by (Worked settled) = settled
+settled_by Nothing = None
+
+abbrev pub left_by : Option (Letter Reply) → Option Left
+left_by None = None
+left_by (Some letter) = letter.reply.left
+
+-- nothing more was done on the table
+pub none_more : (on_table : OnTable) → on_table ≡ then_all on_table []
+none_more on_table = ap (λ (cs : List Call). record { by = on_table.by; calls = cs }) (sym (append-nil on_table.calls))
+
+-- what was done after what was done
+pub and_more : (old mid new : OnTable) (first next : List Call) → mid ≡ then_all old first → new ≡ then_all mid next → new ≡ then_all old (first ++ next)
+and_more old mid new first next m n = n ∙ (ap (λ (o : OnTable). then_all o next) m ∙ ap (λ (cs : List Call). record { by = old.by; calls = cs }) (append_assoc old.calls first next))

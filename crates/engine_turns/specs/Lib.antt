@@ -1,0 +1,13 @@
+pub mod Visits
+pub mod Visiting
+pub mod Shown
+pub mod Verdicts
+pub mod Batches
+pub mod Known
+pub mod Rights
+pub mod Slips
+pub mod Turns
+pub mod Works
+pub mod Queues
+pub mod Reads
+pub mod Writes

@@ -1,0 +1,26 @@
+-- Jobs as their frames and verdicts, and how far a reader has got, in its code.
+use Rattle.std.specs.Prelude.{List, map, take}
+use Rattle.std.specs.Option.{option_map}
+use Rattle.crossbeam_channel.specs.Claims.{view}
+use Rattle.engine_queues.specs.declared.job.Job.{Job}
+use Rattle.engine_turns.specs.Verdicts.{Progress, Queued, Reading}
+use Rattle.engine_turns.specs.declared.reader.Reader.{Reader}
+
+abbrev pub shown : Job → Queued
+shown job = record { agreed = job.agreed; frame = job.frame.items }
+
+abbrev pub queued_of : List Job → List Queued
+queued_of jobs = map shown jobs
+
+abbrev pub progress : Reader → Progress
+progress reader = record {
+  kept = reader.cutter.kept;
+  unkept = take reader.unkept reader.room.items;
+  agreed = reader.agreed;
+  put = queued_of (view reader.pass).put;
+  farewell = option_map shown reader.farewell;
+  handed_back = option_map shown reader.handed_back;
+}
+
+abbrev pub reading : {L : Type 0} → L → Reader → Reading L
+reading link reader = record { link = link; so_far = progress reader }

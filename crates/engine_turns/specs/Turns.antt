@@ -1,0 +1,176 @@
+-- What one turn of each thread does.
+use Rattle.std.specs.Prelude.{◌≡◌, ℕ, ◌+◌, Bool, true, false, List, [], ◌∷◌, Option, Some, None}
+use Rattle.std.specs.Option.{option_or}
+use Rattle.handles.specs.Calls.{FolderCall}
+use Rattle.ledger.specs.Shares.{Part}
+use Rattle.table_steps.specs.Answers.{Settlement}
+use Rattle.table_shared.specs.Runs as made
+use Rattle.table_shared.specs.Runs.{Call}
+use Rattle.wire.specs.Written.{reply_bytes}
+use Rattle.terms.specs.declared.settings.Settings.{Settings}
+use Rattle.engine.specs.Chain.{Chain}
+use Rattle.engine.specs.Folders.{GivesUp}
+use Rattle.engine.specs.Reference.{Offer, Turn, is_broken, is_taken}
+use Rattle.engine.specs.Serving.{Behaviour, Draws}
+use Rattle.engine.specs.declared.served.Served.{Served}
+use Rattle.engine.specs.declared.links.Sent.{Sent}
+use Rattle.engine.specs.declared.links.Sent.TheVariants.{Taken}
+use Rattle.engine_queues.specs.Jobs.{taken_of}
+use Rattle.engine_queues.specs.Letters as letters
+use Rattle.engine_queues.specs.declared.jobs.Hand.{Hand}
+use Rattle.engine_queues.specs.declared.letters.ReplyLane.{ReplyLane}
+use Rattle.engine_queues.specs.declared.letters.Letter.{Letter}
+use Rattle.engine_turns.specs.Visits.{Fresh, GainsListed, OnTable, Visited, left_in, settled_in, settlement_of, then_all}
+use Rattle.engine_turns.specs.Rights.{IsJobHandled}
+use Rattle.engine.specs.Batches.{bytes_of}
+use Rattle.engine_queues.specs.declared.job.Job.{Job}
+use Rattle.engine_queues.specs.declared.left.Left.{Left}
+use Rattle.engine_turns.specs.declared.replies.Reply.{Reply}
+
+-- ---- a worker
+
+-- what is written for the turn's offer
+abbrev pub Writes : Option Offer → Option (List ℕ) → Type 0
+Writes None bytes = bytes ≡ None
+Writes (Some offer) bytes = (bytes ≡ Some (reply_bytes offer.reply)) × (offer.sent ≡ Taken)
+
+-- what a worker meets a job with: a directory and open folders, its share of the table's book, and what it did on the table
+pub record Means (C D : Type 0) : Type 0 where
+  pub served : Served C D
+  pub share : Part
+  pub on_table : OnTable
+
+abbrev pub means : {C D : Type 0} → Served C D → Part → OnTable → Means C D
+means served share on_table = record { served = served; share = share; on_table = on_table }
+
+-- what has come of a job: the reply that is written, if one is, and what the calls on the table came to
+pub record Met : Type 0 where
+  pub said : Option (List ℕ)
+  pub visited : Visited
+
+-- A job is handled by the rules of a session: by these calls of the directory, of the open folders and on the table, of each in order and
+-- each once. The share gains the entries of the answer that is left or settled.
+pub record MeetsJob {C D : Type 0} (does : Behaviour C D) (settings : Settings) (job : Job) (old : Means C D) (met : Met) (new : Means C D) : Type 0 where
+  pub turn : Turn
+  pub handled : IsJobHandled settings job turn old.on_table met.visited new.on_table
+  pub draws : Draws does old.served turn.made turn.folders new.served
+  pub writes : Writes turn.offer met.said
+  pub gains : GainsListed (record { visited = Fresh; on_table = old.on_table }) old.share (record { visited = met.visited; on_table = new.on_table }) new.share
+
+-- the handle of the listing that was put for an answer
+abbrev pub put_in : Option Left → Option ℕ
+put_in None = None
+put_in (Some left) = left.put
+
+-- the reply of that sender to that job
+pub record IsReplyTo (settings : Settings) (from : ℕ) (job : Job) (bytes : List ℕ) (visited : Visited) (letter : Letter Reply) : Type 0 where
+  pub from_is : letter.from ≡ from
+  pub settings_are : letter.reply.settings ≡ settings
+  pub job_is : letter.reply.job.value ≡ job
+  pub bytes_are : bytes_of letter.reply.bytes ≡ bytes
+  pub left_is : letter.reply.left ≡ left_in visited
+
+-- what a turn comes to: the settle of an answer, the calls of the open folders, and those on the table
+pub record Ending : Type 0 where
+  pub settled : Option Settlement
+  pub folders : List FolderCall
+  pub on_table : List Call
+
+abbrev pub ending : Option Settlement → List FolderCall → List Call → Ending
+ending settled folders on_table = record { settled = settled; folders = folders; on_table = on_table }
+
+-- what becomes of an answer that is left
+abbrev pub ended_as : Option Left → (taken : Bool) → Option Settlement
+ended_as None taken = None
+ended_as (Some left) taken = Some (settlement_of left.answered taken)
+
+abbrev pub settles_of : Option Left → (taken : Bool) → List Call
+settles_of None taken = []
+settles_of (Some left) taken = made.settled left.answered taken (settlement_of left.answered taken) ∷ []
+
+-- what is settled where the reply was handed back: what is left, as untaken
+abbrev pub untaken_in : Visited → Option Settlement
+untaken_in visited = option_or (ended_as (left_in visited) false) (settled_in visited)
+
+-- it is settled; a listing that was put for it is given up where its reply was not taken
+pub record IsEnded (left : Option Left) (taken : Bool) (did : Ending) : Type 0 where
+  pub settled_is : did.settled ≡ ended_as left taken
+  pub gives_up : GivesUp taken (put_in left) did.folders
+  pub settles : did.on_table ≡ settles_of left taken
+
+-- by these calls of the open folders and these on the table, and no others
+pub record ByBoth {D : Type 0} (keeps : D → FolderCall → D → Type 0) (old : D) (before : OnTable) (new : D) (after : OnTable) (holds : List FolderCall → List Call → Type 0) : Type 0 where
+  pub folders : List FolderCall
+  pub chain : Chain keeps old folders new
+  pub calls : List Call
+  pub on_table : after ≡ then_all before calls
+  pub so : holds folders calls
+
+-- what a worker has put into the queue of replies, and how many of its replies that queue handed back
+pub record Outbox : Type 0 where
+  pub lane : ReplyLane Reply
+  pub handed_back : ℕ
+
+abbrev pub outbox : ReplyLane Reply → (handed_back : ℕ) → Outbox
+outbox lane handed_back = record { lane = lane; handed_back = handed_back }
+
+-- Exactly one reply is put, or else the queue hands it back, which is counted; then its answer is settled as untaken, and a listing that was
+-- put for it is given up. None is put or counted where nothing is written.
+pub data PutsReply (settings : Settings) (from : ℕ) (job : Job) (met : Met) (old : Outbox) (did : Ending) (new : Outbox) : Type 0 where
+  is_put : (bytes : List ℕ) (letter : Letter Reply) → met.said ≡ Some bytes → IsReplyTo settings from job bytes met.visited letter → new ≡ outbox (letters.put_of old.lane (Some letter)) old.handed_back → did.settled ≡ settled_in met.visited → did.folders ≡ [] → did.on_table ≡ []
+      → PutsReply settings from job met old did new
+  handed_back : (bytes : List ℕ) → met.said ≡ Some bytes → new ≡ outbox old.lane (old.handed_back + 1) → did.settled ≡ untaken_in met.visited → GivesUp false (put_in (left_in met.visited)) did.folders → did.on_table ≡ settles_of (left_in met.visited) false
+      → PutsReply settings from job met old did new
+  none : met.said ≡ None → new ≡ old → did.settled ≡ settled_in met.visited → did.folders ≡ [] → did.on_table ≡ [] → PutsReply settings from job met old did new
+
+-- where a worker stands: what it has taken from the queue of jobs, what became of its replies at theirs, and what it meets jobs with
+pub record Standing (C D : Type 0) : Type 0 where
+  pub hand : Hand Job
+  pub out : Outbox
+  pub means : Means C D
+
+abbrev pub standing : {C D : Type 0} → Hand Job → Outbox → Means C D → Standing C D
+standing taken out means = record { hand = taken; out = out; means = means }
+
+-- it has taken this job too
+abbrev pub takes : {C D : Type 0} → Standing C D → Job → Standing C D
+takes old job = record { hand = taken_of old.hand (Some job); out = old.out; means = old.means }
+
+-- a job was handled, and then answered; none was taken
+pub record AnswersJob {C D : Type 0} (does : Behaviour C D) (settings : Settings) (from : ℕ) (job : Job) (old : Standing C D) (settled : Option Settlement) (new : Standing C D) : Type 0 where
+  pub met : Met
+  pub between : D
+  pub handled : OnTable
+  pub meets : MeetsJob does settings job old.means met (means (record { calls = new.means.served.calls; dirs = between }) new.means.share handled)
+  pub puts : ByBoth does.keeps between handled new.means.served.dirs new.means.on_table (λ folders calls. PutsReply settings from job met old.out (ending settled folders calls) new.out)
+  pub hand_is : new.hand ≡ old.hand
+
+-- one job was taken, handled and answered
+pub record Worked {C D : Type 0} (does : Behaviour C D) (settings : Settings) (from : ℕ) (old : Standing C D) (settled : Option Settlement) (new : Standing C D) : Type 0 where
+  pub job : Job
+  pub answers : AnswersJob does settings from job (takes old job) settled new
+
+-- ---- the writer
+
+-- its bytes are offered, and once
+pub record OffersBytes {L : Type 0} (sends : L → List ℕ → Sent → L → Type 0) (letter : Letter Reply) (did : Ending) (link link' : L) (broken : Bool) : Type 0 where
+  pub sent : Sent
+  pub offer : sends link (bytes_of letter.reply.bytes) sent link'
+  pub ends : IsEnded letter.reply.left (is_taken sent) did
+  pub broken_is : broken ≡ is_broken sent
+
+-- nothing is offered once the link broke
+pub record OffersNothing {L : Type 0} (letter : Letter Reply) (did : Ending) (link link' : L) (broken : Bool) : Type 0 where
+  pub link_is : link' ≡ link
+  pub ends : IsEnded letter.reply.left false did
+  pub broken_is : broken ≡ true
+
+abbrev pub Offers : {L : Type 0} → (L → List ℕ → Sent → L → Type 0) → Letter Reply → Ending → L → L → (before after : Bool) → Type 0
+Offers sends letter did link link' true broken = OffersNothing letter did link link' broken
+Offers sends letter did link link' false broken = OffersBytes sends letter did link link' broken
+
+-- the front reply was taken and offered, and its answer settled
+pub record Wrote {L : Type 0} (sends : L → List ℕ → Sent → L → Type 0) (lane : ReplyLane Reply) (link : L) (before : Bool) (did : Ending) (lane' : ReplyLane Reply) (link' : L) (after : Bool) : Type 0 where
+  pub front : Letter Reply
+  pub got : lane' ≡ letters.got_of lane (Some front)
+  pub offers : Offers sends front did link link' before after

@@ -1,0 +1,34 @@
+//! The turns of a session on threads: the reader makes one receive, and a job for each whole frame that stands then; a worker answers a job
+//! by a table that it shares; the writer offers the replies that are queued together. The reader and the writer are roles: each stands under
+//! a lock of its own, and whoever has the lock makes its next turn.
+#![tactic(auto)]
+
+mod batches;
+mod known;
+mod origins;
+mod reader;
+mod reader_role;
+mod reading;
+mod replies;
+mod settling;
+mod shares;
+mod sleepers;
+mod slips;
+mod verdicts;
+pub mod visits;
+mod working;
+mod writer_role;
+mod writing;
+
+pub use batches::{BATCH, Batch};
+pub use origins::{Sink, Source};
+pub use reader::Reader;
+pub use reader_role::ReaderRole;
+pub use reading::ReaderEnd;
+pub use replies::Reply;
+pub use shares::{Kept, Shares};
+pub use sleepers::Sleepers;
+pub use visits::{ComeTo, Visitor};
+pub use working::{Turn, Worker};
+pub use writer_role::{WriterEnd, WriterRole};
+pub use writing::Writer;

@@ -1,0 +1,182 @@
+//! Who cuts frames and queues a job for each.
+
+ghost use Rattle.std.specs.Prelude.{◌≡◌, ◌<◌, ◌≤◌, ◌-◌, ◌++◌, ◌∷◌, [], false, drop, length, map, take, vec_len, IfOk, IsTrue, IsFalse, None, Some};
+ghost use Rattle.crossbeam_channel.specs.Claims.{view, IsSeatAt};
+ghost use Rattle.crossbeam_channel.specs.Ends.{sends_on};
+ghost use Rattle.engine.specs.Links.{heard, IsWithin};
+ghost use Rattle.engine_queues.specs.Jobs.{numbers};
+ghost use Rattle.wire.specs.Requests.{IsFramed};
+ghost use Rattle.wire.specs.Stream.{StoppedBy};
+
+use crate::verdicts::{agrees_after, is_farewell};
+use engine::{LinkIn, Received, SessionEnd};
+use engine_queues::Job;
+use engine_queues::jobs::{JobPass, JobSender, Puts};
+use std::alloc::{AllocError, Global};
+use std::sync::Wait;
+use wire::{CutFault, Cutter, Frame};
+
+/// How many bytes are asked of a link at a time: more than the longest frame has.
+const ROOM: usize = 131_072;
+
+#[derive(Drop)]
+pub struct Reader {
+    pub to: JobSender<Job>,
+    pub pass: JobPass<Job>,
+    pub next: u64,
+    pub agreed: bool,
+    pub cutter: Cutter,
+    /// Where a receive puts what it brings.
+    pub room: Vec<u8>,
+    /// How many bytes at the front of the room were received and could not be kept by the cutter.
+    pub unkept: usize,
+    /// The job of the frame that ended the session, if one did. It is not queued.
+    pub farewell: Option<Job>,
+    /// The job that the queue handed back, if it did that, or for which no number was left. It is not queued.
+    pub handed_back: Option<Job>,
+    ghost within: { unkept ≤ vec_len room },
+    ghost stopped_by: { ∥ StoppedBy cutter.kept cutter.stopped ∥₁ },
+    ghost seated: { IsSeatAt (sends_on to) pass },
+    ghost some_part: { 0 < (view pass).parts },
+    ghost takes_none: { length (view pass).taken ≡ 0 },
+    ghost counted: { length (view pass).put ≡ next },
+    ghost numbered: { map (λ j. j.ordinal) (view pass).put ≡ numbers 0 (length (view pass).put) },
+}
+
+/// Makes one receive, which leaves the bytes before `from` as they are.
+fn receive_behind<L: LinkIn>(link: &mut L, room: &mut [u8], from: usize) -> Received
+    requires { from ≤ length room.old }
+    ensures within { IsWithin result (length room.new - from) }
+    ensures brought { L.receives link.old (heard result (drop from room.new)) link.new }
+    ensures front { take from room.new ≡ take from room.old }
+    ensures len { length room.new ≡ length room.old }
+{
+    link.receive(&mut room[from..])
+}
+
+fn job_of(ordinal: u64, agreed: bool, frame: Frame) -> Job
+    requires { IsFramed frame.items }
+    ensures { (result.ordinal ≡ ordinal) × (result.agreed ≡ agreed) × (result.frame ≡ frame) }
+{
+    Job {
+        ordinal,
+        agreed,
+        frame,
+    }
+}
+
+impl Reader {
+    ghost use Rattle.std.specs.Option.{option_map};
+    ghost use Rattle.engine_turns.specs.Shown.{progress, queued_of, reading, shown};
+    ghost use Rattle.engine_turns.specs.Verdicts.{IsVerdict, QueuesAll, Reads};
+
+    /// A reader that has heard nothing, with the pass of one that has put nothing.
+    pub fn new(alloc: Global, to: JobSender<Job>, pass: JobPass<Job>) -> Result<Reader, AllocError>
+        requires seat { IsSeatAt (sends_on to) pass }
+        requires parts { 0 < (view pass).parts }
+        requires takes_none { length (view pass).taken ≡ 0 }
+        requires puts_none { (view pass).put ≡ [] }
+        ensures ring { IfOk result (λ r. sends_on r.to ≡ sends_on to) }
+        ensures pass { IfOk result (λ r. view r.pass ≡ view pass) }
+        ensures empty { IfOk result (λ r. (r.cutter.kept ≡ []) × (r.agreed ≡ false) × (queued_of (view r.pass).put ≡ []) × (r.farewell ≡ None)) }
+        ensures none_back { IfOk result (λ r. (r.unkept ≡ 0) × (r.handed_back ≡ None)) }
+    {
+        let mut room = Vec::new(alloc);
+        room.resize(ROOM, 0)?;
+        Ok(Reader {
+            to,
+            pass,
+            next: 0,
+            agreed: false,
+            cutter: Cutter::new(alloc),
+            room,
+            unkept: 0,
+            farewell: None,
+            handed_back: None,
+        })
+    }
+
+    /// Queues a job for a frame. False where the queue hands it back, which is told then.
+    fn queue<H: Wait>(&mut self, rt: &H, frame: Frame) -> bool
+        requires { IsFramed frame.items }
+        ensures yes { IsTrue result → (queued_of (view self.new.pass).put ≡ queued_of (view self.old.pass).put ++ record { agreed = self.old.agreed; frame = frame.items } ∷ []) × IsVerdict self.old.agreed frame.items self.new.agreed × (self.new.handed_back ≡ self.old.handed_back) }
+        ensures no { IsFalse result → (queued_of (view self.new.pass).put ≡ queued_of (view self.old.pass).put) × (self.new.agreed ≡ self.old.agreed) × (option_map shown self.new.handed_back ≡ Some (record { agreed = self.old.agreed; frame = frame.items })) }
+        ensures ring { sends_on self.new.to ≡ sends_on self.old.to }
+        ensures parts { (view self.new.pass).parts ≡ (view self.old.pass).parts }
+        ensures cutter { self.new.cutter ≡ self.old.cutter }
+        ensures room { (self.new.room ≡ self.old.room) × (self.new.unkept ≡ self.old.unkept) }
+        ensures farewell { self.new.farewell ≡ self.old.farewell }
+    {
+        let agreed = agrees_after(self.agreed, frame.as_slice());
+        let job = Job {
+            ordinal: self.next,
+            agreed: self.agreed,
+            frame,
+        };
+        let Some(after) = self.next.checked_add(1) else {
+            self.handed_back = Some(job);
+            return false;
+        };
+        match self.to.send_as::<Puts, H>(rt, &mut self.pass, Some(job)) {
+            Ok(()) => {
+                self.next = after;
+                self.agreed = agreed;
+                return true;
+            }
+            Err(back) => {
+                self.handed_back = back.into_inner();
+                return false;
+            }
+        }
+    }
+
+    /// Queues a job for each frame that stands whole, before the one that ends the session. Where the queue hands one back the session cannot go on.
+    fn queue_all<H: Wait>(&mut self, rt: &H) -> Option<SessionEnd>
+        ensures all { QueuesAll (progress self.old) result (progress self.new) }
+        ensures ring { sends_on self.new.to ≡ sends_on self.old.to }
+        ensures parts { (view self.new.pass).parts ≡ (view self.old.pass).parts }
+    {
+        loop {
+            match self.cutter.next() {
+                Ok(None) => return None,
+                Ok(Some(frame)) => {
+                    if is_farewell(self.agreed, frame.as_slice()) {
+                        self.farewell = Some(job_of(self.next, self.agreed, frame));
+                        return Some(SessionEnd::Destroyed);
+                    }
+                    if !self.queue(rt, frame) {
+                        return Some(SessionEnd::Memory);
+                    }
+                }
+                Err(CutFault::BadLength { len }) => return Some(SessionEnd::BadLength { len }),
+                Err(CutFault::Memory) => return Some(SessionEnd::Memory),
+            }
+        }
+    }
+
+    /// Makes one receive, and queues a job for each frame that then stands whole. What is received and cannot be kept stays in the room, and is
+    /// kept by the next turn that can, if one is made.
+    pub fn turn<H: Wait, L: LinkIn>(&mut self, rt: &H, link: &mut L) -> Option<SessionEnd>
+        ensures reads { Reads L.receives (reading link.old self.old) result (reading link.new self.new) }
+        ensures ring { sends_on self.new.to ≡ sends_on self.old.to }
+        ensures parts { (view self.new.pass).parts ≡ (view self.old.pass).parts }
+    {
+        match receive_behind(link, self.room.as_mut_slice(), self.unkept) {
+            Received::Bytes(count) => self.unkept += count,
+            Received::End => {
+                return Some(SessionEnd::Closed {
+                    rest: self.cutter.rest(),
+                });
+            }
+            Received::Broken => return Some(SessionEnd::LinkBroken),
+        }
+        match self.cutter.feed(&self.room[..self.unkept]) {
+            Ok(()) => {
+                self.unkept = 0;
+                self.queue_all(rt)
+            }
+            Err(CutFault::BadLength { len }) => Some(SessionEnd::BadLength { len }),
+            Err(CutFault::Memory) => Some(SessionEnd::Memory),
+        }
+    }
+}

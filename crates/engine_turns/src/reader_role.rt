@@ -1,0 +1,76 @@
+//! The reader as a role.
+
+ghost use Rattle.std.specs.Prelude.{◌≡◌, ◌+◌, is_some, length, Some, IfSome, IfNone};
+ghost use Rattle.std.specs.Option.{option_map};
+ghost use Rattle.crossbeam_channel.specs.Claims.{view, IsSeatAt};
+ghost use Rattle.crossbeam_channel.specs.Ends.{sends_on};
+ghost use Rattle.engine_turns.specs.Shown.{queued_of, reading, shown};
+ghost use Rattle.engine_turns.specs.Verdicts.{Reads};
+ghost use Rattle.engine_turns.specs.Reads.{beginning, HasRead, HasReadAll};
+
+use crate::origins::Source;
+use crate::reader::Reader;
+use crate::reading::ReaderEnd;
+use engine::{LinkIn, SessionEnd};
+use std::marker::PhantomData;
+use std::sync::Wait;
+
+/// A reader with its link. It has read all that it queued since it began with the link of `S`.
+#[derive(Drop)]
+pub struct ReaderRole<I: LinkIn + Drop, S: Source<I>> {
+    pub reader: Reader,
+    pub link: I,
+    /// How a receive ended the session, once one has.
+    pub end: Option<SessionEnd>,
+    pub source: PhantomData<S>,
+    ghost ring: { S.jobs ≡ Some (sends_on reader.to) },
+    ghost parts: { (view reader.pass).parts + S.parted ≡ 8 },
+    ghost read: { ∥ HasRead I.receives S.heard_from end (reading link reader) ∥₁ },
+}
+
+impl<I: LinkIn + Drop, S: Source<I>> ReaderRole<I, S> {
+    /// A reader that has heard nothing.
+    pub fn new(reader: Reader, link: I) -> ReaderRole<I, S>
+        requires ring { S.jobs ≡ Some (sends_on reader.to) }
+        requires parts { (view reader.pass).parts + S.parted ≡ 8 }
+        requires from { S.heard_from ≡ Some link }
+        requires fresh { reading link reader ≡ beginning link }
+        ensures { (result.reader ≡ reader) × (result.link ≡ link) × (result.end ≡ None) }
+    {
+        ReaderRole {
+            reader,
+            link,
+            end: None,
+            source: PhantomData,
+        }
+    }
+
+    /// Makes one receive, and queues a job for each frame that then stands whole. Nothing is done once the session has ended.
+    pub fn turn<H: Wait>(&mut self, rt: &H)
+        ensures over { IfSome self.old.end (λ _. self.new ≡ self.old) }
+        ensures reads { IfNone self.old.end (Reads I.receives (reading self.old.link self.old.reader) self.new.end (reading self.new.link self.new.reader)) }
+    {
+        match self.end {
+            Some(_) => {}
+            None => self.end = self.reader.turn(rt, &mut self.link),
+        }
+    }
+
+    /// What it leaves.
+    pub fn into_end(self) -> ReaderEnd
+        ensures seat { IfSome S.jobs (λ jobs. IsSeatAt jobs result.pass) }
+        ensures parts { (view result.pass).parts + S.parted ≡ 8 }
+        ensures takes_none { length (view result.pass).taken ≡ 0 }
+        ensures same { (result.end ≡ self.end) × (result.farewell ≡ self.reader.farewell) × (result.is_handed_back ≡ is_some self.reader.handed_back) }
+        ensures read { ∥ HasReadAll I.receives S.heard_from result.end (queued_of (view result.pass).put) (option_map shown result.farewell) result.is_handed_back ∥₁ }
+    {
+        let ReaderRole {
+            reader,
+            link,
+            end,
+            source: _,
+        } = self;
+        drop(link);
+        ReaderEnd::new(reader, end)
+    }
+}

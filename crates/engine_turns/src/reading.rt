@@ -1,0 +1,51 @@
+//! What a reader leaves.
+
+ghost use Rattle.std.specs.Prelude.{◌≡◌, is_some, length};
+ghost use Rattle.crossbeam_channel.specs.Claims.{view, IsSeatAt};
+ghost use Rattle.crossbeam_channel.specs.Ends.{sends_on};
+
+use crate::reader::Reader;
+use engine::SessionEnd;
+use engine_queues::Job;
+use engine_queues::jobs::JobPass;
+
+/// What a reader that has ended leaves.
+#[derive(Drop)]
+pub struct ReaderEnd {
+    pub pass: JobPass<Job>,
+    /// How a receive ended the session. None where reading was stopped before.
+    pub end: Option<SessionEnd>,
+    /// The job of the frame that ended the session, if one did.
+    pub farewell: Option<Job>,
+    /// Whether a job was handed back.
+    pub is_handed_back: bool,
+}
+
+impl ReaderEnd {
+    /// What a reader leaves that has ended so.
+    pub fn new(reader: Reader, end: Option<SessionEnd>) -> ReaderEnd
+        ensures seat { IsSeatAt (sends_on reader.to) result.pass }
+        ensures same { (view result.pass ≡ view reader.pass) × (result.end ≡ end) × (result.farewell ≡ reader.farewell) × (result.is_handed_back ≡ is_some reader.handed_back) }
+        ensures takes_none { length (view result.pass).taken ≡ 0 }
+    {
+        let Reader {
+            to,
+            pass,
+            next: _,
+            agreed: _,
+            cutter: _,
+            room: _,
+            unkept: _,
+            farewell,
+            handed_back,
+        } = reader;
+        drop(to);
+        let is_handed_back = handed_back.is_some();
+        ReaderEnd {
+            pass,
+            end,
+            farewell,
+            is_handed_back,
+        }
+    }
+}

@@ -1,0 +1,300 @@
+//! One job of a worker.
+
+ghost use Rattle.std.specs.Prelude.{◌≡◌, ◌<◌, ◌+◌, ◌^◌, length, true, Some, Option, List, ℕ};
+ghost use Rattle.crossbeam_channel.specs.Claims.{view, IsSeatAt};
+ghost use Rattle.crossbeam_channel.specs.Ends.{sends_on, receives_on};
+ghost use Rattle.table_steps.specs.Answers.{Settlement};
+ghost use Rattle.engine.specs.Batches.{bytes_of};
+ghost use Rattle.engine.specs.Reference.{Turn as IsHandled};
+ghost use Rattle.engine.specs.Serving.{does};
+ghost use Rattle.engine_turns.specs.Visits.{left_in, on_table_of, settled_in, visited_of};
+ghost use Rattle.engine_turns.specs.Rights.{IsRight};
+ghost use Rattle.engine_turns.specs.Slips.{bytes_in};
+ghost use Rattle.engine_turns.specs.Turns.{AnswersJob, ByBoth, MeetsJob, PutsReply, Worked, ending, means, outbox, standing};
+
+use crate::replies::Reply;
+use crate::settling::settle_left;
+use crate::slips::Slip;
+use crate::visits::{ComeTo, Visitor};
+use backing::Calls;
+use engine::{Bytes, Served, Session, Settings};
+use engine_queues::jobs::{JobPass, JobReceiver, Takes};
+use engine_queues::letters::{Letter, Posts, ReplyPass, ReplySender};
+use engine_queues::passes::Passes;
+use engine_queues::{Job, Left};
+use handles::Folders;
+use ledger::{Ledgers, Share};
+use std::alloc::Global;
+use std::snapshot::Snapshot;
+use std::sync::Wait;
+use table::Settled;
+use table_shared::Opening;
+
+/// What a turn did.
+#[derive(Drop)]
+pub enum Turn {
+    /// It met a job, and made this settle, if any.
+    Worked(Option<Settled>),
+    /// It met none: there was none, or a count of the worker is full.
+    Nothing,
+}
+
+/// Meets a job by the rules of a session: what is replied, and what has come of it in the table.
+fn meet_job<'a, H: Wait, T: Ledgers, O: Opening, C: Calls, D: Folders>(
+    session: &mut Session,
+    visitor: &mut Visitor<'a, H, T, O>,
+    share: &mut Share<T>,
+    served: &mut Served<C, D>,
+    job: &Job,
+) -> (Option<Bytes>, ComeTo)
+    ensures meets { MeetsJob (does C.gives D.keeps) session.old.settings job.now (means served.old share.old (on_table_of visitor.old.front)) (record { said = bytes_in result.0; visited = visited_of result.1 }) (means served.new share.new (on_table_of visitor.new.front)) }
+    ensures settings { session.new.settings ≡ session.old.settings }
+{
+    session.agreed = job.agreed;
+    let mut slip = Slip::new(session.alloc);
+    let _ = visitor.take_end();
+    session.handle_frame(
+        visitor.rt,
+        &mut slip,
+        served,
+        visitor,
+        share,
+        job.frame.as_slice(),
+    );
+    (slip.into_said(), visitor.take_end())
+}
+
+/// The answer that is left, and the settle that was made.
+fn parted(come_to: ComeTo) -> (Option<Left>, Option<Settled>)
+    ensures left { result.0 ≡ left_in (visited_of come_to) }
+    ensures settled { result.1 ≡ settled_in (visited_of come_to) }
+{
+    match come_to {
+        ComeTo::Nothing | ComeTo::Answer(_) => (None, None),
+        ComeTo::Left(left) => (Some(left), None),
+        ComeTo::Settled(settled) => (None, Some(settled)),
+    }
+}
+
+/// The reply to a job, which is right.
+fn reply_to(settings: Settings, job: &Job, bytes: Bytes, left: Option<Left>) -> Reply
+    requires { IsRight settings job.now (bytes_of bytes) left }
+    ensures { (result.settings ≡ settings) × (result.job.value ≡ job.now) × (result.bytes ≡ bytes) × (result.left ≡ left) }
+{
+    Reply {
+        settings,
+        job: Snapshot::of(job),
+        bytes,
+        left,
+    }
+}
+
+/// Who takes jobs, and puts a reply to each that gets one.
+#[derive(Drop)]
+pub struct Worker {
+    pub number: u64,
+    pub session: Session,
+    pub jobs: JobReceiver<Job>,
+    pub job_pass: JobPass<Job>,
+    pub replies: ReplySender<Reply>,
+    pub reply_pass: ReplyPass<Reply>,
+    pub count: u64,
+    /// How many of its replies the queue handed back.
+    pub handed_back: u64,
+    ghost seated: { IsSeatAt (receives_on jobs) job_pass },
+    ghost reply_seated: { IsSeatAt (sends_on replies) reply_pass },
+    ghost one_part: { (view job_pass).parts ≡ 1 },
+    ghost puts_none: { length (view job_pass).put ≡ 0 },
+    ghost counted: { length (view job_pass).taken ≡ count },
+    ghost sends: { (view reply_pass).sends ≡ true },
+    ghost from: { (view reply_pass).from ≡ number },
+}
+
+impl Worker {
+    /// A worker that goes on from these passes. None of its replies was handed back.
+    pub fn new(
+        alloc: Global,
+        settings: Settings,
+        jobs: JobReceiver<Job>,
+        replies: ReplySender<Reply>,
+        passes: Passes<Job, Reply>,
+    ) -> Worker
+        requires jobs { IsSeatAt (receives_on jobs) passes.job_pass }
+        requires replies { IsSeatAt (sends_on replies) passes.reply_pass }
+        ensures rings { (receives_on result.jobs ≡ receives_on jobs) × (sends_on result.replies ≡ sends_on replies) × (result.number ≡ passes.number) }
+        ensures passes { (view result.job_pass ≡ view passes.job_pass) × (view result.reply_pass ≡ view passes.reply_pass) }
+        ensures settings { result.session.settings ≡ settings }
+        ensures none_back { result.handed_back ≡ 0 }
+    {
+        let Passes {
+            number,
+            count,
+            job_pass,
+            reply_pass,
+        } = passes;
+        let session = Session {
+            alloc,
+            settings,
+            agreed: false,
+            buffer: Vec::new(alloc),
+        };
+        Worker {
+            number,
+            session,
+            jobs,
+            job_pass,
+            replies,
+            reply_pass,
+            count,
+            handed_back: 0,
+        }
+    }
+
+    /// Its passes, once it has ended.
+    pub fn into_passes(self) -> Passes<Job, Reply>
+        ensures number { result.number ≡ self.number }
+        ensures seats { IsSeatAt (receives_on self.jobs) result.job_pass × IsSeatAt (sends_on self.replies) result.reply_pass }
+        ensures passes { (view result.job_pass ≡ view self.job_pass) × (view result.reply_pass ≡ view self.reply_pass) }
+    {
+        let Worker {
+            number,
+            session: _,
+            jobs,
+            job_pass,
+            replies,
+            reply_pass,
+            count,
+            handed_back: _,
+        } = self;
+        drop(jobs);
+        drop(replies);
+        Passes {
+            number,
+            count,
+            job_pass,
+            reply_pass,
+        }
+    }
+
+    /// Puts the reply to a job, if there is one. One that is handed back is counted, and settled as untaken.
+    fn put<'a, H: Wait, T: Ledgers, O: Opening, D: Folders>(
+        &mut self,
+        visitor: &mut Visitor<'a, H, T, O>,
+        share: &mut Share<T>,
+        dirs: &mut D,
+        job: &Job,
+        said: Option<Bytes>,
+        come_to: ComeTo,
+    ) -> Option<Settled>
+        requires countable { self.old.handed_back + 1 < 2 ^ 64 }
+        requires right { (bytes : Bytes) → said ≡ Some bytes → IsRight self.old.session.settings job.now (bytes_of bytes) (left_in (visited_of come_to)) }
+        ensures puts { ByBoth D.keeps dirs.old (on_table_of visitor.old.front) dirs.new (on_table_of visitor.new.front) (λ folders calls. PutsReply self.old.session.settings self.old.number job.now (record { said = bytes_in said; visited = visited_of come_to }) (outbox (view self.old.reply_pass) self.old.handed_back) (ending result folders calls) (outbox (view self.new.reply_pass) self.new.handed_back)) }
+        ensures entries { share.new.totals.entries ≡ share.old.totals.entries }
+        ensures index { share.new.index ≡ share.old.index }
+        ensures jobs { (self.new.jobs ≡ self.old.jobs) × (view self.new.job_pass ≡ view self.old.job_pass) }
+        ensures ring { (sends_on self.new.replies ≡ sends_on self.old.replies) × (self.new.number ≡ self.old.number) × (self.new.session ≡ self.old.session) }
+    {
+        let (left, settled) = parted(come_to);
+        let Some(bytes) = said else {
+            return settled;
+        };
+        let letter = Letter {
+            from: self.number,
+            reply: reply_to(self.session.settings, job, bytes, left),
+        };
+        match self
+            .replies
+            .send_as::<Posts, H>(visitor.rt, &mut self.reply_pass, Some(letter))
+        {
+            Ok(()) => settled,
+            Err(back) => match back.into_inner() {
+                Some(letter) => {
+                    self.handed_back += 1;
+                    let Letter { from: _, reply } = letter;
+                    let left = reply.into_left();
+                    let (rt, hall) = (visitor.rt, visitor.hall);
+                    let untaken = settle_left(
+                        rt,
+                        hall,
+                        &mut visitor.front,
+                        share,
+                        dirs,
+                        left,
+                        false,
+                    );
+                    untaken.or(settled)
+                }
+                None => unreachable!(),
+            },
+        }
+    }
+
+    /// Meets a job, and puts its reply.
+    fn meet<'a, H: Wait, T: Ledgers, O: Opening, C: Calls, D: Folders>(
+        &mut self,
+        visitor: &mut Visitor<'a, H, T, O>,
+        share: &mut Share<T>,
+        served: &mut Served<C, D>,
+        job: &Job,
+    ) -> Option<Settled>
+        requires countable { self.old.handed_back + 1 < 2 ^ 64 }
+        ensures rings { (receives_on self.new.jobs ≡ receives_on self.old.jobs) × (sends_on self.new.replies ≡ sends_on self.old.replies) × (self.new.number ≡ self.old.number) }
+        ensures answers { AnswersJob (does C.gives D.keeps) self.old.session.settings self.old.number job.now (standing (view self.old.job_pass) (outbox (view self.old.reply_pass) self.old.handed_back) (means served.old share.old (on_table_of visitor.old.front))) result
+            (standing (view self.new.job_pass) (outbox (view self.new.reply_pass) self.new.handed_back) (means served.new share.new (on_table_of visitor.new.front))) }
+        ensures settings { self.new.session.settings ≡ self.old.session.settings }
+    {
+        let (said, come_to) = meet_job(&mut self.session, visitor, share, served, job);
+        self.put(visitor, share, &mut served.dirs, job, said, come_to)
+    }
+
+    /// Meets a job that was not queued, and puts its reply. It does nothing where the count of replies that were handed back is full.
+    pub fn answer<'a, H: Wait, T: Ledgers, O: Opening, C: Calls, D: Folders>(
+        &mut self,
+        visitor: &mut Visitor<'a, H, T, O>,
+        share: &mut Share<T>,
+        served: &mut Served<C, D>,
+        job: &Job,
+    ) -> Turn
+        ensures rings { (receives_on self.new.jobs ≡ receives_on self.old.jobs) × (sends_on self.new.replies ≡ sends_on self.old.replies) × (self.new.number ≡ self.old.number) }
+        ensures answers { (settled : Option Settlement) → result ≡ Turn.Worked settled → AnswersJob (does C.gives D.keeps) self.old.session.settings self.old.number job.now (standing (view self.old.job_pass) (outbox (view self.old.reply_pass) self.old.handed_back) (means served.old share.old (on_table_of visitor.old.front))) settled
+            (standing (view self.new.job_pass) (outbox (view self.new.reply_pass) self.new.handed_back) (means served.new share.new (on_table_of visitor.new.front))) }
+        ensures nothing { result ≡ Turn.Nothing → (self.old.handed_back + 1 ≡ 2 ^ 64) × (self.new ≡ self.old) × (share.new ≡ share.old) × (served.new ≡ served.old) × (visitor.new ≡ visitor.old) }
+        ensures settings { self.new.session.settings ≡ self.old.session.settings }
+    {
+        if self.handed_back == u64::MAX {
+            return Turn::Nothing;
+        }
+        Turn::Worked(self.meet(visitor, share, served, job))
+    }
+
+    /// Takes one job, meets it, and puts its reply. It takes none where a count of its own is full.
+    pub fn turn<'a, H: Wait, T: Ledgers, O: Opening, C: Calls, D: Folders>(
+        &mut self,
+        visitor: &mut Visitor<'a, H, T, O>,
+        share: &mut Share<T>,
+        served: &mut Served<C, D>,
+    ) -> Turn
+        ensures rings { (receives_on self.new.jobs ≡ receives_on self.old.jobs) × (sends_on self.new.replies ≡ sends_on self.old.replies) × (self.new.number ≡ self.old.number) }
+        ensures worked { (settled : Option Settlement) → result ≡ Turn.Worked settled → Worked (does C.gives D.keeps) self.old.session.settings self.old.number (standing (view self.old.job_pass) (outbox (view self.old.reply_pass) self.old.handed_back) (means served.old share.old (on_table_of visitor.old.front))) settled
+            (standing (view self.new.job_pass) (outbox (view self.new.reply_pass) self.new.handed_back) (means served.new share.new (on_table_of visitor.new.front))) }
+        ensures nothing { result ≡ Turn.Nothing → (view self.new.job_pass ≡ view self.old.job_pass) × (view self.new.reply_pass ≡ view self.old.reply_pass) × (self.new.handed_back ≡ self.old.handed_back) × (share.new ≡ share.old) × (served.new ≡ served.old) × (visitor.new ≡ visitor.old) }
+        ensures settings { self.new.session.settings ≡ self.old.session.settings }
+    {
+        if self.handed_back == u64::MAX {
+            return Turn::Nothing;
+        }
+        let Some(after) = self.count.checked_add(1) else {
+            return Turn::Nothing;
+        };
+        match self
+            .jobs
+            .try_recv_as::<Takes, H>(visitor.rt, &mut self.job_pass)
+        {
+            Ok(Some(job)) => {
+                self.count = after;
+                Turn::Worked(self.meet(visitor, share, served, &job))
+            }
+            Ok(None) | Err(_) => Turn::Nothing,
+        }
+    }
+}

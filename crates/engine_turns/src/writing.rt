@@ -1,0 +1,119 @@
+//! What the writer does with the replies in its queue.
+
+ghost use Rattle.std.specs.Prelude.{◌≡◌, ◌≤◌, false, length, true, IfOk, vec_len};
+ghost use Rattle.crossbeam_channel.specs.Claims.{view, IsSeatAt};
+ghost use Rattle.crossbeam_channel.specs.Ends.{receives_on};
+ghost use Rattle.engine_turns.specs.Visits.{on_table_of};
+ghost use Rattle.engine_turns.specs.Batches.{endings, GetsAll, WritesAll};
+ghost use Rattle.engine_turns.specs.Turns.{ByBoth};
+
+use crate::batches::{BATCH, Batch};
+use crate::replies::Reply;
+use engine::LinkOut;
+use engine_queues::letters::{Gets, Letter, ReplyPass, ReplyReceiver};
+use handles::Folders;
+use ledger::{Ledgers, Share};
+use shared_history::Front;
+use std::alloc::{AllocError, Global};
+use std::sync::Wait;
+use table_shared::{Entry, Hall, Opening, Runs};
+
+/// Who offers replies, in the order of their queue.
+#[derive(Drop)]
+pub struct Writer {
+    pub replies: ReplyReceiver<Reply>,
+    pub pass: ReplyPass<Reply>,
+    /// Whether the link broke: then nothing more is offered.
+    pub is_broken: bool,
+    /// What was taken from the queue together last.
+    pub batch: Batch,
+    ghost seated: { IsSeatAt (receives_on replies) pass },
+    ghost gets: { (view pass).gets ≡ true },
+    ghost knows_none: { length (view pass).known ≡ 0 },
+}
+
+impl Writer {
+    /// A writer that has offered nothing, with the pass that gets the replies. It takes all the memory that it will need.
+    pub fn new(
+        alloc: Global,
+        replies: ReplyReceiver<Reply>,
+        pass: ReplyPass<Reply>,
+    ) -> Result<Writer, AllocError>
+        requires seat { IsSeatAt (receives_on replies) pass }
+        requires gets { (view pass).gets ≡ true }
+        requires knows_none { length (view pass).known ≡ 0 }
+        ensures ring { IfOk result (λ w. receives_on w.replies ≡ receives_on replies) }
+        ensures pass { IfOk result (λ w. view w.pass ≡ view pass) }
+        ensures whole { IfOk result (λ w. w.is_broken ≡ false) }
+    {
+        let batch = Batch::new(alloc)?;
+        Ok(Writer {
+            replies,
+            pass,
+            is_broken: false,
+            batch,
+        })
+    }
+
+    /// Its pass, once it has ended.
+    pub fn into_pass(self) -> ReplyPass<Reply>
+        ensures seat { IsSeatAt (receives_on self.replies) result }
+        ensures pass { view result ≡ view self.pass }
+        ensures told { ((view result).gets ≡ true) × (length (view result).known ≡ 0) }
+    {
+        let Writer {
+            replies,
+            pass,
+            is_broken: _,
+            batch: _,
+        } = self;
+        drop(replies);
+        pass
+    }
+
+    /// Takes what is queued, at most a batch of it. It waits for nothing.
+    fn take_queued<H: Wait>(&mut self, rt: &H)
+        ensures ring { receives_on self.new.replies ≡ receives_on self.old.replies }
+        ensures made { (view self.new.pass).made ≡ (view self.old.pass).made }
+        ensures gets { GetsAll (view self.old.pass) self.new.batch.left.items self.new.batch.bytes.items (view self.new.pass) }
+        ensures few { (vec_len self.new.batch.left ≤ 16) × (vec_len self.new.batch.bytes ≤ 16) }
+        ensures broken { self.new.is_broken ≡ self.old.is_broken }
+    {
+        self.batch.clear();
+        for _ in 0..BATCH {
+            match self.replies.try_recv_as::<Gets, H>(rt, &mut self.pass) {
+                Ok(Some(letter)) => {
+                    let Letter { from: _, reply } = letter;
+                    self.batch.put(reply);
+                }
+                Ok(None) | Err(_) => return,
+            }
+        }
+    }
+
+    /// Takes what is queued, at most 16 replies, offers them together, and settles the answer of each: as taken only where the link took its reply.
+    /// It waits for none, and says how many they were.
+    pub fn turns<H: Wait, T: Ledgers, O: Opening, L: LinkOut, D: Folders>(
+        &mut self,
+        rt: &H,
+        link: &mut L,
+        hall: &Hall<T, O>,
+        front: &mut Front<Entry<T>, Runs<O>>,
+        share: &mut Share<T>,
+        dirs: &mut D,
+    ) -> usize
+        ensures ring { receives_on self.new.replies ≡ receives_on self.old.replies }
+        ensures made { (view self.new.pass).made ≡ (view self.old.pass).made }
+        ensures wrote { ByBoth D.keeps dirs.old (on_table_of front.old) dirs.new (on_table_of front.new) (λ folders calls. WritesAll L.sends
+            (record { lane = view self.old.pass; link = link.old; is_broken = self.old.is_broken }) (endings self.new.batch.settled.items folders calls)
+            (record { lane = view self.new.pass; link = link.new; is_broken = self.new.is_broken })) }
+        ensures count { (result ≡ vec_len self.new.batch.settled) × (result ≤ 16) }
+        ensures entries { share.new.totals.entries ≡ share.old.totals.entries }
+        ensures index { share.new.index ≡ share.old.index }
+    {
+        self.take_queued(rt);
+        self.is_broken = self.batch.offer(link, self.is_broken);
+        self.batch.settle(rt, hall, front, share, dirs);
+        self.batch.settled.len()
+    }
+}

@@ -1,0 +1,95 @@
+-- Runs of the programs `hex` and `pipe`, and of none.
+use Rattle.std.specs.Prelude.{ℕ, ◌≡◌, ◌≢◌, ◌⊎◌, ◌++◌, Bool, List, take, Option, Some, Result}
+use Rattle.std.specs.Borrow.{Bor}
+use Rattle.std.specs.Io.KnownBytes.{Appends}
+use Rattle.backing.specs.Memory.{Memory as MemTree, Gives, memory_tree}
+use Rattle.clap.specs.Words.{Text}
+use Rattle.clap.specs.declared.error.kind.ErrorKind.{ErrorKind}
+use Rattle.clap.specs.declared.error.kind.ErrorKind.TheVariants.{OutOfMemory, DisplayHelp, DisplayVersion}
+use Rattle.engine.specs.Serving.{events_of, traffic}
+use Rattle.engine.specs.declared.ends.SessionEnd.{SessionEnd}
+use Rattle.engine.specs.declared.ends.SessionEnd.TheVariants as end
+use Rattle.terms.specs.declared.settings.Settings.TheVariants.{Fixed}
+use Rattle.mirrord_sessions.specs.Folders.{ServesFolder}
+use Rattle.mirrord_sessions.specs.Known.{known_calls, IsKnownServed}
+use Rattle.mirrord_sessions.specs.declared.folder.Unserved.{Unserved}
+use Rattle.terms.specs.declared.terms.Terms.{Terms}
+use Rattle.mirrord_commands.specs.declared.faults.Failure.TheVariants.{Stopped, Refused as Refuses}
+use Rattle.mirrord_commands.specs.declared.faults.Fault.TheVariants.{Memory, Seed}
+use Rattle.mirrord_commands.specs.declared.refusals.Refusal.{Refusal}
+use Rattle.mirrord_sessions.specs.Ends.{exit_of, failure_after, failure_of, Tells}
+use Rattle.mirrord_sessions.specs.Lines.{Hexing, Receives, Sends, broken_line, lines_in, unread}
+use Rattle.mirrord_sessions.specs.Samples.{IsStart}
+use Rattle.terms.specs.declared.limits.Counts.TheVariants.{Bounded}
+
+-- ---- the program `hex`
+
+-- nobody owns what is mirrored
+abbrev pub unowned : (postings : ℕ) → Terms
+unowned postings = record { settings = Fixed 0 0; bounds = record { nodes = 65536; files = 4096; requests = 64; postings = postings; counts = Bounded } }
+
+-- how often calls of a memory tree have failed
+abbrev pub failed_in : MemTree → ℕ
+failed_in m = m.failed
+
+-- A link of hexadecimal lines is served from a new tree in memory. Its writer is given the replies that were taken, a line each,
+-- then the first bytes of the line of one that broke it, if one did, and nothing else.
+pub record IsHexServed (sampled : Bool) (postings : ℕ) (old : Hexing) (over : SessionEnd) (new : Hexing) : Type 0 where
+  pub tree : MemTree
+  pub start : IsStart sampled tree
+  pub known : IsKnownServed (unowned postings) (traffic Receives Sends) (known_calls Gives memory_tree failed_in) tree old over new
+  pub part : ℕ
+  pub written : Appends old.output new.output (lines_in (events_of known.served.run.client.steps) ++ take part (broken_line (events_of known.served.run.client.steps)))
+
+-- the same, unless there is no memory for a tree or a table
+abbrev pub ServesHex : Bool → (postings : ℕ) → Hexing → SessionEnd → Hexing → Type 0
+ServesHex sampled postings old over new = IsHexServed sampled postings old over new ⊎ ((over ≡ end.Memory) × (new ≡ old))
+
+-- its status, and all that it writes
+pub record RunsHex (sampled : Bool) (postings : ℕ) (input output output' faults faults' : Option (List ℕ)) (status : ℕ) (told : Bool) : Type 0 where
+  pub over : SessionEnd
+  pub last : Hexing
+  pub serves : ServesHex sampled postings (unread input output) over last
+  pub output_is : output' ≡ last.output
+  pub status_is : status ≡ exit_of (failure_of over last.cause)
+  pub tells : Tells (failure_of over last.cause) told faults faults'
+
+-- the same, unless the system gives no seeds: then nothing is read and nothing written
+pub record HasNoSeed (output output' faults faults' : Option (List ℕ)) (status : ℕ) (told : Bool) : Type 0 where
+  pub output_is : output' ≡ output
+  pub status_is : status ≡ 4
+  pub tells : Tells (Some (Stopped Seed)) told faults faults'
+
+abbrev pub RunsSeeded : (sampled : Bool) → (postings : ℕ) → (input output output' faults faults' : Option (List ℕ)) → (status : ℕ) → (told : Bool) → Type 0
+RunsSeeded sampled postings input output output' faults faults' status told =
+    RunsHex sampled postings input output output' faults faults' status told ⊎ HasNoSeed output output' faults faults' status told
+
+-- ---- the program `pipe`
+
+-- how serving a folder is ended: the status, and what is told
+abbrev pub IsEnded : Result SessionEnd Unserved → (root path : Bor Text) → (faults faults' : Option (List ℕ)) → (status : ℕ) → (told : Bool) → Type 0
+IsEnded ended root path faults faults' status told =
+    (status ≡ exit_of (failure_after ended root path)) × Tells (failure_after ended root path) told faults faults'
+
+-- A folder is served over standard input and output.
+pub record RunsPipe (root : Bor Text) (terms : Terms) (input output output' faults faults' : Option (List ℕ)) (status : ℕ) (told : Bool) : Type 0 where
+  pub ended : Result SessionEnd Unserved
+  pub serves : ServesFolder terms input output ended output'
+  pub path : Bor Text
+  pub ends : IsEnded ended root path faults faults' status told
+
+-- ---- no program
+
+-- How a command line ends that is not served: for want of memory by its status and its line, and nothing is written to the output; for
+-- help and the version by their status, and nothing is written to standard error; for a fault in it by its status, and nothing is
+-- written to the output.
+pub record IsUnserved (kind : ErrorKind) (output output' faults faults' : Option (List ℕ)) (status : ℕ) (told : Bool) : Type 0 where
+  pub memory : kind ≡ OutOfMemory → (status ≡ 4) × (output' ≡ output) × Tells (Some (Stopped Memory)) told faults faults'
+  pub help : (kind ≡ DisplayHelp) ⊎ (kind ≡ DisplayVersion) → (status ≡ 0) × (faults' ≡ faults)
+  pub fault : kind ≢ OutOfMemory → kind ≢ DisplayHelp → kind ≢ DisplayVersion → (status ≡ 2) × (output' ≡ output)
+
+-- options that cannot be: nothing is read and nothing written to the output
+pub record IsRefusedBy (refusal : Refusal) (output output' faults faults' : Option (List ℕ)) (status : ℕ) (told : Bool) : Type 0 where
+  pub status_is : status ≡ 2
+  pub output_is : output' ≡ output
+  pub tells : Tells (Some (Refuses refusal)) told faults faults'

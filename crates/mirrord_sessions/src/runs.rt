@@ -1,0 +1,128 @@
+//! The programs `hex` and `pipe`, but for their command lines.
+
+ghost use Rattle.std.specs.Prelude.{◌≡◌};
+ghost use Rattle.mirrord_sessions.specs.Runs.{RunsHex, RunsPipe, RunsSeeded, ServesHex, unowned};
+
+use crate::ended::{Ended, failure_after, failure_of, status_after, tell_any};
+use crate::folder::serve_folder;
+use crate::hexadecimal::HexLink;
+use crate::hosting::serve_known;
+use crate::samples::new_tree;
+use engine::SessionEnd;
+use mirrord_commands::{Failure, Fault, tell};
+use std::alloc::Global;
+use std::fs::File;
+use std::io::{BufRead, Read, Write};
+use std::random::RandomSource;
+use std::rt::Files;
+use std::sync::Wait;
+use std::time::Clock;
+use table::Seeds;
+use terms::{Bounds, Settings, Terms};
+
+/// What a tree in memory is served by: nobody owns what is mirrored.
+fn unowned(postings: u32) -> Terms
+    ensures { result ≡ unowned postings }
+{
+    Terms {
+        settings: Settings::Fixed { uid: 0, gid: 0 },
+        bounds: Bounds {
+            postings,
+            ..Bounds::default()
+        },
+    }
+}
+
+/// Serves a new tree in memory over a link of hexadecimal lines.
+fn serve_new<H: Wait, I: BufRead + Drop, O: Write + Drop>(
+    rt: &H,
+    alloc: Global,
+    sample: bool,
+    postings: u32,
+    seeds: Seeds,
+    link: &mut HexLink<I, O>,
+) -> SessionEnd
+    ensures { ServesHex sample postings link.old result link.new }
+{
+    let Ok(tree) = new_tree(alloc, sample) else {
+        return SessionEnd::Memory;
+    };
+    serve_known(rt, alloc, seeds, tree, link, unowned(postings))
+}
+
+/// Serves a tree in memory over hexadecimal lines: the program `hex` but for its command line. A period of the ledger may have so many
+/// postings.
+pub fn hex_run<H: Wait, I: BufRead + Drop, O: Write + Drop, F: Write>(
+    rt: &H,
+    alloc: Global,
+    sample: bool,
+    postings: u32,
+    seeds: Seeds,
+    input: I,
+    output: O,
+    faults: &mut F,
+) -> Ended<O>
+    ensures { RunsHex sample postings (I.remaining input) (O.contents output) (O.contents result.output) (F.contents faults.old) (F.contents faults.new) result.status result.told }
+{
+    let mut link = HexLink::new(alloc, input, output);
+    let end = serve_new(rt, alloc, sample, postings, seeds, &mut link);
+    let failure = failure_of(end, link.cause());
+    let told = tell_any(faults, failure);
+    Ended {
+        status: status_after(failure),
+        told,
+        output: link.into_writer(),
+    }
+}
+
+/// The program `hex` but for its command line, with seeds of its own.
+pub fn run_hex<H: Wait + RandomSource + AllocGlobal, I: BufRead + Drop, O: Write + Drop, F: Write>(
+    rt: &H,
+    sample: bool,
+    postings: u32,
+    input: I,
+    output: O,
+    faults: &mut F,
+) -> Ended<O>
+    ensures { RunsSeeded sample postings (I.remaining input) (O.contents output) (O.contents result.output) (F.contents faults.old) (F.contents faults.new) result.status result.told }
+{
+    let Ok(seeds) = Seeds::new(rt) else {
+        let told = tell(faults, Failure::Stopped(Fault::Seed));
+        return Ended {
+            status: 4,
+            told,
+            output,
+        };
+    };
+    hex_run(
+        rt,
+        rt.alloc(),
+        sample,
+        postings,
+        seeds,
+        input,
+        output,
+        faults,
+    )
+}
+
+/// The name of what `pipe` reads.
+const STANDARD_INPUT: &str = "standard input";
+
+/// Serves the folder `root` to the client who writes `input` and reads `output`: the program `pipe` but for its command line.
+pub fn pipe_run<
+    H: Wait + RandomSource + Files<File = File> + Clock + AllocGlobal + Clone + Drop,
+    I: Read + Drop,
+    O: Write + Drop,
+    F: Write,
+>(rt: &H, root: &str, terms: Terms, input: I, output: O, faults: &mut F) -> Ended<O>
+    ensures { RunsPipe root.entry terms (I.remaining input) (O.contents output) (O.contents result.output) (F.contents faults.old) (F.contents faults.new) result.status result.told }
+{
+    let served = serve_folder(rt, root, terms, input, output);
+    let failure = failure_after(served.ended, root, STANDARD_INPUT);
+    Ended {
+        status: status_after(failure),
+        told: tell_any(faults, failure),
+        output: served.output,
+    }
+}

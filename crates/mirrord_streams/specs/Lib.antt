@@ -1,5 +1,0 @@
-pub mod Counting
-pub mod Ends
-pub mod Lines
-pub mod Runs
-pub mod Samples

@@ -1,0 +1,5 @@
+use Rattle.shared_history.proofs.Moves.{adds}
+use Rattle.shared_history.proofs.history.add.Goals as goal
+
+pub load-requires : goal.load-requires
+load-requires g c = (c.requires.table, c.requires.words, adds c.args.shared.now.table_id.slots c.args.seat.now.id 0 c.args.seat.now.me g.A.Added.entries c.requires.both.0 c.requires.both.1)

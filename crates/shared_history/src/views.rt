@@ -1,0 +1,85 @@
+//! What the keeper of a history and a thread know of it, and the rule that ties them.
+
+use atomic_table::{Join, Play, Split, TableRule};
+use std::collections::LinkedList;
+use std::marker::{Brand, PhantomData};
+
+// The keeper knows the whole log, and how many indices were given to threads. A thread knows its index, the part of the log that it
+// has seen, and what it did itself. No value of it is made.
+pub struct View<E> {
+    pub keeps: bool,
+    pub log: LinkedList<(u64, E)>,
+    pub given: u64,
+    pub signs: bool,
+    pub by: u64,
+    pub seen: LinkedList<(u64, E)>,
+    pub mine: LinkedList<E>,
+}
+
+/// The log only grows, by the keeper with a thread of that index.
+pub struct Grows;
+
+impl<E> TableRule<u64, View<E>, ()> for Grows {
+    ghost use Rattle.std.specs.Prelude.{[]};
+    ghost use Rattle.shared_history.specs.Views.{keeper, Kept};
+
+    ghost holds = { λ _ s. Kept s.views };
+
+    ghost first = { λ _. keeper [] 0 };
+}
+
+/// The keeper and a thread come together, and part again.
+pub struct Meets;
+
+impl<E> Join<View<E>> for Meets {
+    ghost use Rattle.shared_history.specs.Views.{both, nobody};
+
+    ghost both = { both };
+
+    ghost spent = { nobody };
+}
+
+impl<E> Split<View<E>> for Meets {
+    ghost use Rattle.shared_history.specs.Views.{keeper, front};
+
+    ghost left = { λ v. keeper v.log v.given };
+
+    ghost right = { λ v. front v.by v.seen v.mine };
+}
+
+/// A thread more is given the next index.
+pub struct Enters;
+
+impl<E> Split<View<E>> for Enters {
+    ghost use Rattle.std.specs.Prelude.{◌+◌, []};
+    ghost use Rattle.shared_history.specs.Views.{keeper, front};
+
+    ghost left = { λ v. keeper v.log (v.given + 1) };
+
+    ghost right = { λ v. front v.given v.log [] };
+}
+
+/// What is added. The call picks it.
+pub trait Added<E> {
+    ghost use Rattle.std.specs.Prelude.{List};
+
+    ghost entries: { List E };
+}
+
+impl<E> Added<E> for Brand {
+    ghost use Rattle.std.specs.Prelude.{[]};
+
+    ghost entries = { [] };
+}
+
+/// The step that adds.
+pub struct Adds<A> {
+    of: PhantomData<A>,
+}
+
+impl<E, A: Added<E>> Play<u64, View<E>> for Adds<A> {
+    ghost use Rattle.std.specs.Prelude.{◌≡◌};
+    ghost use Rattle.shared_history.specs.Views.{Extends};
+
+    ghost then = { λ _ v _ w. Extends A.entries v.0 w.0 × (w.1 ≡ v.1) };
+}

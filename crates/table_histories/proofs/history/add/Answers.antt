@@ -1,5 +1,0 @@
-use Rattle.table_histories.proofs.Moves.{adds}
-use Rattle.table_histories.proofs.history.add.Goals as goal
-
-pub load-requires : goal.load-requires
-load-requires g c = (c.requires.table, c.requires.words, adds c.args.shared.now.table_id.slots c.args.seat.now.id 0 c.args.seat.now.me g.A.Added.entries c.requires.both.0 c.requires.both.1)

@@ -1,5 +1,0 @@
-use Rattle.table_histories.proofs.Moves.{meets}
-use Rattle.table_histories.proofs.history.meet.Goals as goal
-
-pub join_seat-requires : goal.join_seat-requires
-join_seat-requires g c = (c.requires.keeper, c.requires.thread, c.requires.slots, c.requires.words, meets c.args.seat.now.id c.args.seat.now.me.0 c.args.own.id c.args.own.me.0)

@@ -1,0 +1,4 @@
+pub mod Listing
+pub mod Running
+pub mod Histories
+pub mod Meeting

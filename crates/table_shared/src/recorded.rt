@@ -1,0 +1,242 @@
+//! The table under a lock, beside the keeper of its history.
+
+ghost use Rattle.std.specs.Prelude.{◌≡◌, ◌+◌, ◌<◌, ◌≤◌, ℕ, [], Bool};
+ghost use Rattle.ledger.specs.Shares.{plus};
+ghost use Rattle.ledger.specs.Sums.{totals_of};
+ghost use Rattle.shared_history.specs.Views.{front, own};
+ghost use Rattle.table_steps.specs.Answers.{entries_in};
+ghost use Rattle.table_steps.specs.Kept.{world_of};
+ghost use Rattle.table.specs.Gains.{GainsInAll};
+ghost use Rattle.table_steps.specs.World.{opened_world};
+ghost use Rattle.table_shared.specs.Runs as Call;
+ghost use Rattle.table_shared.specs.Runs.{IsRun, IsStep, Makes, call_of, end_of};
+
+use crate::entries::{Entry, Event, Opening, Runs};
+use ledger::{Ledgers, Share};
+use shared_history::{Front, History, Keeper, Opened};
+use std::marker::Model;
+use std::snapshot::Snapshot;
+use table::{Answered, Begin, Outcome, Settled, Table, Ticket};
+use table_files::OpenFile;
+use table_requests::Want;
+
+/// A table and the keeper of its history, which is a run of the opened table. The table is where it ends. It has as many threads at most
+/// as it was opened for.
+#[derive(Drop)]
+pub struct Recorded<T: Ledgers, O: Opening> {
+    table: Table<T>,
+    keeper: Keeper<Entry<T>, Runs<O>>,
+}
+
+impl<T: Ledgers, O: Opening> Model for Recorded<T, O> {
+    ghost use Rattle.std.specs.Prelude.{◌≡◌, ◌≤◌};
+    ghost use Rattle.shared_history.specs.declared.views.View.{View};
+    ghost use Rattle.table_shared.specs.declared.entries.Entry.{Entry};
+    ghost use Rattle.table_shared.specs.Runs.{end_of};
+    ghost use Rattle.table_steps.specs.Kept.{world_of};
+    ghost use Rattle.table_steps.specs.World.{opened_world};
+    ghost use Rattle.std.specs.Coded.{codes, coded_ℕ};
+    ghost use Rattle.std.specs.FinMap as map;
+    ghost use Rattle.std.specs.Ordering.{nat_cmp};
+    ghost use Rattle.tree.specs.contracts.nodes.Node as node;
+
+    ghost Value = { View (Entry T) };
+
+    ghost coded = { Prim.hlevel (codes, map.code {R = nat_cmp} coded_ℕ node.the_row.coded) };
+
+    ghost view = { λ r. r.keeper };
+
+    ghost invariant = { λ r. (world_of r.table ≡ end_of (opened_world O.limits) r.keeper.log) × (r.keeper.given ≤ O.threads) };
+}
+
+impl<T: Ledgers, O: Opening> Recorded<T, O> {
+    /// The table that was just opened, with a history of nothing.
+    pub fn new(
+        opened: Opened<Entry<T>>,
+        table: Table<T>,
+    ) -> (History<Entry<T>, Runs<O>>, Recorded<T, O>)
+        requires history { opened.table.shared.table_id ≡ O.history }
+        requires table { world_of table ≡ opened_world O.limits }
+        ensures log { (result.1.log ≡ []) × (result.1.given ≡ 0) }
+    {
+        table.attest(); // proof: its law
+        let (history, keeper) = opened.named::<Runs<O>>();
+        (history, Recorded { table, keeper })
+    }
+
+    /// Ends the period of the ledger where that is due, and takes up a request. Busy and a refusal change nothing else.
+    pub fn begin(
+        &mut self,
+        history: &History<Entry<T>, Runs<O>>,
+        me: &mut Front<Entry<T>, Runs<O>>,
+        unique: u64,
+        want: Want,
+    ) -> Begin
+        ensures makes { Makes (opened_world O.limits) (Call.began unique want result) me.old me.new }
+        ensures log { self.new.log ≡ me.new.seen }
+    {
+        let asked = Snapshot::of(&want);
+        self.table.renew();
+        let begin = self.table.begin(unique, want);
+        let event = Event::Begin {
+            unique,
+            want: asked,
+            told: Snapshot::of(&begin),
+        };
+        enter(history, &mut self.keeper, me, &self.table, event);
+        begin
+    }
+
+    /// Ends the work on a request.
+    pub fn finish(
+        &mut self,
+        history: &History<Entry<T>, Runs<O>>,
+        me: &mut Front<Entry<T>, Runs<O>>,
+        share: &mut Share<T>,
+        ticket: Ticket,
+        outcome: Outcome,
+    ) -> Answered
+        ensures makes { Makes (opened_world O.limits) (Call.finished ticket.id outcome result) me.old me.new }
+        ensures log { self.new.log ≡ me.new.seen }
+        ensures gains { GainsInAll (end_of (opened_world O.limits) self.old.log) share.old (end_of (opened_world O.limits) self.new.log) share.new }
+        ensures entries { share.new.totals.entries ≡ share.old.totals.entries + entries_in result.given }
+    {
+        let id = ticket.id();
+        let came = Snapshot::of(&outcome);
+        let answered = self.table.finish(share, ticket, outcome);
+        let event = Event::Finish {
+            id,
+            outcome: came,
+            told: Snapshot::of(&answered),
+        };
+        enter(history, &mut self.keeper, me, &self.table, event);
+        answered
+    }
+
+    /// Ends a request whose reply was taken, or was not.
+    pub fn settle(
+        &mut self,
+        history: &History<Entry<T>, Runs<O>>,
+        me: &mut Front<Entry<T>, Runs<O>>,
+        share: &mut Share<T>,
+        answered: Answered,
+        taken: bool,
+    ) -> Settled
+        ensures makes { Makes (opened_world O.limits) (Call.settled answered taken result) me.old me.new }
+        ensures log { self.new.log ≡ me.new.seen }
+        ensures gains { GainsInAll (end_of (opened_world O.limits) self.old.log) share.old (end_of (opened_world O.limits) self.new.log) share.new }
+        ensures entries { share.new.totals.entries ≡ share.old.totals.entries }
+        ensures settled { result ≡ record { id = answered.id; entries = entries_in answered.given; taken = taken } }
+    {
+        let given = Snapshot::of(&answered);
+        let settled = self.table.settle(share, answered, taken);
+        let event = Event::Settle {
+            answered: given,
+            taken,
+            told: Snapshot::of(&settled),
+        };
+        enter(history, &mut self.keeper, me, &self.table, event);
+        settled
+    }
+
+    /// The client gives lookups of a node back.
+    pub fn forget(
+        &mut self,
+        history: &History<Entry<T>, Runs<O>>,
+        me: &mut Front<Entry<T>, Runs<O>>,
+        share: &mut Share<T>,
+        number: u64,
+        n: u64,
+    ) -> u64
+        ensures makes { Makes (opened_world O.limits) (Call.forgot number n result) me.old me.new }
+        ensures log { self.new.log ≡ me.new.seen }
+        ensures gains { GainsInAll (end_of (opened_world O.limits) self.old.log) share.old (end_of (opened_world O.limits) self.new.log) share.new }
+        ensures entries { share.new.totals.entries ≡ share.old.totals.entries }
+    {
+        let amount = self.table.forget(share, number, n);
+        let event = Event::Forget {
+            number,
+            n,
+            told: amount,
+        };
+        enter(history, &mut self.keeper, me, &self.table, event);
+        amount
+    }
+
+    /// The open file under a handle.
+    pub fn find(
+        &mut self,
+        history: &History<Entry<T>, Runs<O>>,
+        me: &mut Front<Entry<T>, Runs<O>>,
+        fh: u64,
+    ) -> Option<OpenFile>
+        ensures makes { Makes (opened_world O.limits) (Call.looked fh result) me.old me.new }
+        ensures log { self.new.log ≡ me.new.seen }
+    {
+        let found = self.table.file(fh);
+        let event = Event::Look {
+            fh,
+            told: Snapshot::of(&found),
+        };
+        enter(history, &mut self.keeper, me, &self.table, event);
+        found
+    }
+
+    /// A thread more, with an index of its own. It has seen all that happened, and has done nothing.
+    pub fn thread(&mut self, history: &History<Entry<T>, Runs<O>>) -> Front<Entry<T>, Runs<O>>
+        requires room { self.old.given < O.threads }
+        ensures thread { result ≡ front self.old.given self.old.log [] }
+        ensures keeper { (self.new.log ≡ self.old.log) × (self.new.given ≡ self.old.given + 1) }
+    {
+        history.enter(&mut self.keeper)
+    }
+
+    /// The history is a run, in which nobody made a call but the threads that the table was opened for: a call that does nothing.
+    pub fn attest(&self)
+        ensures run { IsRun (opened_world O.limits) self.now.log }
+        ensures nobody { (index : ℕ) → O.threads ≤ index → own index self.now.log ≡ [] }
+    {
+        self.keeper.attest(); // proof: its law
+    }
+
+    /// What a thread made is what the whole history has of it.
+    pub fn look(&mut self, history: &History<Entry<T>, Runs<O>>, me: &mut Front<Entry<T>, Runs<O>>)
+        ensures own { own me.old.by self.old.log ≡ me.old.mine }
+        ensures me { (me.new.by ≡ me.old.by) × (me.new.mine ≡ me.old.mine) }
+        ensures same { self.new ≡ self.old }
+    {
+        history.observe(&mut self.keeper, me);
+        me.attest(); // proof: its law
+    }
+
+    /// The table. It is where the history ends.
+    pub fn into_table(self) -> Table<T>
+        ensures { world_of result ≡ end_of (opened_world O.limits) self.log }
+    {
+        let Recorded { table, keeper: _ } = self;
+        table
+    }
+}
+
+// The call that led to the table is the next of the history.
+fn enter<T: Ledgers, O: Opening>(
+    history: &History<Entry<T>, Runs<O>>,
+    keeper: &mut Keeper<Entry<T>, Runs<O>>,
+    me: &mut Front<Entry<T>, Runs<O>>,
+    table: &Table<T>,
+    event: Event,
+)
+    requires { IsStep (end_of (opened_world O.limits) keeper.old.log) (call_of event) (world_of table.now) }
+    ensures makes { Makes (opened_world O.limits) (call_of event) me.old me.new }
+    ensures log { keeper.new.log ≡ me.new.seen }
+    ensures given { keeper.new.given ≡ keeper.old.given }
+    ensures end { world_of table.now ≡ end_of (opened_world O.limits) keeper.new.log }
+{
+    keeper.attest(); // proof: its law
+    table.attest(); // proof: its law
+    let entry = Entry {
+        event,
+        after: Snapshot::of(table),
+    };
+    history.record(keeper, me, &entry);
+}

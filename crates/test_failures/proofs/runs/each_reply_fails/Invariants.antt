@@ -1,5 +1,0 @@
-use Rattle.test_failures.proofs.runs.each_reply_fails.Given as goal
-
--- the table's four ledgers are those of the blanks
-abbrev pub ghosts-compare : goal.ghosts-compare
-ghosts-compare g a = record { names = a.blanks }

@@ -1,5 +1,0 @@
-use Rattle.test_failures.proofs.runs.failed_hiding.Given as goal
-
--- the table's four ledgers are those of the blanks
-abbrev pub ghosts-serve_session : goal.ghosts-serve_session
-ghosts-serve_session g a = record { names = a.blanks }

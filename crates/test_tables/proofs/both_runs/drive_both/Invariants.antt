@@ -1,4 +1,0 @@
-use Rattle.test_tables.proofs.both_runs.drive_both.Given as goal
-
-abbrev pub ghosts-drive_on : goal.ghosts-drive_on
-ghosts-drive_on g a = record { names = a.blanks }
