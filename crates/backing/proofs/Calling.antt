@@ -1,6 +1,6 @@
 -- A call of a memory tree, with its counts.
 use Rattle.std.proofs.Common.{ℕ, ◌≡◌, List, Bool, ap, ◌∙◌}
-use Rattle.backing.specs.declared.entries.Entry.{Entry}
+use Rattle.backing.specs.declared.entries.TreeEntry.{TreeEntry}
 use Rattle.backing.specs.declared.plans.Plan.{Plan}
 use Rattle.backing.specs.declared.told.Told.{Told}
 use Rattle.backing.specs.Tree.{IsTree}
@@ -8,7 +8,7 @@ use Rattle.backing.specs.Calls.{Asked}
 use Rattle.backing.specs.Device.{counted, one_if}
 use Rattle.backing.specs.Memory.{Memory, MakesCall, Treated, memory_tree, next_device}
 
-same_memory : (entries : List Entry) (made made' : ℕ) (plans plans' : List Plan) (failed failed' : ℕ) → made ≡ made' → plans ≡ plans' → failed ≡ failed'
+same_memory : (entries : List TreeEntry) (made made' : ℕ) (plans plans' : List Plan) (failed failed' : ℕ) → made ≡ made' → plans ≡ plans' → failed ≡ failed'
     → (let m : Memory = record { entries = entries; made = made; plans = plans; failed = failed } in m) ≡ record { entries = entries; made = made'; plans = plans'; failed = failed' }
 same_memory entries made made' plans plans' failed failed' e f g =
     ap (λ (n : ℕ). let m : Memory = record { entries = entries; made = n; plans = plans; failed = failed } in m) e

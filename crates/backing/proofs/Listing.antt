@@ -8,14 +8,14 @@ use Rattle.paths.specs.Prefixes.{Name, Names, is_name}
 use Rattle.paths.proofs.PrefixLemmas.{is_name-true, is_name-same, is_name-yes, is_name-no}
 use Rattle.backing.specs.declared.call.Child.{Child}
 use Rattle.backing.specs.declared.entries.Item.{Item}
-use Rattle.backing.specs.declared.entries.Entry.{Entry}
+use Rattle.backing.specs.declared.entries.TreeEntry.{TreeEntry}
 use Rattle.backing.specs.Tree.{Tree, kind_of}
 use Rattle.backing.specs.Calls.{Lists, kind_in, EachOnce}
 use Rattle.backing.specs.Entries.{look, tree_of, IsDistinct}
 use Rattle.backing.proofs.Looking.{with_same, with_other, look-push, look_some, tree-below}
 
 -- the names of p among these entries
-pub record Listed (es : List Entry) (p : Names) (cs : List Child) : Type 0 where
+pub record Listed (es : List TreeEntry) (p : Names) (cs : List Child) : Type 0 where
   pub stands : (name : Name) → kind_in cs name ≡ option_map kind_of (look es (p ++ name ∷ []))
   pub once : EachOnce cs
 
@@ -56,7 +56,7 @@ EachOnce-push (x ∷ cs) c once fresh = elim (same_name x.name c.name) [
 pub listed_none : (p : Names) → Listed [] p []
 listed_none p = record { stands = λ name. refl; once = tt }
 
-pub listed_child : (es : List Entry) (x : Entry) (p : Names) (name : Name) (cs : List Child) → look es x.path ≡ None → x.path ≡ p ++ name ∷ [] → Listed es p cs → Listed (es ++ x ∷ []) p (cs ++ (record { name = name; kind = kind_of x.item }) ∷ [])
+pub listed_child : (es : List TreeEntry) (x : TreeEntry) (p : Names) (name : Name) (cs : List Child) → look es x.path ≡ None → x.path ≡ p ++ name ∷ [] → Listed es p cs → Listed (es ++ x ∷ []) p (cs ++ (record { name = name; kind = kind_of x.item }) ∷ [])
 listed_child es x p name cs fresh path before =
     let c : Child = record { name = name; kind = kind_of x.item } in
     let absent : kind_in cs name ≡ None = before.stands name ∙ ap (λ (o : Option Item). option_map kind_of o) (subst (λ (q : Names). look es q ≡ None) path fresh) in
@@ -74,7 +74,7 @@ listed_child es x p name cs fresh path before =
       once = EachOnce-push cs c before.once absent;
     }
 
-pub listed_other : (es : List Entry) (x : Entry) (p : Names) (cs : List Child) → look es x.path ≡ None → ((name : Name) → x.path ≡ p ++ name ∷ [] → ⊥) → Listed es p cs → Listed (es ++ x ∷ []) p cs
+pub listed_other : (es : List TreeEntry) (x : TreeEntry) (p : Names) (cs : List Child) → look es x.path ≡ None → ((name : Name) → x.path ≡ p ++ name ∷ [] → ⊥) → Listed es p cs → Listed (es ++ x ∷ []) p cs
 listed_other es x p cs fresh apart before = record {
   stands = λ n.
       let two : look (es ++ x ∷ []) (p ++ n ∷ []) ≡ look es (p ++ n ∷ []) = ap (λ (at : Tree). at (p ++ n ∷ [])) (look-push es x fresh) ∙ with_other (look es) x.path x.item (p ++ n ∷ []) (apart n) in
@@ -83,14 +83,14 @@ listed_other es x p cs fresh apart before = record {
 }
 
 -- no earlier entry bears an entry's path
-pub look-take_none : (es : List Entry) (i : ℕ) (d : Entry) → IsDistinct es → i < length es → look (take i es) (get_or es i d).path ≡ None
+pub look-take_none : (es : List TreeEntry) (i : ℕ) (d : TreeEntry) → IsDistinct es → i < length es → look (take i es) (get_or es i d).path ≡ None
 look-take_none [] i d apart within = absurd (omega arith)
 look-take_none (e ∷ es) zero d apart within = refl
 look-take_none (e ∷ es) (suc i) d apart within =
     let ne : e.path ≡ (get_or es i d).path → ⊥ = λ f. look_some es i d (omega arith) (subst (λ (q : Names). look es q ≡ None) f apart.0) in
     with_other (look (take i es)) e.path e.item (get_or es i d).path ne ∙ look-take_none es i d apart.1 (omega arith)
 
-pub lists_all : (es : List Entry) (p : Names) (cs : List Child) → Listed es p cs → Lists (tree_of es) p cs
+pub lists_all : (es : List TreeEntry) (p : Names) (cs : List Child) → Listed es p cs → Lists (tree_of es) p cs
 lists_all es p cs all = record {
   stands = λ name. all.stands name ∙ ap (λ (o : Option Item). option_map kind_of o) (sym (tree-below es p name));
   once = all.once;

@@ -8,7 +8,7 @@ use Rattle.paths.specs.Prefixes.{Name, Names, is_prefix}
 use Rattle.paths.proofs.PrefixLemmas.{is_prefix-more, is_prefix-append, is_prefix-same, is_prefix-trans, not_over_parent, drop-append}
 use Rattle.backing.specs.declared.entries.Item.{Item}
 use Rattle.backing.specs.declared.entries.Item.TheVariants.{Folder}
-use Rattle.backing.specs.declared.entries.Entry.{Entry}
+use Rattle.backing.specs.declared.entries.TreeEntry.{TreeEntry}
 use Rattle.backing.specs.Tree.{Tree, IsTree, Resolves, is_path, with_item, without, moved}
 use Rattle.backing.specs.Entries.{look, tree_of, IsDistinct}
 use Rattle.backing.specs.Moves.{moved_path, with_path, with_paths}
@@ -26,38 +26,38 @@ pub moved_out : (s t p : Names) → is_prefix s p ≡ false → moved_path s t p
 moved_out s t p no_prefix = cond-false (is_prefix s p) (Some (t ++ drop (length s) p)) None no_prefix
 
 -- an entry with its new path
-pub relocated : Names → Names → Entry → Entry
+pub relocated : Names → Names → TreeEntry → TreeEntry
 relocated s t entry = with_path entry (moved_path s t entry.path)
 
-relocated_out : (s t : Names) (e : Entry) → is_prefix s e.path ≡ false → relocated s t e ≡ e
+relocated_out : (s t : Names) (e : TreeEntry) → is_prefix s e.path ≡ false → relocated s t e ≡ e
 unfolding relocated
 relocated_out s t e far = ap (λ (o : Option Names). with_path e o) (moved_out s t e.path far)
 
-relocated_in : (s t more : Names) (e : Entry) → e.path ≡ s ++ more → (relocated s t e).path ≡ t ++ more
+relocated_in : (s t more : Names) (e : TreeEntry) → e.path ≡ s ++ more → (relocated s t e).path ≡ t ++ more
 unfolding relocated
 relocated_in s t more e path = ap (λ (o : Option Names). (with_path e o).path) (ap (λ (p : Names). moved_path s t p) path ∙ moved_in s t more)
 
-relocated_item : (s t : Names) (e : Entry) → (relocated s t e).item ≡ e.item
+relocated_item : (s t : Names) (e : TreeEntry) → (relocated s t e).item ≡ e.item
 unfolding relocated
 relocated_item s t e = elim (cases_Bool (is_prefix s e.path)) [
   | inl h ↦ ap (λ (o : Option Names). (with_path e o).item) (cond-true (is_prefix s e.path) (Some (t ++ drop (length s) e.path)) None h)
   | inr h ↦ ap (λ (o : Option Names). (with_path e o).item) (moved_out s t e.path h)
 ]
 
-pub relocated_all : (s t : Names) (es : List Entry) → with_paths es (map (λ (e : Entry). moved_path s t e.path) es) ≡ map (λ (e : Entry). relocated s t e) es
+pub relocated_all : (s t : Names) (es : List TreeEntry) → with_paths es (map (λ (e : TreeEntry). moved_path s t e.path) es) ≡ map (λ (e : TreeEntry). relocated s t e) es
 unfolding relocated
 relocated_all s t [] = refl
-relocated_all s t (e ∷ es) = ap (λ (xs : List Entry). with_path e (moved_path s t e.path) ∷ xs) (relocated_all s t es)
+relocated_all s t (e ∷ es) = ap (λ (xs : List TreeEntry). with_path e (moved_path s t e.path) ∷ xs) (relocated_all s t es)
 
-abbrev pub all_moved : Names → Names → List Entry → List Entry
-all_moved s t es = map (λ (e : Entry). relocated s t e) es
+abbrev pub all_moved : Names → Names → List TreeEntry → List TreeEntry
+all_moved s t es = map (λ (e : TreeEntry). relocated s t e) es
 
 -- no entry stands at t or below it
-abbrev pub Outside : Names → List Entry → Type 0
+abbrev pub Outside : Names → List TreeEntry → Type 0
 Outside t [] = Unit {0}
 Outside t (e ∷ es) = (is_prefix t e.path ≡ false) × Outside t es
 
-pub outside : (t : Names) (es : List Entry) → ((more : Names) → look es (t ++ more) ≡ None) → Outside t es
+pub outside : (t : Names) (es : List TreeEntry) → ((more : Names) → look es (t ++ more) ≡ None) → Outside t es
 outside t [] none = tt
 outside t (e ∷ es) none =
     let apart : (more : Names) → e.path ≡ t ++ more → ⊥ = λ more same. none-some e.item (sym (none more) ∙ subst (λ (q : Names). look (e ∷ es) q ≡ Some e.item) same (with_same (look es) e.path e.item)) in
@@ -81,10 +81,10 @@ same_rest : (s a b : Names) → s ++ a ≡ s ++ b → a ≡ b
 same_rest s a b e = sym (drop-append s a) ∙ (ap (λ (p : Names). drop (length s) p) e ∙ drop-append s b)
 
 -- one step of a look-up
-step : (e : Entry) (es : List Entry) (p q : Names) (item : Item) (there : Tree) → e.path ≡ p → e.item ≡ item → look (e ∷ es) q ≡ with_item (look es) p item q
+step : (e : TreeEntry) (es : List TreeEntry) (p q : Names) (item : Item) (there : Tree) → e.path ≡ p → e.item ≡ item → look (e ∷ es) q ≡ with_item (look es) p item q
 step e es p q item there path same = ap (λ (r : Names). with_item (look es) r e.item q) path ∙ ap (λ (x : Item). with_item (look es) p x q) same
 
-pub look-moved_below : (s t : Names) (es : List Entry) (more : Names) → Outside t es → look (all_moved s t es) (t ++ more) ≡ look es (s ++ more)
+pub look-moved_below : (s t : Names) (es : List TreeEntry) (more : Names) → Outside t es → look (all_moved s t es) (t ++ more) ≡ look es (s ++ more)
 look-moved_below s t [] more out = refl
 look-moved_below s t (e ∷ es) more out =
     let rest = look-moved_below s t es more out.1 in
@@ -101,21 +101,21 @@ look-moved_below s t (e ∷ es) more out =
       ]
       | inr far ↦
           let same : m ≡ e = relocated_out s t e far in
-          with_other (look (all_moved s t es)) m.path m.item (t ++ more) (λ f. no_prefix t e.path more out.0 (sym (ap (λ (x : Entry). x.path) same) ∙ f))
+          with_other (look (all_moved s t es)) m.path m.item (t ++ more) (λ f. no_prefix t e.path more out.0 (sym (ap (λ (x : TreeEntry). x.path) same) ∙ f))
           ∙ (rest ∙ sym (with_other (look es) e.path e.item (s ++ more) (λ f. no_prefix s e.path more far f)))
     ]
 
-pub look-moved_gone : (s t : Names) (es : List Entry) (q : Names) → is_prefix t q ≡ false → is_prefix s q ≡ true → look (all_moved s t es) q ≡ None
+pub look-moved_gone : (s t : Names) (es : List TreeEntry) (q : Names) → is_prefix t q ≡ false → is_prefix s q ≡ true → look (all_moved s t es) q ≡ None
 look-moved_gone s t [] q above below = refl
 look-moved_gone s t (e ∷ es) q above below =
     let rest = look-moved_gone s t es q above below in
     let m = relocated s t e in
     elim (prefix_cases s e.path) [
       | inl (r, path) ↦ with_other (look (all_moved s t es)) m.path m.item q (λ f. no_prefix t q r above (sym f ∙ relocated_in s t r e path)) ∙ rest
-      | inr far ↦ with_other (look (all_moved s t es)) m.path m.item q (λ f. true≢false (sym below ∙ (sym (ap (λ (p : Names). is_prefix s p) (sym (ap (λ (x : Entry). x.path) (relocated_out s t e far)) ∙ f)) ∙ far))) ∙ rest
+      | inr far ↦ with_other (look (all_moved s t es)) m.path m.item q (λ f. true≢false (sym below ∙ (sym (ap (λ (p : Names). is_prefix s p) (sym (ap (λ (x : TreeEntry). x.path) (relocated_out s t e far)) ∙ f)) ∙ far))) ∙ rest
     ]
 
-pub look-moved_else : (s t : Names) (es : List Entry) (q : Names) → is_prefix t q ≡ false → is_prefix s q ≡ false → look (all_moved s t es) q ≡ look es q
+pub look-moved_else : (s t : Names) (es : List TreeEntry) (q : Names) → is_prefix t q ≡ false → is_prefix s q ≡ false → look (all_moved s t es) q ≡ look es q
 look-moved_else s t [] q above below = refl
 look-moved_else s t (e ∷ es) q above below =
     let rest = look-moved_else s t es q above below in
@@ -124,10 +124,10 @@ look-moved_else s t (e ∷ es) q above below =
       | inl (r, path) ↦
           with_other (look (all_moved s t es)) m.path m.item q (λ f. no_prefix t q r above (sym f ∙ relocated_in s t r e path))
           ∙ (rest ∙ sym (with_other (look es) e.path e.item q (λ f. no_prefix s q r below (sym f ∙ path))))
-      | inr far ↦ ap (λ (x : Entry). with_item (look (all_moved s t es)) x.path x.item q) (relocated_out s t e far) ∙ ap (λ (o : Option Item). cond (is_path e.path q) (Some e.item) o) rest
+      | inr far ↦ ap (λ (x : TreeEntry). with_item (look (all_moved s t es)) x.path x.item q) (relocated_out s t e far) ∙ ap (λ (o : Option Item). cond (is_path e.path q) (Some e.item) o) rest
     ]
 
-pub distinct_moved : (s t : Names) (es : List Entry) → IsDistinct es → Outside t es → IsDistinct (all_moved s t es)
+pub distinct_moved : (s t : Names) (es : List TreeEntry) → IsDistinct es → Outside t es → IsDistinct (all_moved s t es)
 distinct_moved s t [] apart out = tt
 distinct_moved s t (e ∷ es) apart out =
     let m = relocated s t e in
@@ -136,7 +136,7 @@ distinct_moved s t (e ∷ es) apart out =
           ap (λ (q : Names). look (all_moved s t es) q) (relocated_in s t r e path)
           ∙ (look-moved_below s t es r out.1 ∙ subst (λ (q : Names). look es q ≡ None) path apart.0)
       | inr far ↦
-          ap (λ (x : Entry). look (all_moved s t es) x.path) (relocated_out s t e far)
+          ap (λ (x : TreeEntry). look (all_moved s t es) x.path) (relocated_out s t e far)
           ∙ (look-moved_else s t es e.path out.0 far ∙ apart.0)
     ] in
     (head, distinct_moved s t es apart.1 out.1)
@@ -176,7 +176,7 @@ pub prefix_of_root : (s : Names) → (s ≡ [] → ⊥) → is_prefix s [] ≡ f
 prefix_of_root [] below = absurd (below refl)
 prefix_of_root (x ∷ s) below = refl
 
-tree_at : (es : List Entry) (q : Names) → (q ≡ [] → ⊥) → tree_of es q ≡ look es q
+tree_at : (es : List TreeEntry) (q : Names) → (q ≡ [] → ⊥) → tree_of es q ≡ look es q
 tree_at es [] below = absurd (below refl)
 tree_at es (x ∷ q) below = refl
 
@@ -188,7 +188,7 @@ pub root_cases : (q : Names) → (q ≡ []) ⊎ (q ≡ [] → ⊥)
 root_cases [] = inl refl
 root_cases (x ∷ q) = inr (λ e. cc)
 
-pub tree-moved : (s t : Names) (es : List Entry) → (s ≡ [] → ⊥) → (t ≡ [] → ⊥) → Outside t es → tree_of (all_moved s t es) ≡ moved (tree_of es) s t
+pub tree-moved : (s t : Names) (es : List TreeEntry) → (s ≡ [] → ⊥) → (t ≡ [] → ⊥) → Outside t es → tree_of (all_moved s t es) ≡ moved (tree_of es) s t
 tree-moved s t es low_s low_t out = fun_ext (λ q. three_ways (λ (r : Names). tree_of (all_moved s t es) r ≡ moved (tree_of es) s t r) s t q
     (λ more. tree_at (all_moved s t es) (t ++ more) (longer_root t more low_t) ∙ (look-moved_below s t es more out ∙ (sym (tree_at es (s ++ more) (longer_root s more low_s)) ∙ sym (moved_below (tree_of es) s t more))))
     (λ above below.

@@ -8,7 +8,7 @@ use Rattle.paths.proofs.PrefixLemmas.{is_name-true, is_name-same, is_prefix-more
 use Rattle.backing.specs.declared.call.Answer.TheVariants.{Done}
 use Rattle.backing.specs.declared.entries.Item.{Item}
 use Rattle.backing.specs.declared.entries.Item.TheVariants.{Folder}
-use Rattle.backing.specs.declared.entries.Entry.{Entry}
+use Rattle.backing.specs.declared.entries.TreeEntry.{TreeEntry}
 use Rattle.backing.specs.Tree.{Tree, IsTree, Resolves, is_path, exchanged}
 use Rattle.backing.specs.Calls.{AskExchange, PassesAll, Refuses, Does, tests_of, unless}
 use Rattle.backing.specs.Checks.{source_tests, exchange_tests}
@@ -92,13 +92,13 @@ swapped_root s t low_s low_t = swapped_else s t [] (prefix_of_root s low_s) (pre
 
 -- ---- the list
 
-abbrev swapped_entry : Names → Names → Entry → Entry
+abbrev swapped_entry : Names → Names → TreeEntry → TreeEntry
 swapped_entry s t e = record e { path = swapped s t e.path }
 
-abbrev pub all_swapped : Names → Names → List Entry → List Entry
-all_swapped s t es = map (λ (e : Entry). swapped_entry s t e) es
+abbrev pub all_swapped : Names → Names → List TreeEntry → List TreeEntry
+all_swapped s t es = map (λ (e : TreeEntry). swapped_entry s t e) es
 
-entry_swapped : (s t : Names) (e : Entry) → with_path e (exchanged_path s t e.path) ≡ swapped_entry s t e
+entry_swapped : (s t : Names) (e : TreeEntry) → with_path e (exchanged_path s t e.path) ≡ swapped_entry s t e
 entry_swapped s t e = elim (cases_Bool (is_prefix s e.path)) [
   | inl h ↦
       ap (λ (o : Option Names). with_path e o) (cond-true (is_prefix s e.path) (Some (t ++ drop (length s) e.path)) (cond (is_prefix t e.path) (Some (s ++ drop (length t) e.path)) None) h)
@@ -113,11 +113,11 @@ entry_swapped s t e = elim (cases_Bool (is_prefix s e.path)) [
   ]
 ]
 
-pub swapped_all : (s t : Names) (es : List Entry) → with_paths es (map (λ (e : Entry). exchanged_path s t e.path) es) ≡ all_swapped s t es
+pub swapped_all : (s t : Names) (es : List TreeEntry) → with_paths es (map (λ (e : TreeEntry). exchanged_path s t e.path) es) ≡ all_swapped s t es
 swapped_all s t [] = refl
 swapped_all s t (e ∷ es) =
-    ap (λ (x : Entry). x ∷ with_paths es (map (λ (e : Entry). exchanged_path s t e.path) es)) (entry_swapped s t e)
-    ∙ ap (λ (xs : List Entry). swapped_entry s t e ∷ xs) (swapped_all s t es)
+    ap (λ (x : TreeEntry). x ∷ with_paths es (map (λ (e : TreeEntry). exchanged_path s t e.path) es)) (entry_swapped s t e)
+    ∙ ap (λ (xs : List TreeEntry). swapped_entry s t e ∷ xs) (swapped_all s t es)
 
 -- a path that goes to q is where q goes
 path_swapped : (s t p q : Names) → Apart s t → is_path (swapped s t p) q ≡ is_path p (swapped s t q)
@@ -130,13 +130,13 @@ path_swapped s t p q apart = elim (same_path p (swapped s t q)) [
       is_path-no (swapped s t p) q not_to ∙ sym (is_path-no p (swapped s t q) other)
 ]
 
-look-swapped : (s t : Names) (es : List Entry) (q : Names) → Apart s t → look (all_swapped s t es) q ≡ look es (swapped s t q)
+look-swapped : (s t : Names) (es : List TreeEntry) (q : Names) → Apart s t → look (all_swapped s t es) q ≡ look es (swapped s t q)
 look-swapped s t [] q apart = refl
 look-swapped s t (e ∷ es) q apart =
     ap (λ (b : Bool). cond b (Some e.item) (look (all_swapped s t es) q)) (path_swapped s t e.path q apart)
     ∙ ap (λ (o : Option Item). cond (is_path e.path (swapped s t q)) (Some e.item) o) (look-swapped s t es q apart)
 
-distinct_swapped : (s t : Names) (es : List Entry) → Apart s t → IsDistinct es → IsDistinct (all_swapped s t es)
+distinct_swapped : (s t : Names) (es : List TreeEntry) → Apart s t → IsDistinct es → IsDistinct (all_swapped s t es)
 distinct_swapped s t [] apart once = tt
 distinct_swapped s t (e ∷ es) apart once =
     (look-swapped s t es (swapped s t e.path) apart ∙ (ap (λ (q : Names). look es q) (swapped_back s t e.path apart) ∙ once.0), distinct_swapped s t es apart once.1)
@@ -158,7 +158,7 @@ exchanged_at at s t q = elim (cases_Bool (is_prefix s q)) [
   ])
 ]
 
-pub tree-swapped : (s t : Names) (es : List Entry) → (s ≡ [] → ⊥) → (t ≡ [] → ⊥) → Apart s t → tree_of (all_swapped s t es) ≡ exchanged (tree_of es) s t
+pub tree-swapped : (s t : Names) (es : List TreeEntry) → (s ≡ [] → ⊥) → (t ≡ [] → ⊥) → Apart s t → tree_of (all_swapped s t es) ≡ exchanged (tree_of es) s t
 tree-swapped s t es low_s low_t apart = fun_ext (λ q. elim (root_cases q) [
   | inl e ↦
       let P : Names → Type 0 = λ r. tree_of (all_swapped s t es) r ≡ exchanged (tree_of es) s t r in
@@ -205,16 +205,16 @@ exchanged_tree at s t tree low apart leads = record {
   parents = λ up name some. exchanged_at at s t up ∙ parent_swapped at s t tree apart leads up name (subst (λ (o : Option Item). IsSome o) (exchanged_at at s t (up ++ name ∷ [])) some);
 }
 
-pub all_exchanged : (es new : List Entry) (ps : List (Option Names)) (s t : Names) → (s ≡ [] → ⊥) × (t ≡ [] → ⊥) → Apart s t
-    → ps ≡ map (λ (e : Entry). exchanged_path s t e.path) es → new ≡ with_paths es ps → tree_of new ≡ exchanged (tree_of es) s t
+pub all_exchanged : (es new : List TreeEntry) (ps : List (Option Names)) (s t : Names) → (s ≡ [] → ⊥) × (t ≡ [] → ⊥) → Apart s t
+    → ps ≡ map (λ (e : TreeEntry). exchanged_path s t e.path) es → new ≡ with_paths es ps → tree_of new ≡ exchanged (tree_of es) s t
 all_exchanged es new ps s t low apart paths moves =
-    ap (λ (xs : List Entry). tree_of xs) (moves ∙ (ap (λ (qs : List (Option Names)). with_paths es qs) paths ∙ swapped_all s t es)) ∙ tree-swapped s t es low.0 low.1 apart
+    ap (λ (xs : List TreeEntry). tree_of xs) (moves ∙ (ap (λ (qs : List (Option Names)). with_paths es qs) paths ∙ swapped_all s t es)) ∙ tree-swapped s t es low.0 low.1 apart
 
-pub exchanged_lawful : (es new : List Entry) (ps : List (Option Names)) (s t : Names) → IsEntryTree es → (s ≡ [] → ⊥) × (t ≡ [] → ⊥) → Apart s t → Resolves (tree_of es) s × Resolves (tree_of es) t
-    → ps ≡ map (λ (e : Entry). exchanged_path s t e.path) es → new ≡ with_paths es ps → IsEntryTree new
+pub exchanged_lawful : (es new : List TreeEntry) (ps : List (Option Names)) (s t : Names) → IsEntryTree es → (s ≡ [] → ⊥) × (t ≡ [] → ⊥) → Apart s t → Resolves (tree_of es) s × Resolves (tree_of es) t
+    → ps ≡ map (λ (e : TreeEntry). exchanged_path s t e.path) es → new ≡ with_paths es ps → IsEntryTree new
 exchanged_lawful es new ps s t lawful low apart leads paths moves =
     let went : new ≡ all_swapped s t es = moves ∙ (ap (λ (qs : List (Option Names)). with_paths es qs) paths ∙ swapped_all s t es) in
     record {
-      distinct = subst (λ (xs : List Entry). IsDistinct xs) (sym went) (distinct_swapped s t es apart lawful.distinct);
+      distinct = subst (λ (xs : List TreeEntry). IsDistinct xs) (sym went) (distinct_swapped s t es apart lawful.distinct);
       tree = subst (λ (at : Tree). IsTree at) (sym (all_exchanged es new ps s t low apart paths moves)) (exchanged_tree (tree_of es) s t lawful.tree low apart leads);
     }

@@ -2,7 +2,7 @@
 use Rattle.std.specs.Prelude.{ℕ, List}
 use Rattle.backing.specs.declared.entries.Item.{Item}
 use Rattle.backing.specs.declared.entries.Item.TheVariants.{Folder, File}
-use Rattle.backing.specs.declared.entries.Entry.{Entry}
+use Rattle.backing.specs.declared.entries.TreeEntry.{TreeEntry}
 use Rattle.backing.specs.Files.{written, resized}
 
 abbrev pub item_written : Item → ℕ → List ℕ → Item
@@ -13,8 +13,8 @@ abbrev pub item_resized : Item → ℕ → Item
 item_resized Folder size = Folder
 item_resized (File bytes) size = File (resized size bytes)
 
-abbrev pub entry_written : Entry → ℕ → List ℕ → Entry
+abbrev pub entry_written : TreeEntry → ℕ → List ℕ → TreeEntry
 entry_written entry offset piece = record entry { item = item_written entry.item offset piece }
 
-abbrev pub entry_resized : Entry → ℕ → Entry
+abbrev pub entry_resized : TreeEntry → ℕ → TreeEntry
 entry_resized entry size = record entry { item = item_resized entry.item size }

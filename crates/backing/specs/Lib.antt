@@ -8,5 +8,5 @@ pub mod Items
 pub mod Moves
 pub mod Memory
 pub mod SharedTree
-pub mod Known
+pub mod KnownTreeLemmas
 pub mod Checks

@@ -3,12 +3,12 @@ use Rattle.std.specs.Prelude.{ℕ, ℤ, ◌≡◌, ◌+◌, ◌-◌, ◌^◌, �
 use Rattle.paths.specs.Prefixes.{Names}
 use Rattle.backing.specs.declared.call.Answer.{Answer}
 use Rattle.backing.specs.declared.call.Answer.TheVariants.{Done, Fault, Wrote}
-use Rattle.backing.specs.declared.entries.Entry.{Entry}
+use Rattle.backing.specs.declared.entries.TreeEntry.{TreeEntry}
 use Rattle.backing.specs.declared.told.Told.{Told}
 use Rattle.errno.specs.declared.TheConstants.{ENOMEM}
 use Rattle.backing.specs.declared.plans.Plan.{Plan}
-use Rattle.backing.specs.declared.plans.Fault.{Fault as Planned}
-use Rattle.backing.specs.declared.plans.Fault.TheVariants as planned
+use Rattle.backing.specs.declared.plans.PlannedFault.{PlannedFault as Planned}
+use Rattle.backing.specs.declared.plans.PlannedFault.TheVariants as planned
 use Rattle.backing.specs.Tree.{Tree, IsTree}
 use Rattle.backing.specs.Calls.{Asked, AskMake, AskMakeDir, AskWrite, Works, Starves}
 use Rattle.backing.specs.Device.{Device, Sound, Before, After, Performs, counted, fails, faulty}
@@ -16,7 +16,7 @@ use Rattle.backing.specs.Entries.{tree_of}
 
 -- what a memory tree is: what stands in it, how many calls were made, which of them are planned to fail, and how many failed
 pub record Memory : Type 0 where
-  pub entries : List Entry
+  pub entries : List TreeEntry
   pub made : ℕ
   pub plans : List Plan
   pub failed : ℕ

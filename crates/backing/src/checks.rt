@@ -8,7 +8,7 @@ ghost use Rattle.backing.specs.Checks.{present_tests, free_tests, file_tests, fo
 ghost use Rattle.backing.specs.Entries.{tree_of, IsFoundAt, IsEntryTree};
 
 use crate::call::{Kind, MAX_FILE_LEN};
-use crate::entries::Entry;
+use crate::entries::TreeEntry;
 use crate::lookups::{has_names, index_of, kind_at};
 use errno::{EBUSY, EEXIST, EFBIG, EISDIR, ENOENT, ENOTDIR, ENOTEMPTY};
 use paths::Path;
@@ -22,7 +22,7 @@ pub fn expect_below_root(path: &Path) -> Result<(), i32>
 }
 
 /// Folders lead down to the path.
-pub fn expect_reached(entries: &[Entry], path: &Path) -> Result<(), i32>
+pub fn expect_reached(entries: &[TreeEntry], path: &Path) -> Result<(), i32>
     ensures ok { OnOk result (Resolves (tree_of entries.now) path.now) }
     ensures err { IfErr result (Stops (tree_of entries.now) path.now) }
 {
@@ -38,7 +38,7 @@ pub fn expect_reached(entries: &[Entry], path: &Path) -> Result<(), i32>
 }
 
 /// Something stands there: what kind of item.
-pub fn expect_present(entries: &[Entry], path: &Path) -> Result<Kind, i32>
+pub fn expect_present(entries: &[TreeEntry], path: &Path) -> Result<Kind, i32>
     ensures ok { OnOk result (PassesAll (tree_of entries.now) (present_tests path.now)) }
     ensures kind { IfOk result (λ kind. option_map kind_of (tree_of entries.now path.now) ≡ Some kind) }
     ensures err { IfErr result (Refuses (tree_of entries.now) (present_tests path.now)) }
@@ -51,7 +51,7 @@ pub fn expect_present(entries: &[Entry], path: &Path) -> Result<Kind, i32>
 }
 
 /// Nothing stands there.
-pub fn expect_free(entries: &[Entry], path: &Path) -> Result<(), i32>
+pub fn expect_free(entries: &[TreeEntry], path: &Path) -> Result<(), i32>
     ensures ok { OnOk result (PassesAll (tree_of entries.now) (free_tests path.now)) }
     ensures err { IfErr result (Refuses (tree_of entries.now) (free_tests path.now)) }
 {
@@ -63,7 +63,7 @@ pub fn expect_free(entries: &[Entry], path: &Path) -> Result<(), i32>
 }
 
 /// A file stands there: the place of its entry.
-pub fn expect_file(entries: &[Entry], path: &Path) -> Result<usize, i32>
+pub fn expect_file(entries: &[TreeEntry], path: &Path) -> Result<usize, i32>
     ensures ok { OnOk result (PassesAll (tree_of entries.now) (file_tests path.now)) }
     ensures found { IfOk result (IsFoundAt entries.now path.now) }
     ensures err { IfErr result (Refuses (tree_of entries.now) (file_tests path.now)) }
@@ -78,7 +78,7 @@ pub fn expect_file(entries: &[Entry], path: &Path) -> Result<usize, i32>
 }
 
 /// A folder stands there.
-pub fn expect_folder(entries: &[Entry], path: &Path) -> Result<(), i32>
+pub fn expect_folder(entries: &[TreeEntry], path: &Path) -> Result<(), i32>
     ensures ok { OnOk result (PassesAll (tree_of entries.now) (folder_tests path.now)) }
     ensures err { IfErr result (Refuses (tree_of entries.now) (folder_tests path.now)) }
 {
@@ -89,7 +89,7 @@ pub fn expect_folder(entries: &[Entry], path: &Path) -> Result<(), i32>
 }
 
 /// The folder has no names.
-pub fn expect_bare(entries: &[Entry], path: &Path) -> Result<(), i32>
+pub fn expect_bare(entries: &[TreeEntry], path: &Path) -> Result<(), i32>
     requires { IsEntryTree entries.now }
     ensures ok { OnOk result (PassesAll (tree_of entries.now) (Bare path.now ∷ [])) }
     ensures err { IfErr result (Refuses (tree_of entries.now) (Bare path.now ∷ [])) }
@@ -102,7 +102,7 @@ pub fn expect_bare(entries: &[Entry], path: &Path) -> Result<(), i32>
 }
 
 /// A file may be so long.
-pub fn expect_fits(entries: &[Entry], end: u64) -> Result<(), i32>
+pub fn expect_fits(entries: &[TreeEntry], end: u64) -> Result<(), i32>
     ensures ok { OnOk result (end ≤ MAX_FILE_LEN) }
     ensures err { IfErr result (Refuses (tree_of entries.now) (Fits end ∷ [])) }
 {

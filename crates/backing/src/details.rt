@@ -8,7 +8,7 @@ ghost use Rattle.backing.specs.Refusals.{Ends};
 
 use crate::call::{Answer, Details, Kind, Time};
 use crate::checks::expect_present;
-use crate::entries::Entry;
+use crate::entries::TreeEntry;
 use crate::refusal::Refusal;
 use paths::Path;
 
@@ -38,7 +38,7 @@ pub fn details_of(kind: Kind) -> Details {
 }
 
 /// Sets nothing: something stands there, and there is no more to do.
-pub fn set_details(entries: &[Entry], path: &Path) -> Result<Answer, Refusal>
+pub fn set_details(entries: &[TreeEntry], path: &Path) -> Result<Answer, Refusal>
     ensures permissions { (permissions : ℕ) → Ends (tree_of entries.now) (AskSetPermissions path.now permissions) result (tree_of entries.now) }
     ensures owner { (uid gid : Option ℕ) → Ends (tree_of entries.now) (AskSetOwner path.now uid gid) result (tree_of entries.now) }
     ensures times { (accessed modified : Option NewTime) → Ends (tree_of entries.now) (AskSetTimes path.now accessed modified) result (tree_of entries.now) }

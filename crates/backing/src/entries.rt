@@ -38,7 +38,7 @@ impl Item {
 
 /// A path below the root, and what stands there.
 #[derive(Drop)]
-pub struct Entry {
+pub struct TreeEntry {
     pub path: Path,
     pub item: Item,
 }

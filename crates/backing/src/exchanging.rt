@@ -11,7 +11,7 @@ ghost use Rattle.backing.specs.Refusals.{Ends};
 
 use crate::call::Answer;
 use crate::checks::expect_present;
-use crate::entries::Entry;
+use crate::entries::TreeEntry;
 use crate::moving::{expect_source, new_path, set_paths};
 use crate::refusal::Refusal;
 use errno::EINVAL;
@@ -21,7 +21,7 @@ use std::alloc::{AllocError, Global};
 /// Gives what stands at each of both paths the other one, with all that is below it.
 pub fn exchange(
     alloc: Global,
-    entries: &mut Vec<Entry>,
+    entries: &mut Vec<TreeEntry>,
     first: &Path,
     second: &Path,
 ) -> Result<Answer, Refusal>
@@ -39,7 +39,7 @@ pub fn exchange(
 }
 
 /// Something stands at the second path, and neither path leads through the other.
-fn expect_other(entries: &[Entry], first: &Path, second: &Path) -> Result<(), i32>
+fn expect_other(entries: &[TreeEntry], first: &Path, second: &Path) -> Result<(), i32>
     ensures ok { OnOk result (PassesAll (tree_of entries.now) (exchange_tests first.now second.now)) }
     ensures err { IfErr result (Refuses (tree_of entries.now) (exchange_tests first.now second.now)) }
 {
@@ -56,7 +56,7 @@ fn expect_other(entries: &[Entry], first: &Path, second: &Path) -> Result<(), i3
 /// Exchanges the items. All memory is taken before the first of them moves.
 fn exchange_all(
     alloc: Global,
-    entries: &mut Vec<Entry>,
+    entries: &mut Vec<TreeEntry>,
     first: &Path,
     second: &Path,
 ) -> Result<(), AllocError>
@@ -76,7 +76,7 @@ fn exchange_all(
 /// The new path of each entry that moves.
 fn other_paths(
     alloc: Global,
-    entries: &[Entry],
+    entries: &[TreeEntry],
     first: &Path,
     second: &Path,
 ) -> Result<Vec<Option<Path>>, AllocError>

@@ -25,6 +25,6 @@ pub use bytes::Bytes;
 pub use call::{Answer, Call, Child, Children, Details, Kind, MAX_FILE_LEN, NewTime, Time};
 pub use calls::{Calls, KnownTree};
 pub use memory::MemTree;
-pub use plans::Fault;
+pub use plans::PlannedFault;
 pub use shared::Shared;
 pub use told::Told;

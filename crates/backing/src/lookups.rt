@@ -6,7 +6,7 @@ ghost use Rattle.backing.specs.Tree.{is_path, kind_of, HasNames, IsBare};
 ghost use Rattle.backing.specs.Entries.{look, tree_of, IsFoundAt, IsEntryTree};
 
 use crate::call::Kind;
-use crate::entries::Entry;
+use crate::entries::TreeEntry;
 use paths::{Name, Path};
 
 /// Whether both paths have the same names.
@@ -25,7 +25,7 @@ pub fn are_same(names: &[Name], others: &[Name]) -> bool
 }
 
 /// The place in the list of the entry at that path.
-pub fn index_of(entries: &[Entry], names: &[Name]) -> Option<usize>
+pub fn index_of(entries: &[TreeEntry], names: &[Name]) -> Option<usize>
     ensures none { IfNone result (look entries.now names.now ≡ None) }
     ensures found { IfSome result (λ i. IsFoundAt entries.now names.now i) }
 {
@@ -38,7 +38,7 @@ pub fn index_of(entries: &[Entry], names: &[Name]) -> Option<usize>
 }
 
 /// What kind of item stands at that path.
-pub fn kind_at(entries: &[Entry], names: &[Name]) -> Option<Kind>
+pub fn kind_at(entries: &[TreeEntry], names: &[Name]) -> Option<Kind>
     ensures { result ≡ option_map kind_of (tree_of entries.now names.now) }
 {
     if names.is_empty() {
@@ -63,7 +63,7 @@ pub fn child_of<'a>(path: &'a Path, folder: &[Name]) -> Option<&'a Name>
 }
 
 /// Whether a name stands in the folder.
-pub fn has_names(entries: &[Entry], folder: &[Name]) -> bool
+pub fn has_names(entries: &[TreeEntry], folder: &[Name]) -> bool
     requires { IsEntryTree entries.now }
     ensures yes { result ≡ true → HasNames (tree_of entries.now) folder.now }
     ensures no { result ≡ false → IsBare (tree_of entries.now) folder.now }

@@ -10,13 +10,13 @@ ghost use Rattle.backing.specs.Refusals.{Ends, Refusing};
 use crate::bytes::Bytes;
 use crate::call::Answer;
 use crate::checks::expect_free;
-use crate::entries::{Entry, Item};
+use crate::entries::{Item, TreeEntry};
 use crate::refusal::Refusal;
 use paths::Path;
 use std::alloc::Global;
 
 /// Makes an empty file, whatever its permission bits are to be.
-pub fn make(alloc: Global, entries: &mut Vec<Entry>, path: &Path) -> Result<Answer, Refusal>
+pub fn make(alloc: Global, entries: &mut Vec<TreeEntry>, path: &Path) -> Result<Answer, Refusal>
     requires { IsEntryTree entries.old.items }
     ensures ends { (permissions : Option ℕ) → Ends (tree_of entries.old.items) (AskMake path.now permissions) result (tree_of entries.new.items) }
     ensures lawful { IsEntryTree entries.new.items }
@@ -26,7 +26,7 @@ pub fn make(alloc: Global, entries: &mut Vec<Entry>, path: &Path) -> Result<Answ
 }
 
 /// Makes an empty folder, whatever its permission bits are to be.
-pub fn make_dir(entries: &mut Vec<Entry>, path: &Path) -> Result<Answer, Refusal>
+pub fn make_dir(entries: &mut Vec<TreeEntry>, path: &Path) -> Result<Answer, Refusal>
     requires { IsEntryTree entries.old.items }
     ensures ends { (permissions : Option ℕ) → Ends (tree_of entries.old.items) (AskMakeDir path.now permissions) result (tree_of entries.new.items) }
     ensures lawful { IsEntryTree entries.new.items }
@@ -36,7 +36,7 @@ pub fn make_dir(entries: &mut Vec<Entry>, path: &Path) -> Result<Answer, Refusal
 }
 
 /// Puts the item where nothing stands.
-fn put(entries: &mut Vec<Entry>, path: &Path, item: Item) -> Result<(), Refusal>
+fn put(entries: &mut Vec<TreeEntry>, path: &Path, item: Item) -> Result<(), Refusal>
     requires { IsEntryTree entries.old.items }
     ensures passes { OnOk result (PassesAll (tree_of entries.old.items) (free_tests path.now)) }
     ensures ok { OnOk result (tree_of entries.new.items ≡ with_item (tree_of entries.old.items) path.now item) }
@@ -46,6 +46,6 @@ fn put(entries: &mut Vec<Entry>, path: &Path, item: Item) -> Result<(), Refusal>
 {
     expect_free(entries, path)?;
     let path = path.copy()?;
-    entries.push(Entry { path, item })?;
+    entries.push(TreeEntry { path, item })?;
     Ok(())
 }

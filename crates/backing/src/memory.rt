@@ -8,9 +8,9 @@ ghost use Rattle.backing.specs.Tree.{IsTree};
 
 use crate::call::{Answer, Call};
 use crate::calls::{Calls, KnownTree};
-use crate::entries::Entry;
+use crate::entries::TreeEntry;
 use crate::perform::{put_dir_in, put_file_in, treat};
-use crate::plans::{Fault, Plan, add_plan, next_fault};
+use crate::plans::{Plan, PlannedFault, add_plan, next_fault};
 use crate::told::{Told, count};
 use paths::Path;
 use std::alloc::{AllocError, Global};
@@ -20,7 +20,7 @@ use std::marker::Model;
 #[derive(Drop)]
 pub struct MemTree {
     alloc: Global,
-    standing: Vec<Entry>,
+    standing: Vec<TreeEntry>,
     calls: u64,
     planned: Vec<Plan>,
     failures: u64,
@@ -54,7 +54,7 @@ impl MemTree {
 
     /// Has that call fail, counted from 1 since the tree was made. It replaces what was planned for that call. A call
     /// that has passed, and call 0, never come.
-    pub fn fail_at(&mut self, call: u64, fault: Fault) -> Result<(), AllocError>
+    pub fn fail_at(&mut self, call: u64, fault: PlannedFault) -> Result<(), AllocError>
         ensures ok { OnOk result (self.new ≡ record self.old { plans = (record { call = call; fault = fault }) ∷ self.old.plans }) }
         ensures err { OnErr result (self.new ≡ self.old) }
     {
@@ -136,7 +136,7 @@ impl Failures {
 }
 
 impl Calls for MemTree {
-    ghost use Rattle.backing.specs.Known.{memory_counts};
+    ghost use Rattle.backing.specs.KnownTreeLemmas.{memory_counts};
 
     ghost gives = { Gives };
 
@@ -151,7 +151,7 @@ impl Calls for MemTree {
 
 impl KnownTree for MemTree {
     ghost use Rattle.backing.specs.Memory.{memory_tree};
-    ghost use Rattle.backing.specs.Known.{memory_known, memory_stands};
+    ghost use Rattle.backing.specs.KnownTreeLemmas.{memory_known, memory_stands};
 
     ghost tree = { memory_tree };
 

@@ -3,7 +3,7 @@
 ghost use Rattle.std.specs.Prelude.{◌≡◌, ◌≢◌, ◌<◌, [], false, OnOk, OnErr, IfErr, IfOk, Some, None, length, map, slice_set, slice_index_or};
 ghost use Rattle.std.specs.List.{remove};
 ghost use Rattle.paths.specs.Prefixes.{is_prefix};
-ghost use Rattle.backing.specs.declared.entries.Entry.{Entry};
+ghost use Rattle.backing.specs.declared.entries.TreeEntry.{TreeEntry};
 ghost use Rattle.backing.specs.Tree.{IsBare, Resolves, moved};
 ghost use Rattle.backing.specs.Calls.{AskRename, AskRenameNew, PassesAll, Refuses};
 ghost use Rattle.backing.specs.Checks.{source_tests, kind_tests, room_tests, new_tests};
@@ -13,7 +13,7 @@ ghost use Rattle.backing.specs.Refusals.{Ends};
 
 use crate::call::{Answer, Kind};
 use crate::checks::{expect_bare, expect_below_root, expect_free, expect_present, expect_reached};
-use crate::entries::Entry;
+use crate::entries::TreeEntry;
 use crate::lookups::{index_of, kind_at};
 use crate::refusal::Refusal;
 use errno::{EEXIST, EINVAL, EISDIR, ENOTDIR, ENOTEMPTY};
@@ -23,7 +23,7 @@ use std::alloc::{AllocError, Global};
 /// Gives what stands at a path another one, with all that is below it.
 pub fn rename(
     alloc: Global,
-    entries: &mut Vec<Entry>,
+    entries: &mut Vec<TreeEntry>,
     from: &Path,
     to: &Path,
 ) -> Result<Answer, Refusal>
@@ -43,7 +43,7 @@ pub fn rename(
 /// As `rename`, to a path at which nothing stands.
 pub fn rename_new(
     alloc: Global,
-    entries: &mut Vec<Entry>,
+    entries: &mut Vec<TreeEntry>,
     from: &Path,
     to: &Path,
 ) -> Result<Answer, Refusal>
@@ -58,7 +58,7 @@ pub fn rename_new(
 }
 
 /// Something stands there that may be renamed.
-pub fn expect_source(entries: &[Entry], from: &Path, to: &Path) -> Result<(), i32>
+pub fn expect_source(entries: &[TreeEntry], from: &Path, to: &Path) -> Result<(), i32>
     ensures ok { OnOk result (PassesAll (tree_of entries.now) (source_tests from.now to.now)) }
     ensures err { IfErr result (Refuses (tree_of entries.now) (source_tests from.now to.now)) }
 {
@@ -69,7 +69,7 @@ pub fn expect_source(entries: &[Entry], from: &Path, to: &Path) -> Result<(), i3
 }
 
 /// It may go there.
-fn expect_room(entries: &[Entry], from: &Path, to: &Path) -> Result<(), i32>
+fn expect_room(entries: &[TreeEntry], from: &Path, to: &Path) -> Result<(), i32>
     requires { IsEntryTree entries.now }
     ensures ok { OnOk result (PassesAll (tree_of entries.now) (room_tests from.now to.now)) }
     ensures err { IfErr result (Refuses (tree_of entries.now) (room_tests from.now to.now)) }
@@ -86,7 +86,7 @@ fn expect_room(entries: &[Entry], from: &Path, to: &Path) -> Result<(), i32>
 }
 
 /// It may go there, where nothing stands.
-fn expect_new(entries: &[Entry], from: &Path, to: &Path) -> Result<(), i32>
+fn expect_new(entries: &[TreeEntry], from: &Path, to: &Path) -> Result<(), i32>
     ensures ok { OnOk result (PassesAll (tree_of entries.now) (new_tests from.now to.now)) }
     ensures err { IfErr result (Refuses (tree_of entries.now) (new_tests from.now to.now)) }
 {
@@ -103,7 +103,7 @@ fn expect_new(entries: &[Entry], from: &Path, to: &Path) -> Result<(), i32>
 }
 
 /// Neither a file goes onto a folder nor a folder onto a file.
-fn expect_kinds(entries: &[Entry], from: &Path, to: &Path) -> Result<(), i32>
+fn expect_kinds(entries: &[TreeEntry], from: &Path, to: &Path) -> Result<(), i32>
     ensures ok { OnOk result (PassesAll (tree_of entries.now) (kind_tests from.now to.now)) }
     ensures err { IfErr result (Refuses (tree_of entries.now) (kind_tests from.now to.now)) }
 {
@@ -124,7 +124,7 @@ fn expect_kinds(entries: &[Entry], from: &Path, to: &Path) -> Result<(), i32>
 /// Moves the items. All memory is taken before the first of them moves.
 fn move_all(
     alloc: Global,
-    entries: &mut Vec<Entry>,
+    entries: &mut Vec<TreeEntry>,
     from: &Path,
     to: &Path,
 ) -> Result<(), AllocError>
@@ -146,7 +146,7 @@ fn move_all(
 /// The new path of each entry that moves.
 fn new_paths(
     alloc: Global,
-    entries: &[Entry],
+    entries: &[TreeEntry],
     from: &Path,
     to: &Path,
 ) -> Result<Vec<Option<Path>>, AllocError>
@@ -177,7 +177,7 @@ pub fn new_path(
 }
 
 /// Takes away what stands where the items go.
-fn clear_place(entries: &mut Vec<Entry>, paths: &mut Vec<Option<Path>>, to: &Path)
+fn clear_place(entries: &mut Vec<TreeEntry>, paths: &mut Vec<Option<Path>>, to: &Path)
     requires { length paths.old.items ≡ length entries.old.items }
     ensures { Clears entries.old.items entries.new.items paths.old.items paths.new.items to.now }
 {
@@ -191,7 +191,7 @@ fn clear_place(entries: &mut Vec<Entry>, paths: &mut Vec<Option<Path>>, to: &Pat
 }
 
 /// Gives each entry its new path.
-pub fn set_paths(entries: &mut Vec<Entry>, paths: Vec<Option<Path>>)
+pub fn set_paths(entries: &mut Vec<TreeEntry>, paths: Vec<Option<Path>>)
     requires { length paths.items ≡ length entries.old.items }
     ensures { entries.new.items ≡ with_paths entries.old.items paths.items }
 {
@@ -204,10 +204,10 @@ pub fn set_paths(entries: &mut Vec<Entry>, paths: Vec<Option<Path>>)
 }
 
 /// Gives the entry its new path.
-fn set_path(entries: &mut Vec<Entry>, i: usize, path: Option<Path>)
+fn set_path(entries: &mut Vec<TreeEntry>, i: usize, path: Option<Path>)
     requires { i < length entries.old.items }
     ensures len { length entries.new.items ≡ length entries.old.items }
-    ensures set { (d : Entry) → entries.new.items ≡ slice_set entries.old.items i (with_path (slice_index_or entries.old.items i d) path) }
+    ensures set { (d : TreeEntry) → entries.new.items ≡ slice_set entries.old.items i (with_path (slice_index_or entries.old.items i d) path) }
 {
     match path {
         Some(path) => {

@@ -9,11 +9,11 @@ ghost use Rattle.backing.specs.Memory.{Treated, PutsDir, PutsFile, device_of, tr
 
 use crate::call::{Answer, Call};
 use crate::details::set_details;
-use crate::entries::Entry;
+use crate::entries::TreeEntry;
 use crate::exchanging::exchange;
 use crate::making::{make, make_dir};
 use crate::moving::{rename, rename_new};
-use crate::plans::Fault;
+use crate::plans::PlannedFault;
 use crate::reading::{list, read, stat, sync};
 use crate::refusal::Refusal;
 use crate::removing::{remove, remove_dir};
@@ -24,7 +24,11 @@ use paths::Path;
 use std::alloc::Global;
 
 /// What the tree itself answers and does.
-pub fn perform(alloc: Global, entries: &mut Vec<Entry>, call: Call<'_>) -> Result<Answer, Refusal>
+pub fn perform(
+    alloc: Global,
+    entries: &mut Vec<TreeEntry>,
+    call: Call<'_>,
+) -> Result<Answer, Refusal>
     requires { IsEntryTree entries.old.items }
     ensures ends { Ends (tree_of entries.old.items) (asked call.entry) result (tree_of entries.new.items) }
     ensures lawful { IsEntryTree entries.new.items }
@@ -50,7 +54,12 @@ pub fn perform(alloc: Global, entries: &mut Vec<Entry>, call: Call<'_>) -> Resul
 }
 
 /// A call as the device treats it, for which this failure is planned.
-pub fn treat(alloc: Global, entries: &mut Vec<Entry>, fault: Option<Fault>, call: Call<'_>) -> Told
+pub fn treat(
+    alloc: Global,
+    entries: &mut Vec<TreeEntry>,
+    fault: Option<PlannedFault>,
+    call: Call<'_>,
+) -> Told
     requires { IsEntryTree entries.old.items }
     ensures treated { Treated (tree_of entries.old.items) (treated_as fault) (asked call.entry) result (tree_of entries.new.items) }
     ensures lawful { IsEntryTree entries.new.items }
@@ -62,19 +71,24 @@ pub fn treat(alloc: Global, entries: &mut Vec<Entry>, fault: Option<Fault>, call
 }
 
 /// A call that fails by plan.
-fn treat_as_planned(alloc: Global, entries: &mut Vec<Entry>, fault: Fault, call: Call<'_>) -> Told
+fn treat_as_planned(
+    alloc: Global,
+    entries: &mut Vec<TreeEntry>,
+    fault: PlannedFault,
+    call: Call<'_>,
+) -> Told
     requires { IsEntryTree entries.old.items }
     ensures treated { Treated (tree_of entries.old.items) (device_of fault) (asked call.entry) result (tree_of entries.new.items) }
     ensures lawful { IsEntryTree entries.new.items }
 {
     match fault {
-        Fault::Before(errno) => Told::failure(errno),
-        Fault::After(errno) => treat_and_fail(alloc, entries, errno, call),
+        PlannedFault::Before(errno) => Told::failure(errno),
+        PlannedFault::After(errno) => treat_and_fail(alloc, entries, errno, call),
     }
 }
 
 /// A call that fails only where there is no memory.
-fn treat_soundly(alloc: Global, entries: &mut Vec<Entry>, call: Call<'_>) -> Told
+fn treat_soundly(alloc: Global, entries: &mut Vec<TreeEntry>, call: Call<'_>) -> Told
     requires { IsEntryTree entries.old.items }
     ensures treated { Treated (tree_of entries.old.items) Sound (asked call.entry) result (tree_of entries.new.items) }
     ensures lawful { IsEntryTree entries.new.items }
@@ -101,7 +115,7 @@ fn answered(ended: Result<Answer, Refusal>) -> Option<Answer>
 }
 
 /// A call that does its work and fails.
-fn treat_and_fail(alloc: Global, entries: &mut Vec<Entry>, errno: i32, call: Call<'_>) -> Told
+fn treat_and_fail(alloc: Global, entries: &mut Vec<TreeEntry>, errno: i32, call: Call<'_>) -> Told
     requires { IsEntryTree entries.old.items }
     ensures treated { Treated (tree_of entries.old.items) (After errno) (asked call.entry) result (tree_of entries.new.items) }
     ensures lawful { IsEntryTree entries.new.items }
@@ -122,7 +136,7 @@ fn errno_after(ended: Result<Answer, Refusal>, errno: i32) -> i32
 }
 
 /// Puts a folder, as no call does.
-pub fn put_dir_in(entries: &mut Vec<Entry>, path: &Path) -> Result<(), i32>
+pub fn put_dir_in(entries: &mut Vec<TreeEntry>, path: &Path) -> Result<(), i32>
     requires { IsEntryTree entries.old.items }
     ensures puts { PutsDir (tree_of entries.old.items) path.now result (tree_of entries.new.items) }
     ensures lawful { IsEntryTree entries.new.items }
@@ -133,7 +147,7 @@ pub fn put_dir_in(entries: &mut Vec<Entry>, path: &Path) -> Result<(), i32>
 /// Puts a file, as no call does.
 pub fn put_file_in(
     alloc: Global,
-    entries: &mut Vec<Entry>,
+    entries: &mut Vec<TreeEntry>,
     path: &Path,
     bytes: &[u8],
 ) -> Result<(), i32>

@@ -7,7 +7,7 @@ use std::alloc::AllocError;
 
 /// How a call fails, and with which error number.
 #[derive(Clone, Copy, Debug, PartialEq, Eq)]
-pub enum Fault {
+pub enum PlannedFault {
     /// Before its work.
     Before(i32),
     /// After its work, unless the tree refuses the call.
@@ -18,11 +18,11 @@ pub enum Fault {
 #[derive(Clone, Copy)]
 pub struct Plan {
     pub call: u64,
-    pub fault: Fault,
+    pub fault: PlannedFault,
 }
 
 /// What is planned for that call. Of two plans for it the first counts.
-pub fn planned(plans: &[Plan], call: u64) -> Option<Fault>
+pub fn planned(plans: &[Plan], call: u64) -> Option<PlannedFault>
     ensures { treated_as result ≡ planned_at plans.now call }
 {
     for plan in plans {
@@ -43,7 +43,7 @@ pub fn add_plan(plans: &mut Vec<Plan>, plan: Plan) -> Result<(), AllocError>
 }
 
 /// What is planned for the call after so many.
-pub fn next_fault(plans: &[Plan], made: u64) -> Option<Fault>
+pub fn next_fault(plans: &[Plan], made: u64) -> Option<PlannedFault>
     ensures { treated_as result ≡ next_device plans.now made }
 {
     match made.checked_add(1) {

@@ -9,7 +9,7 @@ ghost use Rattle.backing.specs.Refusals.{Ends};
 use crate::call::{Answer, Child, Children, Kind};
 use crate::checks::{expect_file, expect_folder, expect_present};
 use crate::details::details_of;
-use crate::entries::{Entry, Item};
+use crate::entries::{Item, TreeEntry};
 use crate::lookups::{child_of, index_of};
 use crate::refusal::Refusal;
 use paths::{Name, Path};
@@ -17,7 +17,7 @@ use payload::Payload;
 use std::alloc::{AllocError, Global};
 
 /// What stands at the path.
-pub fn stat(entries: &[Entry], path: &Path) -> Result<Answer, Refusal>
+pub fn stat(entries: &[TreeEntry], path: &Path) -> Result<Answer, Refusal>
     ensures { Ends (tree_of entries.now) (AskStat path.now) result (tree_of entries.now) }
 {
     match expect_present(entries, path)? {
@@ -37,7 +37,7 @@ pub fn stat(entries: &[Entry], path: &Path) -> Result<Answer, Refusal>
 /// The bytes of the file.
 pub fn read(
     alloc: Global,
-    entries: &[Entry],
+    entries: &[TreeEntry],
     path: &Path,
     offset: u64,
     size: u32,
@@ -56,7 +56,7 @@ pub fn read(
 }
 
 /// Nothing is to be brought to any disk.
-pub fn sync(entries: &[Entry], path: &Path) -> Result<Answer, Refusal>
+pub fn sync(entries: &[TreeEntry], path: &Path) -> Result<Answer, Refusal>
     ensures { Ends (tree_of entries.now) (AskSync path.now) result (tree_of entries.now) }
 {
     expect_present(entries, path)?;
@@ -64,7 +64,7 @@ pub fn sync(entries: &[Entry], path: &Path) -> Result<Answer, Refusal>
 }
 
 /// The names in the folder, with their kinds.
-pub fn list(alloc: Global, entries: &[Entry], path: &Path) -> Result<Answer, Refusal>
+pub fn list(alloc: Global, entries: &[TreeEntry], path: &Path) -> Result<Answer, Refusal>
     requires { IsEntryTree entries.now }
     ensures { Ends (tree_of entries.now) (AskList path.now) result (tree_of entries.now) }
 {
@@ -73,7 +73,7 @@ pub fn list(alloc: Global, entries: &[Entry], path: &Path) -> Result<Answer, Ref
 }
 
 /// The names that stand in the folder.
-fn children_of(alloc: Global, entries: &[Entry], folder: &Path) -> Result<Children, AllocError>
+fn children_of(alloc: Global, entries: &[TreeEntry], folder: &Path) -> Result<Children, AllocError>
     requires { IsEntryTree entries.now }
     ensures { IfOk result (Lists (tree_of entries.now) folder.now) }
 {
@@ -97,7 +97,7 @@ fn push_child(list: &mut Vec<Child>, name: &Name, kind: Kind) -> Result<(), Allo
 }
 
 /// The length of the file at the path.
-fn size_at(entries: &[Entry], path: &Path) -> usize
+fn size_at(entries: &[TreeEntry], path: &Path) -> usize
     requires { IsFile (tree_of entries.now path.now) }
     ensures { IfSome (tree_of entries.now path.now) (λ item. result ≡ size_of item) }
 {

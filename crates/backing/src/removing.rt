@@ -9,13 +9,13 @@ ghost use Rattle.backing.specs.Refusals.{Ends};
 
 use crate::call::Answer;
 use crate::checks::{expect_bare, expect_below_root, expect_file, expect_folder};
-use crate::entries::Entry;
+use crate::entries::TreeEntry;
 use crate::lookups::index_of;
 use crate::refusal::Refusal;
 use paths::Path;
 
 /// Removes the file.
-pub fn remove(entries: &mut Vec<Entry>, path: &Path) -> Result<Answer, Refusal>
+pub fn remove(entries: &mut Vec<TreeEntry>, path: &Path) -> Result<Answer, Refusal>
     requires { IsEntryTree entries.old.items }
     ensures ends { Ends (tree_of entries.old.items) (AskRemove path.now) result (tree_of entries.new.items) }
     ensures lawful { IsEntryTree entries.new.items }
@@ -26,7 +26,7 @@ pub fn remove(entries: &mut Vec<Entry>, path: &Path) -> Result<Answer, Refusal>
 }
 
 /// Removes the folder, which has no names.
-pub fn remove_dir(entries: &mut Vec<Entry>, path: &Path) -> Result<Answer, Refusal>
+pub fn remove_dir(entries: &mut Vec<TreeEntry>, path: &Path) -> Result<Answer, Refusal>
     requires { IsEntryTree entries.old.items }
     ensures ends { Ends (tree_of entries.old.items) (AskRemoveDir path.now) result (tree_of entries.new.items) }
     ensures lawful { IsEntryTree entries.new.items }
@@ -39,7 +39,7 @@ pub fn remove_dir(entries: &mut Vec<Entry>, path: &Path) -> Result<Answer, Refus
 }
 
 /// Takes out what stands at the path, and has no names below it.
-pub fn take_out(entries: &mut Vec<Entry>, path: &Path)
+pub fn take_out(entries: &mut Vec<TreeEntry>, path: &Path)
     requires lawful { IsEntryTree entries.old.items }
     requires below_root { path.now ≢ [] }
     requires stands { IsSome (tree_of entries.old.items path.now) }

@@ -45,7 +45,7 @@ impl<H: Wait + Drop> Shared<H> {
 }
 
 impl<H: Wait + Drop> Calls for Shared<H> {
-    ghost use Rattle.backing.specs.Known.{shared_counts};
+    ghost use Rattle.backing.specs.KnownTreeLemmas.{shared_counts};
 
     ghost gives = { Shows };
 

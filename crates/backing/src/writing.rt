@@ -4,19 +4,19 @@ ghost use Rattle.std.specs.Prelude.{◌≡◌, ◌<◌, ◌+◌, ◌^◌, OnOk, 
 ghost use Rattle.backing.specs.Calls.{AskWrite, AskSetLen};
 ghost use Rattle.backing.specs.Entries.{tree_of, IsEntryTree};
 ghost use Rattle.backing.specs.Refusals.{Ends};
-ghost use Rattle.backing.specs.declared.entries.Entry.{Entry};
+ghost use Rattle.backing.specs.declared.entries.TreeEntry.{TreeEntry};
 ghost use Rattle.backing.specs.Items.{item_written, item_resized, entry_written, entry_resized};
 
 use crate::call::Answer;
 use crate::checks::{expect_file, expect_fits};
-use crate::entries::{Entry, Item};
+use crate::entries::{Item, TreeEntry};
 use crate::refusal::Refusal;
 use paths::Path;
 use std::alloc::AllocError;
 
 /// Lays the piece over the file.
 pub fn write(
-    entries: &mut Vec<Entry>,
+    entries: &mut Vec<TreeEntry>,
     path: &Path,
     offset: u64,
     piece: &[u8],
@@ -35,7 +35,7 @@ pub fn write(
 }
 
 /// Cuts the file, or fills it with zeros.
-pub fn set_len(entries: &mut Vec<Entry>, path: &Path, size: u64) -> Result<Answer, Refusal>
+pub fn set_len(entries: &mut Vec<TreeEntry>, path: &Path, size: u64) -> Result<Answer, Refusal>
     requires { IsEntryTree entries.old.items }
     ensures ends { Ends (tree_of entries.old.items) (AskSetLen path.now size) result (tree_of entries.new.items) }
     ensures lawful { IsEntryTree entries.new.items }
@@ -48,14 +48,14 @@ pub fn set_len(entries: &mut Vec<Entry>, path: &Path, size: u64) -> Result<Answe
 
 /// Lays the piece over the bytes of that entry's file.
 fn write_at(
-    entries: &mut Vec<Entry>,
+    entries: &mut Vec<TreeEntry>,
     i: usize,
     offset: usize,
     piece: &[u8],
 ) -> Result<(), AllocError>
     requires within { i < length entries.old.items }
     requires fits { offset + length piece.now < 2 ^ 64 }
-    ensures ok { OnOk result ((d : Entry) → entries.new.items ≡ slice_set entries.old.items i (entry_written (slice_index_or entries.old.items i d) offset piece.now)) }
+    ensures ok { OnOk result ((d : TreeEntry) → entries.new.items ≡ slice_set entries.old.items i (entry_written (slice_index_or entries.old.items i d) offset piece.now)) }
     ensures err { OnErr result (entries.new.items ≡ entries.old.items) }
 {
     let entry = &mut entries[i];
@@ -63,9 +63,9 @@ fn write_at(
 }
 
 /// Gives the file of that entry another length.
-fn set_len_at(entries: &mut Vec<Entry>, i: usize, size: usize) -> Result<(), AllocError>
+fn set_len_at(entries: &mut Vec<TreeEntry>, i: usize, size: usize) -> Result<(), AllocError>
     requires within { i < length entries.old.items }
-    ensures ok { OnOk result ((d : Entry) → entries.new.items ≡ slice_set entries.old.items i (entry_resized (slice_index_or entries.old.items i d) size)) }
+    ensures ok { OnOk result ((d : TreeEntry) → entries.new.items ≡ slice_set entries.old.items i (entry_resized (slice_index_or entries.old.items i d) size)) }
     ensures err { OnErr result (entries.new.items ≡ entries.old.items) }
 {
     let entry = &mut entries[i];

@@ -3,7 +3,7 @@ use Rattle.std.proofs.Common.{ℕ, ◌≡◌, Bool, true, false, ◌∙◌, inl,
 use Rattle.backing.specs.declared.call.Answer.{Answer}
 use Rattle.backing.specs.Calls.{Asked}
 use Rattle.backing.specs.Device.{Counts, counted, one_if}
-use Rattle.backing.specs.Known.{counted_none}
+use Rattle.backing.specs.KnownTreeLemmas.{counted_none}
 use Rattle.backing_folder.specs.Explained.{Follows, Tells}
 
 told_counts : (before after : ℕ) (call : Asked) (failed : Bool) (answer : Answer) → Follows call failed answer → after ≡ counted before (one_if failed) → Counts before answer after

@@ -4,6 +4,6 @@ pub mod Parts
 pub mod HostErrors
 pub mod Routes
 pub mod Counting
-pub mod Places
+pub mod Caches
 pub mod Same
-pub mod Kept
+pub mod OpenFiles

@@ -1,8 +1,8 @@
 -- A path of the file system, from a root down.
 use Rattle.std.specs.Prelude.{ℕ, ◌≡◌, ◌≢◌, ◌<◌, List, [], ◌∷◌, ◌++◌, length, slice_index}
 use Rattle.paths.specs.Prefixes.{Name, Names}
-use Rattle.backing_folder.specs.declared.walk.Found.{Found}
-use Rattle.backing_folder.specs.declared.walk.Found.TheVariants as found
+use Rattle.backing_folder.specs.declared.walk.AtPath.{AtPath}
+use Rattle.backing_folder.specs.declared.walk.AtPath.TheVariants as found
 
 -- A name that a folder of the system can hold. The numbers are those of a full stop, a slash and NUL.
 pub record IsLawfulName (name : Name) : Type 0 where
@@ -38,7 +38,7 @@ pub record IsBelow (root : List ℕ) (folders : List ℕ → Type 0) (path : Lis
   pub walked : IsWalked root folders path names
 
 -- what was found is a folder
-abbrev pub IsFolder : Found → Type 0
+abbrev pub IsFolder : AtPath → Type 0
 IsFolder found.Nothing = ⊥
 IsFolder (found.Folder identity) = Unit {0}
 IsFolder (found.File identity) = ⊥

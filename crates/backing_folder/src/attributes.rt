@@ -6,13 +6,13 @@ ghost use Rattle.backing_folder.specs.Explained.{Suits};
 ghost use Rattle.backing_folder.specs.Routes.{IsBelow};
 ghost use Rattle.backing_folder.specs.Same.{Shows};
 
-use crate::changes::{Change, change_of_owner, change_of_times};
+use crate::changes::{AttributeChange, change_of_owner, change_of_times};
 use crate::disk::Disk;
 use crate::files::expect_same;
 use crate::host_error::HostError;
-use crate::kept::OpenFiles;
-use crate::walk::{Found, Identity, Walk, expect_present};
-use crate::ways::Ways;
+use crate::open_files::OpenFileCache;
+use crate::path_cache::PathCache;
+use crate::walk::{AtPath, Identity, Walk, expect_present};
 use backing::{Answer, NewTime};
 use errno::{EACCES, EIO};
 use paths::Path;
@@ -20,23 +20,23 @@ use std::fs::File;
 
 /// Sets the permission bits: `fchmod`. What is not kept open is opened.
 pub fn set_permissions<D: Disk + Drop>(
-    ways: &mut Ways<D>,
-    files: &OpenFiles,
+    path_cache: &mut PathCache<D>,
+    files: &OpenFileCache,
     walk: &mut Walk,
     path: &Path,
     permissions: u32,
 ) -> Result<Answer, HostError>
     ensures { IfOk result (Suits (AskSetPermissions path.now permissions)) }
 {
-    let change = Change::Permissions(permissions);
-    find_and_change(ways, files, walk, path, change)?;
+    let change = AttributeChange::Permissions(permissions);
+    find_and_change(path_cache, files, walk, path, change)?;
     Ok(Answer::Done)
 }
 
 /// Sets the owner, the group or both: `fchown`. What is not kept open is opened.
 pub fn set_owner<D: Disk + Drop>(
-    ways: &mut Ways<D>,
-    files: &OpenFiles,
+    path_cache: &mut PathCache<D>,
+    files: &OpenFileCache,
     walk: &mut Walk,
     path: &Path,
     uid: Option<u32>,
@@ -45,14 +45,14 @@ pub fn set_owner<D: Disk + Drop>(
     ensures { IfOk result (Suits (AskSetOwner path.now uid gid)) }
 {
     let change = change_of_owner(uid, gid)?;
-    find_and_change(ways, files, walk, path, change)?;
+    find_and_change(path_cache, files, walk, path, change)?;
     Ok(Answer::Done)
 }
 
 /// Sets one of both times or both: `futimens`. What is not kept open is opened.
 pub fn set_times<D: Disk + Drop>(
-    ways: &mut Ways<D>,
-    files: &OpenFiles,
+    path_cache: &mut PathCache<D>,
+    files: &OpenFileCache,
     walk: &mut Walk,
     path: &Path,
     accessed: Option<NewTime>,
@@ -60,36 +60,36 @@ pub fn set_times<D: Disk + Drop>(
 ) -> Result<Answer, HostError>
     ensures { IfOk result (Suits (AskSetTimes path.now accessed modified)) }
 {
-    let change = change_of_times(ways.disk(), accessed, modified)?;
-    find_and_change(ways, files, walk, path, change)?;
+    let change = change_of_times(path_cache.disk(), accessed, modified)?;
+    find_and_change(path_cache, files, walk, path, change)?;
     Ok(Answer::Done)
 }
 
 /// Goes down from the root and sets it of what stands there.
 fn find_and_change<D: Disk + Drop>(
-    ways: &mut Ways<D>,
-    files: &OpenFiles,
+    path_cache: &mut PathCache<D>,
+    files: &OpenFileCache,
     walk: &mut Walk,
     path: &Path,
-    change: Change,
+    change: AttributeChange,
 ) -> Result<(), HostError> {
-    let found = ways.find(walk, path.names())?;
-    change_found(ways.disk(), files, walk.path(), found, change)
+    let found = path_cache.find(walk, path.names())?;
+    change_found(path_cache.disk(), files, walk.path(), found, change)
 }
 
 /// Sets it of what was found there, a file or a folder: of the file that is kept open, or else of what is opened and is the
 /// same. What cannot be opened is looked at again, and set by its path.
 pub fn change_found<D: Disk>(
     disk: &D,
-    files: &OpenFiles,
+    files: &OpenFileCache,
     path: &str,
-    found: Found,
-    change: Change,
+    found: AtPath,
+    change: AttributeChange,
 ) -> Result<(), HostError>
     requires { IsBelow (D.root disk.now) (D.folders disk.now) path.now }
 {
     let identity = expect_present(found)?;
-    if matches!(change, Change::Nothing) {
+    if matches!(change, AttributeChange::Nothing) {
         return Ok(());
     }
     if let Some(i) = files.index_of_any(&identity) {
@@ -108,15 +108,15 @@ pub fn change_found<D: Disk>(
 }
 
 /// Opens what was found there: for reading, or a file else for writing. None where neither is permitted.
-fn open_any<D: Disk>(disk: &D, path: &str, found: Found) -> Result<Option<File>, HostError>
+fn open_any<D: Disk>(disk: &D, path: &str, found: AtPath) -> Result<Option<File>, HostError>
     requires { IsBelow (D.root disk.now) (D.folders disk.now) path.now }
 {
     if let Some(file) = if_permitted(disk.open(path))? {
         return Ok(Some(file));
     }
     match found {
-        Found::File(_) => if_permitted(disk.open_to_write(path)),
-        Found::Folder(_) | Found::Nothing | Found::Hidden => Ok(None),
+        AtPath::File(_) => if_permitted(disk.open_to_write(path)),
+        AtPath::Folder(_) | AtPath::Nothing | AtPath::Hidden => Ok(None),
     }
 }
 

@@ -17,7 +17,7 @@ use std::time::{Duration, SystemTime};
 
 /// What is set.
 #[derive(Clone, Copy)]
-pub enum Change {
+pub enum AttributeChange {
     /// All stays.
     Nothing,
     Permissions(u32),
@@ -26,16 +26,16 @@ pub enum Change {
     Times(FileTimes),
 }
 
-impl Change {
+impl AttributeChange {
     /// Sets it of the open file or folder: `fchmod`, `fchown` or `futimens`.
     pub fn apply(self, file: &File) -> Result<(), HostError> {
         let done = match self {
-            Change::Nothing => Ok(()),
-            Change::Permissions(bits) => {
+            AttributeChange::Nothing => Ok(()),
+            AttributeChange::Permissions(bits) => {
                 file.set_permissions(Permissions::from_mode(bits & PERMISSION_BITS))
             }
-            Change::Owner(uid, gid) => fchown(file.as_fd(), uid, gid),
-            Change::Times(times) => file.set_times(times),
+            AttributeChange::Owner(uid, gid) => fchown(file.as_fd(), uid, gid),
+            AttributeChange::Times(times) => file.set_times(times),
         };
         done.map_err(unchanged)
     }
@@ -47,10 +47,10 @@ impl Change {
         requires shown { ShowsAny (D.shows disk.now path.now) }
     {
         match self {
-            Change::Nothing => Ok(()),
-            Change::Permissions(bits) => disk.set_permissions(path, bits),
-            Change::Owner(uid, gid) => disk.set_owner(path, uid, gid),
-            Change::Times(_) => Err(HostError::Failed(EACCES)),
+            AttributeChange::Nothing => Ok(()),
+            AttributeChange::Permissions(bits) => disk.set_permissions(path, bits),
+            AttributeChange::Owner(uid, gid) => disk.set_owner(path, uid, gid),
+            AttributeChange::Times(_) => Err(HostError::Failed(EACCES)),
         }
     }
 }
@@ -66,14 +66,14 @@ pub fn with_missing(bits: u32, wanted: u32) -> Option<u32> {
 }
 
 /// Whose it is to be. The system has no number of 32 ones: to it that says that the owner stays (EINVAL).
-pub fn change_of_owner(uid: Option<u32>, gid: Option<u32>) -> Result<Change, HostError> {
+pub fn change_of_owner(uid: Option<u32>, gid: Option<u32>) -> Result<AttributeChange, HostError> {
     if uid == Some(u32::MAX) || gid == Some(u32::MAX) {
         return Err(HostError::Failed(EINVAL));
     }
     if uid.is_none() && gid.is_none() {
-        return Ok(Change::Nothing);
+        return Ok(AttributeChange::Nothing);
     }
-    Ok(Change::Owner(uid, gid))
+    Ok(AttributeChange::Owner(uid, gid))
 }
 
 /// What both times are to be.
@@ -81,9 +81,9 @@ pub fn change_of_times<D: Disk>(
     disk: &D,
     accessed: Option<NewTime>,
     modified: Option<NewTime>,
-) -> Result<Change, HostError> {
+) -> Result<AttributeChange, HostError> {
     if accessed.is_none() && modified.is_none() {
-        return Ok(Change::Nothing);
+        return Ok(AttributeChange::Nothing);
     }
     let mut times = FileTimes::new();
     if let Some(time) = accessed {
@@ -92,7 +92,7 @@ pub fn change_of_times<D: Disk>(
     if let Some(time) = modified {
         times = times.set_modified(moment_of(disk, time)?);
     }
-    Ok(Change::Times(times))
+    Ok(AttributeChange::Times(times))
 }
 
 /// The time that is meant.

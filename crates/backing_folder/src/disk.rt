@@ -3,10 +3,10 @@
 ghost use Rattle.std.specs.Prelude.{ℕ, List, ◌≡◌, IfOk};
 ghost use Rattle.backing_folder.specs.Routes.{IsBelow, IsFolder};
 ghost use Rattle.backing_folder.specs.Same.{ShowsAny};
-ghost use Rattle.backing_folder.specs.declared.walk.Found.{Found};
+ghost use Rattle.backing_folder.specs.declared.walk.AtPath.{AtPath};
 
 use crate::host_error::HostError;
-use crate::walk::{Found, Identity};
+use crate::walk::{AtPath, Identity};
 use backing::Children;
 use std::alloc::Global;
 use std::fs::File;
@@ -23,7 +23,7 @@ pub trait Disk {
     ghost folders: { Self → List ℕ → Type 0 };
 
     /// What was found at which path.
-    ghost shows: { Self → List ℕ → Found → Type 0 };
+    ghost shows: { Self → List ℕ → AtPath → Type 0 };
 
     /// The path of the folder that is served.
     fn root(&self) -> &str
@@ -37,7 +37,7 @@ pub trait Disk {
     fn alloc(&self) -> Global;
 
     /// What stands at that very path, its links not followed.
-    fn look(&self, path: &str) -> Result<Found, HostError>
+    fn look(&self, path: &str) -> Result<AtPath, HostError>
         requires { IsBelow (root self.now) (folders self.now) path.now }
         ensures folder { IfOk result (λ found. IsFolder found → folders self.now path.now) }
         ensures shown { IfOk result (λ found. shows self.now path.now found) };

@@ -3,16 +3,16 @@
 ghost use Rattle.std.specs.Prelude.{◌≡◌, IfOk, OnOk, vec_len};
 ghost use Rattle.backing.specs.Calls.{AskStat, AskRead, AskWrite, AskSetLen, AskSync};
 ghost use Rattle.backing_folder.specs.Explained.{Suits};
-ghost use Rattle.backing_folder.specs.Kept.{IsKeptAt};
+ghost use Rattle.backing_folder.specs.OpenFiles.{IsOpenAt};
 ghost use Rattle.backing_folder.specs.Routes.{IsBelow, IsWalked};
 ghost use Rattle.backing_folder.specs.Same.{IsSame};
 
 use crate::disk::Disk;
 use crate::host_error::{HostError, Reason};
-use crate::kept::{Access, Kept, OpenFiles};
+use crate::open_files::{CachedFile, OpenFileCache, OpenMode};
 use crate::parts::{read_all, write_all};
-use crate::walk::{Found, Identity, Walk, expect_present};
-use crate::ways::Ways;
+use crate::path_cache::PathCache;
+use crate::walk::{AtPath, Identity, Walk, expect_present};
 use backing::{Answer, Details, Kind};
 use errno::EIO;
 use paths::Path;
@@ -24,16 +24,16 @@ use std::mem::replace;
 /// What stands at the path. At the root that takes one `lstat`, since the way to it takes none. Elsewhere it takes one where the
 /// same file or folder was found, made or moved there before.
 pub fn stat<D: Disk + Drop>(
-    ways: &mut Ways<D>,
+    path_cache: &mut PathCache<D>,
     walk: &mut Walk,
     path: &Path,
 ) -> Result<Answer, HostError>
     ensures { IfOk result (Suits (AskStat path.now)) }
 {
-    match ways.find_seen(walk, path)? {
-        Found::Folder(identity) => {
+    match path_cache.find_cached(walk, path)? {
+        AtPath::Folder(identity) => {
             let details = if path.len() == 0 {
-                details_now(ways.disk(), walk.path(), identity)
+                details_now(path_cache.disk(), walk.path(), identity)
             } else {
                 identity.details
             };
@@ -43,12 +43,12 @@ pub fn stat<D: Disk + Drop>(
                 details,
             })
         }
-        Found::File(identity) => Ok(Answer::Stat {
+        AtPath::File(identity) => Ok(Answer::Stat {
             kind: Kind::File,
             size: identity.size,
             details: identity.details,
         }),
-        Found::Nothing | Found::Hidden => Err(HostError::Refused(Reason::Nothing)),
+        AtPath::Nothing | AtPath::Hidden => Err(HostError::Refused(Reason::Nothing)),
     }
 }
 
@@ -57,7 +57,7 @@ fn details_now<D: Disk>(disk: &D, path: &str, identity: Identity) -> Details
     requires { IsBelow (D.root disk.now) (D.folders disk.now) path.now }
 {
     match disk.look(path) {
-        Ok(Found::Folder(now)) => {
+        Ok(AtPath::Folder(now)) => {
             if now.is(&identity) {
                 now.details
             } else {
@@ -81,8 +81,8 @@ fn buffer_of(alloc: Global, spare: &mut Vec<u8>, len: usize) -> Result<Vec<u8>, 
 /// Reads at most `size` bytes from `offset` on: `pread` until there are so many or the file ends. A file that is not kept open is
 /// opened, and the bytes end where it ended when it was found.
 pub fn read<D: Disk + Drop>(
-    ways: &mut Ways<D>,
-    files: &mut OpenFiles,
+    path_cache: &mut PathCache<D>,
+    files: &mut OpenFileCache,
     walk: &mut Walk,
     spare: &mut Vec<u8>,
     path: &Path,
@@ -91,9 +91,9 @@ pub fn read<D: Disk + Drop>(
 ) -> Result<Answer, HostError>
     ensures { IfOk result (Suits (AskRead path.now offset size)) }
 {
-    let (i, identity) = open_file(ways, files, walk, path, Access::Read)?;
+    let (i, identity) = open_file(path_cache, files, walk, path, OpenMode::Read)?;
     let size = u64::from(size).min(identity.size.saturating_sub(offset)) as usize;
-    let mut buffer = buffer_of(ways.disk().alloc(), spare, HEADER_ROOM + size)?;
+    let mut buffer = buffer_of(path_cache.disk().alloc(), spare, HEADER_ROOM + size)?;
     let count = read_all(files.file(i), &mut buffer[HEADER_ROOM..], offset)?;
     buffer.truncate(HEADER_ROOM + count);
     Ok(Answer::Bytes(Payload::behind(HEADER_ROOM, buffer)))
@@ -101,8 +101,8 @@ pub fn read<D: Disk + Drop>(
 
 /// Writes the piece at `offset`: `pwrite` until all is written. A file that is not kept open is opened. No bytes need none of these.
 pub fn write<D: Disk + Drop>(
-    ways: &mut Ways<D>,
-    files: &mut OpenFiles,
+    path_cache: &mut PathCache<D>,
+    files: &mut OpenFileCache,
     walk: &mut Walk,
     path: &Path,
     offset: u64,
@@ -111,10 +111,10 @@ pub fn write<D: Disk + Drop>(
     ensures { IfOk result (Suits (AskWrite path.now offset piece.now)) }
 {
     if piece.is_empty() {
-        find_file(ways, walk, path)?;
+        find_file(path_cache, walk, path)?;
         return Ok(Answer::Wrote(0));
     }
-    let (i, _identity) = open_file(ways, files, walk, path, Access::Write)?;
+    let (i, _identity) = open_file(path_cache, files, walk, path, OpenMode::Write)?;
     let Some(_end) = offset.checked_add(piece.len() as u64) else {
         return Err(HostError::Failed(EIO));
     };
@@ -124,30 +124,30 @@ pub fn write<D: Disk + Drop>(
 
 /// Gives the file that length: `ftruncate`. A file that is not kept open is opened.
 pub fn set_len<D: Disk + Drop>(
-    ways: &mut Ways<D>,
-    files: &mut OpenFiles,
+    path_cache: &mut PathCache<D>,
+    files: &mut OpenFileCache,
     walk: &mut Walk,
     path: &Path,
     size: u64,
 ) -> Result<Answer, HostError>
     ensures { IfOk result (Suits (AskSetLen path.now size)) }
 {
-    let (i, _identity) = open_file(ways, files, walk, path, Access::Write)?;
+    let (i, _identity) = open_file(path_cache, files, walk, path, OpenMode::Write)?;
     files.file(i).set_len(size)?;
     Ok(Answer::Done)
 }
 
 /// Brings the file or the folder to the disk: `open`, `fstat`, `fsync`, `close`.
 pub fn sync<D: Disk + Drop>(
-    ways: &mut Ways<D>,
+    path_cache: &mut PathCache<D>,
     walk: &mut Walk,
     path: &Path,
 ) -> Result<Answer, HostError>
     ensures { IfOk result (Suits (AskSync path.now)) }
 {
-    let found = ways.find(walk, path.names())?;
+    let found = path_cache.find(walk, path.names())?;
     let identity = expect_present(found)?;
-    let file = ways.disk().open(walk.path())?;
+    let file = path_cache.disk().open(walk.path())?;
     expect_same(&file, &identity)?;
     file.sync_all()?;
     Ok(Answer::Done)
@@ -155,75 +155,75 @@ pub fn sync<D: Disk + Drop>(
 
 /// A file stands there: which one it is.
 pub fn find_file<D: Disk + Drop>(
-    ways: &mut Ways<D>,
+    path_cache: &mut PathCache<D>,
     walk: &mut Walk,
     path: &Path,
 ) -> Result<Identity, HostError>
-    ensures { OnOk result (IsWalked (D.root ways.new) (D.folders ways.new) walk.new path.now) }
+    ensures { OnOk result (IsWalked (D.root path_cache.new) (D.folders path_cache.new) walk.new path.now) }
 {
-    match ways.find(walk, path.names())? {
-        Found::File(identity) => Ok(identity),
-        Found::Folder(_) => Err(HostError::Refused(Reason::Folder)),
-        Found::Nothing | Found::Hidden => Err(HostError::Refused(Reason::Nothing)),
+    match path_cache.find(walk, path.names())? {
+        AtPath::File(identity) => Ok(identity),
+        AtPath::Folder(_) => Err(HostError::Refused(Reason::Folder)),
+        AtPath::Nothing | AtPath::Hidden => Err(HostError::Refused(Reason::Nothing)),
     }
 }
 
 /// A folder stands there.
 pub fn find_folder<D: Disk + Drop>(
-    ways: &mut Ways<D>,
+    path_cache: &mut PathCache<D>,
     walk: &mut Walk,
     path: &Path,
 ) -> Result<(), HostError>
-    ensures { OnOk result (IsWalked (D.root ways.new) (D.folders ways.new) walk.new path.now) }
+    ensures { OnOk result (IsWalked (D.root path_cache.new) (D.folders path_cache.new) walk.new path.now) }
 {
-    match ways.find(walk, path.names())? {
-        Found::Folder(_) => Ok(()),
-        Found::File(_) => Err(HostError::Refused(Reason::NoFolder)),
-        Found::Nothing | Found::Hidden => Err(HostError::Refused(Reason::Nothing)),
+    match path_cache.find(walk, path.names())? {
+        AtPath::Folder(_) => Ok(()),
+        AtPath::File(_) => Err(HostError::Refused(Reason::NoFolder)),
+        AtPath::Nothing | AtPath::Hidden => Err(HostError::Refused(Reason::Nothing)),
     }
 }
 
 /// Which of the open files stands at the path, and what a look told of it. One look shows a file that is kept, whatever stands above it;
 /// else the folders above it are looked at too.
 fn open_file<D: Disk + Drop>(
-    ways: &mut Ways<D>,
-    files: &mut OpenFiles,
+    path_cache: &mut PathCache<D>,
+    files: &mut OpenFileCache,
     walk: &mut Walk,
     path: &Path,
-    access: Access,
+    access: OpenMode,
 ) -> Result<(usize, Identity), HostError>
-    ensures { IfOk result (λ opened. IsKeptAt files.new opened.0 opened.1 access) }
+    ensures { IfOk result (λ opened. IsOpenAt files.new opened.0 opened.1 access) }
 {
-    if let Ok(Some(Found::File(identity))) = ways.glance(walk, path.names()) {
+    if let Ok(Some(AtPath::File(identity))) = path_cache.glance(walk, path.names()) {
         if let Some(i) = files.index_of(&identity, access) {
             return Ok((i, identity));
         }
     }
-    let identity = find_file(ways, walk, path)?;
-    let i = open_found(ways.disk(), files, walk.path(), &identity, access)?;
+    let identity = find_file(path_cache, walk, path)?;
+    let i = open_found(path_cache.disk(), files, walk.path(), &identity, access)?;
     Ok((i, identity))
 }
 
 /// Which of the open files is the one that was found: one that is kept, or else `open` and `fstat`.
 fn open_found<D: Disk>(
     disk: &D,
-    files: &mut OpenFiles,
+    files: &mut OpenFileCache,
     path: &str,
     identity: &Identity,
-    access: Access,
+    access: OpenMode,
 ) -> Result<usize, HostError>
     requires { IsBelow (D.root disk.now) (D.folders disk.now) path.now }
-    ensures { IfOk result (λ i. IsKeptAt files.new i identity.now access) }
+    ensures { IfOk result (λ i. IsOpenAt files.new i identity.now access) }
 {
     if let Some(i) = files.index_of(identity, access) {
         return Ok(i);
     }
     let file = match access {
-        Access::Read => disk.open(path)?,
-        Access::Write => disk.open_to_write(path)?,
+        OpenMode::Read => disk.open(path)?,
+        OpenMode::Write => disk.open_to_write(path)?,
     };
     let identity = expect_same(&file, identity)?;
-    Ok(files.keep(Kept {
+    Ok(files.keep(CachedFile {
         identity,
         access,
         any: false,

@@ -10,12 +10,12 @@ use crate::entries::{remove, remove_dir, rename, rename_new};
 use crate::explained::is_explained;
 use crate::files::{read, set_len, stat, sync, write};
 use crate::host_error::{HostError, Reason};
-use crate::kept::OpenFiles;
 use crate::listing::list;
 use crate::making::{make, make_dir};
+use crate::open_files::OpenFileCache;
+use crate::path_cache::PathCache;
 use crate::system::System;
 use crate::walk::Walk;
-use crate::ways::Ways;
 use backing::{Answer, Call, Calls, Told};
 use errno::EINVAL;
 use std::fs::File;
@@ -57,8 +57,8 @@ const WORTH_KEEPING: usize = 1024;
 /// library has no call that works below an open folder: serve no folder in which another user can write.
 #[derive(Drop)]
 pub struct Folder<D: Disk + Drop> {
-    ways: Ways<D>,
-    files: OpenFiles,
+    path_cache: PathCache<D>,
+    files: OpenFileCache,
     walk: Walk,
     target: Walk,
     /// A buffer for the next read of as many bytes. What stands in it is overwritten.
@@ -89,10 +89,10 @@ impl<D: Disk + Drop> Folder<D> {
     {
         let walk = Walk::new(disk.alloc());
         let target = Walk::new(disk.alloc());
-        let files = OpenFiles::new(disk.alloc());
+        let files = OpenFileCache::new(disk.alloc());
         let spare = Vec::new(disk.alloc());
         Folder {
-            ways: Ways::new(disk),
+            path_cache: PathCache::new(disk),
             files,
             walk,
             target,
@@ -120,7 +120,7 @@ impl<D: Disk + Drop> Calls for Folder<D> {
 
     fn call(&mut self, call: Call<'_>) -> Answer {
         let ended = perform(
-            &mut self.ways,
+            &mut self.path_cache,
             &mut self.files,
             &mut self.walk,
             &mut self.target,
@@ -135,15 +135,15 @@ impl<D: Disk + Drop> Calls for Folder<D> {
     /// library does so byte by byte.
     fn offer_room(&mut self, buffer: &mut Vec<u8>) {
         if buffer.len() >= WORTH_KEEPING {
-            self.spare = replace(buffer, Vec::new(self.ways.disk().alloc()));
+            self.spare = replace(buffer, Vec::new(self.path_cache.disk().alloc()));
         }
     }
 }
 
 /// What the system answers and does.
 fn perform<D: Disk + Drop>(
-    ways: &mut Ways<D>,
-    files: &mut OpenFiles,
+    path_cache: &mut PathCache<D>,
+    files: &mut OpenFileCache,
     walk: &mut Walk,
     target: &mut Walk,
     spare: &mut Vec<u8>,
@@ -153,28 +153,30 @@ fn perform<D: Disk + Drop>(
     ensures refused { IsRefused (asked call.entry) result }
 {
     match call {
-        Call::Stat(path) => stat(ways, walk, path),
-        Call::List(path) => list(ways, walk, path),
-        Call::Make { path, permissions } => make(ways, files, walk, path, permissions),
-        Call::MakeDir { path, permissions } => make_dir(ways, files, walk, path, permissions),
-        Call::Remove(path) => remove(ways, files, walk, path),
-        Call::RemoveDir(path) => remove_dir(ways, walk, path),
-        Call::Rename { from, to } => rename(ways, files, walk, target, from, to),
-        Call::RenameNew { from, to } => rename_new(ways, walk, target, from, to),
+        Call::Stat(path) => stat(path_cache, walk, path),
+        Call::List(path) => list(path_cache, walk, path),
+        Call::Make { path, permissions } => make(path_cache, files, walk, path, permissions),
+        Call::MakeDir { path, permissions } => make_dir(path_cache, files, walk, path, permissions),
+        Call::Remove(path) => remove(path_cache, files, walk, path),
+        Call::RemoveDir(path) => remove_dir(path_cache, walk, path),
+        Call::Rename { from, to } => rename(path_cache, files, walk, target, from, to),
+        Call::RenameNew { from, to } => rename_new(path_cache, walk, target, from, to),
         Call::Exchange { .. } => Ok(Answer::Fault(EINVAL)),
-        Call::Read { path, offset, size } => read(ways, files, walk, spare, path, offset, size),
-        Call::Write { path, offset, data } => write(ways, files, walk, path, offset, data),
-        Call::SetLen { path, size } => set_len(ways, files, walk, path, size),
-        Call::Sync(path) => sync(ways, walk, path),
+        Call::Read { path, offset, size } => read(
+            path_cache, files, walk, spare, path, offset, size,
+        ),
+        Call::Write { path, offset, data } => write(path_cache, files, walk, path, offset, data),
+        Call::SetLen { path, size } => set_len(path_cache, files, walk, path, size),
+        Call::Sync(path) => sync(path_cache, walk, path),
         Call::SetPermissions { path, permissions } => {
-            set_permissions(ways, files, walk, path, permissions)
+            set_permissions(path_cache, files, walk, path, permissions)
         }
-        Call::SetOwner { path, uid, gid } => set_owner(ways, files, walk, path, uid, gid),
+        Call::SetOwner { path, uid, gid } => set_owner(path_cache, files, walk, path, uid, gid),
         Call::SetTimes {
             path,
             accessed,
             modified,
-        } => set_times(ways, files, walk, path, accessed, modified),
+        } => set_times(path_cache, files, walk, path, accessed, modified),
     }
 }
 

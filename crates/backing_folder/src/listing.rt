@@ -8,8 +8,8 @@ ghost use Rattle.backing_folder.specs.Explained.{Suits};
 use crate::disk::Disk;
 use crate::files::find_folder;
 use crate::host_error::{HostError, Reason};
-use crate::walk::{Found, Walk, found_of};
-use crate::ways::Ways;
+use crate::path_cache::PathCache;
+use crate::walk::{AtPath, Walk, found_of};
 use backing::{Answer, Child, Children, Kind};
 use errno::ENOTEMPTY;
 use paths::{Name, Path};
@@ -21,14 +21,14 @@ use std::rt::Files;
 
 /// The names of files and folders in the folder: `open`, `getdents`, `close`, and one `lstat` for each name.
 pub fn list<D: Disk + Drop>(
-    ways: &mut Ways<D>,
+    path_cache: &mut PathCache<D>,
     walk: &mut Walk,
     path: &Path,
 ) -> Result<Answer, HostError>
     ensures { IfOk result (Suits (AskList path.now)) }
 {
-    find_folder(ways, walk, path)?;
-    Ok(Answer::Names(ways.disk().list(walk.path())?))
+    find_folder(path_cache, walk, path)?;
+    Ok(Answer::Names(path_cache.disk().list(walk.path())?))
 }
 
 /// The names of files and folders in the folder of the system.
@@ -40,19 +40,19 @@ pub fn children_of<H: Files + AllocGlobal + Clone + Drop>(
     for entry in fs::read_dir(rt, path)? {
         let entry = entry?;
         match found_at(&entry)? {
-            Found::Folder(_) => push_child(&mut list, rt.alloc(), &entry, Kind::Folder)?,
-            Found::File(_) => push_child(&mut list, rt.alloc(), &entry, Kind::File)?,
-            Found::Nothing | Found::Hidden => {}
+            AtPath::Folder(_) => push_child(&mut list, rt.alloc(), &entry, Kind::Folder)?,
+            AtPath::File(_) => push_child(&mut list, rt.alloc(), &entry, Kind::File)?,
+            AtPath::Nothing | AtPath::Hidden => {}
         }
     }
     Ok(Children::from_vec(list))
 }
 
 /// What stands at that name, or nothing if it has gone: one `lstat`.
-fn found_at<H: Files>(entry: &DirEntry<H>) -> Result<Found, HostError> {
+fn found_at<H: Files>(entry: &DirEntry<H>) -> Result<AtPath, HostError> {
     match entry.metadata() {
         Ok(metadata) => Ok(found_of(&metadata)),
-        Err(error) if error.kind() == ErrorKind::NotFound => Ok(Found::Nothing),
+        Err(error) if error.kind() == ErrorKind::NotFound => Ok(AtPath::Nothing),
         Err(error) => Err(HostError::from(error)),
     }
 }
@@ -80,16 +80,16 @@ enum Contents {
 
 impl Contents {
     /// With one name more, by what was found there.
-    fn and(self, found: Found) -> Contents
+    fn and(self, found: AtPath) -> Contents
         ensures { result ≡ joined_by found self }
     {
         match found {
-            Found::Nothing => self,
-            Found::Hidden => match self {
+            AtPath::Nothing => self,
+            AtPath::Hidden => match self {
                 Contents::Showing => Contents::Showing,
                 Contents::Bare | Contents::Hiding => Contents::Hiding,
             },
-            Found::File(_) | Found::Folder(_) => Contents::Showing,
+            AtPath::File(_) | AtPath::Folder(_) => Contents::Showing,
         }
     }
 

@@ -7,12 +7,12 @@ ghost use Rattle.backing_folder.specs.Explained.{Suits};
 ghost use Rattle.backing_folder.specs.Routes.{IsBelow, IsWalked};
 
 use crate::attributes::change_found;
-use crate::changes::{Change, with_missing};
+use crate::changes::{AttributeChange, with_missing};
 use crate::disk::Disk;
 use crate::host_error::{HostError, Reason};
-use crate::kept::{Access, Kept, OpenFiles};
-use crate::walk::{Found, Identity, Walk, expect_present};
-use crate::ways::Ways;
+use crate::open_files::{CachedFile, OpenFileCache, OpenMode};
+use crate::path_cache::PathCache;
+use crate::walk::{AtPath, Identity, Walk, expect_present};
 use backing::Answer;
 use errno::EEXIST;
 use paths::Path;
@@ -28,21 +28,21 @@ const OWNER_WRITES: u32 = 0o200;
 /// Makes an empty file: `open` with `O_EXCL` and `fstat`, or one `lstat` where something stands there. With permission bits
 /// given, `fchmod` where the process's mask took some of them. The file is then kept open.
 pub fn make<D: Disk + Drop>(
-    ways: &mut Ways<D>,
-    files: &mut OpenFiles,
+    path_cache: &mut PathCache<D>,
+    files: &mut OpenFileCache,
     walk: &mut Walk,
     path: &Path,
     permissions: Option<u32>,
 ) -> Result<Answer, HostError>
     ensures { IfOk result (Suits (AskMake path.now permissions)) }
 {
-    find_place(ways, walk, path)?;
-    match ways.disk().create_new(walk.path(), permissions) {
+    find_place(path_cache, walk, path)?;
+    match path_cache.disk().create_new(walk.path(), permissions) {
         Ok(file) => {
             let identity = keep_made(files, file, permissions)?;
-            ways.see(walk, path, Found::File(identity));
+            path_cache.remember_stat(walk, path, AtPath::File(identity));
         }
-        Err(error) => return Err(why_not_made(ways.disk(), walk.path(), error)),
+        Err(error) => return Err(why_not_made(path_cache.disk(), walk.path(), error)),
     }
     Ok(Answer::Done)
 }
@@ -50,22 +50,22 @@ pub fn make<D: Disk + Drop>(
 /// Makes an empty folder: `mkdir`, or one `lstat` more where something stands there. With permission bits given, one
 /// `lstat`, and what `SetPermissions` does where `mkdir` left some of them out.
 pub fn make_dir<D: Disk + Drop>(
-    ways: &mut Ways<D>,
-    files: &mut OpenFiles,
+    path_cache: &mut PathCache<D>,
+    files: &mut OpenFileCache,
     walk: &mut Walk,
     path: &Path,
     permissions: Option<u32>,
 ) -> Result<Answer, HostError>
     ensures { IfOk result (Suits (AskMakeDir path.now permissions)) }
 {
-    find_place(ways, walk, path)?;
-    match ways.disk().create_dir(walk.path(), permissions) {
+    find_place(path_cache, walk, path)?;
+    match path_cache.disk().create_dir(walk.path(), permissions) {
         Ok(()) => {
-            if let Some(found) = complete_dir(ways.disk(), files, walk.path(), permissions)? {
-                ways.see(walk, path, found);
+            if let Some(found) = complete_dir(path_cache.disk(), files, walk.path(), permissions)? {
+                path_cache.remember_stat(walk, path, found);
             }
         }
-        Err(error) => return Err(why_not_made(ways.disk(), walk.path(), error)),
+        Err(error) => return Err(why_not_made(path_cache.disk(), walk.path(), error)),
     }
     Ok(Answer::Done)
 }
@@ -73,7 +73,7 @@ pub fn make_dir<D: Disk + Drop>(
 /// The file that was made has all of its bits, where bits were given, and stays open: whoever makes a file with bits may write it, whatever
 /// they are. Where memory is refused it is closed.
 fn keep_made(
-    files: &mut OpenFiles,
+    files: &mut OpenFileCache,
     file: File,
     permissions: Option<u32>,
 ) -> Result<Identity, HostError> {
@@ -81,13 +81,13 @@ fn keep_made(
     let bits = identity.details.permissions;
     if let Some(wanted) = permissions {
         if let Some(all) = with_missing(bits, wanted) {
-            Change::Permissions(all).apply(&file)?;
+            AttributeChange::Permissions(all).apply(&file)?;
         }
     }
     if permissions.is_some() || bits & OWNER_WRITES != 0 {
-        let _ = files.keep(Kept {
+        let _ = files.keep(CachedFile {
             identity,
-            access: Access::Write,
+            access: OpenMode::Write,
             any: bits & OWNER_READS != 0,
             file,
         });
@@ -98,10 +98,10 @@ fn keep_made(
 /// The folder that was made has all of its bits, where bits were given: then a look has shown it.
 fn complete_dir<D: Disk>(
     disk: &D,
-    files: &OpenFiles,
+    files: &OpenFileCache,
     path: &str,
     permissions: Option<u32>,
-) -> Result<Option<Found>, HostError>
+) -> Result<Option<AtPath>, HostError>
     requires { IsBelow (D.root disk.now) (D.folders disk.now) path.now }
 {
     let Some(wanted) = permissions else {
@@ -110,7 +110,7 @@ fn complete_dir<D: Disk>(
     let found = disk.look(path)?;
     let identity = expect_present(found)?;
     if let Some(bits) = with_missing(identity.details.permissions, wanted) {
-        change_found(disk, files, path, found, Change::Permissions(bits))?;
+        change_found(disk, files, path, found, AttributeChange::Permissions(bits))?;
     }
     Ok(Some(found))
 }
@@ -129,26 +129,26 @@ fn why_not_made<D: Disk + Drop>(disk: &D, path: &str, error: io::Error) -> HostE
 }
 
 /// What keeps a place from being free. What is shown explains it; what is hidden, or has gone, does not.
-pub fn taken_by(found: Found) -> HostError
+pub fn taken_by(found: AtPath) -> HostError
     ensures { result ≡ takenness found }
 {
     match found {
-        Found::File(_) | Found::Folder(_) => HostError::Refused(Reason::Taken),
-        Found::Nothing | Found::Hidden => HostError::Failed(EEXIST),
+        AtPath::File(_) | AtPath::Folder(_) => HostError::Refused(Reason::Taken),
+        AtPath::Nothing | AtPath::Hidden => HostError::Failed(EEXIST),
     }
 }
 
 /// A folder stands at the path's parent, where something is to be made.
 fn find_place<D: Disk + Drop>(
-    ways: &mut Ways<D>,
+    path_cache: &mut PathCache<D>,
     walk: &mut Walk,
     path: &Path,
 ) -> Result<(), HostError>
-    ensures { OnOk result (IsWalked (D.root ways.new) (D.folders ways.new) walk.new path.now) }
+    ensures { OnOk result (IsWalked (D.root path_cache.new) (D.folders path_cache.new) walk.new path.now) }
 {
     let Some((name, parent)) = path.names().split_last() else {
         return Err(HostError::Refused(Reason::Taken));
     };
-    ways.find_folder(walk, parent)?;
+    path_cache.find_folder(walk, parent)?;
     walk.enter(name)
 }

@@ -9,7 +9,7 @@ use std::fs::File;
 use std::os::unix::fs::FileExt;
 
 /// A file that is read and written at an offset.
-pub trait Parts {
+pub trait PartialFile {
     /// Which bytes may be read at that offset. No bytes are read only at the file's end or past it.
     ghost reads: { Self → ℕ → List ℕ → Type 0 };
 
@@ -30,7 +30,7 @@ pub trait Parts {
 }
 
 /// Each of them is one call of the system: `pread`, `pwrite`.
-impl Parts for File {
+impl PartialFile for File {
     ghost reads = { λ _ _ _. Unit {0} };
 
     ghost writes = { λ _ _ _. Unit {0} };
@@ -45,7 +45,11 @@ impl Parts for File {
 }
 
 /// Reads until the buffer is full or the file ends: how many bytes.
-pub fn read_all<F: Parts>(file: &F, buffer: &mut [u8], offset: u64) -> Result<usize, HostError>
+pub fn read_all<F: PartialFile>(
+    file: &F,
+    buffer: &mut [u8],
+    offset: u64,
+) -> Result<usize, HostError>
     requires { offset + length buffer.old < 2 ^ 64 }
     ensures fits { IfOk result (λ n. n ≤ length buffer.new) }
     ensures all { IfOk result (λ n. ReadsAll (F.reads file.now) offset (length buffer.new) (take n buffer.new)) }
@@ -62,7 +66,7 @@ pub fn read_all<F: Parts>(file: &F, buffer: &mut [u8], offset: u64) -> Result<us
 }
 
 /// Writes all of the bytes. It fails where the file takes no more.
-pub fn write_all<F: Parts>(file: &F, bytes: &[u8], offset: u64) -> Result<(), HostError>
+pub fn write_all<F: PartialFile>(file: &F, bytes: &[u8], offset: u64) -> Result<(), HostError>
     requires { offset + length bytes.now < 2 ^ 64 }
     ensures { OnOk result (Passes (F.writes file.now) offset bytes.now) }
 {

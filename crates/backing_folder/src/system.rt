@@ -6,7 +6,7 @@ use crate::details::PERMISSION_BITS;
 use crate::disk::Disk;
 use crate::host_error::{HostError, unchanged};
 use crate::listing::{children_of, expect_bare};
-use crate::walk::{Found, Identity, found_of};
+use crate::walk::{AtPath, Identity, found_of};
 use backing::Children;
 use std::alloc::Global;
 use std::fs::{DirBuilder, File, OpenOptions, Permissions};
@@ -65,10 +65,10 @@ impl<H: Files<File = File> + Clock + AllocGlobal + Clone + Drop> Disk for System
     }
 
     /// One `lstat`.
-    fn look(&self, path: &str) -> Result<Found, HostError> {
+    fn look(&self, path: &str) -> Result<AtPath, HostError> {
         match fs::symlink_metadata(&self.rt, path) {
             Ok(metadata) => Ok(found_of(&metadata)),
-            Err(error) if error.kind() == ErrorKind::NotFound => Ok(Found::Nothing),
+            Err(error) if error.kind() == ErrorKind::NotFound => Ok(AtPath::Nothing),
             Err(error) => Err(HostError::from(error)),
         }
     }

@@ -26,7 +26,7 @@ pub struct Identity {
 
 /// The device and the inode number of a file or folder: which one it is, and nothing that may change of it.
 #[derive(Clone, Copy)]
-pub struct Numbers {
+pub struct FileId {
     device: u64,
     inode: u64,
 }
@@ -51,17 +51,17 @@ impl Identity {
         self.device == other.device && self.inode == other.inode
     }
 
-    pub fn numbers(&self) -> Numbers
+    pub fn numbers(&self) -> FileId
         ensures { HasNumbers result self.now }
     {
-        Numbers {
+        FileId {
             device: self.device,
             inode: self.inode,
         }
     }
 
     /// Whether these are its numbers.
-    pub fn has(&self, numbers: &Numbers) -> bool
+    pub fn has(&self, numbers: &FileId) -> bool
         ensures { IsTrue result ↔ HasNumbers numbers.now self.now }
     {
         self.device == numbers.device && self.inode == numbers.inode
@@ -70,7 +70,7 @@ impl Identity {
 
 /// What stands at a path.
 #[derive(Clone, Copy)]
-pub enum Found {
+pub enum AtPath {
     Nothing,
     Folder(Identity),
     File(Identity),
@@ -132,12 +132,12 @@ impl Walk {
     }
 
     /// Goes down from the root, and answers what stands there: one look for each name.
-    pub fn find<D: Disk>(&mut self, disk: &D, names: &[Name]) -> Result<Found, HostError>
+    pub fn find<D: Disk>(&mut self, disk: &D, names: &[Name]) -> Result<AtPath, HostError>
         ensures walked { OnOk result (IsWalked (D.root disk.now) (D.folders disk.now) self.new names.now) }
         ensures folder { IfOk result (λ found. IsFolder found → D.folders disk.now self.new) }
     {
         self.start(disk.root())?;
-        let mut found = Found::Folder(disk.top());
+        let mut found = AtPath::Folder(disk.top());
         for name in names {
             expect_folder(found)?;
             self.enter(name)?;
@@ -179,34 +179,34 @@ fn is_plain(bytes: &[u8]) -> bool
 }
 
 /// What that is.
-pub fn found_of(metadata: &Metadata) -> Found {
+pub fn found_of(metadata: &Metadata) -> AtPath {
     if metadata.is_dir() {
-        Found::Folder(Identity::of(metadata))
+        AtPath::Folder(Identity::of(metadata))
     } else if metadata.is_file() {
-        Found::File(Identity::of(metadata))
+        AtPath::File(Identity::of(metadata))
     } else {
-        Found::Hidden
+        AtPath::Hidden
     }
 }
 
 /// Something below it can be reached: which folder it is.
-pub fn expect_folder(found: Found) -> Result<Identity, HostError>
+pub fn expect_folder(found: AtPath) -> Result<Identity, HostError>
     ensures { OnOk result (IsFolder found) }
 {
     match found {
-        Found::Folder(identity) => Ok(identity),
-        Found::File(_) => Err(HostError::Refused(Reason::NoFolder)),
-        Found::Nothing | Found::Hidden => Err(HostError::Refused(Reason::Nothing)),
+        AtPath::Folder(identity) => Ok(identity),
+        AtPath::File(_) => Err(HostError::Refused(Reason::NoFolder)),
+        AtPath::Nothing | AtPath::Hidden => Err(HostError::Refused(Reason::Nothing)),
     }
 }
 
 /// A file or a folder was found: which one it is.
-pub fn expect_present(found: Found) -> Result<Identity, HostError>
+pub fn expect_present(found: AtPath) -> Result<Identity, HostError>
     ensures { IfOk result (IsIt found) }
 {
     match found {
-        Found::Folder(identity) => Ok(identity),
-        Found::File(identity) => Ok(identity),
-        Found::Nothing | Found::Hidden => Err(HostError::Refused(Reason::Nothing)),
+        AtPath::Folder(identity) => Ok(identity),
+        AtPath::File(identity) => Ok(identity),
+        AtPath::Nothing | AtPath::Hidden => Err(HostError::Refused(Reason::Nothing)),
     }
 }

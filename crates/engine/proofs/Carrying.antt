@@ -10,7 +10,7 @@ use Rattle.table_steps.specs.declared.data.Outcome.{Outcome}
 use Rattle.wire.specs.Requests.{opcode_in}
 use Rattle.wire.specs.declared.fault.WireFault.{WireFault}
 use Rattle.wire.specs.declared.greeting.Negotiated.{Negotiated}
-use Rattle.wire.specs.declared.pairs.Forgotten.{Forgotten}
+use Rattle.wire.specs.declared.pairs.ForgetOne.{ForgetOne}
 use Rattle.wire.specs.declared.reply.ReplyBody.{ReplyBody}
 use Rattle.wire.specs.declared.request.Request.{Request}
 use Rattle.terms.specs.declared.settings.Settings.{Settings}
@@ -48,7 +48,7 @@ module _ {W : Type 0} (table other : Table W) (P : W → Type 0) (carries : Carr
   stays : (old new : W) → new ≡ old → P old → P new
   stays old new same p = subst P (sym same) p
 
-  forgets_carried : (lookups : List Forgotten) (old new : W) → P old → ForgetsAll table old lookups new → ForgetsAll other old lookups new × P new
+  forgets_carried : (lookups : List ForgetOne) (old new : W) → P old → ForgetsAll table old lookups new → ForgetsAll other old lookups new × P new
   forgets_carried [] old new p same = (same, stays old new same p)
   forgets_carried (one ∷ lookups) old new p (mid, forgets, rest) =
       let a = carries.forgets old mid one.node one.nlookup p forgets in

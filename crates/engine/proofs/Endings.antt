@@ -9,7 +9,7 @@ use Rattle.ops.specs.Replies.{opened_reply, reply_to}
 use Rattle.ops.specs.Scripts.{listed_end, plan_of, End, Follows, Made}
 use Rattle.terms.specs.declared.settings.Settings.{Settings}
 use Rattle.ops.specs.declared.findings.ScriptResult.{ScriptResult}
-use Rattle.ops.specs.declared.findings.Found.{Found}
+use Rattle.ops.specs.declared.findings.FoundFile.{FoundFile}
 use Rattle.ops.specs.declared.findings.ScriptResult.TheVariants as findings
 use Rattle.table_steps.specs.Answers.{Answer, Claim}
 use Rattle.table_steps.specs.declared.data.Outcome.{Outcome}
@@ -87,7 +87,7 @@ pub none_given_up : (taken : Bool) → GivesUp taken None []
 none_given_up true = refl
 none_given_up false = refl
 
-pub is_plain : (finding : ScriptResult) → ((children : List Child) → finding ≡ findings.Listed children → ⊥) → ((founds : List (Option Found)) → finding ≡ findings.Looked founds → ⊥) → IsPlain finding
+pub is_plain : (finding : ScriptResult) → ((children : List Child) → finding ≡ findings.Listed children → ⊥) → ((founds : List (Option FoundFile)) → finding ≡ findings.Looked founds → ⊥) → IsPlain finding
 is_plain (findings.Listed children) h k = h children refl
 is_plain (findings.Looked founds) h k = k founds refl
 is_plain (findings.Error errno) h k = tt
@@ -185,7 +185,7 @@ module _ {W L : Type 0} (rules : Rules W L) where
 
   -- ---- READDIRPLUS
 
-  pub concluded_entries : (b : Begun) (made : List Made) (founds : List (Option Found)) (meant : ReplyBody) (answer : Answer) (old new : LinkAndTable L W) (finished : W) (sent : Sent) (taken : Bool)
+  pub concluded_entries : (b : Begun) (made : List Made) (founds : List (Option FoundFile)) (meant : ReplyBody) (answer : Answer) (old new : LinkAndTable L W) (finished : W) (sent : Sent) (taken : Bool)
       → Follows (plan_of rules.settings b.q.operation b.ticket) made (entries_found founds) → rules.table.finishes old.world b.ticket.id (entries_found founds).outcome answer finished → meant ≡ reply_to rules.settings b.q.node b.page (findings.Looked founds) None answer
       → RepliesTaken rules.sends (record { unique = b.q.unique; body = meant }) old.link sent taken new.link → rules.table.settles finished answer None taken new.world
       → Concludes rules b made (entries_found founds) [] old sent new

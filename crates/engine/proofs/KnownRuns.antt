@@ -2,7 +2,7 @@
 use Rattle.std.proofs.Common.{ℕ, ◌≡◌, List, [], ◌∷◌, sym, ap, ◌∙◌}
 use Rattle.backing.specs.Calls.{Asked}
 use Rattle.backing.specs.Device.{Counted, counted, faulty}
-use Rattle.backing.specs.Known.{counted_none, counted_on}
+use Rattle.backing.specs.KnownTreeLemmas.{counted_none, counted_on}
 use Rattle.backing.specs.Tree.{Tree}
 use Rattle.backing.specs.declared.call.Answer.{Answer}
 use Rattle.engine.specs.Serving.{Makes}

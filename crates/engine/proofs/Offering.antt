@@ -4,7 +4,7 @@ use Rattle.std.proofs.Common.{ℕ, true, false, ◌≡◌, ◌+◌, ◌<◌, ◌
 use Rattle.std.proofs.lemmas.List.{drop_more, map-append, take_all, take_more}
 use Rattle.engine.specs.Batches.{bytes_of, BeginsEach, SendsEach}
 use Rattle.engine.specs.contracts.links.Sent.{the_type}
-use Rattle.engine.specs.declared.bytes.Bytes.{Bytes}
+use Rattle.engine.specs.declared.bytes.ReplyBytes.{ReplyBytes}
 use Rattle.engine.specs.declared.links.Sent.{Sent}
 use Rattle.engine.specs.declared.links.Sent.TheVariants.{Taken, Untaken, Broken}
 
@@ -63,22 +63,22 @@ module _ {L : Type 0} (sends : L → List ℕ → Sent → L → Type 0) where
 
   -- the same of replies, one after another
 
-  pub one_more : (old mid new : L) (all : List Bytes) (i : ℕ) (reply : Bytes) (sents sents' : List Sent) (sent : Sent) → i < length all → reply ≡ get_or all i reply
+  pub one_more : (old mid new : L) (all : List ReplyBytes) (i : ℕ) (reply : ReplyBytes) (sents sents' : List Sent) (sent : Sent) → i < length all → reply ≡ get_or all i reply
       → BeginsEach sends old (map bytes_of (take i all)) sents mid → sends mid (bytes_of reply) sent new → Stands sent → sents' ≡ sents ++ sent ∷ [] → BeginsEach sends old (map bytes_of (take (i + 1) all)) sents' new
   one_more old mid new all i reply sents sents' sent within is b s stands more =
-      let taken : take (i + 1) all ≡ take i all ++ reply ∷ [] = take_more all i reply within ∙ ap (λ (r : Bytes). take i all ++ r ∷ []) (sym is) in
+      let taken : take (i + 1) all ≡ take i all ++ reply ∷ [] = take_more all i reply within ∙ ap (λ (r : ReplyBytes). take i all ++ r ∷ []) (sym is) in
       let frames : map bytes_of (take (i + 1) all) ≡ map bytes_of (take i all) ++ bytes_of reply ∷ [] = ap (map bytes_of) taken ∙ map-append bytes_of (take i all) (reply ∷ []) in
       subst (λ (fs : List (List ℕ)). BeginsEach sends old fs sents' new) (sym frames) (subst (λ (ss : List Sent). BeginsEach sends old (map bytes_of (take i all) ++ bytes_of reply ∷ []) ss new) (sym more)
       (begins_on old mid new (map bytes_of (take i all)) (bytes_of reply ∷ []) sents (sent ∷ []) b (begins_one mid new (bytes_of reply) sent s stands)))
 
-  pub one_breaks : (old mid new : L) (all : List Bytes) (i : ℕ) (reply : Bytes) (sents sents' : List Sent) → i < length all → reply ≡ get_or all i reply
+  pub one_breaks : (old mid new : L) (all : List ReplyBytes) (i : ℕ) (reply : ReplyBytes) (sents sents' : List Sent) → i < length all → reply ≡ get_or all i reply
       → BeginsEach sends old (map bytes_of (take i all)) sents mid → sends mid (bytes_of reply) Broken new → sents' ≡ sents ++ Broken ∷ [] → SendsEach sends old (map bytes_of all) sents' new
   one_breaks old mid new all i reply sents sents' within is b s more =
-      let left : drop i all ≡ reply ∷ drop (i + 1) all = drop_more all i reply within ∙ ap (λ (r : Bytes). r ∷ drop (i + 1) all) (sym is) in
-      let whole : all ≡ take i all ++ reply ∷ drop (i + 1) all = sym (take-append-drop i all) ∙ ap (λ (rs : List Bytes). take i all ++ rs) left in
+      let left : drop i all ≡ reply ∷ drop (i + 1) all = drop_more all i reply within ∙ ap (λ (r : ReplyBytes). r ∷ drop (i + 1) all) (sym is) in
+      let whole : all ≡ take i all ++ reply ∷ drop (i + 1) all = sym (take-append-drop i all) ∙ ap (λ (rs : List ReplyBytes). take i all ++ rs) left in
       let frames : map bytes_of all ≡ map bytes_of (take i all) ++ bytes_of reply ∷ map bytes_of (drop (i + 1) all) = ap (map bytes_of) whole ∙ map-append bytes_of (take i all) (reply ∷ drop (i + 1) all) in
       subst (λ (fs : List (List ℕ)). SendsEach sends old fs sents' new) (sym frames) (subst (λ (ss : List Sent). SendsEach sends old (map bytes_of (take i all) ++ bytes_of reply ∷ map bytes_of (drop (i + 1) all)) ss new) (sym more)
       (begins_broken old mid new (map bytes_of (take i all)) (bytes_of reply) (map bytes_of (drop (i + 1) all)) sents b s))
 
-  pub all_done : (old new : L) (all : List Bytes) (i : ℕ) (sents : List Sent) → length all ≤ i → BeginsEach sends old (map bytes_of (take i all)) sents new → SendsEach sends old (map bytes_of all) sents new
-  all_done old new all i sents past b = begins_all old new (map bytes_of all) sents (subst (λ (rs : List Bytes). BeginsEach sends old (map bytes_of rs) sents new) (take_all i all past) b)
+  pub all_done : (old new : L) (all : List ReplyBytes) (i : ℕ) (sents : List Sent) → length all ≤ i → BeginsEach sends old (map bytes_of (take i all)) sents new → SendsEach sends old (map bytes_of all) sents new
+  all_done old new all i sents past b = begins_all old new (map bytes_of all) sents (subst (λ (rs : List ReplyBytes). BeginsEach sends old (map bytes_of rs) sents new) (take_all i all past) b)

@@ -19,7 +19,7 @@ use Rattle.ops.specs.Intents.{Intent, intent}
 use Rattle.ops.specs.Intents as intents
 use Rattle.handles.specs.Calls.{FolderCall}
 use Rattle.engine.specs.Reference.{Attempt, Place, AtBegin, AtScript, AtListing, AtReply, Turn, ForgetsAll, HasNames, IsSaid, IsTold, Says, Serves, RunsRequest, WorksOff, attempt}
-use Rattle.wire.specs.declared.pairs.Forgotten.{Forgotten}
+use Rattle.wire.specs.declared.pairs.ForgetOne.{ForgetOne}
 use Rattle.ops.specs.declared.intents.FolderUse.{FolderUse}
 use Rattle.ops.specs.declared.intents.FolderUse.TheVariants as uses
 use Rattle.ops.specs.Pages.{no_page}
@@ -127,7 +127,7 @@ module _ {W L C D : Type 0} (rules : Rules W L) (does : Behaviour C D) where
       }
 
   -- lookups are given back
-  pub forgot : (frame : List ℕ) (q : Request) (lookups : List Forgotten) (old : Environment W L C D) (at : W) → IsRequest frame q → intents.Forget lookups ≡ intent rules.settings q → ForgetsAll rules.table old.at lookups at
+  pub forgot : (frame : List ℕ) (q : Request) (lookups : List ForgetOne) (old : Environment W L C D) (at : W) → IsRequest frame q → intents.Forget lookups ≡ intent rules.settings q → ForgetsAll rules.table old.at lookups at
       → WorkedOff rules does frame old None (around old.link old.served at)
   forgot frame q lookups old at is i f = record {
     turn = silent frame;

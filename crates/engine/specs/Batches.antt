@@ -1,12 +1,12 @@
 -- Replies that are offered together.
 use Rattle.std.specs.Prelude.{ℕ, ◌≡◌, List, [], ◌∷◌}
-use Rattle.engine.specs.declared.bytes.Bytes.{Bytes}
-use Rattle.engine.specs.declared.bytes.Bytes.TheVariants.{Header, Whole}
+use Rattle.engine.specs.declared.bytes.ReplyBytes.{ReplyBytes}
+use Rattle.engine.specs.declared.bytes.ReplyBytes.TheVariants.{Header, Whole}
 use Rattle.engine.specs.declared.links.Sent.{Sent}
 use Rattle.engine.specs.declared.links.Sent.TheVariants.{Taken, Untaken, Broken}
 
 -- the bytes of a reply
-abbrev pub bytes_of : Bytes → List ℕ
+abbrev pub bytes_of : ReplyBytes → List ℕ
 bytes_of (Header frame) = frame
 bytes_of (Whole frame) = frame.items
 

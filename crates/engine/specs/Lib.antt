@@ -9,8 +9,8 @@ pub mod Replies
 pub mod Serving
 pub mod Tables
 pub mod Walks
-pub mod Alone
-pub mod Reaching
+pub mod AloneLemmas
+pub mod ReachLemmas
 pub mod Hearing
 pub mod Hiding
 pub mod Known

@@ -20,7 +20,7 @@ use Rattle.wire.specs.declared.reply.ReplyBody.{ReplyBody}
 use Rattle.wire.specs.declared.reply.ReplyBody.TheVariants.{Failed, Done, Init}
 use Rattle.wire.specs.declared.request.Operation.{Operation}
 use Rattle.wire.specs.declared.request.Operation.TheVariants as ops
-use Rattle.wire.specs.declared.pairs.Forgotten.{Forgotten}
+use Rattle.wire.specs.declared.pairs.ForgetOne.{ForgetOne}
 use Rattle.wire.specs.declared.request.Request.{Request}
 use Rattle.engine.specs.declared.classes.Class.{Class}
 use Rattle.engine.specs.declared.classes.Class.TheVariants.{Ignored, Unexpected, InitFrame, DestroyFrame, Asking}
@@ -203,8 +203,8 @@ HandlesInit unique (Some answer) before old turn new now = Answers unique (init_
 -- ---- the rules, by the table's steps
 
 -- lookups of one node after another
-abbrev pub ForgetsAll : {W : Type 0} → Table W → W → List Forgotten → W → Type 0
-ForgetsAll {W = W} table = Chain (λ (old : W) (lookups : Forgotten) (new : W). table.forgets old lookups.node lookups.nlookup new)
+abbrev pub ForgetsAll : {W : Type 0} → Table W → W → List ForgetOne → W → Type 0
+ForgetsAll {W = W} table = Chain (λ (old : W) (lookups : ForgetOne) (new : W). table.forgets old lookups.node lookups.nlookup new)
 
 -- a request that is to begin with a want, after these calls of the open folders, and is to tell this page
 pub record Attempt : Type 0 where

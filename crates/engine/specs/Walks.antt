@@ -4,7 +4,7 @@ use Rattle.backing.specs.declared.call.Child.{Child}
 use Rattle.errno.specs.declared.TheConstants.{ENOMEM}
 use Rattle.table_steps.specs.declared.data.Outcome.TheVariants.{Done}
 use Rattle.table_steps.specs.declared.data.Outcome.TheVariants as outcomes
-use Rattle.ops.specs.declared.findings.Found.{Found}
+use Rattle.ops.specs.declared.findings.FoundFile.{FoundFile}
 use Rattle.ops.specs.declared.findings.ScriptResult.{ScriptResult}
 use Rattle.ops.specs.declared.findings.ScriptResult.TheVariants as findings
 use Rattle.table_steps.specs.Answers.{Claim, Answer as Given}
@@ -117,7 +117,7 @@ abbrev pub listing_found : List Child → End
 listing_found children = record { outcome = Done; findings = findings.Listed children }
 
 -- a READDIRPLUS that found these at the names of its page
-abbrev pub entries_found : List (Option Found) → End
+abbrev pub entries_found : List (Option FoundFile) → End
 entries_found founds = record { outcome = outcomes.Entries (map (λ found. is_some found) founds); findings = findings.Looked founds }
 
 -- a request whose script found no memory

@@ -9,12 +9,12 @@ pub const SHORT_REPLY: usize = 160;
 
 /// The bytes of a reply. A header alone takes no memory, and neither does another one without data.
 #[derive(Drop)]
-pub enum Bytes {
+pub enum ReplyBytes {
     Header([u8; 16]),
     Whole(SmallVec<u8, SHORT_REPLY>),
 }
 
-impl Bytes {
+impl ReplyBytes {
     ghost use Rattle.engine.specs.Batches.{bytes_of};
 
     /// All of them.
@@ -22,8 +22,8 @@ impl Bytes {
         ensures { result.now ≡ bytes_of self.now }
     {
         match self {
-            Bytes::Header(frame) => frame,
-            Bytes::Whole(frame) => frame.as_slice(),
+            ReplyBytes::Header(frame) => frame,
+            ReplyBytes::Whole(frame) => frame.as_slice(),
         }
     }
 }

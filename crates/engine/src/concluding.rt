@@ -70,7 +70,7 @@ impl Session {
     }
 
     /// Finishes a request by what its script has found, answers it and settles it.
-    pub fn tell<T: Ledgers, R: Reach<T>, L: Outlet>(
+    pub fn finish_and_reply<T: Ledgers, R: Reach<T>, L: Outlet>(
         &mut self,
         link: &mut L,
         table: &mut R,
@@ -95,7 +95,7 @@ impl Session {
     }
 
     /// Finishes an OPENDIR that found this listing: it is stored, and given up again where the reply was not taken.
-    fn open<T: Ledgers, R: Reach<T>, L: Outlet, D: Folders>(
+    fn finish_with_listing<T: Ledgers, R: Reach<T>, L: Outlet, D: Folders>(
         &mut self,
         dirs: &mut D,
         link: &mut L,
@@ -147,7 +147,7 @@ impl Session {
     }
 
     /// Finishes an OPENDIR that found these names.
-    pub fn list<T: Ledgers, R: Reach<T>, L: Outlet, D: Folders>(
+    pub fn finish_opendir<T: Ledgers, R: Reach<T>, L: Outlet, D: Folders>(
         &mut self,
         dirs: &mut D,
         link: &mut L,
@@ -166,10 +166,12 @@ impl Session {
         ensures agreed { self.new.agreed ≡ self.old.agreed }
     {
         match Listing::new(self.alloc, request.node, children) {
-            Ok(listing) => self.open(dirs, link, table, share, request, ticket, listing),
+            Ok(listing) => self.finish_with_listing(
+                dirs, link, table, share, request, ticket, listing,
+            ),
             Err(ListingFault::Lawless) => {
                 let found = ScriptResult::Error { errno: EIO };
-                self.tell(link, table, share, request, ticket, found)
+                self.finish_and_reply(link, table, share, request, ticket, found)
             }
             Err(ListingFault::Memory) => self.end_without_memory(
                 link, table, share, request, ticket,

@@ -18,7 +18,7 @@ mod served;
 mod serving;
 mod using;
 
-pub use bytes::{Bytes, SHORT_REPLY};
+pub use bytes::{ReplyBytes, SHORT_REPLY};
 pub use classes::{Class, class_of};
 pub use concluding::give_up;
 pub use ends::SessionEnd;

@@ -5,7 +5,7 @@ ghost use Rattle.engine.specs.Batches.{bytes_of, SendsEach};
 ghost use Rattle.engine.specs.Links.{counted, heard, lost, missed, Heard, IsWithin};
 ghost use Rattle.engine.specs.declared.links.Sent.{Sent};
 
-use crate::bytes::Bytes;
+use crate::bytes::ReplyBytes;
 
 /// What a link gave.
 #[derive(Clone, Copy, Debug, PartialEq, Eq)]
@@ -73,7 +73,7 @@ pub trait LinkOut {
         ensures { sends self.old frame.now result self.new };
 
     /// Offers replies in order, up to the first that breaks the link, and says what became of each that was offered.
-    fn send_all(&mut self, frames: &[Bytes], sent: &mut Vec<Sent>)
+    fn send_all(&mut self, frames: &[ReplyBytes], sent: &mut Vec<Sent>)
         requires empty { sent.old.items ≡ [] }
         requires room { length frames.now ≤ vec_capacity sent.old }
         ensures sends { SendsEach sends self.old (map bytes_of frames.now) sent.new.items self.new }

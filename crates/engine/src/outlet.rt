@@ -5,7 +5,7 @@ ghost use Rattle.engine.specs.declared.links.Sent.{Sent};
 
 use crate::links::{LinkOut, Sent};
 
-/// Where the reply to a request goes: over a link, or into a slip that a worker puts into a queue.
+/// Where the reply to a request goes: over a link, or into a buffer, from which a worker puts it into a queue.
 pub trait Outlet {
     /// What may be answered to which reply, and what the outlet is then.
     ghost sends: { Self → List ℕ → Sent → Self → Type 0 };

@@ -86,7 +86,7 @@ impl<T: Ledgers> Reach<T> for Table<T> {
     ghost use Rattle.table_steps.specs.Kept.{world_of};
     ghost use Rattle.table_steps.specs.World as kept;
     ghost use Rattle.engine.specs.Tables.{worlds};
-    ghost use Rattle.engine.specs.Reaching as laws;
+    ghost use Rattle.engine.specs.ReachLemmas as laws;
 
     ghost World = { kept.World };
 

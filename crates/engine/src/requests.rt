@@ -155,7 +155,7 @@ impl Session {
         };
         match play(&mut served.calls, script) {
             ScriptResult::Listed(children) => {
-                self.list(
+                self.finish_opendir(
                     &mut served.dirs,
                     link,
                     table,
@@ -169,7 +169,7 @@ impl Session {
                 self.tell_entries(link, table, share, request, ticket, page, looked)
             }
             found => {
-                let sent = self.tell(link, table, share, request, ticket, found);
+                let sent = self.finish_and_reply(link, table, share, request, ticket, found);
                 served.calls.offer_room(&mut self.buffer);
                 sent
             }

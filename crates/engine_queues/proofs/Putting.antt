@@ -3,8 +3,8 @@ use Rattle.std.proofs.Common.{◌≡◌, ℕ, suc, ◌+◌, List, [], ◌∷◌,
 use Rattle.std.specs.List.{flat_map, range_with_len}
 use Rattle.std.proofs.lemmas.List.Concat.{flat_map-cons}
 use Rattle.engine_queues.specs.Jobs.{Accounts}
-use Rattle.engine_queues.specs.Letters.{IsWhole}
-use Rattle.engine_queues.specs.declared.letters.Letter.{Letter}
+use Rattle.engine_queues.specs.Replies.{IsWhole}
+use Rattle.engine_queues.specs.declared.replies.QueuedReply.{QueuedReply}
 
 module _ {X : Type 0} where
   pub none_of : (xs : List X) → length xs ≡ 0 → xs ≡ []
@@ -33,8 +33,8 @@ next_numbers n ns from from' len len' e l f = ap rest_of (e ∙ ap (range_with_l
 pub all_accounts : {J : Type 0} (put taken put' taken' left : List J) → put' ≡ put → taken' ≡ taken → Accounts put' taken' left → Accounts put taken left
 all_accounts {J} put taken put' taken' left p t a = subst (λ (y : List J × List J). Accounts y.0 y.1 left) (λ i. (p i, t i)) a
 
-pub all_whole : {M : Type 0} (puts puts' : List (List (Letter M))) (got got' left : List (Letter M)) → puts' ≡ puts → got' ≡ got → IsWhole puts' got' left → IsWhole puts got left
-all_whole {M} puts puts' got got' left p g w = subst (λ (y : List (List (Letter M)) × List (Letter M)). IsWhole y.0 y.1 left) (λ i. (p i, g i)) w
+pub all_whole : {M : Type 0} (puts puts' : List (List (QueuedReply M))) (got got' left : List (QueuedReply M)) → puts' ≡ puts → got' ≡ got → IsWhole puts' got' left → IsWhole puts got left
+all_whole {M} puts puts' got got' left p g w = subst (λ (y : List (List (QueuedReply M)) × List (QueuedReply M)). IsWhole y.0 y.1 left) (λ i. (p i, g i)) w
 
 -- at the end
 module _ {X : Type 0} where

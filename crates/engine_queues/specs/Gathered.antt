@@ -3,8 +3,8 @@ use Rattle.std.specs.Prelude.{◌≡◌, ℕ, ◌+◌, Bool, true, List, length,
 use Rattle.std.specs.List.{All}
 use Rattle.crossbeam_channel.specs.Claims.{view, Pass}
 use Rattle.engine_queues.specs.declared.jobs.Hand.{Hand}
-use Rattle.engine_queues.specs.declared.letters.ReplyLane.{ReplyLane}
-use Rattle.engine_queues.specs.declared.letters.Letter.{Letter}
+use Rattle.engine_queues.specs.declared.replies.ReplyLane.{ReplyLane}
+use Rattle.engine_queues.specs.declared.replies.QueuedReply.{QueuedReply}
 use Rattle.engine_queues.specs.declared.passes.Passes.{Passes}
 
 -- the reader has taken nothing, and has all parts but those of n workers
@@ -27,9 +27,9 @@ module _ {J M : Type 0} where
   takings_of ps = map (λ (p : Passes J M). (view p.job_pass).taken) ps
 
   -- what each worker put
-  abbrev pub puts_of : List (Passes J M) → List (List (Letter M))
+  abbrev pub puts_of : List (Passes J M) → List (List (QueuedReply M))
   puts_of ps = map (λ (p : Passes J M). (view p.reply_pass).put) ps
 
   -- the passes are of these queues
-  abbrev pub AreSeated : (Pass (Option J) (Hand J) → Type 0) → (Pass (Option (Letter M)) (ReplyLane M) → Type 0) → List (Passes J M) → Type 0
+  abbrev pub AreSeated : (Pass (Option J) (Hand J) → Type 0) → (Pass (Option (QueuedReply M)) (ReplyLane M) → Type 0) → List (Passes J M) → Type 0
   AreSeated on_jobs on_replies ps = All (λ (p : Passes J M). on_jobs p.job_pass × on_replies p.reply_pass) ps

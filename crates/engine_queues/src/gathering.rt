@@ -5,13 +5,13 @@ ghost use Rattle.std.specs.List.{All, flat_map, range_with_len};
 ghost use Rattle.crossbeam_channel.specs.Claims.{view, IsSeatAt};
 ghost use Rattle.crossbeam_channel.specs.Ends.{sends_on};
 ghost use Rattle.engine_queues.specs.Jobs.{both, Accounts};
-ghost use Rattle.engine_queues.specs.Letters.{told, IsWhole};
+ghost use Rattle.engine_queues.specs.Replies.{told, IsWhole};
 ghost use Rattle.engine_queues.specs.Gathered.{AreSeated, IsReading, IsWriting, numbers_of, puts_of, takings_of};
-ghost use Rattle.engine_queues.specs.declared.letters.Letter.{Letter};
+ghost use Rattle.engine_queues.specs.declared.replies.QueuedReply.{QueuedReply};
 
 use crate::jobs::{Cut, JobPass, JobSender, Total};
-use crate::letters::{ReplyPass, ReplySender, Roles, Whole};
 use crate::passes::Passes;
+use crate::replies::{ReplyPass, ReplySender, Roles, Whole};
 
 /// Takes in the passes of one worker, the next by its number.
 fn take_in<J: Drop, M: Drop>(
@@ -66,7 +66,7 @@ pub fn gather<J: Drop, M: Drop>(
     requires empty { taken.items ≡ [] }
     ensures taken { result.items ≡ map (λ js. length js) (takings_of ended.items) }
     ensures jobs { (left : List J) × Accounts (view read).put (flat_map (λ js. js) (takings_of ended.items)) left }
-    ensures replies { (left : List (Letter M)) × IsWhole (puts_of ended.items) (view written).got left }
+    ensures replies { (left : List (QueuedReply M)) × IsWhole (puts_of ended.items) (view written).got left }
 {
     let mut all = read;
     let mut whole = written;

@@ -10,7 +10,7 @@ use Rattle.std.specs.List.{flat_map}
 use Rattle.engine.specs.Batches.{bytes_of, BeginsEach, SendsEach}
 use Rattle.engine.specs.Links.{counted}
 use Rattle.engine.specs.contracts.links.Sent.{the_type}
-use Rattle.engine.specs.declared.bytes.Bytes.{Bytes}
+use Rattle.engine.specs.declared.bytes.ReplyBytes.{ReplyBytes}
 use Rattle.engine.specs.declared.links.Sent.{Sent}
 use Rattle.engine.specs.declared.links.Sent.TheVariants.{Taken, Untaken, Broken}
 use Rattle.engine_streams.specs.Joining.{whole_in, SendsFirst, SendsSome}
@@ -33,7 +33,7 @@ then_others (Some xs) None first others a = a
 then_others (Some xs) (Some ys) first others a = a ∙ sym (append_assoc xs first others)
 
 -- a joined write that did not fail
-pub all_taken : (reply : Bytes) (replies : List Bytes) (old new : Streaming) → Appends old.output new.output (flat_map bytes_of (reply ∷ replies)) → new ≡ record old { output = new.output }
+pub all_taken : (reply : ReplyBytes) (replies : List ReplyBytes) (old new : Streaming) → Appends old.output new.output (flat_map bytes_of (reply ∷ replies)) → new ≡ record old { output = new.output }
     → BeginsEach Sends old (map bytes_of (reply ∷ replies)) (replicate (length (reply ∷ replies)) Taken) new
 all_taken reply [] old new a is = (new, (subst (λ (xs : List ℕ). Appends old.output new.output xs) (append-nil (bytes_of reply)) a, is), refl)
 all_taken reply (next ∷ replies) old new a is =
@@ -41,7 +41,7 @@ all_taken reply (next ∷ replies) old new a is =
     (mid, (appended old.output (bytes_of reply), refl), all_taken next replies mid new (then_others old.output new.output (bytes_of reply) (flat_map bytes_of (next ∷ replies)) a) is)
 
 -- a joined write that failed
-pub some_taken : (before : List Bytes) (last : Bytes) (more : List Bytes) (written : ℕ) (old new : Streaming) → Appends old.output new.output (take written (flat_map bytes_of before ++ bytes_of last))
+pub some_taken : (before : List ReplyBytes) (last : ReplyBytes) (more : List ReplyBytes) (written : ℕ) (old new : Streaming) → Appends old.output new.output (take written (flat_map bytes_of before ++ bytes_of last))
     → new ≡ record old { output = new.output; failures = counted old.failures 1 } → SendsEach Sends old (map bytes_of (before ++ last ∷ more)) (replicate (whole_in (map bytes_of before) written) Taken ++ Broken ∷ []) new
 some_taken [] last more written old new a is = (((written, a), is), refl)
 some_taken (reply ∷ before) last more written old new a is = by_length (ltb written (length (bytes_of reply))) refl (λ mid rest on same. some_taken before last more rest mid new on same) where
@@ -71,7 +71,7 @@ whole_within (frame ∷ frames) written = by_length (ltb written (length frame))
   by_length false h = omega arith
 
 -- not all that are joined
-pub whole_below : (all : List Bytes) (count written whole : ℕ) → 0 < count → count ≤ length all → whole ≡ whole_in (map bytes_of (take (count - 1) all)) written → whole < length all
+pub whole_below : (all : List ReplyBytes) (count written whole : ℕ) → 0 < count → count ≤ length all → whole ≡ whole_in (map bytes_of (take (count - 1) all)) written → whole < length all
 whole_below all count written whole some within is =
     let front = take (count - 1) all in
     let w = whole_within (map bytes_of front) written in
@@ -81,28 +81,28 @@ whole_below all count written whole some within is =
 -- ---- the first of some replies
 
 -- a reply stands at that place, between those before and those after it
-record Place (all : List Bytes) (n : ℕ) : Type 0 where
-  reply : Bytes
-  more : List Bytes
+record Place (all : List ReplyBytes) (n : ℕ) : Type 0 where
+  reply : ReplyBytes
+  more : List ReplyBytes
   whole : all ≡ take n all ++ reply ∷ more
   first : take (suc n) all ≡ take n all ++ reply ∷ []
 
-place : (all : List Bytes) (n : ℕ) → n < length all → Place all n
+place : (all : List ReplyBytes) (n : ℕ) → n < length all → Place all n
 place [] n h = absurd (omega arith)
 place (reply ∷ all) zero h = record { reply = reply; more = all; whole = refl; first = refl }
 place (reply ∷ all) (suc n) h = let p = place all n (omega arith) in record {
   reply = p.reply;
   more = p.more;
-  whole = ap (λ (rs : List Bytes). reply ∷ rs) p.whole;
-  first = ap (λ (rs : List Bytes). reply ∷ rs) p.first;
+  whole = ap (λ (rs : List ReplyBytes). reply ∷ rs) p.whole;
+  first = ap (λ (rs : List ReplyBytes). reply ∷ rs) p.first;
 }
 
 -- one by itself
-pub one_alone : (old new : Streaming) (all : List Bytes) (reply : Bytes) (before after : List Sent) (sent : Sent) (stands : Bool) → 0 < length all → reply ≡ get_or all 0 reply → Sends old (bytes_of reply) sent new
+pub one_alone : (old new : Streaming) (all : List ReplyBytes) (reply : ReplyBytes) (before after : List Sent) (sent : Sent) (stands : Bool) → 0 < length all → reply ≡ get_or all 0 reply → Sends old (bytes_of reply) sent new
     → after ≡ before ++ sent ∷ [] → stands ≡ not (sameb the_type sent Broken) → SendsFirst old (map bytes_of all) before new after stands
 one_alone old new [] reply before after sent stands some is s told e = absurd (omega arith)
 one_alone old new (first ∷ all) reply before after sent stands some is s told e =
-    (sent ∷ [], told, subst (λ (b : Bool). SendsSome old (map bytes_of (first ∷ all)) new (sent ∷ []) b) (sym e) (by_sent sent (subst (λ (r : Bytes). Sends old (bytes_of r) sent new) is s))) where
+    (sent ∷ [], told, subst (λ (b : Bool). SendsSome old (map bytes_of (first ∷ all)) new (sent ∷ []) b) (sym e) (by_sent sent (subst (λ (r : ReplyBytes). Sends old (bytes_of r) sent new) is s))) where
       by_sent : (sent : Sent) → Sends old (bytes_of first) sent new → SendsSome old (map bytes_of (first ∷ all)) new (sent ∷ []) (not (sameb the_type sent Broken))
       by_sent Taken s = (omega arith, omega arith, (new, s, refl))
       by_sent Untaken s = absurd s
@@ -110,12 +110,12 @@ one_alone old new (first ∷ all) reply before after sent stands some is s told 
 
 -- those that are joined, all written
 
-all_of : (replies : List Bytes) (count : ℕ) (old new : Streaming) → length replies ≡ count → 0 < count → Appends old.output new.output (flat_map bytes_of replies) → new ≡ record old { output = new.output }
+all_of : (replies : List ReplyBytes) (count : ℕ) (old new : Streaming) → length replies ≡ count → 0 < count → Appends old.output new.output (flat_map bytes_of replies) → new ≡ record old { output = new.output }
     → BeginsEach Sends old (map bytes_of replies) (replicate count Taken) new
 all_of [] count old new len some a same = absurd (omega arith)
 all_of (reply ∷ replies) count old new len some a same = subst (λ (n : ℕ). BeginsEach Sends old (map bytes_of (reply ∷ replies)) (replicate n Taken) new) len (all_taken reply replies old new a same)
 
-pub joined_taken : (old new : Streaming) (all : List Bytes) (count : ℕ) (joined : List ℕ) (before after : List Sent) → 0 < count → count ≤ length all → joined ≡ flat_map bytes_of (take count all)
+pub joined_taken : (old new : Streaming) (all : List ReplyBytes) (count : ℕ) (joined : List ℕ) (before after : List Sent) → 0 < count → count ≤ length all → joined ≡ flat_map bytes_of (take count all)
     → Appends old.output new.output joined → new ≡ record old { output = new.output } → after ≡ before ++ replicate count Taken → SendsFirst old (map bytes_of all) before new after true
 joined_taken old new all count joined before after some within is a same told =
     let k : length (replicate count Taken) ≡ count = length-replicate count Taken in
@@ -125,7 +125,7 @@ joined_taken old new all count joined before after some within is a same told =
     (replicate count Taken, told, (omega arith, omega arith, subst (λ (fs : List (List ℕ)). BeginsEach Sends old fs (replicate count Taken) new) (sym front) begun))
 
 -- those that are joined, where that failed
-pub joined_broken : (old new : Streaming) (all : List Bytes) (count written whole : ℕ) (joined : List ℕ) (before mid after : List Sent) → 0 < count → count ≤ length all → joined ≡ flat_map bytes_of (take count all)
+pub joined_broken : (old new : Streaming) (all : List ReplyBytes) (count written whole : ℕ) (joined : List ℕ) (before mid after : List Sent) → 0 < count → count ≤ length all → joined ≡ flat_map bytes_of (take count all)
     → AppendsFirst written old.output new.output joined → new ≡ record old { output = new.output; failures = counted old.failures 1 } → whole ≡ whole_in (map bytes_of (take (count - 1) all)) written
     → mid ≡ before ++ replicate whole Taken → after ≡ mid ++ Broken ∷ [] → SendsFirst old (map bytes_of all) before new after false
 joined_broken old new all count written whole joined before mid after some within is a same whole_is mid_is told =
@@ -139,20 +139,20 @@ joined_broken old new all count written whole joined before mid after some withi
     let sents_are : replicate (whole_in (map bytes_of (take n all)) written) Taken ++ Broken ∷ [] ≡ sents = ap (λ (i : ℕ). replicate i Taken ++ Broken ∷ []) (sym whole_is) in (
       sents,
       told ∙ (ap (λ (ss : List Sent). ss ++ Broken ∷ []) mid_is ∙ append_assoc before (replicate whole Taken) (Broken ∷ [])),
-      subst (λ (rs : List Bytes). SendsEach Sends old (map bytes_of rs) sents new) (sym p.whole) (subst (λ (ss : List Sent). SendsEach Sends old (map bytes_of (take n all ++ p.reply ∷ p.more)) ss new) sents_are each),
+      subst (λ (rs : List ReplyBytes). SendsEach Sends old (map bytes_of rs) sents new) (sym p.whole) (subst (λ (ss : List Sent). SendsEach Sends old (map bytes_of (take n all ++ p.reply ∷ p.more)) ss new) sents_are each),
     )
 
 -- ---- one stretch after another
 
 -- what follows the first so many
-pub stretch_of : (all : List Bytes) (mid new : Streaming) (before after : List Sent) (from : ℕ) (stands known : Bool) → from ≡ length before → stands ≡ known
+pub stretch_of : (all : List ReplyBytes) (mid new : Streaming) (before after : List Sent) (from : ℕ) (stands known : Bool) → from ≡ length before → stands ≡ known
     → SendsFirst mid (map bytes_of (take (length all - from) (drop from all))) before new after stands → SendsFirst mid (map bytes_of (drop (length before) all)) before new after known
 stretch_of all mid new before after from stands known is e f =
     subst (λ (b : Bool). SendsFirst mid (map bytes_of (drop (length before) all)) before new after b) e
-    (subst (λ (n : ℕ). SendsFirst mid (map bytes_of (drop n all)) before new after stands) is (subst (λ (rs : List Bytes). SendsFirst mid (map bytes_of rs) before new after stands) (take_rest all from) f))
+    (subst (λ (n : ℕ). SendsFirst mid (map bytes_of (drop n all)) before new after stands) is (subst (λ (rs : List ReplyBytes). SendsFirst mid (map bytes_of rs) before new after stands) (take_rest all from) f))
 
 -- none has broken the link
-pub stretch_on : (all : List Bytes) (old mid new : Streaming) (before after : List Sent) → length before ≤ length all → BeginsEach Sends old (take (length before) (map bytes_of all)) before mid
+pub stretch_on : (all : List ReplyBytes) (old mid new : Streaming) (before after : List Sent) → length before ≤ length all → BeginsEach Sends old (take (length before) (map bytes_of all)) before mid
     → SendsFirst mid (map bytes_of (drop (length before) all)) before new after true → BeginsEach Sends old (take (length after) (map bytes_of all)) after new × (length after ≤ length all) × (length before < length after)
 stretch_on all old mid new before after within begun f =
     let frames = map bytes_of all in
@@ -171,7 +171,7 @@ stretch_on all old mid new before after within begun f =
     )
 
 -- one has
-pub stretch_broken : (all : List Bytes) (old mid new : Streaming) (before after : List Sent) → BeginsEach Sends old (take (length before) (map bytes_of all)) before mid
+pub stretch_broken : (all : List ReplyBytes) (old mid new : Streaming) (before after : List Sent) → BeginsEach Sends old (take (length before) (map bytes_of all)) before mid
     → SendsFirst mid (map bytes_of (drop (length before) all)) before new after false → SendsEach Sends old (map bytes_of all) after new
 stretch_broken all old mid new before after begun f =
     let frames = map bytes_of all in
@@ -181,7 +181,7 @@ stretch_broken all old mid new before after begun f =
     subst (λ (ss : List Sent). SendsEach Sends old frames ss new) (sym f.1) (subst (λ (fs : List (List ℕ)). SendsEach Sends old fs (before ++ f.0) new) joined both)
 
 -- all are offered
-pub stretch_done : (all : List Bytes) (old new : Streaming) (sents : List Sent) → length all ≤ length sents → BeginsEach Sends old (take (length sents) (map bytes_of all)) sents new → SendsEach Sends old (map bytes_of all) sents new
+pub stretch_done : (all : List ReplyBytes) (old new : Streaming) (sents : List Sent) → length all ≤ length sents → BeginsEach Sends old (take (length sents) (map bytes_of all)) sents new → SendsEach Sends old (map bytes_of all) sents new
 stretch_done all old new sents past begun =
     let frames = map bytes_of all in
     let n : length frames ≡ length all = length-map all bytes_of in

@@ -1,4 +1,4 @@
-pub mod Counting
+pub mod CountingLemmas
 pub mod Device
 pub mod DeviceCounting
 pub mod Holding

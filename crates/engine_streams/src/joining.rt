@@ -6,7 +6,7 @@ ghost use Rattle.engine.specs.Batches.{bytes_of};
 ghost use Rattle.engine.specs.declared.links.Sent.TheVariants.{Taken};
 ghost use Rattle.engine_streams.specs.Joining.{whole_in};
 
-use engine::{Bytes, Sent};
+use engine::{ReplyBytes, Sent};
 
 /// How many bytes a reply has at most that is joined with others, or held back for them.
 pub(crate) const SMALL: usize = 16_384;
@@ -24,7 +24,7 @@ fn join_one(joined: &mut Vec<u8>, bytes: &[u8]) -> bool
 }
 
 /// Joins the first of these replies, up to one that is large, does not fit or finds no memory, and says how many.
-pub fn join(frames: &[Bytes], joined: &mut Vec<u8>) -> usize
+pub fn join(frames: &[ReplyBytes], joined: &mut Vec<u8>) -> usize
     ensures within { result ≤ length frames.now }
     ensures bytes { joined.new.items ≡ flat_map bytes_of (take result frames.now) }
 {
@@ -38,7 +38,7 @@ pub fn join(frames: &[Bytes], joined: &mut Vec<u8>) -> usize
 }
 
 /// How many of these replies lie whole in the first so many bytes of all of them.
-pub fn whole_in(frames: &[Bytes], written: usize) -> usize
+pub fn whole_in(frames: &[ReplyBytes], written: usize) -> usize
     ensures { result ≡ whole_in (map bytes_of frames.now) written }
 {
     let mut left = written;

@@ -11,7 +11,7 @@ ghost use Rattle.engine.specs.declared.links.Sent.TheVariants.{Taken};
 
 use crate::joining::{SMALL, join, push_taken, whole_in};
 use crate::writing::{write_ahead, write_counted, write_flushed};
-use engine::{Bytes, Link, LinkIn, LinkOut, Received, Sent};
+use engine::{Link, LinkIn, LinkOut, Received, ReplyBytes, Sent};
 use std::alloc::Global;
 use std::io;
 use std::io::{ErrorKind, Read, Write};
@@ -113,7 +113,7 @@ impl<R: Read, W: Write> StreamLink<R, W> {
     }
 
     // Offers the first of these replies: those that can be joined, or one by itself. False says that the link broke.
-    fn send_first(&mut self, frames: &[Bytes], sent: &mut Vec<Sent>) -> bool
+    fn send_first(&mut self, frames: &[ReplyBytes], sent: &mut Vec<Sent>) -> bool
         requires some { 0 < length frames.now }
         requires room { vec_len sent.old + length frames.now ≤ vec_capacity sent.old }
         ensures sends { SendsFirst self.old (map bytes_of frames.now) sent.old.items self.new sent.new.items result }
@@ -160,7 +160,7 @@ impl<R: Read + Drop, W: Write> StreamLink<R, W> {
 
 impl<R: Read, W: Write> LinkIn for StreamLink<R, W> {
     ghost use Rattle.engine_streams.specs.Streams.{Receives};
-    ghost use Rattle.engine_streams.specs.Counting.{receives_counted};
+    ghost use Rattle.engine_streams.specs.CountingLemmas.{receives_counted};
 
     ghost receives = { Receives };
 
@@ -185,7 +185,7 @@ impl<R: Read, W: Write> LinkIn for StreamLink<R, W> {
 
 impl<R: Read, W: Write> LinkOut for StreamLink<R, W> {
     ghost use Rattle.engine_streams.specs.Streams.{Sends};
-    ghost use Rattle.engine_streams.specs.Counting.{sends_counted};
+    ghost use Rattle.engine_streams.specs.CountingLemmas.{sends_counted};
 
     ghost sends = { Sends };
 
@@ -207,7 +207,7 @@ impl<R: Read, W: Write> LinkOut for StreamLink<R, W> {
         }
     }
 
-    fn send_all(&mut self, frames: &[Bytes], sent: &mut Vec<Sent>) {
+    fn send_all(&mut self, frames: &[ReplyBytes], sent: &mut Vec<Sent>) {
         while sent.len() < frames.len() {
             if !self.send_first(&frames[sent.len()..], sent) {
                 return;

@@ -10,16 +10,16 @@ use Rattle.engine.specs.Serving.{Behaviour}
 use Rattle.engine.specs.declared.served.Served.{Served}
 use Rattle.engine_queues.specs.declared.job.Job.{Job}
 use Rattle.engine_queues.specs.Jobs.{hand}
-use Rattle.engine_queues.specs.Letters.{sender}
+use Rattle.engine_queues.specs.Replies.{sender}
 use Rattle.engine_queues.specs.declared.jobs.Hand.{Hand}
 use Rattle.engine_queues.specs.declared.passes.Passes.{Passes}
 use Rattle.engine_turns.specs.Queues.{JobQueue, ReplyQueue}
-use Rattle.engine_turns.specs.Visits.{OnTable, idle}
+use Rattle.engine_turns.specs.TableCalls.{OnTable, idle}
 use Rattle.engine_turns.specs.Turns.{AnswersJob, Means, Outbox, Standing, Worked, means, outbox, standing, takes}
 use Rattle.engine_turns.specs.Works.{HasWorked, WorkedAll, newcomer}
-use Rattle.engine_turns.specs.declared.replies.Reply.{Reply}
+use Rattle.engine_turns.specs.declared.replies.JobReply.{JobReply}
 use Rattle.engine_turns.specs.declared.working.Worker.{Worker}
-use Rattle.engine_threads.specs.Worked.{AnswersFarewell, HasWorkedFrom, IsOver}
+use Rattle.engine_threads.specs.Worked.{AnswersLastJob, HasWorkedFrom, IsOver}
 
 module _ {C D : Type 0} (does : Behaviour C D) (settings : Settings) (number : ℕ) where
   -- any number of jobs
@@ -71,11 +71,11 @@ index_all : {C D : Type 0} (does : Behaviour C D) (settings : Settings) (from : 
 index_all {C} {D} does settings from old new [] chain = ap (λ (s : Standing C D). s.means.on_table.by) chain
 index_all {C} {D} does settings from old new (one ∷ settled) (mid, w, rest) = index_all does settings from mid new settled rest ∙ index_one does settings from w.job (takes old w.job) mid one w.answers
 
-pub index_from : {C D : Type 0} (does : Behaviour C D) (settings : Settings) (given : C) (passes : Passes Job Reply) (handed_back : ℕ) (left : C) (share : Part) (on_table : OnTable) → HasWorkedFrom does settings given passes handed_back left share on_table → on_table.by ≡ passes.number
+pub index_from : {C D : Type 0} (does : Behaviour C D) (settings : Settings) (given : C) (passes : Passes Job JobReply) (handed_back : ℕ) (left : C) (share : Part) (on_table : OnTable) → HasWorkedFrom does settings given passes handed_back left share on_table → on_table.by ≡ passes.number
 index_from does settings given passes handed_back left share on_table w =
     index_all does settings passes.number (newcomer passes.number given w.worked.dirs w.worked.share) (standing (view passes.job_pass) (outbox (view passes.reply_pass) handed_back) (means (record { calls = left; dirs = w.dirs }) share on_table)) w.worked.settled w.worked.works
 
-pub index_last : {C D : Type 0} (does : Behaviour C D) (settings : Settings) (farewell : Option Job) (calls : C) (share : Part) (passes : Passes Job Reply) (handed_back : ℕ) (on_table : OnTable) → AnswersFarewell does settings farewell calls share passes handed_back on_table → on_table.by ≡ passes.number
+pub index_last : {C D : Type 0} (does : Behaviour C D) (settings : Settings) (last_job : Option Job) (calls : C) (share : Part) (passes : Passes Job JobReply) (handed_back : ℕ) (on_table : OnTable) → AnswersLastJob does settings last_job calls share passes handed_back on_table → on_table.by ≡ passes.number
 index_last does settings None calls share passes handed_back on_table a = ap (λ (o : OnTable). o.by) a.2
 index_last does settings (Some job) calls share passes handed_back on_table a =
     index_one does settings passes.number job (newcomer passes.number calls a.dirs share) (standing (view passes.job_pass) (outbox (view passes.reply_pass) handed_back) (means a.served a.gained on_table)) a.settled a.answers
@@ -111,7 +111,7 @@ module _ {C D : Type 0} (does : Behaviour C D) (jobs : JobQueue) (replies : Repl
       subst₂ (λ (v : Worker) (x : OnTable). At v (means served' share' x)) (sym w) (sym o) (subst₂ (λ (d : Served C D) (x : Part). At worker (means d x on_table)) (sym s) (sym p) at)
 
   -- once it has ended
-  pub is_over : (worker : Worker) (served : Served C D) (share : Part) (on_table : OnTable) (passes : Passes Job Reply) (handed_back : ℕ) → At worker (means served share on_table) → passes.number ≡ worker.number → IsSeatAt (receives_on worker.jobs) passes.job_pass
+  pub is_over : (worker : Worker) (served : Served C D) (share : Part) (on_table : OnTable) (passes : Passes Job JobReply) (handed_back : ℕ) → At worker (means served share on_table) → passes.number ≡ worker.number → IsSeatAt (receives_on worker.jobs) passes.job_pass
       → IsSeatAt (sends_on worker.replies) passes.reply_pass → view passes.job_pass ≡ view worker.job_pass → view passes.reply_pass ≡ view worker.reply_pass → handed_back ≡ worker.handed_back → IsOver jobs replies does settings given passes handed_back served.calls share on_table
   is_over worker served share on_table passes handed_back at n j r t p b = record {
     job_seat = subst (λ (q : JobQueue). IsSeatAt q passes.job_pass) at.takes_from j;
@@ -124,7 +124,7 @@ module _ {C D : Type 0} (does : Behaviour C D) (jobs : JobQueue) (replies : Repl
   }
 
 -- the same by the names that others have for the queues, the settings, the directory and what was done on the table
-pub over_at : {C D : Type 0} (does : Behaviour C D) (jobs jobs' : JobQueue) (replies replies' : ReplyQueue) (settings settings' : Settings) (given given' : C) (passes : Passes Job Reply) (handed_back : ℕ) (left : C) (share : Part) (on_table : OnTable)
+pub over_at : {C D : Type 0} (does : Behaviour C D) (jobs jobs' : JobQueue) (replies replies' : ReplyQueue) (settings settings' : Settings) (given given' : C) (passes : Passes Job JobReply) (handed_back : ℕ) (left : C) (share : Part) (on_table : OnTable)
     → jobs ≡ jobs' → replies ≡ replies' → settings ≡ settings' → given ≡ given' → IsOver jobs replies does settings given passes handed_back left share on_table → IsOver jobs' replies' does settings' given' passes handed_back left share on_table
 over_at {C = C} does jobs jobs' replies replies' settings settings' given given' passes handed_back left share on_table j r s g over = record {
   job_seat = subst (λ (q : JobQueue). IsSeatAt q passes.job_pass) j over.job_seat;

@@ -7,49 +7,49 @@ use Rattle.std.specs.contracts.impls.GlobalAllocator.TheImpl.{ghosts}
 use Rattle.std.specs.contracts.sync.Arc as Arc
 use Rattle.engine.specs.declared.links.LinkIn as ins
 use Rattle.engine.specs.declared.links.LinkOut as out
-use Rattle.engine_turns.proofs.Crossing.{front_send, worker_send, writer_role_send}
+use Rattle.engine_turns.proofs.Crossing.{thread_log_send, worker_send, writer_role_send}
 use Rattle.engine_turns.proofs.reader_role.ReaderRole.TheSendSync as reader
-use Rattle.engine_turns.proofs.shares.Kept.TheSendSync as kept
-use Rattle.engine_turns.specs.contracts.shares.Kept as Kept
+use Rattle.engine_turns.proofs.shares.ThreadShare.TheSendSync as kept
+use Rattle.engine_turns.specs.contracts.shares.ThreadShare as ThreadShare
 use Rattle.engine_turns.specs.contracts.reader_role.ReaderRole as ReaderRole
 use Rattle.engine_turns.specs.contracts.writer_role.WriterRole as WriterRole
 use Rattle.engine_turns.specs.declared.origins.Sink as sink
 use Rattle.engine_turns.specs.declared.origins.Source as source
 use Rattle.engine_turns.proofs.sleepers.Sleepers.TheSendSync as sleepers
 use Rattle.engine_turns.specs.contracts.sleepers.Sleepers as Sleepers
-use Rattle.engine_threads.proofs.places.Signs.TheSendSync as signs
-use Rattle.engine_threads.specs.contracts.places.Signs as Signs
+use Rattle.engine_threads.proofs.session_state.Signs.TheSendSync as signs
+use Rattle.engine_threads.specs.contracts.session_state.Signs as Signs
 use Rattle.handles.proofs.dirs.Dirs.TheSendSync as dirs
 use Rattle.handles.specs.contracts.dirs.Dirs as Dirs
-use Rattle.table_shared.proofs.halls.Hall.TheSendSync as hall
-use Rattle.table_shared.specs.contracts.halls.Hall as Hall
+use Rattle.table_shared.proofs.shared_table.SharedTable.TheSendSync as shared_table
+use Rattle.table_shared.specs.contracts.shared_table.SharedTable as SharedTable
 use Rattle.table_shared.specs.declared.entries.Opening as opening
-use Rattle.engine_threads.specs.contracts.places.Common as Common
-use Rattle.engine_threads.specs.contracts.working.Staff as Staff
+use Rattle.engine_threads.specs.contracts.session_state.Common as Common
+use Rattle.engine_threads.specs.contracts.working.ReadyWorker as ReadyWorker
 use Rattle.engine_threads.specs.contracts.working.WorkerEnd as WorkerEnd
 use Rattle.engine_queues.specs.contracts.job.Job as Job
 use Rattle.engine_queues.proofs.passes.Passes.TheSendSync as passes
 use Rattle.engine_queues.specs.contracts.passes.Passes as Passes
-use Rattle.engine_turns.specs.contracts.replies.Reply as Reply
+use Rattle.engine_turns.specs.contracts.replies.JobReply as JobReply
 use Rattle.ledger.specs.declared.ledgers.Ledgers.{Ghosts}
 
 module _ (T N C : RattleType) (n : opening.Ghosts N.Denot) (g : Ghosts T.Denot) where
   -- what a worker leaves has a snapshot, so Rattle makes no such lemma of its own
   pub worker_end_send : IsSend T → IsSync T → IsSend N → IsSend C → IsSend (WorkerEnd.the_row T N C g n)
   worker_end_send s y m c =
-      let a : IsSend (Kept.the_field T g).row = search (kept.the_field_send T g, sendable) in
-      let b : IsSend (Passes.the_field Job.the_row Reply.the_row).row = search (passes.the_field_send Job.the_row Reply.the_row, sendable) in
-      let f = front_send T g N n m in
+      let a : IsSend (ThreadShare.the_field T g).row = search (kept.the_field_send T g, sendable) in
+      let b : IsSend (Passes.the_field Job.the_row JobReply.the_row).row = search (passes.the_field_send Job.the_row JobReply.the_row, sendable) in
+      let f = thread_log_send T g N n m in
       search (heap.crosses, sendable) depth 20
 
-  pub staff_send : IsSend T → IsSync T → IsSend N → IsSend C → IsSend (Staff.the_row T N C g n)
-  staff_send s y m c = let a : IsSend (Kept.the_field T g).row = search (kept.the_field_send T g, sendable) in let b = worker_send in let f = front_send T g N n m in search sendable depth 20
+  pub ready_worker_send : IsSend T → IsSync T → IsSend N → IsSend C → IsSend (ReadyWorker.the_row T N C g n)
+  ready_worker_send s y m c = let a : IsSend (ThreadShare.the_field T g).row = search (kept.the_field_send T g, sendable) in let b = worker_send in let f = thread_log_send T g N n m in search sendable depth 20
 
 -- what all threads share: each part of it may be sent, and looked at by several at once
 module _ (H T N I O S : RattleType) (n : opening.Ghosts N.Denot) (i : ins.Ghosts I.Denot) (o : out.Ghosts O.Denot) (j : source.Ghosts S.Denot I.Denot) (k : sink.Ghosts S.Denot O.Denot) (g : Ghosts T.Denot) where
   common_send : IsSend H → IsSend T → IsSync T → IsSend N → IsSend I → IsSend O → IsSend S → IsSend (Common.the_row H T N I O S n i o j k g)
   common_send h s y m d e f =
-      let a : IsSend (Hall.the_field T N g n).row = search (hall.the_field_send T N g n, sendable) in
+      let a : IsSend (SharedTable.the_field T N g n).row = search (shared_table.the_field_send T N g n, sendable) in
       let b : IsSend Dirs.the_row = dirs.the_send in
       let c : IsSend (ReaderRole.the_row I S i j) = search (reader.the_send I S i j, sendable) in
       let w : IsSend (WriterRole.the_row T N O S n o k g) = writer_role_send T g N O S n o k s y m e f in
@@ -59,7 +59,7 @@ module _ (H T N I O S : RattleType) (n : opening.Ghosts N.Denot) (i : ins.Ghosts
 
   common_sync : IsSync H → IsSend T → IsSync T → IsSend N → IsSend I → IsSend O → IsSend S → IsSync (Common.the_row H T N I O S n i o j k g)
   common_sync h s y m d e f =
-      let a : IsSync (Hall.the_field T N g n).row = search (hall.the_field_sync T N g n, sendable) in
+      let a : IsSync (SharedTable.the_field T N g n).row = search (shared_table.the_field_sync T N g n, sendable) in
       let b : IsSync Dirs.the_row = dirs.the_sync in
       let c : IsSend (ReaderRole.the_row I S i j) = search (reader.the_send I S i j, sendable) in
       let w : IsSend (WriterRole.the_row T N O S n o k g) = writer_role_send T g N O S n o k s y m e f in

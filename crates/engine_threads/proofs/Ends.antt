@@ -42,7 +42,7 @@ by_heard (Piece bytes) old end new (inr r) = by_lack old.kept end r.0
 by_heard Ended old end new r = subst ServesIn (sym r.0) tt
 by_heard Broke old end new r = subst ServesIn (sym r.0) tt
 
-pub some_input : {L : Type 0} (receives : L → Heard → L → Type 0) (from : Option L) (end : SessionEnd) (put : List Queued) (farewell : Option Queued) (is_handed_back : Bool) → ∥ HasReadAll receives from (Some end) put farewell is_handed_back ∥₁ → end ≢ ends.NoWorkers
-some_input receives from end put farewell is_handed_back h none = ∥∥₁_elim h (λ (a b : ⊥). absurd a) (λ (k : HasReadAll receives from (Some end) put farewell is_handed_back).
+pub some_input : {L : Type 0} (receives : L → Heard → L → Type 0) (from : Option L) (end : SessionEnd) (put : List Queued) (last_job : Option Queued) (is_handed_back : Bool) → ∥ HasReadAll receives from (Some end) put last_job is_handed_back ∥₁ → end ≢ ends.NoWorkers
+some_input receives from end put last_job is_handed_back h none = ∥∥₁_elim h (λ (a b : ⊥). absurd a) (λ (k : HasReadAll receives from (Some end) put last_job is_handed_back).
     let all = k.read.reads in
     subst Serves none (by_heard all.ends.heard all.last.so_far end k.last.so_far all.ends.reads))

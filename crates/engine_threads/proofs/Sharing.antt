@@ -4,20 +4,20 @@ use Rattle.std.specs.List.{flat_map}
 use Rattle.engine_queues.specs.declared.job.Job.{Job}
 use Rattle.engine_queues.specs.Gathered.{puts_of, takings_of}
 use Rattle.engine_queues.specs.Jobs.{Accounts}
-use Rattle.engine_queues.specs.Letters.{IsWhole}
+use Rattle.engine_queues.specs.Replies.{IsWhole}
 use Rattle.engine_queues.specs.declared.jobs.Hand.{Hand}
-use Rattle.engine_queues.specs.declared.letters.Letter.{Letter}
-use Rattle.engine_queues.specs.declared.letters.ReplyLane.{ReplyLane}
+use Rattle.engine_queues.specs.declared.replies.QueuedReply.{QueuedReply}
+use Rattle.engine_queues.specs.declared.replies.ReplyLane.{ReplyLane}
 use Rattle.engine_queues.specs.declared.passes.Passes.{Passes}
 use Rattle.engine_threads.specs.Ended.{IsShared}
-use Rattle.engine_turns.specs.declared.replies.Reply.{Reply}
+use Rattle.engine_turns.specs.declared.replies.JobReply.{JobReply}
 
-pub shared_as : (read read' : Hand Job) (passes passes' : List (Passes Job Reply)) (written written' : ReplyLane Reply) → read' ≡ read → passes' ≡ passes → written' ≡ written
+pub shared_as : (read read' : Hand Job) (passes passes' : List (Passes Job JobReply)) (written written' : ReplyLane JobReply) → read' ≡ read → passes' ≡ passes → written' ≡ written
     → (left : List Job) → Accounts read.put (flat_map (λ js. js) (takings_of passes)) left
-    → (kept : List (Letter Reply)) → IsWhole (puts_of passes) written.got kept
+    → (kept : List (QueuedReply JobReply)) → IsWhole (puts_of passes) written.got kept
     → IsShared read' passes' written'
 shared_as read read' passes passes' written written' r p w left jobs kept replies =
     subst (λ (v : Hand Job). IsShared v passes' written') (sym r)
-    (subst (λ (ps : List (Passes Job Reply)). IsShared read ps written') (sym p)
-    (subst (λ (l : ReplyLane Reply). IsShared read passes l) (sym w)
+    (subst (λ (ps : List (Passes Job JobReply)). IsShared read ps written') (sym p)
+    (subst (λ (l : ReplyLane JobReply). IsShared read passes l) (sym w)
     (record { jobs_left = left; jobs = jobs; replies_left = kept; replies = replies })))

@@ -10,12 +10,12 @@ use Rattle.engine.specs.declared.ends.SessionEnd.TheVariants.{LinkBroken}
 use Rattle.engine_queues.specs.declared.job.Job.{Job}
 use Rattle.engine_queues.specs.Gathered.{puts_of, takings_of}
 use Rattle.engine_queues.specs.Jobs.{Accounts}
-use Rattle.engine_queues.specs.Letters.{IsWhole}
+use Rattle.engine_queues.specs.Replies.{IsWhole}
 use Rattle.engine_queues.specs.declared.jobs.Hand.{Hand}
-use Rattle.engine_queues.specs.declared.letters.Letter.{Letter}
-use Rattle.engine_queues.specs.declared.letters.ReplyLane.{ReplyLane}
+use Rattle.engine_queues.specs.declared.replies.QueuedReply.{QueuedReply}
+use Rattle.engine_queues.specs.declared.replies.ReplyLane.{ReplyLane}
 use Rattle.engine_queues.specs.declared.passes.Passes.{Passes}
-use Rattle.engine_turns.specs.declared.replies.Reply.{Reply}
+use Rattle.engine_turns.specs.declared.replies.JobReply.{JobReply}
 
 -- what the ledger of a lawful table holds, and these shares sum to it
 pub record IsGathered (totals : Totals) : Type 0 where
@@ -25,7 +25,7 @@ pub record IsGathered (totals : Totals) : Type 0 where
   pub shares : List Part
   pub sums : totals ≡ sum_of shares
 
--- how many jobs each worker took, of whom the starter comes last
+-- how many jobs each worker took, of whom the coordinator comes last
 pub record AreCounts {J : Type 0} (taken : List ℕ) (takings : List (List J)) : Type 0 where
   pub own : ℕ
   pub all : taken ++ own ∷ [] ≡ map (λ js. length js) takings
@@ -39,8 +39,8 @@ EndsAs None false end = ⊥
 
 -- Of the jobs that were read each was taken by one of these or is left, as often as it was read; and of the replies of each of these the
 -- writer got the first ones, in their order, and the others are left.
-pub record IsShared (read : Hand Job) (passes : List (Passes Job Reply)) (written : ReplyLane Reply) : Type 0 where
+pub record IsShared (read : Hand Job) (passes : List (Passes Job JobReply)) (written : ReplyLane JobReply) : Type 0 where
   pub jobs_left : List Job
   pub jobs : Accounts read.put (flat_map (λ js. js) (takings_of passes)) jobs_left
-  pub replies_left : List (Letter Reply)
+  pub replies_left : List (QueuedReply JobReply)
   pub replies : IsWhole (puts_of passes) written.got replies_left

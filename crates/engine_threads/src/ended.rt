@@ -9,9 +9,9 @@ ghost use Rattle.engine_threads.specs.Ended.{AreCounts, IsGathered};
 use engine::SessionEnd;
 use engine_queues::Job;
 use engine_queues::jobs::JobPass;
-use engine_queues::letters::ReplyPass;
 use engine_queues::passes::Passes;
-use engine_turns::Reply;
+use engine_queues::replies::ReplyPass;
+use engine_turns::JobReply;
 use ledger::{Ledgers, Share, Totals};
 use std::snapshot::Snapshot;
 use table::Table;
@@ -53,11 +53,11 @@ pub struct Passed {
     /// The jobs that the reader put.
     pub read: Snapshot<JobPass<Job>>,
     /// The job of the frame that ended the session, if one did. It was not put.
-    pub farewell: Snapshot<Option<Job>>,
+    pub last_job: Snapshot<Option<Job>>,
     /// The replies that the writer got.
-    pub written: Snapshot<ReplyPass<Reply>>,
-    /// Which jobs each worker took and which replies it put. The starter, who answers the last frame and takes no job, comes last.
-    pub passes: Snapshot<Vec<Passes<Job, Reply>>>,
+    pub written: Snapshot<ReplyPass<JobReply>>,
+    /// Which jobs each worker took and which replies it put. The coordinator, who answers the last frame and takes no job, comes last.
+    pub passes: Snapshot<Vec<Passes<Job, JobReply>>>,
     /// How many replies of each of these their queue handed back.
     pub handed_back: Vec<u64>,
     /// Whether the queue of jobs handed one back to the reader.

@@ -1,29 +1,29 @@
-//! What the workers leave, and the starter's reply to the frame that ended the session.
+//! What the workers leave, and the coordinator's reply to the frame that ended the session.
 
 ghost use Rattle.std.specs.Prelude.{◌≡◌, ◌<◌, ◌≤◌, ◌+◌, ◌++◌, ◌∷◌, [], map, vec_len, vec_capacity};
 ghost use Rattle.std.specs.List.{All};
 ghost use Rattle.crossbeam_channel.specs.Claims.{IsSeatAt};
 ghost use Rattle.crossbeam_channel.specs.Ends.{sends_on, receives_on};
 ghost use Rattle.table_shared.specs.Histories.{calls_of};
-ghost use Rattle.engine_turns.specs.Visits.{idle, on_table_of};
-ghost use Rattle.engine_threads.specs.Worked.{did, does_shared, AnswersFarewell, AreUnused};
+ghost use Rattle.engine_turns.specs.TableCalls.{idle, on_table_of};
+ghost use Rattle.engine_threads.specs.Worked.{did, does_shared, AnswersLastJob, AreUnused};
 
-use crate::farewell::{Bid, Starter, ThreadEnd, bid_farewell};
+use crate::last_job::{Coordinator, ThreadEnd, ThreadStart, answer_last_job};
 use crate::working::WorkerEnd;
 use backing::Calls;
 use engine::Served;
 use engine_queues::Job;
 use engine_queues::jobs::JobSender;
-use engine_queues::letters::ReplySender;
 use engine_queues::passes::Passes;
-use engine_turns::{Kept, Reply, Shares};
+use engine_queues::replies::ReplySender;
+use engine_turns::{JobReply, Shares, ThreadShare};
 use handles::Dirs;
 use ledger::Ledgers;
 use std::snapshot::Snapshot;
 use std::sync::Wait;
-use table_shared::{Closed, Hall, Opening};
+use table_shared::{Closed, Opening, SharedTable};
 
-/// What the workers and the starter leave, once the frame that ended the session is answered.
+/// What the workers and the coordinator leave, once the frame that ended the session is answered.
 #[derive(Drop)]
 pub struct Leaving<T: Ledgers, N: Opening, C: Calls + Drop> {
     /// The workers but the last.
@@ -32,36 +32,36 @@ pub struct Leaving<T: Ledgers, N: Opening, C: Calls + Drop> {
     pub last: Snapshot<WorkerEnd<T, N, C>>,
     pub worker: ThreadEnd<T, N>,
     pub own: ThreadEnd<T, N>,
-    pub kept: Kept<T>,
+    pub kept: ThreadShare<T>,
     pub calls: C,
 }
 
-/// With the directory and the share of the last worker the starter answers the frame that ended the session, if one did.
+/// With the directory and the share of the last worker the coordinator answers the frame that ended the session, if one did.
 pub fn take_leave<H: Wait + Drop, T: Ledgers, N: Opening, C: Calls + Drop>(
     rt: &H,
-    hall: &Hall<T, N>,
+    shared_table: &SharedTable<T, N>,
     dirs: &Dirs,
     jobs: &JobSender<Job>,
-    replies: &ReplySender<Reply>,
+    replies: &ReplySender<JobReply>,
     ends: Vec<WorkerEnd<T, N, C>>,
-    starter: Starter,
-    own: Bid<T, N>,
-    farewell: Option<Job>,
+    coordinator: Coordinator,
+    own: ThreadStart<T, N>,
+    last_job: Option<Job>,
 ) -> Leaving<T, N, C>
     requires some { 0 < vec_len ends }
-    requires work { receives_on starter.work ≡ sends_on jobs.now }
-    requires ring { sends_on starter.replies ≡ sends_on replies.now }
+    requires work { receives_on coordinator.work ≡ sends_on jobs.now }
+    requires queue { sends_on coordinator.replies ≡ sends_on replies.now }
     requires job_seat { IsSeatAt (sends_on jobs.now) own.passes.job_pass }
     requires reply_seat { IsSeatAt (sends_on replies.now) own.passes.reply_pass }
     requires unused { AreUnused own.passes }
-    requires front { on_table_of own.front ≡ idle own.passes.number }
+    requires thread_log { on_table_of own.thread_log ≡ idle own.passes.number }
     ensures ends { ends.items ≡ result.ends.items ++ result.last.value ∷ [] }
     ensures len { vec_len result.ends + 1 ≡ vec_len ends }
-    ensures worker { (result.worker.passes ≡ result.last.value.passes) × (result.worker.handed_back ≡ result.last.value.handed_back) × (result.worker.front ≡ result.last.value.front) }
+    ensures worker { (result.worker.passes ≡ result.last.value.passes) × (result.worker.handed_back ≡ result.last.value.handed_back) × (result.worker.thread_log ≡ result.last.value.thread_log) }
     ensures job_seat { IsSeatAt (sends_on jobs.now) result.own.passes.job_pass }
     ensures reply_seat { IsSeatAt (sends_on replies.now) result.own.passes.reply_pass }
     ensures number { result.own.passes.number ≡ own.passes.number }
-    ensures farewell { AnswersFarewell (does_shared C.gives) starter.settings farewell result.last.value.calls result.last.value.kept.share result.own.passes result.own.handed_back (on_table_of result.own.front) }
+    ensures last_job { AnswersLastJob (does_shared C.gives) coordinator.settings last_job result.last.value.calls result.last.value.kept.share result.own.passes result.own.handed_back (on_table_of result.own.thread_log) }
 {
     let _jobs = jobs;
     let _replies = replies;
@@ -75,11 +75,19 @@ pub fn take_leave<H: Wait + Drop, T: Ledgers, N: Opening, C: Calls + Drop>(
         passes,
         handed_back,
         mut kept,
-        front,
+        thread_log,
         calls,
     } = end;
     let mut served = Served { calls, dirs };
-    let own = bid_farewell(rt, hall, starter, own, &mut kept, &mut served, farewell);
+    let own = answer_last_job(
+        rt,
+        shared_table,
+        coordinator,
+        own,
+        &mut kept,
+        &mut served,
+        last_job,
+    );
     let Served { calls, dirs: _ } = served;
     Leaving {
         ends,
@@ -87,7 +95,7 @@ pub fn take_leave<H: Wait + Drop, T: Ledgers, N: Opening, C: Calls + Drop>(
         worker: ThreadEnd {
             passes,
             handed_back,
-            front,
+            thread_log,
         },
         own,
         kept,
@@ -99,17 +107,17 @@ pub fn take_leave<H: Wait + Drop, T: Ledgers, N: Opening, C: Calls + Drop>(
 fn part_end<T: Ledgers, N: Opening>(
     closed: &mut Closed<T, N>,
     end: ThreadEnd<T, N>,
-) -> Passes<Job, Reply>
+) -> Passes<Job, JobReply>
     ensures passes { result ≡ end.passes }
-    ensures did { did closed.old.table.log end.front.by ≡ calls_of end.front.mine }
+    ensures did { did closed.old.table.log end.thread_log.by ≡ calls_of end.thread_log.mine }
     ensures same { closed.new.table.log ≡ closed.old.table.log }
 {
     let ThreadEnd {
         passes,
         handed_back: _,
-        mut front,
+        mut thread_log,
     } = end;
-    closed.look(&mut front);
+    closed.look(&mut thread_log);
     passes
 }
 
@@ -118,9 +126,9 @@ fn part<T: Ledgers, N: Opening, C: Calls + Drop>(
     closed: &mut Closed<T, N>,
     end: WorkerEnd<T, N, C>,
     shares: &mut Shares<T>,
-) -> Passes<Job, Reply>
+) -> Passes<Job, JobReply>
     ensures passes { result ≡ end.passes }
-    ensures did { did closed.old.table.log end.front.by ≡ calls_of end.front.mine }
+    ensures did { did closed.old.table.log end.thread_log.by ≡ calls_of end.thread_log.mine }
     ensures same { closed.new.table.log ≡ closed.old.table.log }
 {
     let WorkerEnd {
@@ -128,14 +136,14 @@ fn part<T: Ledgers, N: Opening, C: Calls + Drop>(
         passes,
         handed_back,
         kept,
-        front,
+        thread_log,
         calls: _,
     } = end;
     shares.put(kept);
     let end = ThreadEnd {
         passes,
         handed_back,
-        front,
+        thread_log,
     };
     part_end(closed, end)
 }
@@ -144,15 +152,15 @@ fn part<T: Ledgers, N: Opening, C: Calls + Drop>(
 fn part_all<T: Ledgers, N: Opening, C: Calls + Drop>(
     closed: &mut Closed<T, N>,
     ends: Vec<WorkerEnd<T, N, C>>,
-    passes: Vec<Passes<Job, Reply>>,
+    passes: Vec<Passes<Job, JobReply>>,
     handed_back: Vec<u64>,
     shares: &mut Shares<T>,
-) -> (Vec<Passes<Job, Reply>>, Vec<u64>)
+) -> (Vec<Passes<Job, JobReply>>, Vec<u64>)
     requires room { (vec_len ends ≤ vec_capacity passes) × (vec_len ends ≤ vec_capacity handed_back) }
     requires empty { (passes.items ≡ []) × (handed_back.items ≡ []) }
     ensures passes { result.0.items ≡ map (λ e. e.passes) ends.items }
     ensures handed_back { result.1.items ≡ map (λ e. e.handed_back) ends.items }
-    ensures did { All (λ e. did closed.old.table.log e.front.by ≡ calls_of e.front.mine) ends.items }
+    ensures did { All (λ e. did closed.old.table.log e.thread_log.by ≡ calls_of e.thread_log.mine) ends.items }
     ensures same { closed.new.table.log ≡ closed.old.table.log }
     ensures len { (vec_len result.0 ≡ vec_len ends) × (vec_len result.1 ≡ vec_len ends) }
     ensures capacity { (vec_capacity result.0 ≡ vec_capacity passes) × (vec_capacity result.1 ≡ vec_capacity handed_back) }
@@ -166,22 +174,22 @@ fn part_all<T: Ledgers, N: Opening, C: Calls + Drop>(
     (passes, handed_back)
 }
 
-/// Takes apart what all leave: their passes, of which the starter's come last, how many replies of each were handed back, and a directory.
+/// Takes apart what all leave: their passes, of which the coordinator's come last, how many replies of each were handed back, and a directory.
 pub fn part_with<T: Ledgers, N: Opening, C: Calls + Drop>(
     closed: &mut Closed<T, N>,
     leaving: Leaving<T, N, C>,
-    passes: Vec<Passes<Job, Reply>>,
+    passes: Vec<Passes<Job, JobReply>>,
     handed_back: Vec<u64>,
     shares: &mut Shares<T>,
-) -> (Vec<Passes<Job, Reply>>, Vec<u64>, C)
+) -> (Vec<Passes<Job, JobReply>>, Vec<u64>, C)
     requires room { (vec_len leaving.ends + 1 < vec_capacity passes) × (vec_len leaving.ends + 1 < vec_capacity handed_back) }
     requires empty { (passes.items ≡ []) × (handed_back.items ≡ []) }
     ensures passes { result.0.items ≡ (map (λ e. e.passes) leaving.ends.items ++ leaving.worker.passes ∷ []) ++ leaving.own.passes ∷ [] }
     ensures handed_back { result.1.items ≡ (map (λ e. e.handed_back) leaving.ends.items ++ leaving.worker.handed_back ∷ []) ++ leaving.own.handed_back ∷ [] }
     ensures len { vec_len result.0 ≡ vec_len leaving.ends + 2 }
-    ensures did { All (λ e. did closed.old.table.log e.front.by ≡ calls_of e.front.mine) leaving.ends.items }
-    ensures worker_did { did closed.old.table.log leaving.worker.front.by ≡ calls_of leaving.worker.front.mine }
-    ensures own_did { did closed.old.table.log leaving.own.front.by ≡ calls_of leaving.own.front.mine }
+    ensures did { All (λ e. did closed.old.table.log e.thread_log.by ≡ calls_of e.thread_log.mine) leaving.ends.items }
+    ensures worker_did { did closed.old.table.log leaving.worker.thread_log.by ≡ calls_of leaving.worker.thread_log.mine }
+    ensures own_did { did closed.old.table.log leaving.own.thread_log.by ≡ calls_of leaving.own.thread_log.mine }
     ensures same { closed.new.table.log ≡ closed.old.table.log }
 {
     let Leaving {

@@ -1,19 +1,19 @@
 //! A session on one to four threads, each of which takes whatever turn is due: it offers replies, works on a job, or reads.
 #![tactic(auto)]
 
+mod end_buffers;
 mod ended;
 mod ending;
-mod farewell;
-mod fronts;
-mod hiring;
+mod last_job;
 mod leaving;
-mod places;
+mod making_workers;
+mod queue_ends;
 mod queued;
-mod rings;
-mod rooms;
 mod running;
 mod serving;
+mod session_state;
 mod starting;
+mod thread_logs;
 mod turns;
 mod working;
 

@@ -8,55 +8,55 @@ ghost use Rattle.std.specs.Option.{option_map};
 ghost use Rattle.ledger.specs.Shares.{nothing};
 ghost use Rattle.engine_queues.specs.Gathered.{numbers_of, takings_of};
 ghost use Rattle.engine_queues.specs.Jobs.{hand};
-ghost use Rattle.engine_turns.specs.Visits.{idle, on_table_of};
+ghost use Rattle.engine_turns.specs.TableCalls.{idle, on_table_of};
 ghost use Rattle.engine_turns.specs.Shown.{queued_of, reading, shown};
 ghost use Rattle.engine_turns.specs.Reads.{beginning, HasReadAll};
 ghost use Rattle.engine_turns.specs.Writes.{none_got, HasWrittenAll};
 ghost use Rattle.engine_threads.specs.Ended.{IsShared};
-ghost use Rattle.engine_threads.specs.Worked.{did, does_shared, made_by, AreUnused, BidsFarewell, IsStaffed, WorkedEach};
+ghost use Rattle.engine_threads.specs.Worked.{did, does_shared, made_by, AreUnused, CoordinatorAnswers, IsReadyWorker, WorkedEach};
 
+use crate::end_buffers::EndBuffers;
 use crate::ending::Over;
-use crate::farewell::Bid;
-use crate::hiring::{cut_passes, hire_staff};
-use crate::rings::{Ends, Receivers, Senders, queues};
-use crate::rooms::Rooms;
-use crate::running::Parts;
-use crate::working::Staff;
+use crate::last_job::ThreadStart;
+use crate::making_workers::{cut_passes, make_ready_workers};
+use crate::queue_ends::{Ends, Receivers, Senders, queues};
+use crate::running::SharedParts;
+use crate::working::ReadyWorker;
 use backing::Calls;
 use engine::{LinkIn, LinkOut, Settings};
 use engine_queues::Job;
 use engine_queues::passes::Passes;
-use engine_turns::{Reply, Shares};
+use engine_turns::{JobReply, Shares};
 use handles::Dirs;
 use ledger::Ledgers;
-use shared_history::Front;
+use shared_history::ThreadLog;
 use std::alloc::Global;
 use std::marker::Brand;
 use std::sync::Wait;
 use std::thread::Threads;
-use table_shared::{Entry, Hall, Opening, Runs};
+use table_shared::{LogEntry, Opening, Runs, SharedTable};
 
 /// What a session has before its queues, beside its workers.
-pub struct Ground<H: Drop, T: Ledgers, N: Opening, I: LinkIn + Drop, O: LinkOut + Drop> {
+pub struct SessionParts<H: Drop, T: Ledgers, N: Opening, I: LinkIn + Drop, O: LinkOut + Drop> {
     pub rt: H,
-    pub hall: Hall<T, N>,
+    pub shared_table: SharedTable<T, N>,
     pub dirs: Dirs,
     pub link_in: I,
     pub link_out: O,
     /// The writer's.
-    pub writes: Front<Entry<T>, Runs<N>>,
-    /// The starter's.
-    pub starts: Front<Entry<T>, Runs<N>>,
+    pub writes: ThreadLog<LogEntry<T>, Runs<N>>,
+    /// The coordinator's.
+    pub starts: ThreadLog<LogEntry<T>, Runs<N>>,
     pub shares: Shares<T>,
 }
 
 impl<H: Drop, T: Ledgers, N: Opening, I: LinkIn + Drop, O: LinkOut + Drop> Drop
-    for Ground<H, T, N, I, O> {
+    for SessionParts<H, T, N, I, O> {
     // A call: else whoever drops it is checked for each of its parts.
     fn drop(self) {
-        let Ground {
+        let SessionParts {
             rt: _,
-            hall: _,
+            shared_table: _,
             dirs: _,
             link_in: _,
             link_out: _,
@@ -73,53 +73,53 @@ impl<
     N: Opening + Send + Sync + 'static,
     I: LinkIn + Send + Drop + 'static,
     O: LinkOut + Send + Drop + 'static,
-> Ground<H, T, N, I, O> {
+> SessionParts<H, T, N, I, O> {
     /// Runs a session by all that its threads need. None where a thread was wanting.
-    fn serve_staffed<C: Calls + Send + Drop + 'static>(
+    fn serve_ready<C: Calls + Send + Drop + 'static>(
         self,
         rt: &H,
         alloc: Global,
         senders: &Senders,
         ends: Ends<T>,
-        passes: Passes<Job, Reply>,
-        staff: Vec<Staff<T, N, C>>,
-        rooms: Rooms<T, N, C>,
+        passes: Passes<Job, JobReply>,
+        ready_workers: Vec<ReadyWorker<T, N, C>>,
+        buffers: EndBuffers<T, N, C>,
     ) -> Option<Over<T, N, C>>
-        requires some { 0 < vec_len staff }
-        requires few { vec_len staff ≤ 4 }
-        requires staff { All (λ s. IsStaffed (sends_on senders.now.jobs) (sends_on senders.now.replies) ends.starter.settings s.worker s.kept.share (on_table_of s.front)) staff.items }
-        requires staff_numbers { map (λ s. s.worker.number) staff.items ≡ range_with_len 0 (vec_len staff) }
+        requires some { 0 < vec_len ready_workers }
+        requires few { vec_len ready_workers ≤ 4 }
+        requires ready_workers { All (λ s. IsReadyWorker (sends_on senders.now.jobs) (sends_on senders.now.replies) ends.coordinator.settings s.worker s.kept.share (on_table_of s.thread_log)) ready_workers.items }
+        requires worker_numbers { map (λ s. s.worker.number) ready_workers.items ≡ range_with_len 0 (vec_len ready_workers) }
         requires reads { sends_on ends.reader.to ≡ sends_on senders.now.jobs }
-        requires parts { (view ends.reader.pass).parts + (vec_len staff + 1) ≡ 8 }
+        requires parts { (view ends.reader.pass).parts + (vec_len ready_workers + 1) ≡ 8 }
         requires unheard { reading self.link_in ends.reader ≡ beginning self.link_in }
         requires writes { receives_on ends.writer.replies ≡ sends_on senders.now.replies }
-        requires unsent { view ends.writer.pass ≡ none_got (vec_len staff + 1) }
+        requires unsent { view ends.writer.pass ≡ none_got (vec_len ready_workers + 1) }
         requires whole { ends.writer.is_broken ≡ false }
-        requires front { on_table_of self.writes ≡ idle (vec_len staff + 1) }
+        requires thread_log { on_table_of self.writes ≡ idle (vec_len ready_workers + 1) }
         requires job_seat { IsSeatAt (sends_on senders.now.jobs) passes.job_pass }
         requires reply_seat { IsSeatAt (sends_on senders.now.replies) passes.reply_pass }
         requires unused { AreUnused passes }
-        requires number { passes.number ≡ vec_len staff }
-        requires own_front { on_table_of self.starts ≡ idle passes.number }
-        requires work { receives_on ends.starter.work ≡ sends_on senders.now.jobs }
-        requires ring { sends_on ends.starter.replies ≡ sends_on senders.now.replies }
-        requires handles { (4 ≤ vec_capacity rooms.handles) × (rooms.handles.items ≡ []) }
-        requires ended { (4 ≤ vec_capacity rooms.ended) × (rooms.ended.items ≡ []) }
-        requires rooms_passes { (5 ≤ vec_capacity rooms.passes) × (rooms.passes.items ≡ []) }
-        requires handed_back { (5 ≤ vec_capacity rooms.handed_back) × (rooms.handed_back.items ≡ []) }
-        requires taken { (5 ≤ vec_capacity rooms.taken) × (rooms.taken.items ≡ []) }
-        ensures taken { IfSome result (λ o. vec_len o.taken ≡ vec_len staff + 1) }
+        requires number { passes.number ≡ vec_len ready_workers }
+        requires own_log { on_table_of self.starts ≡ idle passes.number }
+        requires work { receives_on ends.coordinator.work ≡ sends_on senders.now.jobs }
+        requires queue { sends_on ends.coordinator.replies ≡ sends_on senders.now.replies }
+        requires handles { (4 ≤ vec_capacity buffers.handles) × (buffers.handles.items ≡ []) }
+        requires ended { (4 ≤ vec_capacity buffers.ended) × (buffers.ended.items ≡ []) }
+        requires buffer_passes { (5 ≤ vec_capacity buffers.passes) × (buffers.passes.items ≡ []) }
+        requires handed_back { (5 ≤ vec_capacity buffers.handed_back) × (buffers.handed_back.items ≡ []) }
+        requires taken { (5 ≤ vec_capacity buffers.taken) × (buffers.taken.items ≡ []) }
+        ensures taken { IfSome result (λ o. vec_len o.taken ≡ vec_len ready_workers + 1) }
         ensures counted { IfSome result (λ o. o.taken.items ≡ map (λ js. length js) (takings_of o.passed.passes.value.items)) }
-        ensures numbers { IfSome result (λ o. numbers_of o.passed.passes.value.items ≡ range_with_len 0 (vec_len staff + 1)) }
-        ensures reads { IfSome result (λ o. ∥ HasReadAll I.receives (Some self.link_in) o.passed.input (queued_of (view o.passed.read.value).put) (option_map shown o.passed.farewell.value) o.passed.is_job_handed_back ∥₁) }
-        ensures writes { IfSome result (λ o. ∥ HasWrittenAll O.sends (Some self.link_out) (vec_len staff + 1) (made_by (did o.closed.table.log) (vec_len staff + 1)) (view o.passed.written.value) o.passed.is_broken ∥₁) }
+        ensures numbers { IfSome result (λ o. numbers_of o.passed.passes.value.items ≡ range_with_len 0 (vec_len ready_workers + 1)) }
+        ensures reads { IfSome result (λ o. ∥ HasReadAll I.receives (Some self.link_in) o.passed.input (queued_of (view o.passed.read.value).put) (option_map shown o.passed.last_job.value) o.passed.is_job_handed_back ∥₁) }
+        ensures writes { IfSome result (λ o. ∥ HasWrittenAll O.sends (Some self.link_out) (vec_len ready_workers + 1) (made_by (did o.closed.table.log) (vec_len ready_workers + 1)) (view o.passed.written.value) o.passed.is_broken ∥₁) }
         ensures shared { IfSome result (λ o. IsShared (view o.passed.read.value) o.passed.passes.value.items (view o.passed.written.value)) }
-        ensures worked { IfSome result (λ o. WorkedEach (does_shared C.gives) ends.starter.settings (did o.closed.table.log) (map (λ s. s.calls) staff.items) o.passed.passes.value.items o.passed.handed_back.items) }
-        ensures farewell { IfSome result (λ o. BidsFarewell (does_shared C.gives) ends.starter.settings (did o.closed.table.log) (map (λ s. s.calls) staff.items) o.passed.farewell.value o.passed.passes.value.items o.passed.handed_back.items) }
+        ensures worked { IfSome result (λ o. WorkedEach (does_shared C.gives) ends.coordinator.settings (did o.closed.table.log) (map (λ s. s.calls) ready_workers.items) o.passed.passes.value.items o.passed.handed_back.items) }
+        ensures last_job { IfSome result (λ o. CoordinatorAnswers (does_shared C.gives) ends.coordinator.settings (did o.closed.table.log) (map (λ s. s.calls) ready_workers.items) o.passed.last_job.value o.passed.passes.value.items o.passed.handed_back.items) }
     {
-        let Ground {
-            rt: host,
-            hall,
+        let SessionParts {
+            rt: own_rt,
+            shared_table,
             dirs,
             link_in,
             link_out,
@@ -128,34 +128,34 @@ impl<
             shares,
         } = self;
         let Ends {
-            starter,
+            coordinator,
             reader,
             writer,
             kept,
         } = ends;
-        let own = Bid {
+        let own = ThreadStart {
             passes,
-            front: starts,
+            thread_log: starts,
         };
-        let parts = Parts {
-            rt: host,
-            hall,
+        let parts = SharedParts {
+            rt: own_rt,
+            shared_table,
             dirs,
             reader,
             link_in,
             writer,
             link_out,
             kept,
-            front: writes,
+            thread_log: writes,
         };
-        rooms
-            .into_crew(staff, own, starter, shares)
+        buffers
+            .into_threads(ready_workers, own, coordinator, shares)
             .run::<H, I, O, Brand>(rt, alloc, &senders.jobs, &senders.replies, parts)
     }
 }
 
-/// Runs a session by this staff. None where memory or a thread was wanting.
-fn serve_hired<
+/// Runs a session by these workers. None where memory or a thread was wanting.
+fn serve_by_workers<
     H: Threads + Wait + Send + Sync + Drop + 'static,
     T: Ledgers + Send + Sync + 'static,
     N: Opening + Send + Sync + 'static,
@@ -166,54 +166,54 @@ fn serve_hired<
     rt: &H,
     alloc: Global,
     settings: Settings,
-    ground: Ground<H, T, N, I, O>,
+    session_parts: SessionParts<H, T, N, I, O>,
     senders: &Senders,
     receivers: Receivers,
-    staff: Vec<Staff<T, N, C>>,
-    rooms: Rooms<T, N, C>,
+    ready_workers: Vec<ReadyWorker<T, N, C>>,
+    buffers: EndBuffers<T, N, C>,
 ) -> Option<Over<T, N, C>>
-    requires some { 0 < vec_len staff }
-    requires few { vec_len staff ≤ 4 }
-    requires staff { All (λ s. IsStaffed (sends_on senders.now.jobs) (sends_on senders.now.replies) settings s.worker s.kept.share (on_table_of s.front)) staff.items }
-    requires staff_numbers { map (λ s. s.worker.number) staff.items ≡ range_with_len 0 (vec_len staff) }
-    requires starter { on_table_of ground.starts ≡ idle (vec_len staff) }
-    requires writer { on_table_of ground.writes ≡ idle (vec_len staff + 1) }
+    requires some { 0 < vec_len ready_workers }
+    requires few { vec_len ready_workers ≤ 4 }
+    requires ready_workers { All (λ s. IsReadyWorker (sends_on senders.now.jobs) (sends_on senders.now.replies) settings s.worker s.kept.share (on_table_of s.thread_log)) ready_workers.items }
+    requires worker_numbers { map (λ s. s.worker.number) ready_workers.items ≡ range_with_len 0 (vec_len ready_workers) }
+    requires coordinator { on_table_of session_parts.starts ≡ idle (vec_len ready_workers) }
+    requires writer { on_table_of session_parts.writes ≡ idle (vec_len ready_workers + 1) }
     requires work { receives_on receivers.work ≡ sends_on senders.now.jobs }
     requires read { IsSeatAt (sends_on senders.now.jobs) receivers.read }
     requires writes { receives_on receivers.writes ≡ sends_on senders.now.replies }
     requires written { IsSeatAt (sends_on senders.now.replies) receivers.written }
-    requires parts { (view receivers.read).parts + vec_len staff ≡ 8 }
+    requires parts { (view receivers.read).parts + vec_len ready_workers ≡ 8 }
     requires unread { ((view receivers.read).put ≡ []) × (length (view receivers.read).taken ≡ 0) }
-    requires unwritten { view receivers.written ≡ none_got (vec_len staff) }
-    requires handles { (4 ≤ vec_capacity rooms.handles) × (rooms.handles.items ≡ []) }
-    requires ended { (4 ≤ vec_capacity rooms.ended) × (rooms.ended.items ≡ []) }
-    requires passes { (5 ≤ vec_capacity rooms.passes) × (rooms.passes.items ≡ []) }
-    requires handed_back { (5 ≤ vec_capacity rooms.handed_back) × (rooms.handed_back.items ≡ []) }
-    requires taken { (5 ≤ vec_capacity rooms.taken) × (rooms.taken.items ≡ []) }
-    ensures taken { IfSome result (λ o. vec_len o.taken ≡ vec_len staff + 1) }
+    requires unwritten { view receivers.written ≡ none_got (vec_len ready_workers) }
+    requires handles { (4 ≤ vec_capacity buffers.handles) × (buffers.handles.items ≡ []) }
+    requires ended { (4 ≤ vec_capacity buffers.ended) × (buffers.ended.items ≡ []) }
+    requires passes { (5 ≤ vec_capacity buffers.passes) × (buffers.passes.items ≡ []) }
+    requires handed_back { (5 ≤ vec_capacity buffers.handed_back) × (buffers.handed_back.items ≡ []) }
+    requires taken { (5 ≤ vec_capacity buffers.taken) × (buffers.taken.items ≡ []) }
+    ensures taken { IfSome result (λ o. vec_len o.taken ≡ vec_len ready_workers + 1) }
     ensures counted { IfSome result (λ o. o.taken.items ≡ map (λ js. length js) (takings_of o.passed.passes.value.items)) }
-    ensures numbers { IfSome result (λ o. numbers_of o.passed.passes.value.items ≡ range_with_len 0 (vec_len staff + 1)) }
-    ensures reads { IfSome result (λ o. ∥ HasReadAll I.receives (Some ground.link_in) o.passed.input (queued_of (view o.passed.read.value).put) (option_map shown o.passed.farewell.value) o.passed.is_job_handed_back ∥₁) }
-    ensures writes { IfSome result (λ o. ∥ HasWrittenAll O.sends (Some ground.link_out) (vec_len staff + 1) (made_by (did o.closed.table.log) (vec_len staff + 1)) (view o.passed.written.value) o.passed.is_broken ∥₁) }
+    ensures numbers { IfSome result (λ o. numbers_of o.passed.passes.value.items ≡ range_with_len 0 (vec_len ready_workers + 1)) }
+    ensures reads { IfSome result (λ o. ∥ HasReadAll I.receives (Some session_parts.link_in) o.passed.input (queued_of (view o.passed.read.value).put) (option_map shown o.passed.last_job.value) o.passed.is_job_handed_back ∥₁) }
+    ensures writes { IfSome result (λ o. ∥ HasWrittenAll O.sends (Some session_parts.link_out) (vec_len ready_workers + 1) (made_by (did o.closed.table.log) (vec_len ready_workers + 1)) (view o.passed.written.value) o.passed.is_broken ∥₁) }
     ensures shared { IfSome result (λ o. IsShared (view o.passed.read.value) o.passed.passes.value.items (view o.passed.written.value)) }
-    ensures worked { IfSome result (λ o. WorkedEach (does_shared C.gives) settings (did o.closed.table.log) (map (λ s. s.calls) staff.items) o.passed.passes.value.items o.passed.handed_back.items) }
-    ensures farewell { IfSome result (λ o. BidsFarewell (does_shared C.gives) settings (did o.closed.table.log) (map (λ s. s.calls) staff.items) o.passed.farewell.value o.passed.passes.value.items o.passed.handed_back.items) }
+    ensures worked { IfSome result (λ o. WorkedEach (does_shared C.gives) settings (did o.closed.table.log) (map (λ s. s.calls) ready_workers.items) o.passed.passes.value.items o.passed.handed_back.items) }
+    ensures last_job { IfSome result (λ o. CoordinatorAnswers (does_shared C.gives) settings (did o.closed.table.log) (map (λ s. s.calls) ready_workers.items) o.passed.last_job.value o.passed.passes.value.items o.passed.handed_back.items) }
 {
-    let mut ground = ground;
+    let mut session_parts = session_parts;
     let mut receivers = receivers;
     let passes = cut_passes(
         &senders.jobs,
         &senders.replies,
         &mut receivers.read,
         &mut receivers.written,
-        staff.len() as u64,
+        ready_workers.len() as u64,
     );
-    let ends = receivers.into_ends(alloc, settings, senders, &mut ground.shares)?;
-    ground.serve_staffed(rt, alloc, senders, ends, passes, staff, rooms)
+    let ends = receivers.into_ends(alloc, settings, senders, &mut session_parts.shares)?;
+    session_parts.serve_ready(rt, alloc, senders, ends, passes, ready_workers, buffers)
 }
 
-/// Hires a staff for the queues, and runs a session by it. None where memory or a thread was wanting.
-fn serve_hiring<
+/// Makes workers for the queues, and runs a session by them. None where memory or a thread was wanting.
+fn serve_making_workers<
     H: Threads + Wait + Send + Sync + Drop + 'static,
     T: Ledgers + Send + Sync + 'static,
     N: Opening + Send + Sync + 'static,
@@ -224,42 +224,42 @@ fn serve_hiring<
     rt: &H,
     alloc: Global,
     settings: Settings,
-    ground: Ground<H, T, N, I, O>,
-    workers: Vec<Front<Entry<T>, Runs<N>>>,
+    session_parts: SessionParts<H, T, N, I, O>,
+    workers: Vec<ThreadLog<LogEntry<T>, Runs<N>>>,
     trees: Vec<C>,
     senders: &Senders,
     receivers: Receivers,
-    rooms: Rooms<T, N, C>,
+    buffers: EndBuffers<T, N, C>,
 ) -> Option<Over<T, N, C>>
     requires some { 0 < vec_len trees }
     requires few { vec_len trees ≤ 4 }
-    requires shares { All (λ p. p.totals ≡ nothing) ground.shares.shares.items }
-    requires fronts { map on_table_of workers.items ≡ map idle (range_with_len 0 (vec_len trees)) }
-    requires starter { on_table_of ground.starts ≡ idle (vec_len trees) }
-    requires writer { on_table_of ground.writes ≡ idle (vec_len trees + 1) }
+    requires shares { All (λ p. p.totals ≡ nothing) session_parts.shares.shares.items }
+    requires thread_logs { map on_table_of workers.items ≡ map idle (range_with_len 0 (vec_len trees)) }
+    requires coordinator { on_table_of session_parts.starts ≡ idle (vec_len trees) }
+    requires writer { on_table_of session_parts.writes ≡ idle (vec_len trees + 1) }
     requires work { receives_on receivers.work ≡ sends_on senders.now.jobs }
     requires read { IsSeatAt (sends_on senders.now.jobs) receivers.read }
     requires writes { receives_on receivers.writes ≡ sends_on senders.now.replies }
     requires written { IsSeatAt (sends_on senders.now.replies) receivers.written }
     requires unread { view receivers.read ≡ hand 8 [] [] }
     requires unwritten { view receivers.written ≡ none_got 0 }
-    requires handles { (4 ≤ vec_capacity rooms.handles) × (rooms.handles.items ≡ []) }
-    requires ended { (4 ≤ vec_capacity rooms.ended) × (rooms.ended.items ≡ []) }
-    requires passes { (5 ≤ vec_capacity rooms.passes) × (rooms.passes.items ≡ []) }
-    requires handed_back { (5 ≤ vec_capacity rooms.handed_back) × (rooms.handed_back.items ≡ []) }
-    requires taken { (5 ≤ vec_capacity rooms.taken) × (rooms.taken.items ≡ []) }
+    requires handles { (4 ≤ vec_capacity buffers.handles) × (buffers.handles.items ≡ []) }
+    requires ended { (4 ≤ vec_capacity buffers.ended) × (buffers.ended.items ≡ []) }
+    requires passes { (5 ≤ vec_capacity buffers.passes) × (buffers.passes.items ≡ []) }
+    requires handed_back { (5 ≤ vec_capacity buffers.handed_back) × (buffers.handed_back.items ≡ []) }
+    requires taken { (5 ≤ vec_capacity buffers.taken) × (buffers.taken.items ≡ []) }
     ensures taken { IfSome result (λ o. vec_len o.taken ≡ vec_len trees + 1) }
     ensures counted { IfSome result (λ o. o.taken.items ≡ map (λ js. length js) (takings_of o.passed.passes.value.items)) }
     ensures numbers { IfSome result (λ o. numbers_of o.passed.passes.value.items ≡ range_with_len 0 (vec_len trees + 1)) }
-    ensures reads { IfSome result (λ o. ∥ HasReadAll I.receives (Some ground.link_in) o.passed.input (queued_of (view o.passed.read.value).put) (option_map shown o.passed.farewell.value) o.passed.is_job_handed_back ∥₁) }
-    ensures writes { IfSome result (λ o. ∥ HasWrittenAll O.sends (Some ground.link_out) (vec_len trees + 1) (made_by (did o.closed.table.log) (vec_len trees + 1)) (view o.passed.written.value) o.passed.is_broken ∥₁) }
+    ensures reads { IfSome result (λ o. ∥ HasReadAll I.receives (Some session_parts.link_in) o.passed.input (queued_of (view o.passed.read.value).put) (option_map shown o.passed.last_job.value) o.passed.is_job_handed_back ∥₁) }
+    ensures writes { IfSome result (λ o. ∥ HasWrittenAll O.sends (Some session_parts.link_out) (vec_len trees + 1) (made_by (did o.closed.table.log) (vec_len trees + 1)) (view o.passed.written.value) o.passed.is_broken ∥₁) }
     ensures shared { IfSome result (λ o. IsShared (view o.passed.read.value) o.passed.passes.value.items (view o.passed.written.value)) }
     ensures worked { IfSome result (λ o. WorkedEach (does_shared C.gives) settings (did o.closed.table.log) trees.items o.passed.passes.value.items o.passed.handed_back.items) }
-    ensures farewell { IfSome result (λ o. BidsFarewell (does_shared C.gives) settings (did o.closed.table.log) trees.items o.passed.farewell.value o.passed.passes.value.items o.passed.handed_back.items) }
+    ensures last_job { IfSome result (λ o. CoordinatorAnswers (does_shared C.gives) settings (did o.closed.table.log) trees.items o.passed.last_job.value o.passed.passes.value.items o.passed.handed_back.items) }
 {
-    let mut ground = ground;
+    let mut session_parts = session_parts;
     let mut receivers = receivers;
-    let staff = hire_staff(
+    let ready_workers = make_ready_workers(
         alloc,
         settings,
         &senders.jobs,
@@ -269,10 +269,17 @@ fn serve_hiring<
         &mut receivers.written,
         workers,
         trees,
-        &mut ground.shares,
+        &mut session_parts.shares,
     )?;
-    serve_hired(
-        rt, alloc, settings, ground, senders, receivers, staff, rooms,
+    serve_by_workers(
+        rt,
+        alloc,
+        settings,
+        session_parts,
+        senders,
+        receivers,
+        ready_workers,
+        buffers,
     )
 }
 
@@ -288,28 +295,36 @@ pub fn serve_queued<
     rt: &H,
     alloc: Global,
     settings: Settings,
-    ground: Ground<H, T, N, I, O>,
-    workers: Vec<Front<Entry<T>, Runs<N>>>,
+    session_parts: SessionParts<H, T, N, I, O>,
+    workers: Vec<ThreadLog<LogEntry<T>, Runs<N>>>,
     trees: Vec<C>,
 ) -> Option<Over<T, N, C>>
     requires some { 0 < vec_len trees }
     requires few { vec_len trees ≤ 4 }
-    requires shares { All (λ p. p.totals ≡ nothing) ground.shares.shares.items }
-    requires fronts { map on_table_of workers.items ≡ map idle (range_with_len 0 (vec_len trees)) }
-    requires starter { on_table_of ground.starts ≡ idle (vec_len trees) }
-    requires writer { on_table_of ground.writes ≡ idle (vec_len trees + 1) }
+    requires shares { All (λ p. p.totals ≡ nothing) session_parts.shares.shares.items }
+    requires thread_logs { map on_table_of workers.items ≡ map idle (range_with_len 0 (vec_len trees)) }
+    requires coordinator { on_table_of session_parts.starts ≡ idle (vec_len trees) }
+    requires writer { on_table_of session_parts.writes ≡ idle (vec_len trees + 1) }
     ensures taken { IfSome result (λ o. vec_len o.taken ≡ vec_len trees + 1) }
     ensures counted { IfSome result (λ o. o.taken.items ≡ map (λ js. length js) (takings_of o.passed.passes.value.items)) }
     ensures numbers { IfSome result (λ o. numbers_of o.passed.passes.value.items ≡ range_with_len 0 (vec_len trees + 1)) }
-    ensures reads { IfSome result (λ o. ∥ HasReadAll I.receives (Some ground.link_in) o.passed.input (queued_of (view o.passed.read.value).put) (option_map shown o.passed.farewell.value) o.passed.is_job_handed_back ∥₁) }
-    ensures writes { IfSome result (λ o. ∥ HasWrittenAll O.sends (Some ground.link_out) (vec_len trees + 1) (made_by (did o.closed.table.log) (vec_len trees + 1)) (view o.passed.written.value) o.passed.is_broken ∥₁) }
+    ensures reads { IfSome result (λ o. ∥ HasReadAll I.receives (Some session_parts.link_in) o.passed.input (queued_of (view o.passed.read.value).put) (option_map shown o.passed.last_job.value) o.passed.is_job_handed_back ∥₁) }
+    ensures writes { IfSome result (λ o. ∥ HasWrittenAll O.sends (Some session_parts.link_out) (vec_len trees + 1) (made_by (did o.closed.table.log) (vec_len trees + 1)) (view o.passed.written.value) o.passed.is_broken ∥₁) }
     ensures shared { IfSome result (λ o. IsShared (view o.passed.read.value) o.passed.passes.value.items (view o.passed.written.value)) }
     ensures worked { IfSome result (λ o. WorkedEach (does_shared C.gives) settings (did o.closed.table.log) trees.items o.passed.passes.value.items o.passed.handed_back.items) }
-    ensures farewell { IfSome result (λ o. BidsFarewell (does_shared C.gives) settings (did o.closed.table.log) trees.items o.passed.farewell.value o.passed.passes.value.items o.passed.handed_back.items) }
+    ensures last_job { IfSome result (λ o. CoordinatorAnswers (does_shared C.gives) settings (did o.closed.table.log) trees.items o.passed.last_job.value o.passed.passes.value.items o.passed.handed_back.items) }
 {
-    let rooms = Rooms::new(alloc)?;
+    let buffers = EndBuffers::new(alloc)?;
     let (senders, receivers) = queues(alloc)?;
-    serve_hiring(
-        rt, alloc, settings, ground, workers, trees, &senders, receivers, rooms,
+    serve_making_workers(
+        rt,
+        alloc,
+        settings,
+        session_parts,
+        workers,
+        trees,
+        &senders,
+        receivers,
+        buffers,
     )
 }

@@ -18,8 +18,8 @@ ghost use Rattle.engine_threads.specs.Served.{HasServed};
 
 use crate::ended::{Account, Ended, Sums};
 use crate::ending::Over;
-use crate::fronts::{Fronts, hall_of};
-use crate::queued::{Ground, serve_queued};
+use crate::queued::{SessionParts, serve_queued};
+use crate::thread_logs::{ThreadLogs, shared_table_of};
 use backing::Calls;
 use engine::{LinkIn, LinkOut, SessionEnd, Settings, remove_leftovers};
 use engine_turns::Shares;
@@ -31,7 +31,7 @@ use std::marker::Brand;
 use std::sync::Wait;
 use std::thread::Threads;
 use table::{Counts, Limits, Seeds, Table};
-use table_shared::{Entry, Opening};
+use table_shared::{LogEntry, Opening};
 
 /// Both ends of the way to a client.
 #[derive(Drop)]
@@ -41,17 +41,17 @@ struct Links<I: LinkIn + Drop, O: LinkOut + Drop> {
 }
 
 /// Both ends, and what the threads share that needs no table.
-struct Host<H: Drop, I: LinkIn + Drop, O: LinkOut + Drop> {
+struct SessionBase<H: Drop, I: LinkIn + Drop, O: LinkOut + Drop> {
     rt: H,
     dirs: Dirs,
     link_in: I,
     link_out: O,
 }
 
-impl<H: Drop, I: LinkIn + Drop, O: LinkOut + Drop> Drop for Host<H, I, O> {
+impl<H: Drop, I: LinkIn + Drop, O: LinkOut + Drop> Drop for SessionBase<H, I, O> {
     // A call: else whoever drops it is checked for each of its parts.
     fn drop(self) {
-        let Host {
+        let SessionBase {
             rt: _,
             dirs: _,
             link_in: _,
@@ -61,17 +61,17 @@ impl<H: Drop, I: LinkIn + Drop, O: LinkOut + Drop> Drop for Host<H, I, O> {
 }
 
 /// None is want of memory.
-fn host_of<H: Clone + Drop, I: LinkIn + Drop, O: LinkOut + Drop>(
+fn session_base_of<H: Clone + Drop, I: LinkIn + Drop, O: LinkOut + Drop>(
     rt: &H,
     alloc: Global,
     links: Links<I, O>,
-) -> Option<Host<H, I, O>>
+) -> Option<SessionBase<H, I, O>>
     ensures { IfSome result (λ h. (h.link_in ≡ links.link_in) × (h.link_out ≡ links.link_out)) }
 {
     let Links { link_in, link_out } = links;
     let rt = rt.clone().ok()?;
     let dirs = Dirs::new(alloc).ok()?;
-    Some(Host {
+    Some(SessionBase {
         rt,
         dirs,
         link_in,
@@ -130,7 +130,7 @@ impl<
     H: Threads + Wait + Send + Sync + Drop + 'static,
     I: LinkIn + Send + Drop + 'static,
     O: LinkOut + Send + Drop + 'static,
-> Host<H, I, O> {
+> SessionBase<H, I, O> {
     /// Serves with a table that was just opened, whose history is named. None where memory or a thread was wanting.
     fn serve_opened<
         T: Ledgers + Send + Sync + 'static,
@@ -140,7 +140,7 @@ impl<
         self,
         rt: &H,
         alloc: Global,
-        opened: Opened<Entry<T>>,
+        opened: Opened<LogEntry<T>>,
         table: Table<T>,
         shares: Shares<T>,
         trees: Vec<C>,
@@ -156,33 +156,38 @@ impl<
         requires few { vec_len trees ≤ 4 }
         ensures taken { IfSome result (λ a. vec_len a.taken ≡ vec_len trees) }
         ensures numbers { IfSome result (λ a. numbers_of a.passed.passes.value.items ≡ range_with_len 0 (vec_len trees + 1)) }
-        ensures reads { IfSome result (λ a. ∥ HasReadAll I.receives (Some self.link_in) a.passed.input (queued_of (view a.passed.read.value).put) (option_map shown a.passed.farewell.value) a.passed.is_job_handed_back ∥₁) }
+        ensures reads { IfSome result (λ a. ∥ HasReadAll I.receives (Some self.link_in) a.passed.input (queued_of (view a.passed.read.value).put) (option_map shown a.passed.last_job.value) a.passed.is_job_handed_back ∥₁) }
         ensures shared { IfSome result (λ a. IsShared (view a.passed.read.value) a.passed.passes.value.items (view a.passed.written.value)) }
         ensures served { IfSome result (λ a. ∥ ((history : List Made) × HasServed C.gives O.sends limits settings trees.items self.link_out a.passed a.sums.totals history) ∥₁) }
     {
-        let (hall, fronts) = hall_of::<T, N>(alloc, opened, table, trees.len())?;
-        let Fronts {
+        let (shared_table, thread_logs) = shared_table_of::<T, N>(
+            alloc,
+            opened,
+            table,
+            trees.len(),
+        )?;
+        let ThreadLogs {
             workers,
-            starter,
+            coordinator,
             writer,
-        } = fronts;
-        let Host {
-            rt: host,
+        } = thread_logs;
+        let SessionBase {
+            rt: own_rt,
             dirs,
             link_in,
             link_out,
         } = self;
-        let ground = Ground {
-            rt: host,
-            hall,
+        let session_parts = SessionParts {
+            rt: own_rt,
+            shared_table,
             dirs,
             link_in,
             link_out,
             writes: writer,
-            starts: starter,
+            starts: coordinator,
             shares,
         };
-        let over = serve_queued(rt, alloc, settings, ground, workers, trees)?;
+        let over = serve_queued(rt, alloc, settings, session_parts, workers, trees)?;
         over.closed.attest(); // proof: its law
         conclude(over)
     }
@@ -213,16 +218,18 @@ fn serve_table<
     requires few { vec_len trees ≤ 4 }
     ensures taken { IfSome result (λ a. vec_len a.taken ≡ vec_len trees) }
     ensures numbers { IfSome result (λ a. numbers_of a.passed.passes.value.items ≡ range_with_len 0 (vec_len trees + 1)) }
-    ensures reads { IfSome result (λ a. ∥ HasReadAll I.receives (Some links.link_in) a.passed.input (queued_of (view a.passed.read.value).put) (option_map shown a.passed.farewell.value) a.passed.is_job_handed_back ∥₁) }
+    ensures reads { IfSome result (λ a. ∥ HasReadAll I.receives (Some links.link_in) a.passed.input (queued_of (view a.passed.read.value).put) (option_map shown a.passed.last_job.value) a.passed.is_job_handed_back ∥₁) }
     ensures shared { IfSome result (λ a. IsShared (view a.passed.read.value) a.passed.passes.value.items (view a.passed.written.value)) }
     ensures served { IfSome result (λ a. ∥ ((history : List Made) × HasServed C.gives O.sends limits settings trees.items links.link_out a.passed a.sums.totals history) ∥₁) }
 {
-    let host = host_of(rt, alloc, links)?;
+    let session_base = session_base_of(rt, alloc, links)?;
     let opened = Opened::new(alloc).ok()?;
     let shares_wanted = trees.len() + 1;
     let (table, shares) = Table::<T>::open(alloc, limits, seeds, blanks, shares_wanted).ok()?;
     let shares = Shares::new(shares);
-    host.serve_opened::<T, Brand, C>(rt, alloc, opened, table, shares, trees, limits, settings)
+    session_base.serve_opened::<T, Brand, C>(
+        rt, alloc, opened, table, shares, trees, limits, settings,
+    )
 }
 
 /// Serves a client until its session ends, by one thread for each of 1 to 4 directories. Each takes whatever turn is due: it offers the
@@ -251,7 +258,7 @@ pub fn serve_threads<
     ensures taken { IfSome result.account (λ a. vec_len a.taken ≡ vec_len calls) }
     ensures end { IfSome result.account (λ a. EndsAs a.passed.input a.passed.is_broken result.end) }
     ensures numbers { IfSome result.account (λ a. numbers_of a.passed.passes.value.items ≡ range_with_len 0 (vec_len calls + 1)) }
-    ensures reads { IfSome result.account (λ a. ∥ HasReadAll I.receives (Some link_in) a.passed.input (queued_of (view a.passed.read.value).put) (option_map shown a.passed.farewell.value) a.passed.is_job_handed_back ∥₁) }
+    ensures reads { IfSome result.account (λ a. ∥ HasReadAll I.receives (Some link_in) a.passed.input (queued_of (view a.passed.read.value).put) (option_map shown a.passed.last_job.value) a.passed.is_job_handed_back ∥₁) }
     ensures shared { IfSome result.account (λ a. IsShared (view a.passed.read.value) a.passed.passes.value.items (view a.passed.written.value)) }
     ensures served { IfSome result.account (λ a. ∥ ((history : List Made) × HasServed C.gives O.sends limits settings calls.items link_out a.passed a.sums.totals history) ∥₁) }
 {

@@ -4,20 +4,20 @@ ghost use Rattle.std.specs.Prelude.{◌≡◌, List, Option};
 ghost use Rattle.crossbeam_channel.specs.Claims.{view};
 ghost use Rattle.crossbeam_channel.specs.Ends.{sends_on, receives_on};
 ghost use Rattle.table_steps.specs.Answers.{Settlement};
-ghost use Rattle.engine_turns.specs.Visits.{on_table_of};
+ghost use Rattle.engine_turns.specs.TableCalls.{on_table_of};
 ghost use Rattle.engine_turns.specs.Turns.{means, outbox, standing};
 ghost use Rattle.engine_turns.specs.Works.{WorkedAll};
 ghost use Rattle.engine_threads.specs.Worked.{does_shared};
 
-use crate::places::Common;
+use crate::session_state::Common;
 use backing::Calls;
 use engine::{LinkIn, LinkOut, Served};
-use engine_turns::{BATCH, Kept, Sink, Source, Turn, Visitor, Worker, WriterRole};
+use engine_turns::{BATCH, Sink, Source, TableHandle, ThreadShare, Turn, Worker, WriterRole};
 use handles::Dirs;
 use ledger::Ledgers;
 use std::sync::atomic::Ordering;
 use std::sync::{MutexGuard, Wait};
-use table_shared::{Hall, Opening};
+use table_shared::{Opening, SharedTable};
 
 /// How many jobs a thread works on before it has to see that none of their replies waits. They go out together then. Four threads leave no
 /// more replies than their queue has places, so nobody waits for a place there: where all threads did, nobody would be left who offers.
@@ -46,14 +46,14 @@ fn writer_of<
 /// Offers what is queued, until nothing is left. Whether there was any.
 pub fn offer_queued<H: Wait, T: Ledgers, N: Opening, O: LinkOut + Drop, S: Sink<O>>(
     rt: &H,
-    hall: &Hall<T, N>,
+    shared_table: &SharedTable<T, N>,
     dirs: &Dirs,
     writer: &mut WriterRole<T, N, O, S>,
 ) -> bool {
     let mut dirs = dirs;
     let mut is_any = false;
     for _ in rt.forever() {
-        let count = writer.turn(rt, hall, &mut dirs);
+        let count = writer.turn(rt, shared_table, &mut dirs);
         is_any = is_any || count > 0;
         if count < BATCH {
             break;
@@ -83,7 +83,7 @@ fn offer<
     };
     // Before the look into the queue: what is put after it is told anew.
     signs.is_ready.store(false, Ordering::SeqCst);
-    let is_any = offer_queued(&common.rt, &common.hall, &common.dirs, &mut *writer);
+    let is_any = offer_queued(&common.rt, &common.shared_table, &common.dirs, &mut *writer);
     if writer.writer.is_broken {
         signs.is_broken.store(true, Ordering::SeqCst);
     }
@@ -165,19 +165,19 @@ pub fn take_turns<
 >(
     common: &Common<H, T, N, I, O, S>,
     worker: &mut Worker,
-    visitor: &mut Visitor<'a, H, T, N>,
-    kept: &mut Kept<T>,
+    table_handle: &mut TableHandle<'a, H, T, N>,
+    kept: &mut ThreadShare<T>,
     served: &mut Served<C, &Dirs>,
     left: &mut usize,
 ) -> bool
-    ensures rings { (receives_on worker.new.jobs ≡ receives_on worker.old.jobs) × (sends_on worker.new.replies ≡ sends_on worker.old.replies) × (worker.new.number ≡ worker.old.number) }
+    ensures queues { (receives_on worker.new.jobs ≡ receives_on worker.old.jobs) × (sends_on worker.new.replies ≡ sends_on worker.old.replies) × (worker.new.number ≡ worker.old.number) }
     ensures settings { worker.new.session.settings ≡ worker.old.session.settings }
-    ensures worked { (settled : List (Option Settlement)) × WorkedAll (does_shared C.gives) worker.old.session.settings worker.old.number (standing (view worker.old.job_pass) (outbox (view worker.old.reply_pass) worker.old.handed_back) (means served.old kept.old.share (on_table_of visitor.old.front))) settled
-        (standing (view worker.new.job_pass) (outbox (view worker.new.reply_pass) worker.new.handed_back) (means served.new kept.new.share (on_table_of visitor.new.front))) }
+    ensures worked { (settled : List (Option Settlement)) × WorkedAll (does_shared C.gives) worker.old.session.settings worker.old.number (standing (view worker.old.job_pass) (outbox (view worker.old.reply_pass) worker.old.handed_back) (means served.old kept.old.share (on_table_of table_handle.old.thread_log))) settled
+        (standing (view worker.new.job_pass) (outbox (view worker.new.reply_pass) worker.new.handed_back) (means served.new kept.new.share (on_table_of table_handle.new.thread_log))) }
 {
     let mut is_busy = offer(common, left);
     for _ in *left..JOINED {
-        match worker.turn(visitor, &mut kept.share, served) {
+        match worker.turn(table_handle, &mut kept.share, served) {
             Turn::Worked(_settled) => {
                 common.signs.tell_worked();
                 *left = left.saturating_add(1);

@@ -2,38 +2,38 @@
 
 ghost use Rattle.std.specs.Prelude.{◌≡◌};
 ghost use Rattle.crossbeam_channel.specs.Ends.{sends_on, receives_on};
-ghost use Rattle.engine_turns.specs.Visits.{on_table_of};
-ghost use Rattle.engine_threads.specs.Worked.{does_shared, IsOver, IsStaffed};
+ghost use Rattle.engine_turns.specs.TableCalls.{on_table_of};
+ghost use Rattle.engine_threads.specs.Worked.{does_shared, IsOver, IsReadyWorker};
 
-use crate::places::{Common, Shared};
+use crate::session_state::{Common, SharedState};
 use crate::turns::{read, take_turns};
 use backing::Calls;
 use engine::{LinkIn, LinkOut, Served};
 use engine_queues::Job;
 use engine_queues::passes::Passes;
-use engine_turns::{Kept, Reply, Sink, Source, Visitor, Worker};
+use engine_turns::{JobReply, Sink, Source, TableHandle, ThreadShare, Worker};
 use ledger::Ledgers;
-use shared_history::Front;
+use shared_history::ThreadLog;
 use std::snapshot::Snapshot;
 use std::sync::Wait;
 use std::sync::atomic::Ordering;
-use table_shared::{Entry, Opening, Runs};
+use table_shared::{LogEntry, Opening, Runs};
 
-/// A worker with its share, its front of the table's history, and its directory.
-pub struct Staff<T: Ledgers, N: Opening, C: Calls + Drop> {
+/// A worker with its share, its log of the table's history, and its directory.
+pub struct ReadyWorker<T: Ledgers, N: Opening, C: Calls + Drop> {
     pub worker: Worker,
-    pub kept: Kept<T>,
-    pub front: Front<Entry<T>, Runs<N>>,
+    pub kept: ThreadShare<T>,
+    pub thread_log: ThreadLog<LogEntry<T>, Runs<N>>,
     pub calls: C,
 }
 
-impl<T: Ledgers, N: Opening, C: Calls + Drop> Drop for Staff<T, N, C> {
+impl<T: Ledgers, N: Opening, C: Calls + Drop> Drop for ReadyWorker<T, N, C> {
     // A call: else whoever drops it is checked for each of its parts.
     fn drop(self) {
-        let Staff {
+        let ReadyWorker {
             worker: _,
             kept: _,
-            front: _,
+            thread_log: _,
             calls: _,
         } = self;
     }
@@ -44,11 +44,11 @@ impl<T: Ledgers, N: Opening, C: Calls + Drop> Drop for Staff<T, N, C> {
 pub struct WorkerEnd<T: Ledgers, N: Opening, C: Calls + Drop> {
     /// The directory that it was given.
     pub given: Snapshot<C>,
-    pub passes: Passes<Job, Reply>,
+    pub passes: Passes<Job, JobReply>,
     /// How many of its replies were handed back.
     pub handed_back: u64,
-    pub kept: Kept<T>,
-    pub front: Front<Entry<T>, Runs<N>>,
+    pub kept: ThreadShare<T>,
+    pub thread_log: ThreadLog<LogEntry<T>, Runs<N>>,
     pub calls: C,
 }
 
@@ -143,21 +143,21 @@ impl Rest {
     }
 }
 
-impl<T: Ledgers, N: Opening, C: Calls + Drop> Staff<T, N, C> {
+impl<T: Ledgers, N: Opening, C: Calls + Drop> ReadyWorker<T, N, C> {
     /// Takes turns until the session is over and nothing is left to do.
     pub fn work_all<H: Wait + Drop, I: LinkIn + Drop, O: LinkOut + Drop, S: Source<I> + Sink<O>>(
         self,
-        common: Shared<H, T, N, I, O, S>,
+        common: SharedState<H, T, N, I, O, S>,
     ) -> WorkerEnd<T, N, C>
-        requires staffed { IsStaffed (receives_on self.worker.jobs) (sends_on self.worker.replies) self.worker.session.settings self.worker self.kept.share (on_table_of self.front) }
+        requires ready { IsReadyWorker (receives_on self.worker.jobs) (sends_on self.worker.replies) self.worker.session.settings self.worker self.kept.share (on_table_of self.thread_log) }
         ensures number { result.passes.number ≡ self.worker.number }
         ensures given { result.given.value ≡ self.calls }
-        ensures over { IsOver (receives_on self.worker.jobs) (sends_on self.worker.replies) (does_shared C.gives) self.worker.session.settings self.calls result.passes result.handed_back result.calls result.kept.share (on_table_of result.front) }
+        ensures over { IsOver (receives_on self.worker.jobs) (sends_on self.worker.replies) (does_shared C.gives) self.worker.session.settings self.calls result.passes result.handed_back result.calls result.kept.share (on_table_of result.thread_log) }
     {
-        let Staff {
+        let ReadyWorker {
             mut worker,
             mut kept,
-            front,
+            thread_log,
             calls,
         } = self;
         let given = Snapshot::of(&calls);
@@ -166,7 +166,7 @@ impl<T: Ledgers, N: Opening, C: Calls + Drop> Staff<T, N, C> {
             dirs: &common.dirs,
         };
         let number = worker.number as usize;
-        let mut visitor = Visitor::new(&common.rt, &common.hall, front);
+        let mut table_handle = TableHandle::new(&common.rt, &common.shared_table, thread_log);
         let mut rest = Rest::new(number);
         let mut left = 0;
         for _ in common.rt.forever() {
@@ -176,7 +176,7 @@ impl<T: Ledgers, N: Opening, C: Calls + Drop> Staff<T, N, C> {
             if take_turns(
                 &common,
                 &mut worker,
-                &mut visitor,
+                &mut table_handle,
                 &mut kept,
                 &mut served,
                 &mut left,
@@ -190,7 +190,7 @@ impl<T: Ledgers, N: Opening, C: Calls + Drop> Staff<T, N, C> {
             }
         }
         let Served { calls, dirs: _ } = served;
-        let front = visitor.into_front();
+        let thread_log = table_handle.into_log();
         drop(common);
         let handed_back = worker.handed_back;
         WorkerEnd {
@@ -198,7 +198,7 @@ impl<T: Ledgers, N: Opening, C: Calls + Drop> Staff<T, N, C> {
             passes: worker.into_passes(),
             handed_back,
             kept,
-            front,
+            thread_log,
             calls,
         }
     }

@@ -7,34 +7,34 @@ use Rattle.terms.specs.declared.settings.Settings.{Settings}
 use Rattle.engine.specs.Reference.{Offer}
 use Rattle.engine.specs.Serving.{Behaviour}
 use Rattle.engine.specs.declared.served.Served.{Served}
-use Rattle.engine_queues.specs.declared.letters.Letter.{Letter}
+use Rattle.engine_queues.specs.declared.replies.QueuedReply.{QueuedReply}
 use Rattle.table_shared.specs.Runs.{Call}
-use Rattle.engine_turns.specs.Visits.{OnTable, Visited, left_in, then_all}
+use Rattle.engine_turns.specs.TableCalls.{OnTable, TurnEnd, left_in, then_all}
 use Rattle.engine_turns.specs.Rights.{IsRight}
 use Rattle.engine.specs.Batches.{bytes_of}
-use Rattle.engine_turns.specs.Slips.{bytes_in}
+use Rattle.engine_turns.specs.ReplyBuffers.{bytes_in}
 use Rattle.engine_turns.specs.Turns.{Means, MeetsJob, Met, Writes, means}
 use Rattle.engine_queues.specs.declared.job.Job.{Job}
 use Rattle.engine_queues.specs.declared.left.Left.{Left}
-use Rattle.engine_turns.specs.declared.replies.Reply.{Reply}
+use Rattle.engine_turns.specs.declared.replies.JobReply.{JobReply}
 use Rattle.engine_turns.specs.declared.working.Turn.{Turn}
 use Rattle.engine_turns.specs.declared.working.Turn.TheVariants.{Worked, Nothing}
-use Rattle.engine.specs.declared.bytes.Bytes.{Bytes}
+use Rattle.engine.specs.declared.bytes.ReplyBytes.{ReplyBytes}
 
 abbrev bytes_or : List ℕ → Option (List ℕ) → List ℕ
 bytes_or d None = d
 bytes_or d (Some bytes) = bytes
 
 -- what is written is right
-pub right_of : {C D : Type 0} (does : Behaviour C D) (settings : Settings) (job : Job) (old new : Means C D) (said : Option Bytes) (visited : Visited) (bytes : Bytes)
-    → MeetsJob does settings job old (record { said = bytes_in said; visited = visited }) new → said ≡ Some bytes → IsRight settings job (bytes_of bytes) (left_in visited)
-right_of does settings job old new said visited bytes m is = by_offer m.turn.offer refl m.writes where
-  by_offer : (o : Option Offer) → m.turn.offer ≡ o → Writes o (bytes_in said) → IsRight settings job (bytes_of bytes) (left_in visited)
+pub right_of : {C D : Type 0} (does : Behaviour C D) (settings : Settings) (job : Job) (old new : Means C D) (said : Option ReplyBytes) (turn_end : TurnEnd) (bytes : ReplyBytes)
+    → MeetsJob does settings job old (record { said = bytes_in said; turn_end = turn_end }) new → said ≡ Some bytes → IsRight settings job (bytes_of bytes) (left_in turn_end)
+right_of does settings job old new said turn_end bytes m is = by_offer m.turn.offer refl m.writes where
+  by_offer : (o : Option Offer) → m.turn.offer ≡ o → Writes o (bytes_in said) → IsRight settings job (bytes_of bytes) (left_in turn_end)
   by_offer None e w = absurd (none-some (bytes_of bytes) (sym w ∙ ap bytes_in is))
   by_offer (Some offer) e w = record {
     turn = m.turn;
     before = old.on_table;
-    visited = visited;
+    turn_end = turn_end;
     after = new.on_table;
     handled = m.handled;
     offer = offer;
@@ -59,9 +59,9 @@ abbrev pub settled_by : Turn → Option Settlement
 settled_by (Worked settled) = settled
 settled_by Nothing = None
 
-abbrev pub left_by : Option (Letter Reply) → Option Left
+abbrev pub left_by : Option (QueuedReply JobReply) → Option Left
 left_by None = None
-left_by (Some letter) = letter.reply.left
+left_by (Some queued_reply) = queued_reply.reply.left
 
 -- nothing more was done on the table
 pub none_more : (on_table : OnTable) → on_table ≡ then_all on_table []

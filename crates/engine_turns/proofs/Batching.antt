@@ -10,28 +10,28 @@ use Rattle.engine.specs.Batches.{bytes_of, SendsEach}
 use Rattle.engine.specs.Chain.{Chain}
 use Rattle.table_shared.specs.Runs.{Call}
 use Rattle.engine.specs.Reference.{is_broken}
-use Rattle.engine.specs.declared.bytes.Bytes.{Bytes}
+use Rattle.engine.specs.declared.bytes.ReplyBytes.{ReplyBytes}
 use Rattle.engine.specs.declared.links.Sent.{Sent}
 use Rattle.engine.specs.declared.links.Sent.TheVariants.{Taken, Untaken, Broken}
 use Rattle.engine_queues.specs.declared.left.Left.{Left}
-use Rattle.engine_queues.specs.Letters.{got_of}
-use Rattle.engine_queues.specs.declared.letters.Letter.{Letter}
-use Rattle.engine_queues.specs.declared.letters.ReplyLane.{ReplyLane}
+use Rattle.engine_queues.specs.Replies.{got_of}
+use Rattle.engine_queues.specs.declared.replies.QueuedReply.{QueuedReply}
+use Rattle.engine_queues.specs.declared.replies.ReplyLane.{ReplyLane}
 use Rattle.engine_turns.specs.Batches.{AreEndings, Endings, GetsAll, GetsOne, OffersAll, SettlesAll, SettlesEach, WritesAll, WritesOne, endings, last_of, taken_at}
 use Rattle.engine_turns.specs.Turns.{ByBoth, Ending, IsEnded, ending}
 use Rattle.engine_turns.proofs.Answering.{and_more}
-use Rattle.engine_turns.specs.Visits.{OnTable}
-use Rattle.engine_turns.specs.declared.replies.Reply.{Reply}
+use Rattle.engine_turns.specs.TableCalls.{OnTable}
+use Rattle.engine_turns.specs.declared.replies.JobReply.{JobReply}
 
 -- ---- one more
 
-pub gets_more : (lane mid new : ReplyLane Reply) (left left' : List (Option Left)) (bytes bytes' : List Bytes) (letter : Letter Reply) → GetsAll lane left bytes mid → new ≡ got_of mid (Some letter)
-    → left' ≡ left ++ letter.reply.left ∷ [] → bytes' ≡ bytes ++ letter.reply.bytes ∷ [] → GetsAll lane left' bytes' new
-gets_more lane mid new left left' bytes bytes' letter g got l b = record {
-  letters = g.letters ++ letter ∷ [];
-  chain = chain_append GetsOne lane mid new g.letters (letter ∷ []) g.chain (chain_one GetsOne mid new letter got);
-  left_are = l ∙ (ap (λ (ls : List (Option Left)). ls ++ letter.reply.left ∷ []) g.left_are ∙ sym (map-append (λ (m : Letter Reply). m.reply.left) g.letters (letter ∷ [])));
-  bytes_are = b ∙ (ap (λ (bs : List Bytes). bs ++ letter.reply.bytes ∷ []) g.bytes_are ∙ sym (map-append (λ (m : Letter Reply). m.reply.bytes) g.letters (letter ∷ [])));
+pub gets_more : (lane mid new : ReplyLane JobReply) (left left' : List (Option Left)) (bytes bytes' : List ReplyBytes) (queued_reply : QueuedReply JobReply) → GetsAll lane left bytes mid → new ≡ got_of mid (Some queued_reply)
+    → left' ≡ left ++ queued_reply.reply.left ∷ [] → bytes' ≡ bytes ++ queued_reply.reply.bytes ∷ [] → GetsAll lane left' bytes' new
+gets_more lane mid new left left' bytes bytes' queued_reply g got l b = record {
+  queued_replies = g.queued_replies ++ queued_reply ∷ [];
+  chain = chain_append GetsOne lane mid new g.queued_replies (queued_reply ∷ []) g.chain (chain_one GetsOne mid new queued_reply got);
+  left_are = l ∙ (ap (λ (ls : List (Option Left)). ls ++ queued_reply.reply.left ∷ []) g.left_are ∙ sym (map-append (λ (m : QueuedReply JobReply). m.reply.left) g.queued_replies (queued_reply ∷ [])));
+  bytes_are = b ∙ (ap (λ (bs : List ReplyBytes). bs ++ queued_reply.reply.bytes ∷ []) g.bytes_are ∙ sym (map-append (λ (m : QueuedReply JobReply). m.reply.bytes) g.queued_replies (queued_reply ∷ [])));
 }
 
 each_more : (sents : List Sent) (place : ℕ) (lefts : List (Option Left)) (turns : List Ending) (left : Option Left) (turn : Ending) → SettlesEach sents place lefts turns
@@ -110,50 +110,50 @@ places_on first sents place (left ∷ lefts) (turn ∷ turns) s = (s.0, places_o
 
 module _ {L : Type 0} (sends : L → List ℕ → Sent → L → Type 0) where
   -- nothing is offered any more
-  none_offered : (link : L) (letters : List (Letter Reply)) (place : ℕ) (lane lane' : ReplyLane Reply) (turns : List Ending) → Chain GetsOne lane letters lane'
-      → SettlesEach [] place (map (λ (m : Letter Reply). m.reply.left) letters) turns
+  none_offered : (link : L) (queued_replies : List (QueuedReply JobReply)) (place : ℕ) (lane lane' : ReplyLane JobReply) (turns : List Ending) → Chain GetsOne lane queued_replies lane'
+      → SettlesEach [] place (map (λ (m : QueuedReply JobReply). m.reply.left) queued_replies) turns
       → Chain (WritesOne sends) (record { lane = lane; link = link; is_broken = true }) turns (record { lane = lane'; link = link; is_broken = true })
-  none_offered link [] place lane lane' [] gets s = ap (λ (l : ReplyLane Reply). record { lane = l; link = link; is_broken = true }) gets
+  none_offered link [] place lane lane' [] gets s = ap (λ (l : ReplyLane JobReply). record { lane = l; link = link; is_broken = true }) gets
   none_offered link [] place lane lane' (turn ∷ turns) gets s = cc
-  none_offered link (letter ∷ letters) place lane lane' [] gets s = absurd s
-  none_offered link (letter ∷ letters) place lane lane' (turn ∷ turns) gets s = (
+  none_offered link (queued_reply ∷ queued_replies) place lane lane' [] gets s = absurd s
+  none_offered link (queued_reply ∷ queued_replies) place lane lane' (turn ∷ turns) gets s = (
     record { lane = gets.0; link = link; is_broken = true },
-    record { front = letter; got = gets.1; offers = record { link_is = refl; ends = s.0; broken_is = refl } },
-    none_offered link letters (suc place) gets.0 lane' turns gets.2 s.1,
+    record { thread_log = queued_reply; got = gets.1; offers = record { link_is = refl; ends = s.0; broken_is = refl } },
+    none_offered link queued_replies (suc place) gets.0 lane' turns gets.2 s.1,
   )
 
-  abbrev frames_of : List (Letter Reply) → List (List ℕ)
-  frames_of letters = map bytes_of (map (λ (m : Letter Reply). m.reply.bytes) letters)
+  abbrev frames_of : List (QueuedReply JobReply) → List (List ℕ)
+  frames_of queued_replies = map bytes_of (map (λ (m : QueuedReply JobReply). m.reply.bytes) queued_replies)
 
-  each_offered : (letters : List (Letter Reply)) (sents : List Sent) (link link' : L) (lane lane' : ReplyLane Reply) (turns : List Ending) → Chain GetsOne lane letters lane' → SendsEach sends link (frames_of letters) sents link'
-      → SettlesEach sents 0 (map (λ (m : Letter Reply). m.reply.left) letters) turns
+  each_offered : (queued_replies : List (QueuedReply JobReply)) (sents : List Sent) (link link' : L) (lane lane' : ReplyLane JobReply) (turns : List Ending) → Chain GetsOne lane queued_replies lane' → SendsEach sends link (frames_of queued_replies) sents link'
+      → SettlesEach sents 0 (map (λ (m : QueuedReply JobReply). m.reply.left) queued_replies) turns
       → Chain (WritesOne sends) (record { lane = lane; link = link; is_broken = false }) turns (record { lane = lane'; link = link'; is_broken = is_broken (last_of sents) })
-  each_offered [] [] link link' lane lane' [] gets sent s = ap (λ (l : ReplyLane Reply). record { lane = l; link = link'; is_broken = false }) gets ∙ ap (λ (k : L). record { lane = lane; link = k; is_broken = false }) sent
+  each_offered [] [] link link' lane lane' [] gets sent s = ap (λ (l : ReplyLane JobReply). record { lane = l; link = link'; is_broken = false }) gets ∙ ap (λ (k : L). record { lane = lane; link = k; is_broken = false }) sent
   each_offered [] [] link link' lane lane' (turn ∷ turns) gets sent s = cc
   each_offered [] (one ∷ sents) link link' lane lane' turns gets sent s = absurd sent
-  each_offered (letter ∷ letters) [] link link' lane lane' turns gets sent s = absurd sent
-  each_offered (letter ∷ letters) (one ∷ sents) link link' lane lane' [] gets sent s = absurd s
-  each_offered (letter ∷ letters) (Taken ∷ sents) link link' lane lane' (turn ∷ turns) gets sent s = (
+  each_offered (queued_reply ∷ queued_replies) [] link link' lane lane' turns gets sent s = absurd sent
+  each_offered (queued_reply ∷ queued_replies) (one ∷ sents) link link' lane lane' [] gets sent s = absurd s
+  each_offered (queued_reply ∷ queued_replies) (Taken ∷ sents) link link' lane lane' (turn ∷ turns) gets sent s = (
     record { lane = gets.0; link = sent.0; is_broken = false },
-    record { front = letter; got = gets.1; offers = record { sent = Taken; offer = sent.1; ends = s.0; broken_is = refl } },
+    record { thread_log = queued_reply; got = gets.1; offers = record { sent = Taken; offer = sent.1; ends = s.0; broken_is = refl } },
     subst (λ (b : Bool). Chain (WritesOne sends) (record { lane = gets.0; link = sent.0; is_broken = false }) turns (record { lane = lane'; link = link'; is_broken = b })) (sym (last_on Taken sents refl))
-        (each_offered letters sents sent.0 link' gets.0 lane' turns gets.2 sent.2 (places_on Taken sents 0 (map (λ (m : Letter Reply). m.reply.left) letters) turns s.1)),
+        (each_offered queued_replies sents sent.0 link' gets.0 lane' turns gets.2 sent.2 (places_on Taken sents 0 (map (λ (m : QueuedReply JobReply). m.reply.left) queued_replies) turns s.1)),
   )
-  each_offered (letter ∷ letters) (Untaken ∷ sents) link link' lane lane' (turn ∷ turns) gets sent s = (
+  each_offered (queued_reply ∷ queued_replies) (Untaken ∷ sents) link link' lane lane' (turn ∷ turns) gets sent s = (
     record { lane = gets.0; link = sent.0; is_broken = false },
-    record { front = letter; got = gets.1; offers = record { sent = Untaken; offer = sent.1; ends = s.0; broken_is = refl } },
+    record { thread_log = queued_reply; got = gets.1; offers = record { sent = Untaken; offer = sent.1; ends = s.0; broken_is = refl } },
     subst (λ (b : Bool). Chain (WritesOne sends) (record { lane = gets.0; link = sent.0; is_broken = false }) turns (record { lane = lane'; link = link'; is_broken = b })) (sym (last_on Untaken sents refl))
-        (each_offered letters sents sent.0 link' gets.0 lane' turns gets.2 sent.2 (places_on Untaken sents 0 (map (λ (m : Letter Reply). m.reply.left) letters) turns s.1)),
+        (each_offered queued_replies sents sent.0 link' gets.0 lane' turns gets.2 sent.2 (places_on Untaken sents 0 (map (λ (m : QueuedReply JobReply). m.reply.left) queued_replies) turns s.1)),
   )
-  each_offered (letter ∷ letters) (Broken ∷ sents) link link' lane lane' (turn ∷ turns) gets sent s =
-      let lefts = map (λ (m : Letter Reply). m.reply.left) letters in (
+  each_offered (queued_reply ∷ queued_replies) (Broken ∷ sents) link link' lane lane' (turn ∷ turns) gets sent s =
+      let lefts = map (λ (m : QueuedReply JobReply). m.reply.left) queued_replies in (
         record { lane = gets.0; link = link'; is_broken = true },
-        record { front = letter; got = gets.1; offers = record { sent = Broken; offer = sent.0; ends = s.0; broken_is = refl } },
+        record { thread_log = queued_reply; got = gets.1; offers = record { sent = Broken; offer = sent.0; ends = s.0; broken_is = refl } },
         subst (λ (b : Bool). Chain (WritesOne sends) (record { lane = gets.0; link = link'; is_broken = true }) turns (record { lane = lane'; link = link'; is_broken = b })) (sym (last_broken sents sent.1))
-            (none_offered link' letters 0 gets.0 lane' turns gets.2 (subst (λ (ss : List Sent). SettlesEach ss 0 lefts turns) sent.1 (places_on Broken sents 0 lefts turns s.1))),
+            (none_offered link' queued_replies 0 gets.0 lane' turns gets.2 (subst (λ (ss : List Sent). SettlesEach ss 0 lefts turns) sent.1 (places_on Broken sents 0 lefts turns s.1))),
       )
 
-  pub writes_all : (lane lane' : ReplyLane Reply) (link link' : L) (before after : Bool) (lefts : List (Option Left)) (bytes : List Bytes) (sents : List Sent) (all : Endings)
+  pub writes_all : (lane lane' : ReplyLane JobReply) (link link' : L) (before after : Bool) (lefts : List (Option Left)) (bytes : List ReplyBytes) (sents : List Sent) (all : Endings)
       → GetsAll lane lefts bytes lane' → OffersAll sends link (map bytes_of bytes) before sents link' after → SettlesAll lefts sents all
       → WritesAll sends (record { lane = lane; link = link; is_broken = before }) all (record { lane = lane'; link = link'; is_broken = after })
   writes_all lane lane' link link' before after lefts bytes sents all g o s = record {
@@ -161,15 +161,15 @@ module _ {L : Type 0} (sends : L → List ℕ → Sent → L → Type 0) where
     chain = by_before before o;
     all_are = s.all_are;
   } where
-    each : SettlesEach sents 0 (map (λ (m : Letter Reply). m.reply.left) g.letters) s.turns
+    each : SettlesEach sents 0 (map (λ (m : QueuedReply JobReply). m.reply.left) g.queued_replies) s.turns
     each = subst (λ (ls : List (Option Left)). SettlesEach sents 0 ls s.turns) g.left_are s.each
 
     by_before : (before : Bool) → OffersAll sends link (map bytes_of bytes) before sents link' after
         → Chain (WritesOne sends) (record { lane = lane; link = link; is_broken = before }) s.turns (record { lane = lane'; link = link'; is_broken = after })
     by_before true o =
-        let sents_none = subst (λ (ss : List Sent). SettlesEach ss 0 (map (λ (m : Letter Reply). m.reply.left) g.letters) s.turns) o.0 each in
+        let sents_none = subst (λ (ss : List Sent). SettlesEach ss 0 (map (λ (m : QueuedReply JobReply). m.reply.left) g.queued_replies) s.turns) o.0 each in
         subst (λ (k : L). Chain (WritesOne sends) (record { lane = lane; link = link; is_broken = true }) s.turns (record { lane = lane'; link = k; is_broken = after })) (sym o.1)
-        (subst (λ (b : Bool). Chain (WritesOne sends) (record { lane = lane; link = link; is_broken = true }) s.turns (record { lane = lane'; link = link; is_broken = b })) (sym o.2) (none_offered link g.letters 0 lane lane' s.turns g.chain sents_none))
+        (subst (λ (b : Bool). Chain (WritesOne sends) (record { lane = lane; link = link; is_broken = true }) s.turns (record { lane = lane'; link = link; is_broken = b })) (sym o.2) (none_offered link g.queued_replies 0 lane lane' s.turns g.chain sents_none))
     by_before false o =
-        let sent = subst (λ (bs : List Bytes). SendsEach sends link (map bytes_of bs) sents link') g.bytes_are o.0 in
-        subst (λ (b : Bool). Chain (WritesOne sends) (record { lane = lane; link = link; is_broken = false }) s.turns (record { lane = lane'; link = link'; is_broken = b })) (sym o.1) (each_offered g.letters sents link link' lane lane' s.turns g.chain sent each)
+        let sent = subst (λ (bs : List ReplyBytes). SendsEach sends link (map bytes_of bs) sents link') g.bytes_are o.0 in
+        subst (λ (b : Bool). Chain (WritesOne sends) (record { lane = lane; link = link; is_broken = false }) s.turns (record { lane = lane'; link = link'; is_broken = b })) (sym o.1) (each_offered g.queued_replies sents link link' lane lane' s.turns g.chain sent each)

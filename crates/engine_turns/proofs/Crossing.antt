@@ -1,4 +1,4 @@
--- What the roles of a session stand on may be sent. A `Reply` holds a snapshot, so Rattle makes no such lemma of its own of
+-- What the roles of a session stand on may be sent. A `JobReply` holds a snapshot, so Rattle makes no such lemma of its own of
 -- it, nor of what holds a sender or a receiver of replies.
 use denote.RattleType.{RattleType}
 use denote.Param.Send.{IsSend, IsSync, sendable}
@@ -31,44 +31,44 @@ use Rattle.engine_queues.proofs.job.Job.TheSendSync as job
 use Rattle.engine_queues.proofs.left.Left.TheSendSync as left
 use Rattle.engine_queues.specs.contracts.job.Job as Job
 use Rattle.engine_queues.specs.contracts.left.Left as Left
-use Rattle.engine_queues.proofs.letters.Letter.TheSendSync as letter
+use Rattle.engine_queues.proofs.replies.QueuedReply.TheSendSync as queued_reply
 use Rattle.engine_queues.specs.contracts.jobs.Fair as Fair
 use Rattle.engine_queues.specs.contracts.jobs.FairProtocolOptionHand.TheImpl as fair
 use Rattle.engine_queues.specs.contracts.jobs.Hand as Hand
-use Rattle.engine_queues.specs.contracts.letters.InOrder as InOrder
-use Rattle.engine_queues.specs.contracts.letters.InOrderProtocolOptionLetterReplyLane.TheImpl as in_order
-use Rattle.engine_queues.specs.contracts.letters.Letter as Letter
-use Rattle.engine_queues.specs.contracts.letters.ReplyLane as ReplyLane
-use Rattle.engine.proofs.bytes.Bytes.TheSendSync as bytes
+use Rattle.engine_queues.specs.contracts.replies.InOrder as InOrder
+use Rattle.engine_queues.specs.contracts.replies.InOrderProtocolOptionQueuedReplyReplyLane.TheImpl as in_order
+use Rattle.engine_queues.specs.contracts.replies.QueuedReply as QueuedReply
+use Rattle.engine_queues.specs.contracts.replies.ReplyLane as ReplyLane
+use Rattle.engine.proofs.bytes.ReplyBytes.TheSendSync as bytes
 use Rattle.engine_turns.proofs.batches.Batch.TheSendSync as batch
-use Rattle.engine_turns.specs.contracts.replies.Reply as Reply
+use Rattle.engine_turns.specs.contracts.replies.JobReply as JobReply
 use Rattle.engine_turns.specs.contracts.working.Worker as Worker
 use Rattle.engine_turns.specs.contracts.writing.Writer as Writer
-use Rattle.engine_turns.proofs.shares.Kept.TheSendSync as kept
-use Rattle.engine_turns.specs.contracts.shares.Kept as Kept
+use Rattle.engine_turns.proofs.shares.ThreadShare.TheSendSync as kept
+use Rattle.engine_turns.specs.contracts.shares.ThreadShare as ThreadShare
 use Rattle.engine_turns.specs.contracts.writer_role.WriterRole as WriterRole
 use Rattle.engine_turns.specs.declared.origins.Sink as sink
 use Rattle.engine.specs.declared.links.LinkOut as out
-use Rattle.shared_history.proofs.history.Front.TheSendSync as front
-use Rattle.shared_history.specs.contracts.history.Front as Front
-use Rattle.table_shared.specs.contracts.entries.Entry as Entry
+use Rattle.shared_history.proofs.history.ThreadLog.TheSendSync as thread_log
+use Rattle.shared_history.specs.contracts.history.ThreadLog as ThreadLog
+use Rattle.table_shared.specs.contracts.entries.LogEntry as LogEntry
 use Rattle.table_shared.specs.contracts.entries.Runs as Runs
-use Rattle.table_shared.specs.contracts.entries.RunsNamingEntry.TheImpl as naming
+use Rattle.table_shared.specs.contracts.entries.RunsNamingLogEntry.TheImpl as naming
 use Rattle.table_shared.specs.declared.entries.Opening as opening
 use Rattle.ledger.specs.declared.ledgers.Ledgers.{Ghosts}
 
 -- a queue of messages X, whose passes are seen as V, under the rule P
 module _ (X V P : RattleType) (p : protocol.Ghosts P.Denot X.Denot V.Denot) where
-  abbrev ring : RattleType
-  ring =
+  abbrev queue : RattleType
+  queue =
       Rows.the_row (Badge.the_row (Key.the_row X)) (Doing.the_row X V) (Rounds.the_row P) (Option.the_row X) (Key.the_row X) (Lockers.the_row Whole.the_row) Global.the_row
       (rounds.ghosts X V P p rounds.no_dict)
       (lockers.ghosts X X Whole.the_row (whole.ghosts X) lockers.no_dict)
       ghosts
 
   module _ (s : IsSend X) where
-    ring_send : IsSend ring
-    ring_send = rows.the_send (Badge.the_row (Key.the_row X)) (Doing.the_row X V) (Rounds.the_row P) (Option.the_row X) (Key.the_row X) (Lockers.the_row Whole.the_row) Global.the_row
+    queue_send : IsSend queue
+    queue_send = rows.the_send (Badge.the_row (Key.the_row X)) (Doing.the_row X V) (Rounds.the_row P) (Option.the_row X) (Key.the_row X) (Lockers.the_row Whole.the_row) Global.the_row
         (rounds.ghosts X V P p rounds.no_dict)
         (lockers.ghosts X X Whole.the_row (whole.ghosts X) lockers.no_dict)
         ghosts
@@ -77,8 +77,8 @@ module _ (X V P : RattleType) (p : protocol.Ghosts P.Denot X.Denot V.Denot) wher
         heap.send
         heap.frees
 
-    ring_sync : IsSync ring
-    ring_sync = rows.the_sync (Badge.the_row (Key.the_row X)) (Doing.the_row X V) (Rounds.the_row P) (Option.the_row X) (Key.the_row X) (Lockers.the_row Whole.the_row) Global.the_row
+    queue_sync : IsSync queue
+    queue_sync = rows.the_sync (Badge.the_row (Key.the_row X)) (Doing.the_row X V) (Rounds.the_row P) (Option.the_row X) (Key.the_row X) (Lockers.the_row Whole.the_row) Global.the_row
         (rounds.ghosts X V P p rounds.no_dict)
         (lockers.ghosts X X Whole.the_row (whole.ghosts X) lockers.no_dict)
         ghosts
@@ -88,16 +88,16 @@ module _ (X V P : RattleType) (p : protocol.Ghosts P.Denot X.Denot V.Denot) wher
         heap.sync
         heap.frees
 
-    sender_send : IsSend (Sending.the_field ring Global.the_row ghosts).row
-    sender_send = sending.the_field_send ring Global.the_row ghosts ring_send heap.send ring_sync heap.sync heap.frees
+    sender_send : IsSend (Sending.the_field queue Global.the_row ghosts).row
+    sender_send = sending.the_field_send queue Global.the_row ghosts queue_send heap.send queue_sync heap.sync heap.frees
 
-    receiver_send : IsSend (Receiving.the_field ring Global.the_row ghosts).row
-    receiver_send = receiving.the_field_send ring Global.the_row ghosts ring_send heap.send ring_sync heap.sync heap.frees
+    receiver_send : IsSend (Receiving.the_field queue Global.the_row ghosts).row
+    receiver_send = receiving.the_field_send queue Global.the_row ghosts queue_send heap.send queue_sync heap.sync heap.frees
 
   pass_send : IsSend (Seat.the_field (Badge.the_row (Key.the_row X)) (Doing.the_row X V)).row
   pass_send = seat.the_send (Badge.the_row (Key.the_row X)) (Doing.the_row X V) (badge.the_send (Key.the_row X))
 
-reply_send : IsSend Reply.the_row
+reply_send : IsSend JobReply.the_row
 reply_send =
     let b = bytes.the_field_send in
     let l = option.the_field_send Left.the_row left.the_send in
@@ -107,45 +107,45 @@ abbrev order : RattleType
 order = Option.the_row Job.the_row
 
 abbrev mail : RattleType
-mail = Option.the_row (Letter.the_row Reply.the_row)
+mail = Option.the_row (QueuedReply.the_row JobReply.the_row)
 
 order_send : IsSend order
 order_send = option.the_send Job.the_row job.the_send
 
 mail_send : IsSend mail
-mail_send = option.the_send (Letter.the_row Reply.the_row) (letter.the_send Reply.the_row reply_send)
+mail_send = option.the_send (QueuedReply.the_row JobReply.the_row) (queued_reply.the_send JobReply.the_row reply_send)
 
 pub worker_send : IsSend (Worker.the_field).row
 worker_send =
     let a = session.the_field_send in
     let b = receiver_send order (Hand.the_row Job.the_row) Fair.the_row (fair.ghosts Job.the_row) order_send in
     let c = pass_send order (Hand.the_row Job.the_row) Fair.the_row (fair.ghosts Job.the_row) in
-    let d = sender_send mail (ReplyLane.the_row Reply.the_row) InOrder.the_row (in_order.ghosts Reply.the_row) mail_send in
-    let e = pass_send mail (ReplyLane.the_row Reply.the_row) InOrder.the_row (in_order.ghosts Reply.the_row) in
+    let d = sender_send mail (ReplyLane.the_row JobReply.the_row) InOrder.the_row (in_order.ghosts JobReply.the_row) mail_send in
+    let e = pass_send mail (ReplyLane.the_row JobReply.the_row) InOrder.the_row (in_order.ghosts JobReply.the_row) in
     search sendable depth 20
 
 pub writer_send : IsSend (Writer.the_field).row
 writer_send =
-    let a = receiver_send mail (ReplyLane.the_row Reply.the_row) InOrder.the_row (in_order.ghosts Reply.the_row) mail_send in
-    let b = pass_send mail (ReplyLane.the_row Reply.the_row) InOrder.the_row (in_order.ghosts Reply.the_row) in
+    let a = receiver_send mail (ReplyLane.the_row JobReply.the_row) InOrder.the_row (in_order.ghosts JobReply.the_row) mail_send in
+    let b = pass_send mail (ReplyLane.the_row JobReply.the_row) InOrder.the_row (in_order.ghosts JobReply.the_row) in
     let d = batch.the_field_send in
     search sendable depth 20
 
 module _ (T : RattleType) (g : Ghosts T.Denot) where
-  pub kept_send : IsSend T → IsSync T → IsSend (Kept.the_row T g)
+  pub kept_send : IsSend T → IsSync T → IsSend (ThreadShare.the_row T g)
   kept_send s y = search (kept.the_send T g, sendable)
 
   module _ (N : RattleType) (n : opening.Ghosts N.Denot) where
-    abbrev pub front_row : RattleType
-    front_row = Front.the_row (Entry.the_row T g) (Runs.the_row N) (naming.ghosts T N g naming.no_dict n naming.no_dict)
+    abbrev pub thread_log_row : RattleType
+    thread_log_row = ThreadLog.the_row (LogEntry.the_row T g) (Runs.the_row N) (naming.ghosts T N g naming.no_dict n naming.no_dict)
 
-    pub front_send : IsSend N → IsSend front_row
-    front_send m = search (front.the_send (Entry.the_row T g) (Runs.the_row N) (naming.ghosts T N g naming.no_dict n naming.no_dict), sendable)
+    pub thread_log_send : IsSend N → IsSend thread_log_row
+    thread_log_send m = search (thread_log.the_send (LogEntry.the_row T g) (Runs.the_row N) (naming.ghosts T N g naming.no_dict n naming.no_dict), sendable)
 
   module _ (N O S : RattleType) (n : opening.Ghosts N.Denot) (o : out.Ghosts O.Denot) (k : sink.Ghosts S.Denot O.Denot) where
     pub writer_role_send : IsSend T → IsSync T → IsSend N → IsSend O → IsSend S → IsSend (WriterRole.the_row T N O S n o k g)
     writer_role_send s y m c d =
         let a : IsSend (Writer.the_field).row = writer_send in
-        let b : IsSend (Kept.the_field T g).row = search (kept.the_field_send T g, sendable) in
-        let f = front_send N n m in
+        let b : IsSend (ThreadShare.the_field T g).row = search (kept.the_field_send T g, sendable) in
+        let f = thread_log_send N n m in
         search sendable depth 20

@@ -52,9 +52,9 @@ module _ {L : Type 0} (receives : L → Heard → L → Type 0) (link link' : L)
   keeps_none why is = record { heard = Piece bytes; brought = brought; reads = inr (why, is) }
 
 -- all that came is kept, or what was kept before
-module _ (agreed : Bool) (put : List Queued) (farewell handed_back : Option Queued) where
+module _ (agreed : Bool) (put : List Queued) (last_job handed_back : Option Queued) where
   abbrev pub got : (kept unkept : List ℕ) → Progress
-  got kept unkept = record { kept = kept; unkept = unkept; agreed = agreed; put = put; farewell = farewell; handed_back = handed_back }
+  got kept unkept = record { kept = kept; unkept = unkept; agreed = agreed; put = put; last_job = last_job; handed_back = handed_back }
 
   pub all_kept : (kept kept' unkept grown bytes : List ℕ) → kept' ≡ kept ++ grown → grown ≡ unkept ++ bytes → got kept' [] ≡ and_then (got kept unkept) bytes
   all_kept kept kept' unkept grown bytes k g = ap (λ (ks : List ℕ). got ks []) (k ∙ ap (λ (bs : List ℕ). kept ++ bs) g)

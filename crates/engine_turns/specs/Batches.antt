@@ -6,21 +6,21 @@ use Rattle.table_shared.specs.Runs.{Call}
 use Rattle.engine.specs.Batches.{SendsEach}
 use Rattle.engine.specs.Chain.{Chain}
 use Rattle.engine.specs.Reference.{is_broken, is_taken}
-use Rattle.engine.specs.declared.bytes.Bytes.{Bytes}
+use Rattle.engine.specs.declared.bytes.ReplyBytes.{ReplyBytes}
 use Rattle.engine.specs.declared.links.Sent.{Sent}
 use Rattle.engine.specs.declared.links.Sent.TheVariants.{Untaken}
 use Rattle.engine_queues.specs.declared.left.Left.{Left}
-use Rattle.engine_queues.specs.Letters.{got_of}
-use Rattle.engine_queues.specs.declared.letters.Letter.{Letter}
-use Rattle.engine_queues.specs.declared.letters.ReplyLane.{ReplyLane}
+use Rattle.engine_queues.specs.Replies.{got_of}
+use Rattle.engine_queues.specs.declared.replies.QueuedReply.{QueuedReply}
+use Rattle.engine_queues.specs.declared.replies.ReplyLane.{ReplyLane}
 use Rattle.engine_turns.specs.Turns.{Ending, IsEnded, Wrote}
-use Rattle.engine_turns.specs.declared.replies.Reply.{Reply}
+use Rattle.engine_turns.specs.declared.replies.JobReply.{JobReply}
 
 -- ---- the turns
 
 -- a writer between two turns: what it knows of the queue, its link, and whether that is broken
 pub record Writing (L : Type 0) : Type 0 where
-  pub lane : ReplyLane Reply
+  pub lane : ReplyLane JobReply
   pub link : L
   pub is_broken : Bool
 
@@ -50,15 +50,15 @@ pub record WritesAll {L : Type 0} (sends : L → List ℕ → Sent → L → Typ
 
 -- ---- the same by kinds: all are taken from the queue, all are offered, all answers are settled
 
-abbrev pub GetsOne : ReplyLane Reply → Letter Reply → ReplyLane Reply → Type 0
-GetsOne lane letter lane' = lane' ≡ got_of lane (Some letter)
+abbrev pub GetsOne : ReplyLane JobReply → QueuedReply JobReply → ReplyLane JobReply → Type 0
+GetsOne lane queued_reply lane' = lane' ≡ got_of lane (Some queued_reply)
 
 -- these answers and bytes are those of the replies that were taken from the queue
-pub record GetsAll (lane : ReplyLane Reply) (left : List (Option Left)) (bytes : List Bytes) (lane' : ReplyLane Reply) : Type 0 where
-  pub letters : List (Letter Reply)
-  pub chain : Chain GetsOne lane letters lane'
-  pub left_are : left ≡ map (λ letter. letter.reply.left) letters
-  pub bytes_are : bytes ≡ map (λ letter. letter.reply.bytes) letters
+pub record GetsAll (lane : ReplyLane JobReply) (left : List (Option Left)) (bytes : List ReplyBytes) (lane' : ReplyLane JobReply) : Type 0 where
+  pub queued_replies : List (QueuedReply JobReply)
+  pub chain : Chain GetsOne lane queued_replies lane'
+  pub left_are : left ≡ map (λ queued_reply. queued_reply.reply.left) queued_replies
+  pub bytes_are : bytes ≡ map (λ queued_reply. queued_reply.reply.bytes) queued_replies
 
 -- what became of the last that was offered
 abbrev pub last_of : List Sent → Sent

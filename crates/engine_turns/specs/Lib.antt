@@ -1,11 +1,11 @@
-pub mod Visits
-pub mod Visiting
+pub mod TableCalls
+pub mod TableHandleLemmas
 pub mod Shown
 pub mod Verdicts
 pub mod Batches
 pub mod Known
 pub mod Rights
-pub mod Slips
+pub mod ReplyBuffers
 pub mod Turns
 pub mod Works
 pub mod Queues

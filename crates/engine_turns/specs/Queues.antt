@@ -11,10 +11,10 @@ use Rattle.crossbeam_channel.specs.declared.flavors.array.Whole.{Whole}
 use Rattle.engine_queues.specs.declared.job.Job.{Job}
 use Rattle.engine_queues.specs.declared.jobs.Fair.{Fair}
 use Rattle.engine_queues.specs.declared.jobs.Hand.{Hand}
-use Rattle.engine_queues.specs.declared.letters.InOrder.{InOrder}
-use Rattle.engine_queues.specs.declared.letters.Letter.{Letter}
-use Rattle.engine_queues.specs.declared.letters.ReplyLane.{ReplyLane}
-use Rattle.engine_turns.specs.declared.replies.Reply.{Reply}
+use Rattle.engine_queues.specs.declared.replies.InOrder.{InOrder}
+use Rattle.engine_queues.specs.declared.replies.QueuedReply.{QueuedReply}
+use Rattle.engine_queues.specs.declared.replies.ReplyLane.{ReplyLane}
+use Rattle.engine_turns.specs.declared.replies.JobReply.{JobReply}
 
 -- a queue of messages X, whose passes are seen as V, under the rule P
 abbrev pub Queue : Type 0 → Type 0 → Type 0 → Type 0
@@ -24,4 +24,4 @@ abbrev pub JobQueue : Type 0
 JobQueue = Queue (Option Job) (Hand Job) Fair
 
 abbrev pub ReplyQueue : Type 0
-ReplyQueue = Queue (Option (Letter Reply)) (ReplyLane Reply) InOrder
+ReplyQueue = Queue (Option (QueuedReply JobReply)) (ReplyLane JobReply) InOrder

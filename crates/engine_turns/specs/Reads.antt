@@ -6,7 +6,7 @@ use Rattle.engine_turns.specs.Verdicts.{Queued, Reading, ReadsAll, ReadsOn}
 
 -- a reader that has heard nothing
 abbrev pub beginning : {L : Type 0} → L → Reading L
-beginning link = record { link = link; so_far = record { kept = []; unkept = []; agreed = false; put = []; farewell = None; handed_back = None } }
+beginning link = record { link = link; so_far = record { kept = []; unkept = []; agreed = false; put = []; last_job = None; handed_back = None } }
 
 -- any number of receives, of which the last ended the session where there is an end
 abbrev pub ReadsSo : {L : Type 0} → (L → Heard → L → Type 0) → (old : Reading L) → Option SessionEnd → (now : Reading L) → Type 0
@@ -20,9 +20,9 @@ pub record HasRead {L : Type 0} (receives : L → Heard → L → Type 0) (from 
   pub reads : ReadsSo receives (beginning link) end now
 
 -- the same, once its link is gone: these jobs were queued, this frame ended the session, if one did, and whether a job was handed back
-pub record HasReadAll {L : Type 0} (receives : L → Heard → L → Type 0) (from : Option L) (end : Option SessionEnd) (put : List Queued) (farewell : Option Queued) (is_handed_back : Bool) : Type 0 where
+pub record HasReadAll {L : Type 0} (receives : L → Heard → L → Type 0) (from : Option L) (end : Option SessionEnd) (put : List Queued) (last_job : Option Queued) (is_handed_back : Bool) : Type 0 where
   pub last : Reading L
   pub put_is : put ≡ last.so_far.put
-  pub farewell_is : farewell ≡ last.so_far.farewell
+  pub last_job_is : last_job ≡ last.so_far.last_job
   pub handed_back_is : is_handed_back ≡ is_some last.so_far.handed_back
   pub read : HasRead receives from end last

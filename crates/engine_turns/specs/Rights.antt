@@ -6,15 +6,15 @@ use Rattle.terms.specs.declared.settings.Settings.{Settings}
 use Rattle.engine.specs.Classes.{class}
 use Rattle.engine.specs.Reference.{HandlesFrame, Offer, Turn}
 use Rattle.engine.specs.declared.links.Sent.TheVariants.{Taken}
-use Rattle.engine_turns.specs.Visits.{Fresh, OnTable, Visited, left_in, visits}
+use Rattle.engine_turns.specs.TableCalls.{Fresh, OnTable, TurnEnd, left_in, known_table}
 use Rattle.engine_queues.specs.declared.job.Job.{Job}
 use Rattle.engine_queues.specs.declared.left.Left.{Left}
 
 -- what the rules say to a job, with the calls that were made for it and their answers: those on the table are added to what the thread did
-pub record IsJobHandled (settings : Settings) (job : Job) (turn : Turn) (before : OnTable) (visited : Visited) (after : OnTable) : Type 0 where
+pub record IsJobHandled (settings : Settings) (job : Job) (turn : Turn) (before : OnTable) (turn_end : TurnEnd) (after : OnTable) : Type 0 where
   pub frame_is : turn.frame ≡ job.frame.items
   pub now : Bool
-  pub meets : HandlesFrame visits settings job.agreed (class job.agreed (opcode_in turn.frame)) (record { visited = Fresh; on_table = before }) turn (record { visited = visited; on_table = after }) now
+  pub meets : HandlesFrame known_table settings job.agreed (class job.agreed (opcode_in turn.frame)) (record { turn_end = Fresh; on_table = before }) turn (record { turn_end = turn_end; on_table = after }) now
 
 -- this offer, which was not made yet
 pub record IsWritten (offer : Offer) (bytes : List ℕ) : Type 0 where
@@ -24,10 +24,10 @@ pub record IsWritten (offer : Offer) (bytes : List ℕ) : Type 0 where
 pub record IsRight (settings : Settings) (job : Job) (bytes : List ℕ) (left : Option Left) : Type 0 where
   pub turn : Turn
   pub before : OnTable
-  pub visited : Visited
+  pub turn_end : TurnEnd
   pub after : OnTable
-  pub handled : IsJobHandled settings job turn before visited after
+  pub handled : IsJobHandled settings job turn before turn_end after
   pub offer : Offer
   pub offered : turn.offer ≡ Some offer
   pub written : IsWritten offer bytes
-  pub left_is : left ≡ left_in visited
+  pub left_is : left ≡ left_in turn_end

@@ -18,7 +18,7 @@ progress reader = record {
   unkept = take reader.unkept reader.room.items;
   agreed = reader.agreed;
   put = queued_of (view reader.pass).put;
-  farewell = option_map shown reader.farewell;
+  last_job = option_map shown reader.last_job;
   handed_back = option_map shown reader.handed_back;
 }
 

@@ -16,16 +16,16 @@ use Rattle.engine.specs.declared.served.Served.{Served}
 use Rattle.engine.specs.declared.links.Sent.{Sent}
 use Rattle.engine.specs.declared.links.Sent.TheVariants.{Taken}
 use Rattle.engine_queues.specs.Jobs.{taken_of}
-use Rattle.engine_queues.specs.Letters as letters
+use Rattle.engine_queues.specs.Replies as queued_replies
 use Rattle.engine_queues.specs.declared.jobs.Hand.{Hand}
-use Rattle.engine_queues.specs.declared.letters.ReplyLane.{ReplyLane}
-use Rattle.engine_queues.specs.declared.letters.Letter.{Letter}
-use Rattle.engine_turns.specs.Visits.{Fresh, GainsListed, OnTable, Visited, left_in, settled_in, settlement_of, then_all}
+use Rattle.engine_queues.specs.declared.replies.ReplyLane.{ReplyLane}
+use Rattle.engine_queues.specs.declared.replies.QueuedReply.{QueuedReply}
+use Rattle.engine_turns.specs.TableCalls.{Fresh, GainsListed, OnTable, TurnEnd, left_in, settled_in, settlement_of, then_all}
 use Rattle.engine_turns.specs.Rights.{IsJobHandled}
 use Rattle.engine.specs.Batches.{bytes_of}
 use Rattle.engine_queues.specs.declared.job.Job.{Job}
 use Rattle.engine_queues.specs.declared.left.Left.{Left}
-use Rattle.engine_turns.specs.declared.replies.Reply.{Reply}
+use Rattle.engine_turns.specs.declared.replies.JobReply.{JobReply}
 
 -- ---- a worker
 
@@ -46,16 +46,16 @@ means served share on_table = record { served = served; share = share; on_table 
 -- what has come of a job: the reply that is written, if one is, and what the calls on the table came to
 pub record Met : Type 0 where
   pub said : Option (List ℕ)
-  pub visited : Visited
+  pub turn_end : TurnEnd
 
 -- A job is handled by the rules of a session: by these calls of the directory, of the open folders and on the table, of each in order and
 -- each once. The share gains the entries of the answer that is left or settled.
 pub record MeetsJob {C D : Type 0} (does : Behaviour C D) (settings : Settings) (job : Job) (old : Means C D) (met : Met) (new : Means C D) : Type 0 where
   pub turn : Turn
-  pub handled : IsJobHandled settings job turn old.on_table met.visited new.on_table
+  pub handled : IsJobHandled settings job turn old.on_table met.turn_end new.on_table
   pub draws : Draws does old.served turn.made turn.folders new.served
   pub writes : Writes turn.offer met.said
-  pub gains : GainsListed (record { visited = Fresh; on_table = old.on_table }) old.share (record { visited = met.visited; on_table = new.on_table }) new.share
+  pub gains : GainsListed (record { turn_end = Fresh; on_table = old.on_table }) old.share (record { turn_end = met.turn_end; on_table = new.on_table }) new.share
 
 -- the handle of the listing that was put for an answer
 abbrev pub put_in : Option Left → Option ℕ
@@ -63,12 +63,12 @@ put_in None = None
 put_in (Some left) = left.put
 
 -- the reply of that sender to that job
-pub record IsReplyTo (settings : Settings) (from : ℕ) (job : Job) (bytes : List ℕ) (visited : Visited) (letter : Letter Reply) : Type 0 where
-  pub from_is : letter.from ≡ from
-  pub settings_are : letter.reply.settings ≡ settings
-  pub job_is : letter.reply.job.value ≡ job
-  pub bytes_are : bytes_of letter.reply.bytes ≡ bytes
-  pub left_is : letter.reply.left ≡ left_in visited
+pub record IsReplyTo (settings : Settings) (from : ℕ) (job : Job) (bytes : List ℕ) (turn_end : TurnEnd) (queued_reply : QueuedReply JobReply) : Type 0 where
+  pub from_is : queued_reply.from ≡ from
+  pub settings_are : queued_reply.reply.settings ≡ settings
+  pub job_is : queued_reply.reply.job.value ≡ job
+  pub bytes_are : bytes_of queued_reply.reply.bytes ≡ bytes
+  pub left_is : queued_reply.reply.left ≡ left_in turn_end
 
 -- what a turn comes to: the settle of an answer, the calls of the open folders, and those on the table
 pub record Ending : Type 0 where
@@ -89,8 +89,8 @@ settles_of None taken = []
 settles_of (Some left) taken = made.settled left.answered taken (settlement_of left.answered taken) ∷ []
 
 -- what is settled where the reply was handed back: what is left, as untaken
-abbrev pub untaken_in : Visited → Option Settlement
-untaken_in visited = option_or (ended_as (left_in visited) false) (settled_in visited)
+abbrev pub untaken_in : TurnEnd → Option Settlement
+untaken_in turn_end = option_or (ended_as (left_in turn_end) false) (settled_in turn_end)
 
 -- it is settled; a listing that was put for it is given up where its reply was not taken
 pub record IsEnded (left : Option Left) (taken : Bool) (did : Ending) : Type 0 where
@@ -108,20 +108,20 @@ pub record ByBoth {D : Type 0} (keeps : D → FolderCall → D → Type 0) (old 
 
 -- what a worker has put into the queue of replies, and how many of its replies that queue handed back
 pub record Outbox : Type 0 where
-  pub lane : ReplyLane Reply
+  pub lane : ReplyLane JobReply
   pub handed_back : ℕ
 
-abbrev pub outbox : ReplyLane Reply → (handed_back : ℕ) → Outbox
+abbrev pub outbox : ReplyLane JobReply → (handed_back : ℕ) → Outbox
 outbox lane handed_back = record { lane = lane; handed_back = handed_back }
 
 -- Exactly one reply is put, or else the queue hands it back, which is counted; then its answer is settled as untaken, and a listing that was
 -- put for it is given up. None is put or counted where nothing is written.
 pub data PutsReply (settings : Settings) (from : ℕ) (job : Job) (met : Met) (old : Outbox) (did : Ending) (new : Outbox) : Type 0 where
-  is_put : (bytes : List ℕ) (letter : Letter Reply) → met.said ≡ Some bytes → IsReplyTo settings from job bytes met.visited letter → new ≡ outbox (letters.put_of old.lane (Some letter)) old.handed_back → did.settled ≡ settled_in met.visited → did.folders ≡ [] → did.on_table ≡ []
+  is_put : (bytes : List ℕ) (queued_reply : QueuedReply JobReply) → met.said ≡ Some bytes → IsReplyTo settings from job bytes met.turn_end queued_reply → new ≡ outbox (queued_replies.put_of old.lane (Some queued_reply)) old.handed_back → did.settled ≡ settled_in met.turn_end → did.folders ≡ [] → did.on_table ≡ []
       → PutsReply settings from job met old did new
-  handed_back : (bytes : List ℕ) → met.said ≡ Some bytes → new ≡ outbox old.lane (old.handed_back + 1) → did.settled ≡ untaken_in met.visited → GivesUp false (put_in (left_in met.visited)) did.folders → did.on_table ≡ settles_of (left_in met.visited) false
+  handed_back : (bytes : List ℕ) → met.said ≡ Some bytes → new ≡ outbox old.lane (old.handed_back + 1) → did.settled ≡ untaken_in met.turn_end → GivesUp false (put_in (left_in met.turn_end)) did.folders → did.on_table ≡ settles_of (left_in met.turn_end) false
       → PutsReply settings from job met old did new
-  none : met.said ≡ None → new ≡ old → did.settled ≡ settled_in met.visited → did.folders ≡ [] → did.on_table ≡ [] → PutsReply settings from job met old did new
+  none : met.said ≡ None → new ≡ old → did.settled ≡ settled_in met.turn_end → did.folders ≡ [] → did.on_table ≡ [] → PutsReply settings from job met old did new
 
 -- where a worker stands: what it has taken from the queue of jobs, what became of its replies at theirs, and what it meets jobs with
 pub record Standing (C D : Type 0) : Type 0 where
@@ -153,24 +153,24 @@ pub record Worked {C D : Type 0} (does : Behaviour C D) (settings : Settings) (f
 -- ---- the writer
 
 -- its bytes are offered, and once
-pub record OffersBytes {L : Type 0} (sends : L → List ℕ → Sent → L → Type 0) (letter : Letter Reply) (did : Ending) (link link' : L) (broken : Bool) : Type 0 where
+pub record OffersBytes {L : Type 0} (sends : L → List ℕ → Sent → L → Type 0) (queued_reply : QueuedReply JobReply) (did : Ending) (link link' : L) (broken : Bool) : Type 0 where
   pub sent : Sent
-  pub offer : sends link (bytes_of letter.reply.bytes) sent link'
-  pub ends : IsEnded letter.reply.left (is_taken sent) did
+  pub offer : sends link (bytes_of queued_reply.reply.bytes) sent link'
+  pub ends : IsEnded queued_reply.reply.left (is_taken sent) did
   pub broken_is : broken ≡ is_broken sent
 
 -- nothing is offered once the link broke
-pub record OffersNothing {L : Type 0} (letter : Letter Reply) (did : Ending) (link link' : L) (broken : Bool) : Type 0 where
+pub record OffersNothing {L : Type 0} (queued_reply : QueuedReply JobReply) (did : Ending) (link link' : L) (broken : Bool) : Type 0 where
   pub link_is : link' ≡ link
-  pub ends : IsEnded letter.reply.left false did
+  pub ends : IsEnded queued_reply.reply.left false did
   pub broken_is : broken ≡ true
 
-abbrev pub Offers : {L : Type 0} → (L → List ℕ → Sent → L → Type 0) → Letter Reply → Ending → L → L → (before after : Bool) → Type 0
-Offers sends letter did link link' true broken = OffersNothing letter did link link' broken
-Offers sends letter did link link' false broken = OffersBytes sends letter did link link' broken
+abbrev pub Offers : {L : Type 0} → (L → List ℕ → Sent → L → Type 0) → QueuedReply JobReply → Ending → L → L → (before after : Bool) → Type 0
+Offers sends queued_reply did link link' true broken = OffersNothing queued_reply did link link' broken
+Offers sends queued_reply did link link' false broken = OffersBytes sends queued_reply did link link' broken
 
--- the front reply was taken and offered, and its answer settled
-pub record Wrote {L : Type 0} (sends : L → List ℕ → Sent → L → Type 0) (lane : ReplyLane Reply) (link : L) (before : Bool) (did : Ending) (lane' : ReplyLane Reply) (link' : L) (after : Bool) : Type 0 where
-  pub front : Letter Reply
-  pub got : lane' ≡ letters.got_of lane (Some front)
-  pub offers : Offers sends front did link link' before after
+-- the first reply was taken and offered, and its answer settled
+pub record Wrote {L : Type 0} (sends : L → List ℕ → Sent → L → Type 0) (lane : ReplyLane JobReply) (link : L) (before : Bool) (did : Ending) (lane' : ReplyLane JobReply) (link' : L) (after : Bool) : Type 0 where
+  pub thread_log : QueuedReply JobReply
+  pub got : lane' ≡ queued_replies.got_of lane (Some thread_log)
+  pub offers : Offers sends thread_log did link link' before after

@@ -34,7 +34,7 @@ abbrev pub IsVerdict : (before : Bool) → List ℕ → (now : Bool) → Type 0
 IsVerdict before frame now = VerdictBy (class before (opcode_in frame)) before frame now
 
 -- the client ends the session with it
-pub record IsFarewell (agreed : Bool) (frame : List ℕ) : Type 0 where
+pub record EndsSession (agreed : Bool) (frame : List ℕ) : Type 0 where
   pub class_is : class agreed (opcode_in frame) ≡ DestroyFrame
   pub request : Request
   pub is_request : IsRequest frame request
@@ -44,11 +44,11 @@ pub record Queued : Type 0 where
   pub agreed : Bool
   pub frame : List ℕ
 
--- these frames come next in the bytes, each whole and no farewell, and each with its verdict
+-- these frames come next in the bytes, each whole and none of them the last of its session, and each with its verdict
 abbrev pub Queues : (kept : List ℕ) → (agreed : Bool) → List Queued → (rest : List ℕ) → (now : Bool) → Type 0
 Queues kept agreed [] rest now = (rest ≡ kept) × (now ≡ agreed)
 Queues kept agreed (job ∷ jobs) rest now =
-    (job.agreed ≡ agreed) × IsFramed job.frame × (IsFarewell agreed job.frame → ⊥)
+    (job.agreed ≡ agreed) × IsFramed job.frame × (EndsSession agreed job.frame → ⊥)
     × ((mid : List ℕ) × (next : Bool) × (kept ≡ job.frame ++ mid) × IsVerdict agreed job.frame next × Queues mid next jobs rest now)
 
 -- How far a reader has got with what it heard: the bytes that are in no frame yet, those that came behind them and could not be kept with them, the
@@ -59,12 +59,12 @@ pub record Progress : Type 0 where
   pub unkept : List ℕ
   pub agreed : Bool
   pub put : List Queued
-  pub farewell : Option Queued
+  pub last_job : Option Queued
   pub handed_back : Option Queued
 
 -- which frames are told and not queued
-pub record Tells (new : Progress) (farewell handed_back : Option Queued) : Type 0 where
-  pub farewell_is : new.farewell ≡ farewell
+pub record Tells (new : Progress) (last_job handed_back : Option Queued) : Type 0 where
+  pub last_job_is : new.last_job ≡ last_job
   pub handed_back_is : new.handed_back ≡ handed_back
 
 -- there is no copy of the whole frame that comes next, and all is kept
@@ -72,24 +72,24 @@ pub record LacksCopy (rest : List ℕ) (old new : Progress) : Type 0 where
   pub len : ℕ
   pub whole : IsWhole rest len
   pub kept_is : new.kept ≡ rest
-  pub tells : Tells new old.farewell old.handed_back
+  pub tells : Tells new old.last_job old.handed_back
 
 -- the frame that comes next was handed back, and what comes after it is kept
 pub record IsHandedBack (rest : List ℕ) (old new : Progress) : Type 0 where
   pub frame : List ℕ
   pub front : rest ≡ frame ++ new.kept
   pub framed : IsFramed frame
-  pub other : IsFarewell new.agreed frame → ⊥
-  pub tells : Tells new old.farewell (Some (record { agreed = new.agreed; frame = frame }))
+  pub other : EndsSession new.agreed frame → ⊥
+  pub tells : Tells new old.last_job (Some (record { agreed = new.agreed; frame = frame }))
 
 -- why no more is queued, where these bytes come next; so far the old frames were told
 abbrev pub Stops : (rest : List ℕ) → (old : Progress) → Option SessionEnd → Progress → Type 0
-Stops rest old None new = (new.kept ≡ rest) × IsPartial rest × Tells new old.farewell old.handed_back
+Stops rest old None new = (new.kept ≡ rest) × IsPartial rest × Tells new old.last_job old.handed_back
 Stops rest old (Some (ends.Closed len)) new = ⊥
--- a farewell comes next
+-- the frame that ends the session comes next
 Stops rest old (Some ends.Destroyed) new =
-    (frame : List ℕ) × (rest ≡ frame ++ new.kept) × IsFarewell new.agreed frame × Tells new (Some (record { agreed = new.agreed; frame = frame })) old.handed_back
-Stops rest old (Some (ends.BadLength len)) new = (new.kept ≡ rest) × BeginsBadly rest len × Tells new old.farewell old.handed_back
+    (frame : List ℕ) × (rest ≡ frame ++ new.kept) × EndsSession new.agreed frame × Tells new (Some (record { agreed = new.agreed; frame = frame })) old.handed_back
+Stops rest old (Some (ends.BadLength len)) new = (new.kept ≡ rest) × BeginsBadly rest len × Tells new old.last_job old.handed_back
 -- a link breaks where it is heard, and nowhere else
 Stops rest old (Some ends.LinkBroken) new = ⊥
 -- which of both it was the frame that was handed back tells
@@ -110,16 +110,16 @@ pub record Queueing (old new : Progress) : Type 0 where
   pub done : List Queued
   pub queued : new.put ≡ old.put ++ done
   pub onwards : (jobs : List Queued) (rest : List ℕ) (then' : Bool) → Queues new.kept new.agreed jobs rest then' → Queues old.kept old.agreed (done ++ jobs) rest then'
-  pub tells : Tells new old.farewell old.handed_back
+  pub tells : Tells new old.last_job old.handed_back
   pub unkept_is : new.unkept ≡ old.unkept
 
 -- these bytes come after those that came before
 abbrev pub and_then : Progress → List ℕ → Progress
-and_then old bytes = record { kept = old.kept ++ (old.unkept ++ bytes); unkept = []; agreed = old.agreed; put = old.put; farewell = old.farewell; handed_back = old.handed_back }
+and_then old bytes = record { kept = old.kept ++ (old.unkept ++ bytes); unkept = []; agreed = old.agreed; put = old.put; last_job = old.last_job; handed_back = old.handed_back }
 
 -- the same, where they could not be kept
 abbrev pub with_unkept : Progress → List ℕ → Progress
-with_unkept old bytes = record { kept = old.kept; unkept = old.unkept ++ bytes; agreed = old.agreed; put = old.put; farewell = old.farewell; handed_back = old.handed_back }
+with_unkept old bytes = record { kept = old.kept; unkept = old.unkept ++ bytes; agreed = old.agreed; put = old.put; last_job = old.last_job; handed_back = old.handed_back }
 
 -- Why bytes could not be kept: a length that no frame has stands before them, or memory was refused, of which the allocator alone knows.
 abbrev pub KeepsNone : (kept : List ℕ) → Option SessionEnd → Type 0

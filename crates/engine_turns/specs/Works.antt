@@ -6,8 +6,8 @@ use Rattle.terms.specs.declared.settings.Settings.{Settings}
 use Rattle.engine.specs.Chain.{Chain}
 use Rattle.engine.specs.Serving.{Behaviour}
 use Rattle.engine_queues.specs.Jobs.{hand}
-use Rattle.engine_queues.specs.Letters.{sender}
-use Rattle.engine_turns.specs.Visits.{idle}
+use Rattle.engine_queues.specs.Replies.{sender}
+use Rattle.engine_turns.specs.TableCalls.{idle}
 use Rattle.engine_turns.specs.Turns.{Standing, Worked, means, outbox, standing}
 
 -- one job after another, each with the settle that the worker made of it itself

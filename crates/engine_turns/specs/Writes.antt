@@ -1,17 +1,17 @@
 -- What a writer has done since it began.
 use Rattle.std.specs.Prelude.{ℕ, ◌≡◌, Bool, true, false, List, [], Option, Some}
 use Rattle.engine.specs.declared.links.Sent.{Sent}
-use Rattle.engine_queues.specs.Letters.{writer}
-use Rattle.engine_queues.specs.declared.letters.ReplyLane.{ReplyLane}
-use Rattle.engine_turns.specs.Visits.{OnTable, idle, then_all}
+use Rattle.engine_queues.specs.Replies.{writer}
+use Rattle.engine_queues.specs.declared.replies.ReplyLane.{ReplyLane}
+use Rattle.engine_turns.specs.TableCalls.{OnTable, idle, then_all}
 use Rattle.engine_turns.specs.Batches.{Endings, WritesAll, Writing}
-use Rattle.engine_turns.specs.declared.replies.Reply.{Reply}
+use Rattle.engine_turns.specs.declared.replies.JobReply.{JobReply}
 
-abbrev pub writing : {L : Type 0} → ReplyLane Reply → L → (is_broken : Bool) → Writing L
+abbrev pub writing : {L : Type 0} → ReplyLane JobReply → L → (is_broken : Bool) → Writing L
 writing lane link is_broken = record { lane = lane; link = link; is_broken = is_broken }
 
 -- what is known of a queue with so many senders of which nothing was got
-abbrev pub none_got : (senders : ℕ) → ReplyLane Reply
+abbrev pub none_got : (senders : ℕ) → ReplyLane JobReply
 none_got senders = writer [] senders []
 
 -- a writer that has got nothing
@@ -28,6 +28,6 @@ pub record HasWritten {L : Type 0} (sends : L → List ℕ → Sent → L → Ty
   pub calls_are : on_table ≡ then_all (idle senders) all.on_table
 
 -- the same, once its link is gone
-pub record HasWrittenAll {L : Type 0} (sends : L → List ℕ → Sent → L → Type 0) (from : Option L) (senders : ℕ) (on_table : OnTable) (lane : ReplyLane Reply) (is_broken : Bool) : Type 0 where
+pub record HasWrittenAll {L : Type 0} (sends : L → List ℕ → Sent → L → Type 0) (from : Option L) (senders : ℕ) (on_table : OnTable) (lane : ReplyLane JobReply) (is_broken : Bool) : Type 0 where
   pub last : L
   pub written : HasWritten sends from senders on_table (writing lane last is_broken)

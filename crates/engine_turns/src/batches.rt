@@ -3,21 +3,21 @@
 ghost use Rattle.std.specs.Prelude.{◌≡◌, ◌≤◌, ◌<◌, ◌+◌, ◌++◌, ◌∷◌, [], None, length, map, set, slice_index_or, IfOk, vec_len, vec_capacity};
 ghost use Rattle.engine.specs.Batches.{bytes_of, SendsEach};
 ghost use Rattle.engine.specs.Reference.{is_broken};
-ghost use Rattle.engine_turns.specs.Visits.{on_table_of};
+ghost use Rattle.engine_turns.specs.TableCalls.{on_table_of};
 ghost use Rattle.engine_turns.specs.Batches.{endings, last_of, taken_at, OffersAll, SettlesAll};
 ghost use Rattle.engine_turns.specs.Turns.{ByBoth};
 
-use crate::replies::Reply;
+use crate::replies::JobReply;
 use crate::settling::settle_left;
-use engine::{Bytes, LinkOut, Sent};
+use engine::{LinkOut, ReplyBytes, Sent};
 use engine_queues::Left;
 use handles::Folders;
 use ledger::{Ledgers, Share};
-use shared_history::Front;
+use shared_history::ThreadLog;
 use std::alloc::{AllocError, Global};
 use std::sync::Wait;
 use table::Settled;
-use table_shared::{Entry, Hall, Opening, Runs};
+use table_shared::{LogEntry, Opening, Runs, SharedTable};
 
 /// How many replies are offered together at most.
 pub const BATCH: usize = 16;
@@ -27,7 +27,7 @@ pub const BATCH: usize = 16;
 pub struct Batch {
     /// The answers that are left, until they are settled.
     left: Vec<Option<Left>>,
-    bytes: Vec<Bytes>,
+    bytes: Vec<ReplyBytes>,
     /// What became of those that were offered.
     sent: Vec<Sent>,
     /// What settling their answers told, in order.
@@ -89,14 +89,14 @@ impl Batch {
     }
 
     /// One reply more.
-    pub(crate) fn put(&mut self, reply: Reply)
+    pub(crate) fn put(&mut self, reply: JobReply)
         requires room { vec_len self.old.left < 16 }
         requires same { vec_len self.old.bytes ≡ vec_len self.old.left }
         ensures left { self.new.left.items ≡ self.old.left.items ++ reply.left ∷ [] }
         ensures bytes { self.new.bytes.items ≡ self.old.bytes.items ++ reply.bytes ∷ [] }
         ensures len { (vec_len self.new.left ≡ vec_len self.old.left + 1) × (vec_len self.new.bytes ≡ vec_len self.old.left + 1) }
     {
-        let Reply {
+        let JobReply {
             settings: _,
             job: _,
             bytes,
@@ -125,13 +125,13 @@ impl Batch {
     pub(crate) fn settle<H: Wait, T: Ledgers, O: Opening, D: Folders>(
         &mut self,
         rt: &H,
-        hall: &Hall<T, O>,
-        front: &mut Front<Entry<T>, Runs<O>>,
+        shared_table: &SharedTable<T, O>,
+        thread_log: &mut ThreadLog<LogEntry<T>, Runs<O>>,
         share: &mut Share<T>,
         dirs: &mut D,
     )
         requires few { vec_len self.old.left ≤ 16 }
-        ensures settles { ByBoth D.keeps dirs.old (on_table_of front.old) dirs.new (on_table_of front.new) (λ folders calls. SettlesAll self.old.left.items self.old.sent.items (endings self.new.settled.items folders calls)) }
+        ensures settles { ByBoth D.keeps dirs.old (on_table_of thread_log.old) dirs.new (on_table_of thread_log.new) (λ folders calls. SettlesAll self.old.left.items self.old.sent.items (endings self.new.settled.items folders calls)) }
         ensures count { vec_len self.new.settled ≡ vec_len self.old.left }
         ensures entries { share.new.totals.entries ≡ share.old.totals.entries }
         ensures index { share.new.index ≡ share.old.index }
@@ -140,7 +140,7 @@ impl Batch {
         for at in 0..self.left.len() {
             let left = take_at(&mut self.left, at);
             let taken = is_taken_at(self.sent.as_slice(), at);
-            let settled = settle_left(rt, hall, front, share, dirs, left, taken);
+            let settled = settle_left(rt, shared_table, thread_log, share, dirs, left, taken);
             self.settled.push_reserved(settled);
         }
     }

@@ -8,7 +8,7 @@ ghost use Rattle.engine_queues.specs.Jobs.{numbers};
 ghost use Rattle.wire.specs.Requests.{IsFramed};
 ghost use Rattle.wire.specs.Stream.{StoppedBy};
 
-use crate::verdicts::{agrees_after, is_farewell};
+use crate::verdicts::{agrees_after, ends_session};
 use engine::{LinkIn, Received, SessionEnd};
 use engine_queues::Job;
 use engine_queues::jobs::{JobPass, JobSender, Puts};
@@ -31,7 +31,7 @@ pub struct Reader {
     /// How many bytes at the front of the room were received and could not be kept by the cutter.
     pub unkept: usize,
     /// The job of the frame that ended the session, if one did. It is not queued.
-    pub farewell: Option<Job>,
+    pub last_job: Option<Job>,
     /// The job that the queue handed back, if it did that, or for which no number was left. It is not queued.
     pub handed_back: Option<Job>,
     ghost within: { unkept ≤ vec_len room },
@@ -76,9 +76,9 @@ impl Reader {
         requires parts { 0 < (view pass).parts }
         requires takes_none { length (view pass).taken ≡ 0 }
         requires puts_none { (view pass).put ≡ [] }
-        ensures ring { IfOk result (λ r. sends_on r.to ≡ sends_on to) }
+        ensures queue { IfOk result (λ r. sends_on r.to ≡ sends_on to) }
         ensures pass { IfOk result (λ r. view r.pass ≡ view pass) }
-        ensures empty { IfOk result (λ r. (r.cutter.kept ≡ []) × (r.agreed ≡ false) × (queued_of (view r.pass).put ≡ []) × (r.farewell ≡ None)) }
+        ensures empty { IfOk result (λ r. (r.cutter.kept ≡ []) × (r.agreed ≡ false) × (queued_of (view r.pass).put ≡ []) × (r.last_job ≡ None)) }
         ensures none_back { IfOk result (λ r. (r.unkept ≡ 0) × (r.handed_back ≡ None)) }
     {
         let mut room = Vec::new(alloc);
@@ -91,7 +91,7 @@ impl Reader {
             cutter: Cutter::new(alloc),
             room,
             unkept: 0,
-            farewell: None,
+            last_job: None,
             handed_back: None,
         })
     }
@@ -101,11 +101,11 @@ impl Reader {
         requires { IsFramed frame.items }
         ensures yes { IsTrue result → (queued_of (view self.new.pass).put ≡ queued_of (view self.old.pass).put ++ record { agreed = self.old.agreed; frame = frame.items } ∷ []) × IsVerdict self.old.agreed frame.items self.new.agreed × (self.new.handed_back ≡ self.old.handed_back) }
         ensures no { IsFalse result → (queued_of (view self.new.pass).put ≡ queued_of (view self.old.pass).put) × (self.new.agreed ≡ self.old.agreed) × (option_map shown self.new.handed_back ≡ Some (record { agreed = self.old.agreed; frame = frame.items })) }
-        ensures ring { sends_on self.new.to ≡ sends_on self.old.to }
+        ensures queue { sends_on self.new.to ≡ sends_on self.old.to }
         ensures parts { (view self.new.pass).parts ≡ (view self.old.pass).parts }
         ensures cutter { self.new.cutter ≡ self.old.cutter }
         ensures room { (self.new.room ≡ self.old.room) × (self.new.unkept ≡ self.old.unkept) }
-        ensures farewell { self.new.farewell ≡ self.old.farewell }
+        ensures last_job { self.new.last_job ≡ self.old.last_job }
     {
         let agreed = agrees_after(self.agreed, frame.as_slice());
         let job = Job {
@@ -133,15 +133,15 @@ impl Reader {
     /// Queues a job for each frame that stands whole, before the one that ends the session. Where the queue hands one back the session cannot go on.
     fn queue_all<H: Wait>(&mut self, rt: &H) -> Option<SessionEnd>
         ensures all { QueuesAll (progress self.old) result (progress self.new) }
-        ensures ring { sends_on self.new.to ≡ sends_on self.old.to }
+        ensures queue { sends_on self.new.to ≡ sends_on self.old.to }
         ensures parts { (view self.new.pass).parts ≡ (view self.old.pass).parts }
     {
         loop {
             match self.cutter.next() {
                 Ok(None) => return None,
                 Ok(Some(frame)) => {
-                    if is_farewell(self.agreed, frame.as_slice()) {
-                        self.farewell = Some(job_of(self.next, self.agreed, frame));
+                    if ends_session(self.agreed, frame.as_slice()) {
+                        self.last_job = Some(job_of(self.next, self.agreed, frame));
                         return Some(SessionEnd::Destroyed);
                     }
                     if !self.queue(rt, frame) {
@@ -158,7 +158,7 @@ impl Reader {
     /// kept by the next turn that can, if one is made.
     pub fn turn<H: Wait, L: LinkIn>(&mut self, rt: &H, link: &mut L) -> Option<SessionEnd>
         ensures reads { Reads L.receives (reading link.old self.old) result (reading link.new self.new) }
-        ensures ring { sends_on self.new.to ≡ sends_on self.old.to }
+        ensures queue { sends_on self.new.to ≡ sends_on self.old.to }
         ensures parts { (view self.new.pass).parts ≡ (view self.old.pass).parts }
     {
         match receive_behind(link, self.room.as_mut_slice(), self.unkept) {

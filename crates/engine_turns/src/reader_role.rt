@@ -23,7 +23,7 @@ pub struct ReaderRole<I: LinkIn + Drop, S: Source<I>> {
     /// How a receive ended the session, once one has.
     pub end: Option<SessionEnd>,
     pub source: PhantomData<S>,
-    ghost ring: { S.jobs ≡ Some (sends_on reader.to) },
+    ghost queue: { S.jobs ≡ Some (sends_on reader.to) },
     ghost parts: { (view reader.pass).parts + S.parted ≡ 8 },
     ghost read: { ∥ HasRead I.receives S.heard_from end (reading link reader) ∥₁ },
 }
@@ -31,7 +31,7 @@ pub struct ReaderRole<I: LinkIn + Drop, S: Source<I>> {
 impl<I: LinkIn + Drop, S: Source<I>> ReaderRole<I, S> {
     /// A reader that has heard nothing.
     pub fn new(reader: Reader, link: I) -> ReaderRole<I, S>
-        requires ring { S.jobs ≡ Some (sends_on reader.to) }
+        requires queue { S.jobs ≡ Some (sends_on reader.to) }
         requires parts { (view reader.pass).parts + S.parted ≡ 8 }
         requires from { S.heard_from ≡ Some link }
         requires fresh { reading link reader ≡ beginning link }
@@ -61,8 +61,8 @@ impl<I: LinkIn + Drop, S: Source<I>> ReaderRole<I, S> {
         ensures seat { IfSome S.jobs (λ jobs. IsSeatAt jobs result.pass) }
         ensures parts { (view result.pass).parts + S.parted ≡ 8 }
         ensures takes_none { length (view result.pass).taken ≡ 0 }
-        ensures same { (result.end ≡ self.end) × (result.farewell ≡ self.reader.farewell) × (result.is_handed_back ≡ is_some self.reader.handed_back) }
-        ensures read { ∥ HasReadAll I.receives S.heard_from result.end (queued_of (view result.pass).put) (option_map shown result.farewell) result.is_handed_back ∥₁ }
+        ensures same { (result.end ≡ self.end) × (result.last_job ≡ self.reader.last_job) × (result.is_handed_back ≡ is_some self.reader.handed_back) }
+        ensures read { ∥ HasReadAll I.receives S.heard_from result.end (queued_of (view result.pass).put) (option_map shown result.last_job) result.is_handed_back ∥₁ }
     {
         let ReaderRole {
             reader,

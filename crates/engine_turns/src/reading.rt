@@ -16,7 +16,7 @@ pub struct ReaderEnd {
     /// How a receive ended the session. None where reading was stopped before.
     pub end: Option<SessionEnd>,
     /// The job of the frame that ended the session, if one did.
-    pub farewell: Option<Job>,
+    pub last_job: Option<Job>,
     /// Whether a job was handed back.
     pub is_handed_back: bool,
 }
@@ -25,7 +25,7 @@ impl ReaderEnd {
     /// What a reader leaves that has ended so.
     pub fn new(reader: Reader, end: Option<SessionEnd>) -> ReaderEnd
         ensures seat { IsSeatAt (sends_on reader.to) result.pass }
-        ensures same { (view result.pass ≡ view reader.pass) × (result.end ≡ end) × (result.farewell ≡ reader.farewell) × (result.is_handed_back ≡ is_some reader.handed_back) }
+        ensures same { (view result.pass ≡ view reader.pass) × (result.end ≡ end) × (result.last_job ≡ reader.last_job) × (result.is_handed_back ≡ is_some reader.handed_back) }
         ensures takes_none { length (view result.pass).taken ≡ 0 }
     {
         let Reader {
@@ -36,7 +36,7 @@ impl ReaderEnd {
             cutter: _,
             room: _,
             unkept: _,
-            farewell,
+            last_job,
             handed_back,
         } = reader;
         drop(to);
@@ -44,7 +44,7 @@ impl ReaderEnd {
         ReaderEnd {
             pass,
             end,
-            farewell,
+            last_job,
             is_handed_back,
         }
     }

@@ -1,29 +1,29 @@
 //! The settle of an answer that is left.
 
 ghost use Rattle.std.specs.Prelude.{◌≡◌};
-ghost use Rattle.engine_turns.specs.Visits.{on_table_of};
+ghost use Rattle.engine_turns.specs.TableCalls.{on_table_of};
 ghost use Rattle.engine_turns.specs.Turns.{ByBoth, IsEnded, ending};
 
 use engine::give_up;
 use engine_queues::Left;
 use handles::Folders;
 use ledger::{Ledgers, Share};
-use shared_history::Front;
+use shared_history::ThreadLog;
 use std::sync::Wait;
 use table::Settled;
-use table_shared::{Entry, Hall, Opening, Runs};
+use table_shared::{LogEntry, Opening, Runs, SharedTable};
 
 /// Settles what is left. A listing that was put for it is given up where its reply was not taken.
 pub(crate) fn settle_left<H: Wait, T: Ledgers, O: Opening, D: Folders>(
     rt: &H,
-    hall: &Hall<T, O>,
-    front: &mut Front<Entry<T>, Runs<O>>,
+    shared_table: &SharedTable<T, O>,
+    thread_log: &mut ThreadLog<LogEntry<T>, Runs<O>>,
     share: &mut Share<T>,
     dirs: &mut D,
     left: Option<Left>,
     taken: bool,
 ) -> Option<Settled>
-    ensures ends { ByBoth D.keeps dirs.old (on_table_of front.old) dirs.new (on_table_of front.new) (λ folders calls. IsEnded left taken (ending result folders calls)) }
+    ensures ends { ByBoth D.keeps dirs.old (on_table_of thread_log.old) dirs.new (on_table_of thread_log.new) (λ folders calls. IsEnded left taken (ending result folders calls)) }
     ensures entries { share.new.totals.entries ≡ share.old.totals.entries }
     ensures index { share.new.index ≡ share.old.index }
 {
@@ -31,7 +31,7 @@ pub(crate) fn settle_left<H: Wait, T: Ledgers, O: Opening, D: Folders>(
         return None;
     };
     let (answered, put) = left.into_parts();
-    let settled = hall.settle(rt, front, share, answered, taken);
+    let settled = shared_table.settle(rt, thread_log, share, answered, taken);
     give_up(dirs, put, taken);
     Some(settled)
 }

@@ -5,22 +5,22 @@ ghost use Rattle.std.specs.Prelude.{◌≡◌, ◌++◌, ◌∷◌, [], IfSome};
 use ledger::{Ledgers, Share};
 
 /// A thread's share of the table's book. Where it is dropped it is left, and the book is not gathered.
-pub struct Kept<T: Ledgers> {
+pub struct ThreadShare<T: Ledgers> {
     pub share: Share<T>,
 }
 
-impl<T: Ledgers> Drop for Kept<T> {
+impl<T: Ledgers> Drop for ThreadShare<T> {
     fn drop(self) {
-        let Kept { share } = self;
+        let ThreadShare { share } = self;
         share.leave();
     }
 }
 
-impl<T: Ledgers> Kept<T> {
+impl<T: Ledgers> ThreadShare<T> {
     fn into_share(self) -> Share<T>
         ensures { result ≡ self.share }
     {
-        let Kept { share } = self;
+        let ThreadShare { share } = self;
         share
     }
 }
@@ -33,11 +33,11 @@ pub struct Shares<T: Ledgers> {
 impl<T: Ledgers> Drop for Shares<T> {
     fn drop(self) {
         let Shares { shares } = self;
-        leave_all(shares);
+        leak_all(shares);
     }
 }
 
-fn leave_all<T: Ledgers>(mut shares: Vec<Share<T>>) {
+fn leak_all<T: Ledgers>(mut shares: Vec<Share<T>>) {
     while let Some(share) = shares.pop() {
         share.leave();
     }
@@ -52,15 +52,15 @@ impl<T: Ledgers> Shares<T> {
     }
 
     /// The last of them for a thread, if one is there.
-    pub fn take(&mut self) -> Option<Kept<T>>
+    pub fn take(&mut self) -> Option<ThreadShare<T>>
         ensures { IfSome result (λ kept. self.old.shares.items ≡ self.new.shares.items ++ kept.share ∷ []) }
     {
         let share = self.shares.pop()?;
-        Some(Kept { share })
+        Some(ThreadShare { share })
     }
 
     /// One comes back. There is room for all that were taken.
-    pub fn put(&mut self, kept: Kept<T>) {
+    pub fn put(&mut self, kept: ThreadShare<T>) {
         let share = kept.into_share();
         if self.shares.len() < self.shares.capacity() {
             self.shares.push_reserved(share);

@@ -10,14 +10,14 @@ const NAP_MILLIS: u64 = 1;
 
 /// Where one thread sleeps.
 #[derive(Drop)]
-struct Place {
+struct Sleeper {
     is_asleep: AtomicBool,
     parker: Parker,
 }
 
-impl Place {
-    fn new() -> Place {
-        Place {
+impl Sleeper {
+    fn new() -> Sleeper {
+        Sleeper {
             is_asleep: AtomicBool::new(false),
             parker: Parker::new(),
         }
@@ -28,7 +28,7 @@ impl Place {
 /// there is something to do, and only then sleeps: so who makes work for others either is seen by that look, or sees the thread and wakes it.
 #[derive(Drop)]
 pub struct Sleepers {
-    places: [Place; 4],
+    places: [Sleeper; 4],
     /// Whether a thread sleeps that looks again by itself.
     is_watched: AtomicBool,
 }
@@ -37,7 +37,12 @@ impl Sleepers {
     /// All are awake.
     pub fn new() -> Sleepers {
         Sleepers {
-            places: [Place::new(), Place::new(), Place::new(), Place::new()],
+            places: [
+                Sleeper::new(),
+                Sleeper::new(),
+                Sleeper::new(),
+                Sleeper::new(),
+            ],
             is_watched: AtomicBool::new(false),
         }
     }

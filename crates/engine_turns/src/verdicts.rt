@@ -4,7 +4,7 @@ ghost use Rattle.std.specs.Prelude.{◌≡◌, IsTrue, IsFalse};
 ghost use Rattle.wire.specs.Requests.{IsFramed, opcode_in};
 ghost use Rattle.engine.specs.Classes.{class};
 ghost use Rattle.engine.specs.Reference.{negotiated_by};
-ghost use Rattle.engine_turns.specs.Verdicts.{greeted, IsFarewell, IsVerdict};
+ghost use Rattle.engine_turns.specs.Verdicts.{greeted, EndsSession, IsVerdict};
 
 use engine::{Class, class_of};
 use wire::{Negotiated, Operation, decode, header_of, negotiate};
@@ -45,10 +45,10 @@ pub(crate) fn agrees_after(before: bool, frame: &[u8]) -> bool
 }
 
 /// Whether the client ends the session with a frame.
-pub(crate) fn is_farewell(agreed: bool, frame: &[u8]) -> bool
+pub(crate) fn ends_session(agreed: bool, frame: &[u8]) -> bool
     requires { IsFramed frame.now }
-    ensures yes { IsTrue result → IsFarewell agreed frame.now }
-    ensures no { IsFalse result → IsFarewell agreed frame.now → ⊥ }
+    ensures yes { IsTrue result → EndsSession agreed frame.now }
+    ensures no { IsFalse result → EndsSession agreed frame.now → ⊥ }
 {
     let Some(header) = header_of(frame) else {
         unreachable!()

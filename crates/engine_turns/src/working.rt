@@ -7,20 +7,20 @@ ghost use Rattle.table_steps.specs.Answers.{Settlement};
 ghost use Rattle.engine.specs.Batches.{bytes_of};
 ghost use Rattle.engine.specs.Reference.{Turn as IsHandled};
 ghost use Rattle.engine.specs.Serving.{does};
-ghost use Rattle.engine_turns.specs.Visits.{left_in, on_table_of, settled_in, visited_of};
+ghost use Rattle.engine_turns.specs.TableCalls.{left_in, on_table_of, settled_in, turn_end_of};
 ghost use Rattle.engine_turns.specs.Rights.{IsRight};
-ghost use Rattle.engine_turns.specs.Slips.{bytes_in};
+ghost use Rattle.engine_turns.specs.ReplyBuffers.{bytes_in};
 ghost use Rattle.engine_turns.specs.Turns.{AnswersJob, ByBoth, MeetsJob, PutsReply, Worked, ending, means, outbox, standing};
 
-use crate::replies::Reply;
+use crate::replies::JobReply;
+use crate::reply_buffer::ReplyBuffer;
 use crate::settling::settle_left;
-use crate::slips::Slip;
-use crate::visits::{ComeTo, Visitor};
+use crate::table_handle::{TableHandle, TurnResult};
 use backing::Calls;
-use engine::{Bytes, Served, Session, Settings};
+use engine::{ReplyBytes, Served, Session, Settings};
 use engine_queues::jobs::{JobPass, JobReceiver, Takes};
-use engine_queues::letters::{Letter, Posts, ReplyPass, ReplySender};
 use engine_queues::passes::Passes;
+use engine_queues::replies::{Posts, QueuedReply, ReplyPass, ReplySender};
 use engine_queues::{Job, Left};
 use handles::Folders;
 use ledger::{Ledgers, Share};
@@ -42,46 +42,46 @@ pub enum Turn {
 /// Meets a job by the rules of a session: what is replied, and what has come of it in the table.
 fn meet_job<'a, H: Wait, T: Ledgers, O: Opening, C: Calls, D: Folders>(
     session: &mut Session,
-    visitor: &mut Visitor<'a, H, T, O>,
+    table_handle: &mut TableHandle<'a, H, T, O>,
     share: &mut Share<T>,
     served: &mut Served<C, D>,
     job: &Job,
-) -> (Option<Bytes>, ComeTo)
-    ensures meets { MeetsJob (does C.gives D.keeps) session.old.settings job.now (means served.old share.old (on_table_of visitor.old.front)) (record { said = bytes_in result.0; visited = visited_of result.1 }) (means served.new share.new (on_table_of visitor.new.front)) }
+) -> (Option<ReplyBytes>, TurnResult)
+    ensures meets { MeetsJob (does C.gives D.keeps) session.old.settings job.now (means served.old share.old (on_table_of table_handle.old.thread_log)) (record { said = bytes_in result.0; turn_end = turn_end_of result.1 }) (means served.new share.new (on_table_of table_handle.new.thread_log)) }
     ensures settings { session.new.settings ≡ session.old.settings }
 {
     session.agreed = job.agreed;
-    let mut slip = Slip::new(session.alloc);
-    let _ = visitor.take_end();
+    let mut reply_buffer = ReplyBuffer::new(session.alloc);
+    let _ = table_handle.take_end();
     session.handle_frame(
-        visitor.rt,
-        &mut slip,
+        table_handle.rt,
+        &mut reply_buffer,
         served,
-        visitor,
+        table_handle,
         share,
         job.frame.as_slice(),
     );
-    (slip.into_said(), visitor.take_end())
+    (reply_buffer.into_said(), table_handle.take_end())
 }
 
 /// The answer that is left, and the settle that was made.
-fn parted(come_to: ComeTo) -> (Option<Left>, Option<Settled>)
-    ensures left { result.0 ≡ left_in (visited_of come_to) }
-    ensures settled { result.1 ≡ settled_in (visited_of come_to) }
+fn parted(turn_result: TurnResult) -> (Option<Left>, Option<Settled>)
+    ensures left { result.0 ≡ left_in (turn_end_of turn_result) }
+    ensures settled { result.1 ≡ settled_in (turn_end_of turn_result) }
 {
-    match come_to {
-        ComeTo::Nothing | ComeTo::Answer(_) => (None, None),
-        ComeTo::Left(left) => (Some(left), None),
-        ComeTo::Settled(settled) => (None, Some(settled)),
+    match turn_result {
+        TurnResult::Nothing | TurnResult::Answer(_) => (None, None),
+        TurnResult::Left(left) => (Some(left), None),
+        TurnResult::Settled(settled) => (None, Some(settled)),
     }
 }
 
 /// The reply to a job, which is right.
-fn reply_to(settings: Settings, job: &Job, bytes: Bytes, left: Option<Left>) -> Reply
+fn reply_to(settings: Settings, job: &Job, bytes: ReplyBytes, left: Option<Left>) -> JobReply
     requires { IsRight settings job.now (bytes_of bytes) left }
     ensures { (result.settings ≡ settings) × (result.job.value ≡ job.now) × (result.bytes ≡ bytes) × (result.left ≡ left) }
 {
-    Reply {
+    JobReply {
         settings,
         job: Snapshot::of(job),
         bytes,
@@ -96,8 +96,8 @@ pub struct Worker {
     pub session: Session,
     pub jobs: JobReceiver<Job>,
     pub job_pass: JobPass<Job>,
-    pub replies: ReplySender<Reply>,
-    pub reply_pass: ReplyPass<Reply>,
+    pub replies: ReplySender<JobReply>,
+    pub reply_pass: ReplyPass<JobReply>,
     pub count: u64,
     /// How many of its replies the queue handed back.
     pub handed_back: u64,
@@ -116,12 +116,12 @@ impl Worker {
         alloc: Global,
         settings: Settings,
         jobs: JobReceiver<Job>,
-        replies: ReplySender<Reply>,
-        passes: Passes<Job, Reply>,
+        replies: ReplySender<JobReply>,
+        passes: Passes<Job, JobReply>,
     ) -> Worker
         requires jobs { IsSeatAt (receives_on jobs) passes.job_pass }
         requires replies { IsSeatAt (sends_on replies) passes.reply_pass }
-        ensures rings { (receives_on result.jobs ≡ receives_on jobs) × (sends_on result.replies ≡ sends_on replies) × (result.number ≡ passes.number) }
+        ensures queues { (receives_on result.jobs ≡ receives_on jobs) × (sends_on result.replies ≡ sends_on replies) × (result.number ≡ passes.number) }
         ensures passes { (view result.job_pass ≡ view passes.job_pass) × (view result.reply_pass ≡ view passes.reply_pass) }
         ensures settings { result.session.settings ≡ settings }
         ensures none_back { result.handed_back ≡ 0 }
@@ -151,7 +151,7 @@ impl Worker {
     }
 
     /// Its passes, once it has ended.
-    pub fn into_passes(self) -> Passes<Job, Reply>
+    pub fn into_passes(self) -> Passes<Job, JobReply>
         ensures number { result.number ≡ self.number }
         ensures seats { IsSeatAt (receives_on self.jobs) result.job_pass × IsSeatAt (sends_on self.replies) result.reply_pass }
         ensures passes { (view result.job_pass ≡ view self.job_pass) × (view result.reply_pass ≡ view self.reply_pass) }
@@ -179,44 +179,44 @@ impl Worker {
     /// Puts the reply to a job, if there is one. One that is handed back is counted, and settled as untaken.
     fn put<'a, H: Wait, T: Ledgers, O: Opening, D: Folders>(
         &mut self,
-        visitor: &mut Visitor<'a, H, T, O>,
+        table_handle: &mut TableHandle<'a, H, T, O>,
         share: &mut Share<T>,
         dirs: &mut D,
         job: &Job,
-        said: Option<Bytes>,
-        come_to: ComeTo,
+        said: Option<ReplyBytes>,
+        turn_result: TurnResult,
     ) -> Option<Settled>
         requires countable { self.old.handed_back + 1 < 2 ^ 64 }
-        requires right { (bytes : Bytes) → said ≡ Some bytes → IsRight self.old.session.settings job.now (bytes_of bytes) (left_in (visited_of come_to)) }
-        ensures puts { ByBoth D.keeps dirs.old (on_table_of visitor.old.front) dirs.new (on_table_of visitor.new.front) (λ folders calls. PutsReply self.old.session.settings self.old.number job.now (record { said = bytes_in said; visited = visited_of come_to }) (outbox (view self.old.reply_pass) self.old.handed_back) (ending result folders calls) (outbox (view self.new.reply_pass) self.new.handed_back)) }
+        requires right { (bytes : ReplyBytes) → said ≡ Some bytes → IsRight self.old.session.settings job.now (bytes_of bytes) (left_in (turn_end_of turn_result)) }
+        ensures puts { ByBoth D.keeps dirs.old (on_table_of table_handle.old.thread_log) dirs.new (on_table_of table_handle.new.thread_log) (λ folders calls. PutsReply self.old.session.settings self.old.number job.now (record { said = bytes_in said; turn_end = turn_end_of turn_result }) (outbox (view self.old.reply_pass) self.old.handed_back) (ending result folders calls) (outbox (view self.new.reply_pass) self.new.handed_back)) }
         ensures entries { share.new.totals.entries ≡ share.old.totals.entries }
         ensures index { share.new.index ≡ share.old.index }
         ensures jobs { (self.new.jobs ≡ self.old.jobs) × (view self.new.job_pass ≡ view self.old.job_pass) }
-        ensures ring { (sends_on self.new.replies ≡ sends_on self.old.replies) × (self.new.number ≡ self.old.number) × (self.new.session ≡ self.old.session) }
+        ensures queue { (sends_on self.new.replies ≡ sends_on self.old.replies) × (self.new.number ≡ self.old.number) × (self.new.session ≡ self.old.session) }
     {
-        let (left, settled) = parted(come_to);
+        let (left, settled) = parted(turn_result);
         let Some(bytes) = said else {
             return settled;
         };
-        let letter = Letter {
+        let queued_reply = QueuedReply {
             from: self.number,
             reply: reply_to(self.session.settings, job, bytes, left),
         };
         match self
             .replies
-            .send_as::<Posts, H>(visitor.rt, &mut self.reply_pass, Some(letter))
+            .send_as::<Posts, H>(table_handle.rt, &mut self.reply_pass, Some(queued_reply))
         {
             Ok(()) => settled,
             Err(back) => match back.into_inner() {
-                Some(letter) => {
+                Some(queued_reply) => {
                     self.handed_back += 1;
-                    let Letter { from: _, reply } = letter;
+                    let QueuedReply { from: _, reply } = queued_reply;
                     let left = reply.into_left();
-                    let (rt, hall) = (visitor.rt, visitor.hall);
+                    let (rt, shared_table) = (table_handle.rt, table_handle.shared_table);
                     let untaken = settle_left(
                         rt,
-                        hall,
-                        &mut visitor.front,
+                        shared_table,
+                        &mut table_handle.thread_log,
                         share,
                         dirs,
                         left,
@@ -232,52 +232,59 @@ impl Worker {
     /// Meets a job, and puts its reply.
     fn meet<'a, H: Wait, T: Ledgers, O: Opening, C: Calls, D: Folders>(
         &mut self,
-        visitor: &mut Visitor<'a, H, T, O>,
+        table_handle: &mut TableHandle<'a, H, T, O>,
         share: &mut Share<T>,
         served: &mut Served<C, D>,
         job: &Job,
     ) -> Option<Settled>
         requires countable { self.old.handed_back + 1 < 2 ^ 64 }
-        ensures rings { (receives_on self.new.jobs ≡ receives_on self.old.jobs) × (sends_on self.new.replies ≡ sends_on self.old.replies) × (self.new.number ≡ self.old.number) }
-        ensures answers { AnswersJob (does C.gives D.keeps) self.old.session.settings self.old.number job.now (standing (view self.old.job_pass) (outbox (view self.old.reply_pass) self.old.handed_back) (means served.old share.old (on_table_of visitor.old.front))) result
-            (standing (view self.new.job_pass) (outbox (view self.new.reply_pass) self.new.handed_back) (means served.new share.new (on_table_of visitor.new.front))) }
+        ensures queues { (receives_on self.new.jobs ≡ receives_on self.old.jobs) × (sends_on self.new.replies ≡ sends_on self.old.replies) × (self.new.number ≡ self.old.number) }
+        ensures answers { AnswersJob (does C.gives D.keeps) self.old.session.settings self.old.number job.now (standing (view self.old.job_pass) (outbox (view self.old.reply_pass) self.old.handed_back) (means served.old share.old (on_table_of table_handle.old.thread_log))) result
+            (standing (view self.new.job_pass) (outbox (view self.new.reply_pass) self.new.handed_back) (means served.new share.new (on_table_of table_handle.new.thread_log))) }
         ensures settings { self.new.session.settings ≡ self.old.session.settings }
     {
-        let (said, come_to) = meet_job(&mut self.session, visitor, share, served, job);
-        self.put(visitor, share, &mut served.dirs, job, said, come_to)
+        let (said, turn_result) = meet_job(&mut self.session, table_handle, share, served, job);
+        self.put(
+            table_handle,
+            share,
+            &mut served.dirs,
+            job,
+            said,
+            turn_result,
+        )
     }
 
     /// Meets a job that was not queued, and puts its reply. It does nothing where the count of replies that were handed back is full.
     pub fn answer<'a, H: Wait, T: Ledgers, O: Opening, C: Calls, D: Folders>(
         &mut self,
-        visitor: &mut Visitor<'a, H, T, O>,
+        table_handle: &mut TableHandle<'a, H, T, O>,
         share: &mut Share<T>,
         served: &mut Served<C, D>,
         job: &Job,
     ) -> Turn
-        ensures rings { (receives_on self.new.jobs ≡ receives_on self.old.jobs) × (sends_on self.new.replies ≡ sends_on self.old.replies) × (self.new.number ≡ self.old.number) }
-        ensures answers { (settled : Option Settlement) → result ≡ Turn.Worked settled → AnswersJob (does C.gives D.keeps) self.old.session.settings self.old.number job.now (standing (view self.old.job_pass) (outbox (view self.old.reply_pass) self.old.handed_back) (means served.old share.old (on_table_of visitor.old.front))) settled
-            (standing (view self.new.job_pass) (outbox (view self.new.reply_pass) self.new.handed_back) (means served.new share.new (on_table_of visitor.new.front))) }
-        ensures nothing { result ≡ Turn.Nothing → (self.old.handed_back + 1 ≡ 2 ^ 64) × (self.new ≡ self.old) × (share.new ≡ share.old) × (served.new ≡ served.old) × (visitor.new ≡ visitor.old) }
+        ensures queues { (receives_on self.new.jobs ≡ receives_on self.old.jobs) × (sends_on self.new.replies ≡ sends_on self.old.replies) × (self.new.number ≡ self.old.number) }
+        ensures answers { (settled : Option Settlement) → result ≡ Turn.Worked settled → AnswersJob (does C.gives D.keeps) self.old.session.settings self.old.number job.now (standing (view self.old.job_pass) (outbox (view self.old.reply_pass) self.old.handed_back) (means served.old share.old (on_table_of table_handle.old.thread_log))) settled
+            (standing (view self.new.job_pass) (outbox (view self.new.reply_pass) self.new.handed_back) (means served.new share.new (on_table_of table_handle.new.thread_log))) }
+        ensures nothing { result ≡ Turn.Nothing → (self.old.handed_back + 1 ≡ 2 ^ 64) × (self.new ≡ self.old) × (share.new ≡ share.old) × (served.new ≡ served.old) × (table_handle.new ≡ table_handle.old) }
         ensures settings { self.new.session.settings ≡ self.old.session.settings }
     {
         if self.handed_back == u64::MAX {
             return Turn::Nothing;
         }
-        Turn::Worked(self.meet(visitor, share, served, job))
+        Turn::Worked(self.meet(table_handle, share, served, job))
     }
 
     /// Takes one job, meets it, and puts its reply. It takes none where a count of its own is full.
     pub fn turn<'a, H: Wait, T: Ledgers, O: Opening, C: Calls, D: Folders>(
         &mut self,
-        visitor: &mut Visitor<'a, H, T, O>,
+        table_handle: &mut TableHandle<'a, H, T, O>,
         share: &mut Share<T>,
         served: &mut Served<C, D>,
     ) -> Turn
-        ensures rings { (receives_on self.new.jobs ≡ receives_on self.old.jobs) × (sends_on self.new.replies ≡ sends_on self.old.replies) × (self.new.number ≡ self.old.number) }
-        ensures worked { (settled : Option Settlement) → result ≡ Turn.Worked settled → Worked (does C.gives D.keeps) self.old.session.settings self.old.number (standing (view self.old.job_pass) (outbox (view self.old.reply_pass) self.old.handed_back) (means served.old share.old (on_table_of visitor.old.front))) settled
-            (standing (view self.new.job_pass) (outbox (view self.new.reply_pass) self.new.handed_back) (means served.new share.new (on_table_of visitor.new.front))) }
-        ensures nothing { result ≡ Turn.Nothing → (view self.new.job_pass ≡ view self.old.job_pass) × (view self.new.reply_pass ≡ view self.old.reply_pass) × (self.new.handed_back ≡ self.old.handed_back) × (share.new ≡ share.old) × (served.new ≡ served.old) × (visitor.new ≡ visitor.old) }
+        ensures queues { (receives_on self.new.jobs ≡ receives_on self.old.jobs) × (sends_on self.new.replies ≡ sends_on self.old.replies) × (self.new.number ≡ self.old.number) }
+        ensures worked { (settled : Option Settlement) → result ≡ Turn.Worked settled → Worked (does C.gives D.keeps) self.old.session.settings self.old.number (standing (view self.old.job_pass) (outbox (view self.old.reply_pass) self.old.handed_back) (means served.old share.old (on_table_of table_handle.old.thread_log))) settled
+            (standing (view self.new.job_pass) (outbox (view self.new.reply_pass) self.new.handed_back) (means served.new share.new (on_table_of table_handle.new.thread_log))) }
+        ensures nothing { result ≡ Turn.Nothing → (view self.new.job_pass ≡ view self.old.job_pass) × (view self.new.reply_pass ≡ view self.old.reply_pass) × (self.new.handed_back ≡ self.old.handed_back) × (share.new ≡ share.old) × (served.new ≡ served.old) × (table_handle.new ≡ table_handle.old) }
         ensures settings { self.new.session.settings ≡ self.old.session.settings }
     {
         if self.handed_back == u64::MAX {
@@ -288,11 +295,11 @@ impl Worker {
         };
         match self
             .jobs
-            .try_recv_as::<Takes, H>(visitor.rt, &mut self.job_pass)
+            .try_recv_as::<Takes, H>(table_handle.rt, &mut self.job_pass)
         {
             Ok(Some(job)) => {
                 self.count = after;
-                Turn::Worked(self.meet(visitor, share, served, &job))
+                Turn::Worked(self.meet(table_handle, share, served, &job))
             }
             Ok(None) | Err(_) => Turn::Nothing,
         }

@@ -3,46 +3,46 @@
 ghost use Rattle.std.specs.Prelude.{◌≡◌, ◌≤◌, length, false, true, Some, IfSome, vec_len};
 ghost use Rattle.crossbeam_channel.specs.Claims.{view, IsSeatAt};
 ghost use Rattle.crossbeam_channel.specs.Ends.{receives_on};
-ghost use Rattle.engine_turns.specs.Visits.{idle, on_table_of};
+ghost use Rattle.engine_turns.specs.TableCalls.{idle, on_table_of};
 ghost use Rattle.engine_turns.specs.Batches.{endings, WritesAll};
 ghost use Rattle.engine_turns.specs.Turns.{ByBoth};
 ghost use Rattle.engine_turns.specs.Writes.{none_got, writing, HasWritten, HasWrittenAll};
 
 use crate::origins::Sink;
-use crate::replies::Reply;
-use crate::shares::Kept;
+use crate::replies::JobReply;
+use crate::shares::ThreadShare;
 use crate::writing::Writer;
 use engine::LinkOut;
-use engine_queues::letters::ReplyPass;
+use engine_queues::replies::ReplyPass;
 use handles::Folders;
 use ledger::Ledgers;
-use shared_history::Front;
+use shared_history::ThreadLog;
 use std::marker::PhantomData;
 use std::sync::Wait;
-use table_shared::{Entry, Hall, Opening, Runs};
+use table_shared::{LogEntry, Opening, Runs, SharedTable};
 
-/// A writer with its link, its share of the table's book, and its front of the table's history. It has offered all that it took since it
+/// A writer with its link, its share of the table's book, and its log of the table's history. It has offered all that it took since it
 /// began with the link of `S`, and did nothing on the table but settle the answers of what it offered.
 #[derive(Drop)]
 pub struct WriterRole<T: Ledgers, N: Opening, O: LinkOut + Drop, S: Sink<O>> {
     pub writer: Writer,
     pub link: O,
-    pub kept: Kept<T>,
-    pub front: Front<Entry<T>, Runs<N>>,
+    pub kept: ThreadShare<T>,
+    pub thread_log: ThreadLog<LogEntry<T>, Runs<N>>,
     pub sink: PhantomData<S>,
-    ghost ring: { S.replies ≡ Some (receives_on writer.replies) },
+    ghost queue: { S.replies ≡ Some (receives_on writer.replies) },
     ghost made: { (view writer.pass).made ≡ S.senders },
-    ghost index: { front.by ≡ S.senders },
-    ghost wrote: { ∥ HasWritten O.sends S.sent_to S.senders (on_table_of front) (writing (view writer.pass) link writer.is_broken) ∥₁ },
+    ghost index: { thread_log.by ≡ S.senders },
+    ghost wrote: { ∥ HasWritten O.sends S.sent_to S.senders (on_table_of thread_log) (writing (view writer.pass) link writer.is_broken) ∥₁ },
 }
 
 /// What a writer that has ended leaves.
 #[derive(Drop)]
 pub struct WriterEnd<T: Ledgers, N: Opening> {
-    pub pass: ReplyPass<Reply>,
+    pub pass: ReplyPass<JobReply>,
     pub is_broken: bool,
-    pub kept: Kept<T>,
-    pub front: Front<Entry<T>, Runs<N>>,
+    pub kept: ThreadShare<T>,
+    pub thread_log: ThreadLog<LogEntry<T>, Runs<N>>,
 }
 
 impl<T: Ledgers, N: Opening, O: LinkOut + Drop, S: Sink<O>> WriterRole<T, N, O, S> {
@@ -50,29 +50,34 @@ impl<T: Ledgers, N: Opening, O: LinkOut + Drop, S: Sink<O>> WriterRole<T, N, O, 
     pub fn new(
         writer: Writer,
         link: O,
-        kept: Kept<T>,
-        front: Front<Entry<T>, Runs<N>>,
+        kept: ThreadShare<T>,
+        thread_log: ThreadLog<LogEntry<T>, Runs<N>>,
     ) -> WriterRole<T, N, O, S>
-        requires ring { S.replies ≡ Some (receives_on writer.replies) }
+        requires queue { S.replies ≡ Some (receives_on writer.replies) }
         requires from { S.sent_to ≡ Some link }
         requires fresh { view writer.pass ≡ none_got S.senders }
         requires whole { writer.is_broken ≡ false }
-        requires front { on_table_of front ≡ idle S.senders }
-        ensures { (result.writer ≡ writer) × (result.link ≡ link) × (result.kept ≡ kept) × (result.front ≡ front) }
+        requires thread_log { on_table_of thread_log ≡ idle S.senders }
+        ensures { (result.writer ≡ writer) × (result.link ≡ link) × (result.kept ≡ kept) × (result.thread_log ≡ thread_log) }
     {
         WriterRole {
             writer,
             link,
             kept,
-            front,
+            thread_log,
             sink: PhantomData,
         }
     }
 
     /// Takes what is queued, at most 16 replies, offers them together, and settles the answer of each by its own verdict. It waits for none, and
     /// says how many they were.
-    pub fn turn<H: Wait, D: Folders>(&mut self, rt: &H, hall: &Hall<T, N>, dirs: &mut D) -> usize
-        ensures wrote { ByBoth D.keeps dirs.old (on_table_of self.old.front) dirs.new (on_table_of self.new.front) (λ folders calls. WritesAll O.sends (writing (view self.old.writer.pass) self.old.link self.old.writer.is_broken) (endings self.new.writer.batch.settled.items folders calls)
+    pub fn turn<H: Wait, D: Folders>(
+        &mut self,
+        rt: &H,
+        shared_table: &SharedTable<T, N>,
+        dirs: &mut D,
+    ) -> usize
+        ensures wrote { ByBoth D.keeps dirs.old (on_table_of self.old.thread_log) dirs.new (on_table_of self.new.thread_log) (λ folders calls. WritesAll O.sends (writing (view self.old.writer.pass) self.old.link self.old.writer.is_broken) (endings self.new.writer.batch.settled.items folders calls)
             (writing (view self.new.writer.pass) self.new.link self.new.writer.is_broken)) }
         ensures count { (result ≡ vec_len self.new.writer.batch.settled) × (result ≤ 16) }
         ensures entries { self.new.kept.share.totals.entries ≡ self.old.kept.share.totals.entries }
@@ -81,8 +86,8 @@ impl<T: Ledgers, N: Opening, O: LinkOut + Drop, S: Sink<O>> WriterRole<T, N, O, 
         self.writer.turns(
             rt,
             &mut self.link,
-            hall,
-            &mut self.front,
+            shared_table,
+            &mut self.thread_log,
             &mut self.kept.share,
             dirs,
         )
@@ -95,14 +100,14 @@ impl<T: Ledgers, N: Opening, O: LinkOut + Drop, S: Sink<O>> WriterRole<T, N, O, 
         ensures made { (view result.pass).made ≡ S.senders }
         ensures told { length (view result.pass).known ≡ 0 }
         ensures broken { result.is_broken ≡ self.writer.is_broken }
-        ensures kept { (result.kept ≡ self.kept) × (result.front ≡ self.front) }
-        ensures wrote { ∥ HasWrittenAll O.sends S.sent_to S.senders (on_table_of result.front) (view result.pass) result.is_broken ∥₁ }
+        ensures kept { (result.kept ≡ self.kept) × (result.thread_log ≡ self.thread_log) }
+        ensures wrote { ∥ HasWrittenAll O.sends S.sent_to S.senders (on_table_of result.thread_log) (view result.pass) result.is_broken ∥₁ }
     {
         let WriterRole {
             writer,
             link,
             kept,
-            front,
+            thread_log,
             sink: _,
         } = self;
         drop(link);
@@ -111,7 +116,7 @@ impl<T: Ledgers, N: Opening, O: LinkOut + Drop, S: Sink<O>> WriterRole<T, N, O, 
             pass: writer.into_pass(),
             is_broken,
             kept,
-            front,
+            thread_log,
         }
     }
 }

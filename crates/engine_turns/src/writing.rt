@@ -3,26 +3,26 @@
 ghost use Rattle.std.specs.Prelude.{◌≡◌, ◌≤◌, false, length, true, IfOk, vec_len};
 ghost use Rattle.crossbeam_channel.specs.Claims.{view, IsSeatAt};
 ghost use Rattle.crossbeam_channel.specs.Ends.{receives_on};
-ghost use Rattle.engine_turns.specs.Visits.{on_table_of};
+ghost use Rattle.engine_turns.specs.TableCalls.{on_table_of};
 ghost use Rattle.engine_turns.specs.Batches.{endings, GetsAll, WritesAll};
 ghost use Rattle.engine_turns.specs.Turns.{ByBoth};
 
 use crate::batches::{BATCH, Batch};
-use crate::replies::Reply;
+use crate::replies::JobReply;
 use engine::LinkOut;
-use engine_queues::letters::{Gets, Letter, ReplyPass, ReplyReceiver};
+use engine_queues::replies::{Gets, QueuedReply, ReplyPass, ReplyReceiver};
 use handles::Folders;
 use ledger::{Ledgers, Share};
-use shared_history::Front;
+use shared_history::ThreadLog;
 use std::alloc::{AllocError, Global};
 use std::sync::Wait;
-use table_shared::{Entry, Hall, Opening, Runs};
+use table_shared::{LogEntry, Opening, Runs, SharedTable};
 
 /// Who offers replies, in the order of their queue.
 #[derive(Drop)]
 pub struct Writer {
-    pub replies: ReplyReceiver<Reply>,
-    pub pass: ReplyPass<Reply>,
+    pub replies: ReplyReceiver<JobReply>,
+    pub pass: ReplyPass<JobReply>,
     /// Whether the link broke: then nothing more is offered.
     pub is_broken: bool,
     /// What was taken from the queue together last.
@@ -36,13 +36,13 @@ impl Writer {
     /// A writer that has offered nothing, with the pass that gets the replies. It takes all the memory that it will need.
     pub fn new(
         alloc: Global,
-        replies: ReplyReceiver<Reply>,
-        pass: ReplyPass<Reply>,
+        replies: ReplyReceiver<JobReply>,
+        pass: ReplyPass<JobReply>,
     ) -> Result<Writer, AllocError>
         requires seat { IsSeatAt (receives_on replies) pass }
         requires gets { (view pass).gets ≡ true }
         requires knows_none { length (view pass).known ≡ 0 }
-        ensures ring { IfOk result (λ w. receives_on w.replies ≡ receives_on replies) }
+        ensures queue { IfOk result (λ w. receives_on w.replies ≡ receives_on replies) }
         ensures pass { IfOk result (λ w. view w.pass ≡ view pass) }
         ensures whole { IfOk result (λ w. w.is_broken ≡ false) }
     {
@@ -56,7 +56,7 @@ impl Writer {
     }
 
     /// Its pass, once it has ended.
-    pub fn into_pass(self) -> ReplyPass<Reply>
+    pub fn into_pass(self) -> ReplyPass<JobReply>
         ensures seat { IsSeatAt (receives_on self.replies) result }
         ensures pass { view result ≡ view self.pass }
         ensures told { ((view result).gets ≡ true) × (length (view result).known ≡ 0) }
@@ -73,7 +73,7 @@ impl Writer {
 
     /// Takes what is queued, at most a batch of it. It waits for nothing.
     fn take_queued<H: Wait>(&mut self, rt: &H)
-        ensures ring { receives_on self.new.replies ≡ receives_on self.old.replies }
+        ensures queue { receives_on self.new.replies ≡ receives_on self.old.replies }
         ensures made { (view self.new.pass).made ≡ (view self.old.pass).made }
         ensures gets { GetsAll (view self.old.pass) self.new.batch.left.items self.new.batch.bytes.items (view self.new.pass) }
         ensures few { (vec_len self.new.batch.left ≤ 16) × (vec_len self.new.batch.bytes ≤ 16) }
@@ -82,8 +82,8 @@ impl Writer {
         self.batch.clear();
         for _ in 0..BATCH {
             match self.replies.try_recv_as::<Gets, H>(rt, &mut self.pass) {
-                Ok(Some(letter)) => {
-                    let Letter { from: _, reply } = letter;
+                Ok(Some(queued_reply)) => {
+                    let QueuedReply { from: _, reply } = queued_reply;
                     self.batch.put(reply);
                 }
                 Ok(None) | Err(_) => return,
@@ -97,14 +97,14 @@ impl Writer {
         &mut self,
         rt: &H,
         link: &mut L,
-        hall: &Hall<T, O>,
-        front: &mut Front<Entry<T>, Runs<O>>,
+        shared_table: &SharedTable<T, O>,
+        thread_log: &mut ThreadLog<LogEntry<T>, Runs<O>>,
         share: &mut Share<T>,
         dirs: &mut D,
     ) -> usize
-        ensures ring { receives_on self.new.replies ≡ receives_on self.old.replies }
+        ensures queue { receives_on self.new.replies ≡ receives_on self.old.replies }
         ensures made { (view self.new.pass).made ≡ (view self.old.pass).made }
-        ensures wrote { ByBoth D.keeps dirs.old (on_table_of front.old) dirs.new (on_table_of front.new) (λ folders calls. WritesAll L.sends
+        ensures wrote { ByBoth D.keeps dirs.old (on_table_of thread_log.old) dirs.new (on_table_of thread_log.new) (λ folders calls. WritesAll L.sends
             (record { lane = view self.old.pass; link = link.old; is_broken = self.old.is_broken }) (endings self.new.batch.settled.items folders calls)
             (record { lane = view self.new.pass; link = link.new; is_broken = self.new.is_broken })) }
         ensures count { (result ≡ vec_len self.new.batch.settled) × (result ≤ 16) }
@@ -113,7 +113,7 @@ impl Writer {
     {
         self.take_queued(rt);
         self.is_broken = self.batch.offer(link, self.is_broken);
-        self.batch.settle(rt, hall, front, share, dirs);
+        self.batch.settle(rt, shared_table, thread_log, share, dirs);
         self.batch.settled.len()
     }
 }

@@ -10,9 +10,9 @@ use Rattle.terms.specs.declared.terms.Bounds.{Bounds}
 use Rattle.terms.specs.declared.terms.Terms.{Terms}
 use Rattle.mirrord_commands.specs.declared.options.Options.{Options}
 use Rattle.mirrord_commands.specs.declared.options.Options.TheVariants.{Serve, Pipe, Device, Hex, Refused}
-use Rattle.mirrord_commands.specs.declared.refusals.Refusal.{Refusal}
-use Rattle.mirrord_commands.specs.declared.refusals.Refusal.TheVariants.{Attributes, Owner}
-use Rattle.mirrord_commands.specs.declared.refusals.Refusal.TheVariants as refusals
+use Rattle.mirrord_commands.specs.declared.refusals.OptionsRefusal.{OptionsRefusal}
+use Rattle.mirrord_commands.specs.declared.refusals.OptionsRefusal.TheVariants.{Attributes, Owner}
+use Rattle.mirrord_commands.specs.declared.refusals.OptionsRefusal.TheVariants as refusals
 use Rattle.terms.specs.declared.limits.Counts.{Counts}
 use Rattle.terms.specs.declared.limits.Counts.TheVariants.{Bounded, Free}
 
@@ -163,7 +163,7 @@ AreSettings rows (Fixed uid gid) = IsText (codes "attributes") rows (codes "fixe
 AreSettings rows Host = IsText (codes "attributes") rows (codes "host") × (is_given (codes "uid") rows ≡ false) × (is_given (codes "gid") rows ≡ false)
 
 -- why nothing can be served so: attributes or counts are neither of their words, or an owner is given beside attributes of the host
-abbrev pub AreRefused : List Row → Refusal → Type 0
+abbrev pub AreRefused : List Row → OptionsRefusal → Type 0
 AreRefused rows Attributes = (text : Text) × IsText (codes "attributes") rows text × (text ≢ codes "fixed") × (text ≢ codes "host")
 AreRefused rows refusals.Counts = (text : Text) × IsText (codes "counts") rows text × (text ≢ codes "bounded") × (text ≢ codes "free")
 AreRefused rows Owner = IsText (codes "attributes") rows (codes "host") × ((is_given (codes "uid") rows ≡ true) ⊎ (is_given (codes "gid") rows ≡ true))

@@ -5,8 +5,8 @@ use Rattle.mirrord_commands.specs.declared.faults.Fault.{Fault}
 use Rattle.mirrord_commands.specs.declared.faults.Fault.TheVariants.{FrameLength, Line, Link, Memory, Seed, Workers}
 use Rattle.mirrord_commands.specs.declared.faults.Failure.{Failure}
 use Rattle.mirrord_commands.specs.declared.faults.Failure.TheVariants.{Stopped, NoFolder, NoSocket, NoDevice, Refused}
-use Rattle.mirrord_commands.specs.declared.refusals.Refusal.{Refusal}
-use Rattle.mirrord_commands.specs.declared.refusals.Refusal.TheVariants.{Attributes, Counts, Owner}
+use Rattle.mirrord_commands.specs.declared.refusals.OptionsRefusal.{OptionsRefusal}
+use Rattle.mirrord_commands.specs.declared.refusals.OptionsRefusal.TheVariants.{Attributes, Counts, Owner}
 
 -- the exit status after a failure
 abbrev pub status_of : Failure → ℕ
@@ -30,7 +30,7 @@ fault_message Memory = codes "out of memory"
 fault_message Seed = codes "no random seed"
 fault_message Workers = codes "1 to 4 workers can serve"
 
-abbrev pub refusal_message : Refusal → List ℕ
+abbrev pub refusal_message : OptionsRefusal → List ℕ
 refusal_message Attributes = codes "--attributes is fixed or host"
 refusal_message Counts = codes "--counts is bounded or free"
 refusal_message Owner = codes "with --attributes host there is no --uid and no --gid"

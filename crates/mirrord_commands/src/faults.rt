@@ -5,7 +5,7 @@ ghost use Rattle.std.specs.Io.KnownBytes.{Appends};
 ghost use Rattle.mirrord_commands.specs.Faults.{line_of, status_of};
 ghost use Rattle.mirrord_commands.specs.declared.faults.Fault.TheVariants.{Link, Memory};
 
-use crate::refusals::Refusal;
+use crate::refusals::OptionsRefusal;
 use std::alloc::AllocError;
 use std::error::Error;
 use std::fmt::Display;
@@ -41,7 +41,7 @@ pub enum Failure<'a> {
     /// Standard input is to be the kernel's FUSE device, and is no character device.
     NoDevice,
     /// Its options cannot be.
-    Refused(Refusal),
+    Refused(OptionsRefusal),
 }
 
 impl<'a> Failure<'a> {

@@ -10,4 +10,4 @@ mod refusals;
 pub use arguments::DEFAULT_POSTINGS;
 pub use faults::{Failure, Fault, tell};
 pub use options::{Options, read_options};
-pub use refusals::Refusal;
+pub use refusals::OptionsRefusal;

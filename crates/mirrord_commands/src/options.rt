@@ -7,7 +7,7 @@ ghost use Rattle.mirrord_commands.specs.CommandLine.{mirrord_app, AreBounds, Are
 
 use crate::arguments::DEFAULT_POSTINGS;
 use crate::command::command;
-use crate::refusals::Refusal;
+use crate::refusals::OptionsRefusal;
 use clap::{ArgMatches, Error};
 use std::alloc::Global;
 use std::convert::AsStr;
@@ -55,7 +55,7 @@ pub enum Options<'a> {
         postings: u32,
     },
     /// Nothing can be served so.
-    Refused(Refusal),
+    Refused(OptionsRefusal),
 }
 
 /// The text of an option.
@@ -107,7 +107,7 @@ fn flag_in(matches: &ArgMatches<'_>, name: &str) -> bool
 }
 
 /// What bounds the lookup counts.
-fn counts_in(matches: &ArgMatches<'_>) -> Result<Counts, Refusal>
+fn counts_in(matches: &ArgMatches<'_>) -> Result<Counts, OptionsRefusal>
     ensures ok { IfOk result (AreCounts (rows_of (found_of matches.now))) }
     ensures err { IfErr result (AreRefused (rows_of (found_of matches.now))) }
 {
@@ -116,13 +116,13 @@ fn counts_in(matches: &ArgMatches<'_>) -> Result<Counts, Refusal>
         return Ok(Counts::Bounded);
     }
     if counts != "free" {
-        return Err(Refusal::Counts);
+        return Err(OptionsRefusal::Counts);
     }
     Ok(Counts::Free)
 }
 
 /// How far the table may grow.
-fn bounds_in(matches: &ArgMatches<'_>) -> Result<Bounds, Refusal>
+fn bounds_in(matches: &ArgMatches<'_>) -> Result<Bounds, OptionsRefusal>
     ensures ok { IfOk result (AreBounds (rows_of (found_of matches.now))) }
     ensures err { IfErr result (AreRefused (rows_of (found_of matches.now))) }
 {
@@ -144,7 +144,7 @@ fn is_given(matches: &ArgMatches<'_>, name: &str) -> bool
 }
 
 /// Whose attributes are told.
-fn settings_in(matches: &ArgMatches<'_>) -> Result<Settings, Refusal>
+fn settings_in(matches: &ArgMatches<'_>) -> Result<Settings, OptionsRefusal>
     ensures ok { IfOk result (AreSettings (rows_of (found_of matches.now))) }
     ensures err { IfErr result (AreRefused (rows_of (found_of matches.now))) }
 {
@@ -155,16 +155,16 @@ fn settings_in(matches: &ArgMatches<'_>) -> Result<Settings, Refusal>
         return Ok(Settings::Fixed { uid, gid });
     }
     if attributes != "host" {
-        return Err(Refusal::Attributes);
+        return Err(OptionsRefusal::Attributes);
     }
     if is_given(matches, "uid") || is_given(matches, "gid") {
-        return Err(Refusal::Owner);
+        return Err(OptionsRefusal::Owner);
     }
     Ok(Settings::Host)
 }
 
 /// What a session is served by.
-fn terms_in(matches: &ArgMatches<'_>) -> Result<Terms, Refusal>
+fn terms_in(matches: &ArgMatches<'_>) -> Result<Terms, OptionsRefusal>
     ensures ok { IfOk result (AreTerms (rows_of (found_of matches.now))) }
     ensures err { IfErr result (AreRefused (rows_of (found_of matches.now))) }
 {

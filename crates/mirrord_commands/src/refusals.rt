@@ -5,7 +5,7 @@ use std::fmt::Display;
 
 /// Why options of `serve`, `pipe` and `device` are refused.
 #[derive(Clone, Copy, Debug, PartialEq, Eq)]
-pub enum Refusal {
+pub enum OptionsRefusal {
     /// `--attributes` is neither `fixed` nor `host`.
     Attributes,
     /// `--counts` is neither `bounded` nor `free`.
@@ -14,7 +14,7 @@ pub enum Refusal {
     Owner,
 }
 
-impl Display for Refusal {
+impl Display for OptionsRefusal {
     ghost use Rattle.std.specs.Prelude.{Some};
     ghost use Rattle.mirrord_commands.specs.Faults.{refusal_message};
 
@@ -22,9 +22,11 @@ impl Display for Refusal {
 
     fn fmt<W: fmt::Write>(&self, f: &mut fmt::Formatter<W>) -> fmt::Result {
         match self {
-            Refusal::Attributes => f.write_str("--attributes is fixed or host"),
-            Refusal::Counts => f.write_str("--counts is bounded or free"),
-            Refusal::Owner => f.write_str("with --attributes host there is no --uid and no --gid"),
+            OptionsRefusal::Attributes => f.write_str("--attributes is fixed or host"),
+            OptionsRefusal::Counts => f.write_str("--counts is bounded or free"),
+            OptionsRefusal::Owner => f.write_str(
+                "with --attributes host there is no --uid and no --gid",
+            ),
         }
     }
 }

@@ -7,7 +7,7 @@ use crate::standing::{enter, enter_beside};
 use engine_streams::{Device, ReadRequest, WriteReply};
 use mirrord_commands::{Failure, tell};
 use mirrord_server::{Terms, serve_device, serve_device_by, serve_socket, serve_socket_by};
-use mirrord_sessions::{Ended, failure_after, status_after, tell_any};
+use mirrord_sessions::{ProgramEnd, failure_after, status_after, tell_any};
 use std::fs::File;
 use std::io::Write;
 use std::net::Net;
@@ -59,7 +59,7 @@ pub fn serve_run<
     path: &str,
     output: O,
     faults: &mut F,
-) -> Ended<O>
+) -> ProgramEnd<O>
     ensures runs { RunsServe served.entry.root path.entry served.entry.threads served.entry.terms (F.contents faults.old) (F.contents faults.new) result.status result.told }
     ensures output { result.output ≡ output }
 {
@@ -79,7 +79,7 @@ pub fn serve_run<
         serve_socket_by(rt, host, folder, socket, threads.workers, terms)
     };
     let failure = failure_after(ended, root, path);
-    Ended {
+    ProgramEnd {
         status: status_after(failure),
         told: tell_any(faults, failure),
         output,
@@ -115,7 +115,7 @@ pub fn device_run<
     device: Option<Device<R, W>>,
     output: O,
     faults: &mut F,
-) -> Ended<O>
+) -> ProgramEnd<O>
     ensures runs { RunsDevice (kernel R.gives W.takes) served.entry.root served.entry.threads served.entry.terms device (F.contents faults.old) (F.contents faults.new) result.status result.told }
     ensures output { result.output ≡ output }
 {
@@ -126,7 +126,7 @@ pub fn device_run<
     } = served;
     let Some(device) = device else {
         let failure = Failure::NoDevice;
-        return Ended {
+        return ProgramEnd {
             status: failure.status(),
             told: tell(faults, failure),
             output,
@@ -139,7 +139,7 @@ pub fn device_run<
         serve_device_by(rt, host, folder, threads.workers, terms, device)
     };
     let failure = failure_after(ended, root, STANDARD_INPUT);
-    Ended {
+    ProgramEnd {
         status: status_after(failure),
         told: tell_any(faults, failure),
         output,

@@ -7,7 +7,7 @@ use crate::folders::{FolderServed, Serving, device_run, serve_run};
 use crate::standard::Standard;
 use engine_streams::{ReadRequest, WriteReply};
 use mirrord_commands::{Options, read_options};
-use mirrord_sessions::{Ended, explain, pipe_run, refuse, run_hex};
+use mirrord_sessions::{ProgramEnd, explain, pipe_run, refuse, run_hex};
 use std::convert::AsStr;
 use std::fs::File;
 use std::io::{BufRead, Write};
@@ -43,7 +43,7 @@ fn run_asked<
     options: Options<'_>,
     standard: Standard<I, O, R, W>,
     faults: &mut F,
-) -> Ended<O>
+) -> ProgramEnd<O>
     ensures { RunsAsked (kernel R.gives W.takes) options.entry standard.device (I.remaining standard.input) (O.contents standard.output) (O.contents result.output) (F.contents faults.old) (F.contents faults.new) result.status result.told }
 {
     let Standard {
@@ -114,7 +114,7 @@ pub fn run<
     words: &[S],
     standard: Standard<I, O, R, W>,
     faults: &mut F,
-) -> Ended<O>
+) -> ProgramEnd<O>
     ensures { RunsWords (kernel R.gives W.takes) (map S.text words.entry.now) standard.device (I.remaining standard.input) (O.contents standard.output) (O.contents result.output) (F.contents faults.old) (F.contents faults.new) result.status result.told }
 {
     match read_options(rt.alloc(), words) {

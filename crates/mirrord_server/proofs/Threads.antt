@@ -23,7 +23,7 @@ pub served_by : {I O : Type 0} (by : BothEnds I O) (terms : Terms) (workers : �
     → IfNone account ((over ≡ end.Memory) ⊎ (over ≡ end.NoWorkers))
     → IfSome account (λ a. EndsAs a.passed.input a.passed.is_broken over)
     → IfSome account (λ a. numbers_of a.passed.passes.value.items ≡ range_with_len 0 (workers + 1))
-    → IfSome account (λ a. ∥ HasReadAll by.receives (Some input) a.passed.input (queued_of (view a.passed.read.value).put) (option_map shown a.passed.farewell.value) a.passed.is_job_handed_back ∥₁)
+    → IfSome account (λ a. ∥ HasReadAll by.receives (Some input) a.passed.input (queued_of (view a.passed.read.value).put) (option_map shown a.passed.last_job.value) a.passed.is_job_handed_back ∥₁)
     → IfSome account (λ a. IsShared (view a.passed.read.value) a.passed.passes.value.items (view a.passed.written.value))
     → IfSome account (λ a. ∥ ((history : List Made) × HasServed Tells by.sends (limits_of terms.bounds) terms.settings folders output a.passed a.sums.totals history) ∥₁)
     → ServesLinks by terms workers input output over

@@ -36,7 +36,7 @@ both_ends receives sends = record { receives = receives; sends = sends }
 pub record AreServed {I O : Type 0} (by : BothEnds I O) (terms : Terms) (workers : ℕ) (input : I) (output : O) (over : SessionEnd) : Type 0 where
   pub account : Account
   pub numbers : numbers_of account.passed.passes.value.items ≡ range_with_len 0 (workers + 1)
-  pub reads : ∥ HasReadAll by.receives (Some input) account.passed.input (queued_of (view account.passed.read.value).put) (option_map shown account.passed.farewell.value) account.passed.is_job_handed_back ∥₁
+  pub reads : ∥ HasReadAll by.receives (Some input) account.passed.input (queued_of (view account.passed.read.value).put) (option_map shown account.passed.last_job.value) account.passed.is_job_handed_back ∥₁
   pub shared : IsShared (view account.passed.read.value) account.passed.passes.value.items (view account.passed.written.value)
   pub served : ∥ ((history : List Made) × HasServed Tells by.sends (limits_of terms.bounds) terms.settings (replicate workers 0) output account.passed account.sums.totals history) ∥₁
   pub ends : EndsAs account.passed.input account.passed.is_broken over

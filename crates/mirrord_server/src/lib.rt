@@ -7,7 +7,7 @@ mod workers;
 
 pub use device::serve_device_by;
 pub use mirrord_sessions::{
-    Bounds, RECEIVED, Served, Terms, Unserved, serve_alone, serve_device, serve_folder,
+    Bounds, RECEIVED, StreamEnd, Terms, Unserved, serve_alone, serve_device, serve_folder,
     serve_known, serve_socket,
 };
 pub use socket::serve_socket_by;

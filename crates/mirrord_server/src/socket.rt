@@ -6,7 +6,7 @@ ghost use Rattle.mirrord_server.specs.Workers.{ServesWorkers};
 use crate::workers::{HostFolder, open_folders, serve_workers};
 use engine::SessionEnd;
 use engine_streams::StreamLink;
-use mirrord_sessions::{Place, RECEIVED, Terms, Unserved, new_seeds};
+use mirrord_sessions::{RECEIVED, SocketFile, Terms, Unserved, new_seeds};
 use std::fs::File;
 use std::io;
 use std::io::BufReader;
@@ -21,7 +21,7 @@ use table::Seeds;
 /// Waits for one client: what is heard from it, and where it gets replies.
 fn meet<R: AllocGlobal>(
     rt: &R,
-    place: &Place,
+    place: &SocketFile,
 ) -> Result<(BufReader<UnixStream>, UnixStream), Unserved> {
     let output = place.accept()?;
     let Ok(heard) = output.try_clone() else {
@@ -39,7 +39,7 @@ fn serve_first<H: Threads + Wait + AllocGlobal + Clone + Send + Sync + Drop + 's
     folders: Vec<HostFolder>,
     seeds: Seeds,
     terms: Terms,
-    place: &Place,
+    place: &SocketFile,
 ) -> Result<SessionEnd, Unserved>
     requires { folders.items ≡ replicate (vec_len folders) 0 }
     ensures { ServesWorkers terms (vec_len folders) result }
@@ -72,7 +72,7 @@ fn serve_at<
     requires { folders.items ≡ replicate (vec_len folders) 0 }
     ensures { ServesWorkers terms (vec_len folders) result }
 {
-    let place = Place::new(rt, path)?;
+    let place = SocketFile::new(rt, path)?;
     let ended = serve_first(rt, folders, seeds, terms, &place);
     place.remove(rt, path);
     ended

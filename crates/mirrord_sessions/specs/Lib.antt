@@ -1,7 +1,7 @@
 pub mod Folders
 pub mod Known
 pub mod Sessions
-pub mod Counting
+pub mod CountingLemmas
 pub mod Ends
 pub mod Lines
 pub mod Runs

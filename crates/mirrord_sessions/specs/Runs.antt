@@ -16,7 +16,7 @@ use Rattle.mirrord_sessions.specs.declared.folder.Unserved.{Unserved}
 use Rattle.terms.specs.declared.terms.Terms.{Terms}
 use Rattle.mirrord_commands.specs.declared.faults.Failure.TheVariants.{Stopped, Refused as Refuses}
 use Rattle.mirrord_commands.specs.declared.faults.Fault.TheVariants.{Memory, Seed}
-use Rattle.mirrord_commands.specs.declared.refusals.Refusal.{Refusal}
+use Rattle.mirrord_commands.specs.declared.refusals.OptionsRefusal.{OptionsRefusal}
 use Rattle.mirrord_sessions.specs.Ends.{exit_of, failure_after, failure_of, Tells}
 use Rattle.mirrord_sessions.specs.Lines.{Hexing, Receives, Sends, broken_line, lines_in, unread}
 use Rattle.mirrord_sessions.specs.Samples.{IsStart}
@@ -89,7 +89,7 @@ pub record IsUnserved (kind : ErrorKind) (output output' faults faults' : Option
   pub fault : kind ≢ OutOfMemory → kind ≢ DisplayHelp → kind ≢ DisplayVersion → (status ≡ 2) × (output' ≡ output)
 
 -- options that cannot be: nothing is read and nothing written to the output
-pub record IsRefusedBy (refusal : Refusal) (output output' faults faults' : Option (List ℕ)) (status : ℕ) (told : Bool) : Type 0 where
+pub record IsRefusedBy (refusal : OptionsRefusal) (output output' faults faults' : Option (List ℕ)) (status : ℕ) (told : Bool) : Type 0 where
   pub status_is : status ≡ 2
   pub output_is : output' ≡ output
   pub tells : Tells (Some (Refuses refusal)) told faults faults'

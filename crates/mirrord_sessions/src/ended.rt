@@ -10,7 +10,7 @@ use std::io::Write;
 
 /// What a run leaves behind.
 #[derive(Drop)]
-pub struct Ended<O: Drop> {
+pub struct ProgramEnd<O: Drop> {
     /// The exit status.
     pub status: u8,
     /// Whether standard error took its line, if there was one.

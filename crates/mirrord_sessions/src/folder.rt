@@ -33,7 +33,7 @@ pub enum Unserved {
 
 /// What serving over a stream leaves behind.
 #[derive(Drop)]
-pub struct Served<O: Drop> {
+pub struct StreamEnd<O: Drop> {
     /// How the session ended, or why there was none.
     pub ended: Result<SessionEnd, Unserved>,
     /// The writer of the replies, handed back.
@@ -115,18 +115,18 @@ pub fn serve_folder<
     H: Wait + RandomSource + Files<File = File> + Clock + AllocGlobal + Clone + Drop,
     I: Read + Drop,
     O: Write + Drop,
->(rt: &H, root: &str, terms: Terms, input: I, output: O) -> Served<O>
+>(rt: &H, root: &str, terms: Terms, input: I, output: O) -> StreamEnd<O>
     ensures { ServesFolder terms (I.remaining input) (O.contents output) result.ended (O.contents result.output) }
 {
     match open_seeded(rt, root) {
         Ok((folder, seeds)) => {
             let (end, output) = serve_opened(rt, folder, seeds, terms, input, output);
-            Served {
+            StreamEnd {
                 ended: Ok(end),
                 output,
             }
         }
-        Err(why) => Served {
+        Err(why) => StreamEnd {
             ended: Err(why),
             output,
         },

@@ -192,7 +192,7 @@ impl<I: BufRead + Drop, O: Write> HexLink<I, O> {
 }
 
 impl<I: BufRead, O: Write> LinkIn for HexLink<I, O> {
-    ghost use Rattle.mirrord_sessions.specs.Counting.{receives_counted};
+    ghost use Rattle.mirrord_sessions.specs.CountingLemmas.{receives_counted};
 
     ghost receives = { Receives };
 
@@ -216,7 +216,7 @@ impl<I: BufRead, O: Write> LinkIn for HexLink<I, O> {
 }
 
 impl<I: BufRead, O: Write> LinkOut for HexLink<I, O> {
-    ghost use Rattle.mirrord_sessions.specs.Counting.{sends_counted};
+    ghost use Rattle.mirrord_sessions.specs.CountingLemmas.{sends_counted};
 
     ghost sends = { Sends };
 

@@ -3,9 +3,9 @@
 ghost use Rattle.clap.specs.Words.{kind_of};
 ghost use Rattle.mirrord_sessions.specs.Runs.{IsRefusedBy, IsUnserved};
 
-use crate::ended::Ended;
+use crate::ended::ProgramEnd;
 use clap::error::ErrorKind;
-use mirrord_commands::{Failure, Fault, Refusal, tell};
+use mirrord_commands::{Failure, Fault, OptionsRefusal, tell};
 use std::io::Write;
 
 /// Says what clap has to say: help and the version go to the output, and a fault to standard error.
@@ -13,12 +13,12 @@ pub fn explain<O: Write + Drop, F: Write>(
     error: &clap::Error,
     mut output: O,
     faults: &mut F,
-) -> Ended<O>
+) -> ProgramEnd<O>
     ensures { IsUnserved (kind_of error.now) (O.contents output) (O.contents result.output) (F.contents faults.old) (F.contents faults.new) result.status result.told }
 {
     if error.kind() == ErrorKind::OutOfMemory {
         let told = tell(faults, Failure::Stopped(Fault::Memory));
-        return Ended {
+        return ProgramEnd {
             status: 4,
             told,
             output,
@@ -26,14 +26,14 @@ pub fn explain<O: Write + Drop, F: Write>(
     }
     if error.use_stderr() {
         let told = write!(faults, "{error}").is_ok();
-        return Ended {
+        return ProgramEnd {
             status: 2,
             told,
             output,
         };
     }
     let told = write!(output, "{error}").is_ok();
-    Ended {
+    ProgramEnd {
         status: 0,
         told,
         output,
@@ -41,11 +41,15 @@ pub fn explain<O: Write + Drop, F: Write>(
 }
 
 /// Says why options cannot be.
-pub fn refuse<O: Write + Drop, F: Write>(refusal: Refusal, output: O, faults: &mut F) -> Ended<O>
+pub fn refuse<O: Write + Drop, F: Write>(
+    refusal: OptionsRefusal,
+    output: O,
+    faults: &mut F,
+) -> ProgramEnd<O>
     ensures { IsRefusedBy refusal (O.contents output) (O.contents result.output) (F.contents faults.old) (F.contents faults.new) result.status result.told }
 {
     let failure = Failure::Refused(refusal);
-    Ended {
+    ProgramEnd {
         status: failure.status(),
         told: tell(faults, failure),
         output,

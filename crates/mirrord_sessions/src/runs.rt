@@ -3,7 +3,7 @@
 ghost use Rattle.std.specs.Prelude.{◌≡◌};
 ghost use Rattle.mirrord_sessions.specs.Runs.{RunsHex, RunsPipe, RunsSeeded, ServesHex, unowned};
 
-use crate::ended::{Ended, failure_after, failure_of, status_after, tell_any};
+use crate::ended::{ProgramEnd, failure_after, failure_of, status_after, tell_any};
 use crate::folder::serve_folder;
 use crate::hexadecimal::HexLink;
 use crate::hosting::serve_known;
@@ -61,14 +61,14 @@ pub fn hex_run<H: Wait, I: BufRead + Drop, O: Write + Drop, F: Write>(
     input: I,
     output: O,
     faults: &mut F,
-) -> Ended<O>
+) -> ProgramEnd<O>
     ensures { RunsHex sample postings (I.remaining input) (O.contents output) (O.contents result.output) (F.contents faults.old) (F.contents faults.new) result.status result.told }
 {
     let mut link = HexLink::new(alloc, input, output);
     let end = serve_new(rt, alloc, sample, postings, seeds, &mut link);
     let failure = failure_of(end, link.cause());
     let told = tell_any(faults, failure);
-    Ended {
+    ProgramEnd {
         status: status_after(failure),
         told,
         output: link.into_writer(),
@@ -83,12 +83,12 @@ pub fn run_hex<H: Wait + RandomSource + AllocGlobal, I: BufRead + Drop, O: Write
     input: I,
     output: O,
     faults: &mut F,
-) -> Ended<O>
+) -> ProgramEnd<O>
     ensures { RunsSeeded sample postings (I.remaining input) (O.contents output) (O.contents result.output) (F.contents faults.old) (F.contents faults.new) result.status result.told }
 {
     let Ok(seeds) = Seeds::new(rt) else {
         let told = tell(faults, Failure::Stopped(Fault::Seed));
-        return Ended {
+        return ProgramEnd {
             status: 4,
             told,
             output,
@@ -115,12 +115,12 @@ pub fn pipe_run<
     I: Read + Drop,
     O: Write + Drop,
     F: Write,
->(rt: &H, root: &str, terms: Terms, input: I, output: O, faults: &mut F) -> Ended<O>
+>(rt: &H, root: &str, terms: Terms, input: I, output: O, faults: &mut F) -> ProgramEnd<O>
     ensures { RunsPipe root.entry terms (I.remaining input) (O.contents output) (O.contents result.output) (F.contents faults.old) (F.contents faults.new) result.status result.told }
 {
     let served = serve_folder(rt, root, terms, input, output);
     let failure = failure_after(served.ended, root, STANDARD_INPUT);
-    Ended {
+    ProgramEnd {
         status: status_after(failure),
         told: tell_any(faults, failure),
         output: served.output,

@@ -4,7 +4,7 @@ ghost use Rattle.std.specs.Prelude.{◌≡◌};
 ghost use Rattle.mirrord_sessions.specs.Folders.{ServesSocket};
 
 use crate::folder::{Unserved, open_seeded, serve_opened};
-use crate::place::Place;
+use crate::socket_file::SocketFile;
 use backing_folder::{Folder, System};
 use engine::SessionEnd;
 use engine_streams::{Holding, Polling};
@@ -49,7 +49,7 @@ fn serve_first<H: Wait + Files<File = File> + Clock + AllocGlobal + Clone + Drop
     folder: Folder<System<H>>,
     seeds: Seeds,
     terms: Terms,
-    place: &Place,
+    place: &SocketFile,
 ) -> Result<SessionEnd, Unserved>
     requires { folder ≡ 0 }
     ensures { ServesSocket terms result }
@@ -69,7 +69,7 @@ fn serve_at<H: Wait + Net + Files<File = File> + Clock + AllocGlobal + Clone + D
     requires { folder ≡ 0 }
     ensures { ServesSocket terms result }
 {
-    let place = Place::new(rt, path)?;
+    let place = SocketFile::new(rt, path)?;
     let ended = serve_first(rt, folder, seeds, terms, &place);
     place.remove(rt, path);
     ended

@@ -14,7 +14,7 @@ use Rattle.wire.specs.declared.dirents.TheConstants.{NO_INO}
 use Rattle.wire.proofs.Listed.{given_len, length-dirent, plus_parts}
 use Rattle.ops.specs.Folders.{names_bytes}
 use Rattle.ops.specs.Replies.{entries_bytes, first, kind_of, plus_entry, plus_from}
-use Rattle.ops.specs.declared.findings.Found.{Found}
+use Rattle.ops.specs.declared.findings.FoundFile.{FoundFile}
 use Rattle.terms.specs.declared.settings.Settings.{Settings}
 
 filled : (n : ℕ) → n + (8 - n % 8) % 8 ≡ (n + 7) / 8 * 8
@@ -38,12 +38,12 @@ length-plus p =
     let whole : length (plus_bytes p) ≡ length (given ++ dirent_bytes (dirent_in p)) = ap (λ (bytes : List ℕ). length bytes) (plus_parts p) in
     omega (arith, whole, length-append given (dirent_bytes (dirent_in p)), given_len p.entry, length-dirent (dirent_in p), filled_plus (length p.name))
 
-length-entry : (s : Settings) (next : ℕ) (child : Child) (found : Option Found) (given : Option Given) → length (plus_bytes (plus_entry s next child found given)) ≡ padded true child
+length-entry : (s : Settings) (next : ℕ) (child : Child) (found : Option FoundFile) (given : Option Given) → length (plus_bytes (plus_entry s next child found given)) ≡ padded true child
 length-entry s next child None given = length-plus (plus_entry s next child None given)
 length-entry s next child (Some found) None = length-plus (plus_entry s next child (Some found) None)
 length-entry s next child (Some found) (Some given) = length-plus (plus_entry s next child (Some found) (Some given))
 
-pub length-entries : (s : Settings) (at : ℕ) (cs : List Child) (founds : List (Option Found)) (givens : List (Option Given)) → length (entries_bytes s at cs founds givens) ≡ bytes_of true cs
+pub length-entries : (s : Settings) (at : ℕ) (cs : List Child) (founds : List (Option FoundFile)) (givens : List (Option Given)) → length (entries_bytes s at cs founds givens) ≡ bytes_of true cs
 length-entries s at [] founds givens = refl
 length-entries s at (c ∷ cs) founds givens =
     let dot = plus_entry s (at + 1) c None None in

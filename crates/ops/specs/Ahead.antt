@@ -6,11 +6,11 @@ use Rattle.backing.specs.declared.call.Call.{Call}
 use Rattle.errno.specs.declared.TheConstants.{EEXIST}
 use Rattle.table_steps.specs.declared.data.Outcome.{Outcome}
 use Rattle.table_steps.specs.declared.data.Outcome.TheVariants.{Failed, Done, Entry, Entries, Hidden, HiddenMove}
-use Rattle.ops.specs.declared.findings.Found.{Found}
+use Rattle.ops.specs.declared.findings.FoundFile.{FoundFile}
 use Rattle.ops.specs.declared.findings.ScriptResult.{ScriptResult}
 use Rattle.ops.specs.declared.findings.ScriptResult.TheVariants.{Error, Nothing, NewEntry, NewFile, Attributes, Opening, Bytes, Written, Listed, Looked, Hid, Replaced, Unmoved, Kept}
 use Rattle.ops.specs.declared.hiding.Hiding.{Hiding}
-use Rattle.ops.specs.declared.parts.Parts.{Parts}
+use Rattle.ops.specs.declared.parts.NewParts.{NewParts}
 use Rattle.ops.specs.declared.setting.Setting.{Setting}
 use Rattle.ops.specs.declared.script.LastCall.{LastCall}
 use Rattle.ops.specs.declared.script.LastCall.TheVariants as ending
@@ -54,7 +54,7 @@ LooksAtEach (ops.ReadDirPlus fh offset size) = Unit {0}
 LooksAtEach operation = ⊥
 
 -- what is told of what was found
-abbrev pub told_of : ReplyKind → Found → End
+abbrev pub told_of : ReplyKind → FoundFile → End
 told_of telling.Nothing found = end_of Nothing
 told_of telling.Taken found = end_of (Error EEXIST)
 told_of telling.Entry found = end_of (NewEntry found)
@@ -124,7 +124,7 @@ calls_pair (Some x) y = 1
 calls_pair None (Some y) = 1
 
 -- and a look at the end
-abbrev pub calls_set : Parts → ℕ
+abbrev pub calls_set : NewParts → ℕ
 calls_set parts = calls_part parts.permissions + calls_pair parts.uid parts.gid + calls_part parts.size + calls_pair parts.accessed parts.modified + 1
 
 abbrev pub calls_ending : LastCall → ℕ

@@ -13,7 +13,7 @@ use Rattle.paths.specs.Hidden.{is_reserved}
 use Rattle.wire.specs.declared.reply.ReplyBody.{ReplyBody}
 use Rattle.wire.specs.declared.reply.ReplyBody.TheVariants.{Failed, StatFs}
 use Rattle.wire.specs.Pairs.{pairs_in}
-use Rattle.wire.specs.declared.pairs.Forgotten.{Forgotten}
+use Rattle.wire.specs.declared.pairs.ForgetOne.{ForgetOne}
 use Rattle.wire.specs.declared.request.Request.{Request}
 use Rattle.wire.specs.declared.request.Operation.{Operation}
 use Rattle.wire.specs.declared.request.Operation.TheVariants as ops
@@ -31,7 +31,7 @@ pub data Intent : Type 0 where
   Begin : (want : Want) → Intent  -- it is begun with a want
   File : (fh : ℕ) → Intent  -- it asks whether a file is open under a handle on its node, and needs no script
   Folder : (fh : ℕ) → (usage : FolderUse) → Intent  -- it uses the folder that is open under a handle
-  Forget : (lookups : List Forgotten) → Intent  -- it gives lookups back, one after another, and is not answered
+  Forget : (lookups : List ForgetOne) → Intent  -- it gives lookups back, one after another, and is not answered
   Nothing : Intent  -- the session works it off itself, or it is passed over
 
 abbrev pub refused : ℤ → Intent

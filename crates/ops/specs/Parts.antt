@@ -6,7 +6,7 @@ use Rattle.backing.specs.declared.call.NewTime.TheVariants.{Now, At}
 use Rattle.backing.specs.declared.call.Time.{Time}
 use Rattle.wire.specs.declared.request.NewAttributes.{NewAttributes}
 use Rattle.wire.specs.declared.request.Time.{Time as Told}
-use Rattle.ops.specs.declared.parts.Parts.{Parts}
+use Rattle.ops.specs.declared.parts.NewParts.{NewParts}
 use Rattle.terms.specs.declared.settings.Settings.{Settings}
 use Rattle.terms.specs.declared.settings.Settings.TheVariants.{Fixed, Host}
 
@@ -26,7 +26,7 @@ abbrev pub permissions_of : ℕ → ℕ
 permissions_of mode = bit_and mode (2 ^ 12 - 1)
 
 -- by the bits of `valid`, as `fuse.h` numbers them
-abbrev pub parts_of : (valid size : ℕ) → NewAttributes → Parts
+abbrev pub parts_of : (valid size : ℕ) → NewAttributes → NewParts
 parts_of valid size new = record {
   permissions = option_map permissions_of (counted valid 0 new.mode);
   uid = counted valid 1 new.uid;

@@ -20,7 +20,7 @@ use Rattle.wire.specs.declared.reply.Kind.{Kind}
 use Rattle.wire.specs.declared.reply.Kind.TheVariants.{File, Folder}
 use Rattle.wire.specs.declared.reply.ReplyBody.{ReplyBody}
 use Rattle.wire.specs.declared.reply.ReplyBody.TheVariants as body
-use Rattle.ops.specs.declared.findings.Found.{Found}
+use Rattle.ops.specs.declared.findings.FoundFile.{FoundFile}
 use Rattle.ops.specs.declared.findings.ScriptResult.{ScriptResult}
 use Rattle.ops.specs.declared.findings.ScriptResult.TheVariants as findings
 use Rattle.terms.specs.declared.settings.Settings.{Settings}
@@ -57,25 +57,25 @@ abbrev pub host_details : Seen → Details
 host_details d = record { permissions = d.permissions; links = d.links; uid = d.uid; gid = d.gid; accessed = time_of d.accessed; modified = time_of d.modified; changed = time_of d.changed }
 
 -- the inode number, and what is told beside the kind and the size
-abbrev pub ino_of : Settings → (node : ℕ) → Found → ℕ
+abbrev pub ino_of : Settings → (node : ℕ) → FoundFile → ℕ
 ino_of (Fixed uid gid) node found = node
 ino_of Host node found = found.details.ino
 
-abbrev pub details_of : Settings → Found → Details
+abbrev pub details_of : Settings → FoundFile → Details
 details_of (Fixed uid gid) found = fixed_details uid gid found.kind
 details_of Host found = host_details found.details
 
-abbrev pub attributes_of : Settings → (node : ℕ) → Found → Attributes
+abbrev pub attributes_of : Settings → (node : ℕ) → FoundFile → Attributes
 attributes_of s node found = record { ino = ino_of s node found; kind = kind_of found.kind; size = found.size; details = details_of s found }
 
-abbrev pub entry_of : Settings → Found → Given → Entry
+abbrev pub entry_of : Settings → FoundFile → Given → Entry
 entry_of s found given = record { node = given.number; generation = given.generation; attributes = attributes_of s given.number found }
 
 -- what stands first in a list of which each may be missing
 abbrev pub first : {X : Type 0} → List (Option X) → Option X
 first xs = option_and_then (λ x. x) (slice_get xs 0)
 
-abbrev pub entry_reply : Settings → Found → Option Given → ReplyBody
+abbrev pub entry_reply : Settings → FoundFile → Option Given → ReplyBody
 entry_reply s found (Some given) = body.Entry (entry_of s found given)
 entry_reply s found None = body.Failed EIO
 
@@ -89,7 +89,7 @@ abbrev pub opened_reply : Option ℕ → ReplyBody
 opened_reply put = handle_reply ENFILE put
 
 -- an entry and a handle
-abbrev pub created_reply : Settings → Found → Option Given → Option ℕ → ReplyBody
+abbrev pub created_reply : Settings → FoundFile → Option Given → Option ℕ → ReplyBody
 created_reply s found (Some given) (Some fh) = body.Created (entry_of s found given) fh
 created_reply s found given opened = body.Failed EIO
 
@@ -101,18 +101,18 @@ file_reply node (Some file) = if file.number == node then body.Done else body.Fa
 -- ---- entries of a page, from an index on
 
 -- an entry where something was found and given, else one of zeros, with the listing's kind
-abbrev pub plus_entry : Settings → (next : ℕ) → Child → Option Found → Option Given → PlusDirent
+abbrev pub plus_entry : Settings → (next : ℕ) → Child → Option FoundFile → Option Given → PlusDirent
 plus_entry s next child (Some found) (Some given) = record { entry = Some (entry_of s found given); next = next; kind = kind_of found.kind; name = child.name }
 plus_entry s next child found given = record { entry = None; next = next; kind = kind_of child.kind; name = child.name }
 
 -- `.` and `..` have entries of zeros, and nothing was looked up or given for them
-abbrev pub plus_from : Settings → ℕ → List Child → List (Option Found) → List (Option Given) → List PlusDirent
+abbrev pub plus_from : Settings → ℕ → List Child → List (Option FoundFile) → List (Option Given) → List PlusDirent
 plus_from s at [] founds givens = []
 plus_from s at (child ∷ children) founds givens =
     if is_dot child.name then plus_entry s (at + 1) child None None ∷ plus_from s (at + 1) children founds givens
     else plus_entry s (at + 1) child (first founds) (first givens) ∷ plus_from s (at + 1) children (drop 1 founds) (drop 1 givens)
 
-abbrev pub entries_bytes : Settings → ℕ → List Child → List (Option Found) → List (Option Given) → List ℕ
+abbrev pub entries_bytes : Settings → ℕ → List Child → List (Option FoundFile) → List (Option Given) → List ℕ
 entries_bytes s at children founds givens = flat_map plus_bytes (plus_from s at children founds givens)
 
 -- ---- replies to a request about that node, which may tell a page; a listing was put under a handle, or not

@@ -17,11 +17,11 @@ use Rattle.table_steps.specs.declared.data.Outcome.{Outcome}
 use Rattle.table_steps.specs.declared.data.Outcome.TheVariants.{Failed, Done, Entry, Entries, Hidden, HiddenMove}
 use Rattle.wire.specs.declared.request.Operation.{Operation}
 use Rattle.wire.specs.declared.request.Operation.TheVariants as ops
-use Rattle.ops.specs.declared.findings.Found.{Found}
+use Rattle.ops.specs.declared.findings.FoundFile.{FoundFile}
 use Rattle.ops.specs.declared.findings.ScriptResult.{ScriptResult}
 use Rattle.ops.specs.declared.findings.ScriptResult.TheVariants.{Error, Nothing, NewEntry, NewFile, Attributes, Opening, Bytes, Written, Listed, Looked, Hid, Replaced, Unmoved, Kept}
 use Rattle.terms.specs.declared.settings.Settings.{Settings}
-use Rattle.ops.specs.declared.parts.Parts.{Parts}
+use Rattle.ops.specs.declared.parts.NewParts.{NewParts}
 use Rattle.ops.specs.Parts.{made_with, parts_of}
 use Rattle.ops.specs.Judged.{errno_in, judged}
 
@@ -52,11 +52,11 @@ if_done rest answer = failed (errno_in answer)
 abbrev pub make : Asked → Plan → Plan
 make call rest = Ask call (λ answer. if_done rest answer)
 
-abbrev pub if_found : (Found → Plan) → Answer → Plan
+abbrev pub if_found : (FoundFile → Plan) → Answer → Plan
 if_found rest (told.Stat kind size details) = rest (record { kind = kind; size = size; details = details })
 if_found rest answer = failed (errno_in answer)
 
-abbrev pub look : Names → (Found → Plan) → Plan
+abbrev pub look : Names → (FoundFile → Plan) → Plan
 look p rest = Ask (AskStat p) (λ answer. if_found rest answer)
 
 -- names that are lawless, or stand twice, are an error
@@ -144,7 +144,7 @@ set_times (Some accessed) modified p rest = make (AskSetTimes p (Some accessed) 
 set_times None (Some modified) p rest = make (AskSetTimes p None (Some modified)) rest
 
 -- what is told of the node then
-abbrev pub set_parts : Names → Parts → Plan
+abbrev pub set_parts : Names → NewParts → Plan
 set_parts p parts =
     set_permissions parts.permissions p (set_owner parts.uid parts.gid p (set_size parts.size p (set_times parts.accessed parts.modified p (tell_attributes p))))
 
@@ -220,16 +220,16 @@ release false paths = done
 
 -- ---- what stands at each of some paths: a fault is nothing, and does not end the script
 
-abbrev pub found_in : Answer → Option Found
+abbrev pub found_in : Answer → Option FoundFile
 found_in (told.Stat kind size details) = Some (record { kind = kind; size = size; details = details })
 found_in answer = None
 
-abbrev pub look_at_each : List Names → (List (Option Found) → Plan) → Plan
+abbrev pub look_at_each : List Names → (List (Option FoundFile) → Plan) → Plan
 look_at_each [] rest = rest []
 look_at_each (p ∷ ps) rest = Ask (AskStat p) (λ answer. look_at_each ps (λ founds. rest (found_in answer ∷ founds)))
 
 -- an entry is given where something stands
-abbrev pub give_found : List (Option Found) → Plan
+abbrev pub give_found : List (Option FoundFile) → Plan
 give_found founds = over (Entries (map (λ found. is_some found) founds)) (Looked founds)
 
 -- the path of the folder stands before those of its names

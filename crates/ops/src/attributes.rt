@@ -3,7 +3,7 @@
 ghost use Rattle.std.specs.Prelude.{◌≡◌};
 ghost use Rattle.ops.specs.Replies.{attributes_of, details_of, epoch, fixed_details, fixed_links, fixed_permissions, host_details, ino_of, kind_of, time_of};
 
-use crate::findings::Found;
+use crate::findings::FoundFile;
 use backing::Kind;
 use terms::Settings;
 use wire::{Attributes, Details, Time};
@@ -85,7 +85,7 @@ fn host_details(details: backing::Details) -> Details
 }
 
 /// The attributes of what was found, as those of that node.
-pub(crate) fn attributes_of(settings: Settings, node: u64, found: Found) -> Attributes
+pub(crate) fn attributes_of(settings: Settings, node: u64, found: FoundFile) -> Attributes
     ensures { result ≡ attributes_of settings node found }
 {
     let (ino, details) = match settings {

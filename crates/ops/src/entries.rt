@@ -10,7 +10,7 @@ ghost use Rattle.wire.specs.Dirents.{plus_bytes};
 ghost use Rattle.wire.specs.declared.reply.ReplyBody.TheVariants.{Data as Told};
 
 use crate::attributes::kind_of;
-use crate::findings::Found;
+use crate::findings::FoundFile;
 use crate::replies::entry_of;
 use backing::Child;
 use handles::Page;
@@ -110,7 +110,7 @@ fn put_entry(
     settings: Settings,
     next: u64,
     child: &Child,
-    found: Option<Found>,
+    found: Option<FoundFile>,
     given: Option<Given>,
 ) -> Result<(), AllocError>
     ensures { OnOk result (out.new.items ≡ out.old.items ++ plus_bytes (plus_entry settings next child.now found given)) }
@@ -151,7 +151,7 @@ fn put_entries(
     settings: Settings,
     from: u64,
     children: &[Child],
-    founds: &[Option<Found>],
+    founds: &[Option<FoundFile>],
     givens: &[Option<Given>],
 ) -> Result<(), AllocError>
     requires { from + length children.now < 2 ^ 64 }
@@ -186,7 +186,7 @@ pub fn entries_reply(
     alloc: Global,
     settings: Settings,
     page: &Paged,
-    founds: &[Option<Found>],
+    founds: &[Option<FoundFile>],
     givens: &[Option<Given>],
 ) -> Result<ReplyBody, AllocError>
     ensures ok { IfOk result (λ body. body ≡ Told (entries_bytes settings page.now.from page.now.entries founds.now givens.now)) }

@@ -10,7 +10,7 @@ use table::Outcome;
 
 /// What stands at a path.
 #[derive(Clone, Copy, Debug, PartialEq, Eq)]
-pub struct Found {
+pub struct FoundFile {
     pub kind: Kind,
     /// In bytes; 0 for a folder.
     pub size: u64,
@@ -25,11 +25,11 @@ pub enum ScriptResult {
     /// It is done, and there is no more to say.
     Nothing,
     /// An entry of this is to be given.
-    NewEntry(Found),
+    NewEntry(FoundFile),
     /// A file of this was made: an entry of it is to be given, and it is to be opened.
-    NewFile(Found),
+    NewFile(FoundFile),
     /// Attributes are told.
-    Attributes(Found),
+    Attributes(FoundFile),
     /// A file stands there, and is to be opened.
     Opening,
     /// Bytes of a file.

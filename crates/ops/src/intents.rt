@@ -11,7 +11,7 @@ use errno::{EINVAL, ENOENT, EPERM};
 use paths::reserved::is_reserved;
 use table_files::Need;
 use terms::Settings;
-use wire::{Forgotten, Operation, ReplyBody, Request};
+use wire::{ForgetOne, Operation, ReplyBody, Request};
 
 /// What a request needs.
 #[derive(Debug, Drop)]
@@ -25,7 +25,7 @@ pub enum Intent<'a> {
     /// It uses the folder that is open under a handle.
     Folder { fh: u64, usage: FolderUse },
     /// It gives lookups of a node back, and is not answered.
-    Forget(Forgotten),
+    Forget(ForgetOne),
     /// It gives lookups of several nodes back, pair after pair as `wire::split_pair` takes them, and is not answered.
     ForgetAll { pairs: &'a [u8] },
     /// INIT and DESTROY, which a session works off itself, and INTERRUPT, which is passed over.
@@ -211,7 +211,7 @@ fn intended<'a>(settings: Settings, node: u64, operation: Operation<'a>) -> Inte
         Operation::Lookup { name } | Operation::MakeDir { name, .. } => {
             Intent::Want(Wanted::Name { parent, name })
         }
-        Operation::Forget { nlookup } => Intent::Forget(Forgotten { node, nlookup }),
+        Operation::Forget { nlookup } => Intent::Forget(ForgetOne { node, nlookup }),
         Operation::BatchForget { pairs } => Intent::ForgetAll { pairs },
         Operation::GetAttr | Operation::OpenDir => Intent::Want(Wanted::Node {
             number: node,

@@ -22,7 +22,7 @@ mod telling;
 mod wanted;
 
 pub use entries::{Paged, entries_reply};
-pub use findings::{Found, ScriptResult};
+pub use findings::{FoundFile, ScriptResult};
 pub use folders::names_reply;
 pub use intents::{FolderUse, Intent, intent_of};
 pub use looks::Looked;

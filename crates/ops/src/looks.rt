@@ -5,7 +5,7 @@ ghost use Rattle.ops.specs.Ahead.{end_of};
 ghost use Rattle.ops.specs.Looking.{looked_on, plan_looking};
 ghost use Rattle.ops.specs.Scripts.{found_in, next_of, AsksNext, End, Over};
 
-use crate::findings::{Found, ScriptResult};
+use crate::findings::{FoundFile, ScriptResult};
 use crate::judging::judge;
 use backing::{Answer, Call};
 use errno::EIO;
@@ -17,16 +17,16 @@ use table::FoundNames;
 /// What stands at each of some paths, or nothing. Contracts see a list.
 #[derive(Drop)]
 pub struct Looked {
-    found: Vec<Option<Found>>,
+    found: Vec<Option<FoundFile>>,
     /// Whether something was found, for each of them.
     there: Vec<bool>,
 }
 
 impl Model for Looked {
     ghost use Rattle.std.specs.Prelude.{◌≡◌, List, Option, map, is_some};
-    ghost use Rattle.ops.specs.declared.findings.Found.{Found};
+    ghost use Rattle.ops.specs.declared.findings.FoundFile.{FoundFile};
 
-    ghost Value = { List (Option Found) };
+    ghost Value = { List (Option FoundFile) };
 
     ghost view = { λ l. l.found.items };
 
@@ -35,7 +35,7 @@ impl Model for Looked {
 
 impl Looked {
     /// For each path whether something stands there, and what. It takes no memory.
-    pub fn into_parts(self) -> (FoundNames, Vec<Option<Found>>)
+    pub fn into_parts(self) -> (FoundNames, Vec<Option<FoundFile>>)
         ensures there { result.0 ≡ map (λ found. is_some found) self }
         ensures found { result.1.items ≡ self }
     {
@@ -48,7 +48,7 @@ impl Looked {
 #[derive(Drop)]
 pub struct Looks<'a> {
     left: &'a [Path],
-    found: Vec<Option<Found>>,
+    found: Vec<Option<FoundFile>>,
     there: Vec<bool>,
 }
 
@@ -66,7 +66,7 @@ impl<'a> Model for Looks<'a> {
 }
 
 /// What is told of an answer: a fault is nothing.
-fn found_in(answer: &Answer) -> Option<Found>
+fn found_in(answer: &Answer) -> Option<FoundFile>
     ensures { result ≡ found_in answer.now }
 {
     match answer {
@@ -74,7 +74,7 @@ fn found_in(answer: &Answer) -> Option<Found>
             kind,
             size,
             details,
-        } => Some(Found {
+        } => Some(FoundFile {
             kind: *kind,
             size: *size,
             details: *details,

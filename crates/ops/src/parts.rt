@@ -10,7 +10,7 @@ use wire::NewAttributes;
 
 /// What is set of a node, each part if it is asked for.
 #[derive(Clone, Copy, Debug, PartialEq, Eq)]
-pub struct Parts {
+pub struct NewParts {
     /// The lowest twelve bits of a mode.
     pub permissions: Option<u32>,
     pub uid: Option<u32>,
@@ -91,10 +91,10 @@ fn permissions_of(mode: u32) -> u32
 }
 
 /// What a SETATTR sets, by its `valid`.
-pub(crate) fn parts_of(valid: u32, size: u64, new: NewAttributes) -> Parts
+pub(crate) fn parts_of(valid: u32, size: u64, new: NewAttributes) -> NewParts
     ensures { result ≡ parts_of valid size new }
 {
-    Parts {
+    NewParts {
         permissions: counted(valid, MODE, new.mode).map(permissions_of),
         uid: counted(valid, UID, new.uid),
         gid: counted(valid, GID, new.gid),

@@ -6,7 +6,7 @@ ghost use Rattle.ops.specs.Pages.{Paged};
 ghost use Rattle.ops.specs.Replies.{created_reply, entry_of, entry_reply, file_reply, first, handle_reply, opened_reply, reply_to};
 
 use crate::attributes::attributes_of;
-use crate::findings::{Found, ScriptResult};
+use crate::findings::{FoundFile, ScriptResult};
 use errno::{EBADF, EIO, ENFILE};
 use table::Answered;
 use table_files::OpenFile;
@@ -25,7 +25,7 @@ fn first_given(answered: &Answered) -> Option<Given>
 }
 
 /// The entry of what was found and given.
-pub(crate) fn entry_of(settings: Settings, found: Found, given: Given) -> Entry
+pub(crate) fn entry_of(settings: Settings, found: FoundFile, given: Given) -> Entry
     ensures { result ≡ entry_of settings found given }
 {
     Entry {
@@ -36,7 +36,7 @@ pub(crate) fn entry_of(settings: Settings, found: Found, given: Given) -> Entry
 }
 
 /// The entry that was given, or EIO (own) where none was.
-fn entry_reply(settings: Settings, found: Found, given: Option<Given>) -> ReplyBody
+fn entry_reply(settings: Settings, found: FoundFile, given: Option<Given>) -> ReplyBody
     ensures { result ≡ entry_reply settings found given }
 {
     match given {
@@ -48,7 +48,7 @@ fn entry_reply(settings: Settings, found: Found, given: Option<Given>) -> ReplyB
 /// The entry and the handle of a file that was made and opened, or EIO (own) where either was not given.
 fn created_reply(
     settings: Settings,
-    found: Found,
+    found: FoundFile,
     given: Option<Given>,
     opened: Option<u64>,
 ) -> ReplyBody

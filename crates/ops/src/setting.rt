@@ -7,7 +7,7 @@ ghost use Rattle.ops.specs.Scripts.{after, make, next_of, tell_attributes};
 
 use crate::findings::ScriptResult;
 use crate::judging::judge;
-use crate::parts::Parts;
+use crate::parts::NewParts;
 use crate::script::{LastCall, refused};
 use crate::telling::{ReplyKind, looked};
 use backing::{Answer, Call};
@@ -17,7 +17,7 @@ use paths::Path;
 #[derive(Clone, Copy, Drop)]
 pub struct Setting<'a> {
     pub path: &'a Path,
-    pub parts: Parts,
+    pub parts: NewParts,
 }
 
 impl<'a> Setting<'a> {
@@ -36,7 +36,7 @@ impl<'a> Setting<'a> {
         } else if parts.uid.is_some() || parts.gid.is_some() {
             left.uid = None;
             left.gid = None;
-            let Parts { uid, gid, .. } = parts;
+            let NewParts { uid, gid, .. } = parts;
             Call::SetOwner { path, uid, gid }
         } else if let Some(size) = parts.size {
             left.size = None;
@@ -44,7 +44,7 @@ impl<'a> Setting<'a> {
         } else if parts.accessed.is_some() || parts.modified.is_some() {
             left.accessed = None;
             left.modified = None;
-            let Parts {
+            let NewParts {
                 accessed,
                 modified,
                 ..

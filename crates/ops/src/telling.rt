@@ -6,7 +6,7 @@ ghost use Rattle.ops.specs.Ahead.{end_of, told_of};
 ghost use Rattle.ops.specs.Judged.{judged};
 ghost use Rattle.ops.specs.Scripts.{if_found, if_listed, if_read, if_removed, if_written, open_end, Over};
 
-use crate::findings::{Found, ScriptResult};
+use crate::findings::{FoundFile, ScriptResult};
 use crate::judging::{errno_in, judge};
 use backing::{Answer, Call, Kind};
 use errno::{EEXIST, EISDIR};
@@ -38,7 +38,7 @@ fn opening(kind: Kind) -> ScriptResult
 
 impl ReplyKind {
     /// What is told of what was found.
-    fn of(self, found: Found) -> ScriptResult
+    fn of(self, found: FoundFile) -> ScriptResult
         ensures { end_of result ≡ told_of self found }
     {
         match self {
@@ -61,7 +61,7 @@ pub(crate) fn looked(tells: ReplyKind, answer: &Answer) -> ScriptResult
             kind,
             size,
             details,
-        } => tells.of(Found {
+        } => tells.of(FoundFile {
             kind: *kind,
             size: *size,
             details: *details,

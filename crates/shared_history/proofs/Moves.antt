@@ -6,7 +6,7 @@ use lib.ListN.{get_elem?}
 use Rattle.atomic_table.specs.Table.{Allows, Splits, Joins, keeps}
 use Rattle.atomic_table.proofs.Lists.{at_set}
 use Rattle.shared_history.specs.declared.views.View.{View}
-use Rattle.shared_history.specs.Views.{own, tagged, keeper, front, nobody, both, Fits, Apart, AllFit, AllApart, Kept, Extends}
+use Rattle.shared_history.specs.Views.{own, tagged, whole_log, thread_log, nobody, both, Fits, Apart, AllFit, AllApart, Kept, Extends}
 use Rattle.shared_history.proofs.Logs.{prefix_self, prefix_more, own-mine, own-theirs}
 
 off : false ≡ true → ⊥
@@ -24,14 +24,14 @@ module _ {E : Type 0} where
 
   -- ---- the start
 
-  pub begins : Kept {E = E} (keeper [] 0 ∷ [])
+  pub begins : Kept {E = E} (whole_log [] 0 ∷ [])
   begins = record { log = []; given = 0; fresh = λ i le. refl; fit = one; apart = alone }
     where
-      one : AllFit {E = E} [] 0 (keeper [] 0 ∷ [])
+      one : AllFit {E = E} [] 0 (whole_log [] 0 ∷ [])
       one zero v e = subst (Fits [] 0) (some-injective _ _ e) (record { whole = λ _. (refl, refl); begins = λ e. absurd (off e); own_is = λ e. absurd (off e); below = λ e. absurd (off e) })
       one (suc j) v e = absurd (some-ne-none v (sym e))
 
-      alone : AllApart {E = E} (keeper [] 0 ∷ [])
+      alone : AllApart {E = E} (whole_log [] 0 ∷ [])
       alone zero zero v w ne e f = absurd (ne refl)
       alone zero (suc k) v w ne e f = absurd (some-ne-none w (sym f))
       alone (suc j) k v w ne e f = absurd (some-ne-none v (sym e))
@@ -56,7 +56,7 @@ module _ {E : Type 0} where
   apart_set : (views : List (View E)) (id : ℕ) (w : View E) → AllApart views → ((j : ℕ) (u : View E) → j ≢ id → get_elem? views j ≡ some u → Apart w u) → AllApart (set views id w)
   apart_set views id w all mine j k u x ne e f = apart_in views id w all mine j k u x ne (at_set views id j w u e) (at_set views id k w x f)
 
-  -- ---- the keeper with a thread adds entries
+  -- ---- the whole log and that of a thread gain entries
 
   pub adds : (slots id i : ℕ) (me : View E × List (ℕ × ℕ)) (es : List E) → me.0.keeps ≡ true → me.0.signs ≡ true
       → Allows {S = ℕ} (λ s. Kept s.views) slots id me i (λ n. n) (λ _ w. Extends es me.0 w.0 × (w.1 ≡ me.1))
@@ -189,11 +189,11 @@ module _ {E : Type 0} where
         apart = λ j k u x ne e h. apart_end (set views id l) r alone right j k u x ne (at_end (set views id l) r j u e) (at_end (set views id l) r k x h);
       }
 
-  pub parts : (id : ℕ) (v : View E) → v.keeps ≡ true → v.signs ≡ true → Splits {S = ℕ} (λ s. Kept s.views) id v (keeper v.log v.given) (front v.by v.seen v.mine)
+  pub parts : (id : ℕ) (v : View E) → v.keeps ≡ true → v.signs ≡ true → Splits {S = ℕ} (λ s. Kept s.views) id v (whole_log v.log v.given) (thread_log v.by v.seen v.mine)
   parts id v ks sg s kept at =
       let f = kept.fit id v at in
-      let l : View E = keeper v.log v.given in
-      let r : View E = front v.by v.seen v.mine in
+      let l : View E = whole_log v.log v.given in
+      let r : View E = thread_log v.by v.seen v.mine in
       let lf : Fits kept.log kept.given l = record { whole = λ _. f.whole ks; begins = λ e. absurd (off e); own_is = λ e. absurd (off e); below = λ e. absurd (off e) } in
       let rf : Fits kept.log kept.given r = record { whole = λ e. absurd (off e); begins = λ _. f.begins sg; own_is = λ _. f.own_is sg; below = λ _. f.below sg } in
       let rl : Apart r l = record { keeps = λ p q. absurd (off p); signs = λ p q. absurd (off q) } in
@@ -204,14 +204,14 @@ module _ {E : Type 0} where
       cuts s.views id v l r kept.log kept.given kept.fresh (λ j u ne e. kept.fit j u e) kept.apart at lf rf rl la ra
 
   -- a thread more has the next index: nothing in the log is its own
-  pub enters : (id : ℕ) (v : View E) → v.keeps ≡ true → Splits {S = ℕ} (λ s. Kept s.views) id v (keeper v.log (v.given + 1)) (front v.given v.log [])
+  pub enters : (id : ℕ) (v : View E) → v.keeps ≡ true → Splits {S = ℕ} (λ s. Kept s.views) id v (whole_log v.log (v.given + 1)) (thread_log v.given v.log [])
   enters id v ks s kept at =
       let f = kept.fit id v at in
       let is = (f.whole ks).0 in
       let gv : v.given ≡ kept.given = (f.whole ks).1 in
       let more = kept.given + 1 in
-      let l : View E = keeper v.log (v.given + 1) in
-      let r : View E = front v.given v.log [] in
+      let l : View E = whole_log v.log (v.given + 1) in
+      let r : View E = thread_log v.given v.log [] in
       let lf : Fits kept.log more l = record { whole = λ _. (is, ap (λ k. k + 1) gv); begins = λ e. absurd (off e); own_is = λ e. absurd (off e); below = λ e. absurd (off e) } in
       let rf : Fits kept.log more r = record {
         whole = λ e. absurd (off e);

@@ -1,4 +1,4 @@
--- What is known of a history: by its keeper the whole log, and by each thread a beginning of it, with what it did itself.
+-- What is known of a history: by one token the whole log, and by each thread a beginning of it, with what it did itself.
 use Rattle.std.specs.Prelude.{ℕ, ◌<◌, ◌≤◌, ◌≡◌, ◌≢◌, ◌==◌, Bool, true, false, List, [], ◌∷◌, ◌++◌, map}
 use mathlib.Core.List.{IsPrefix}
 use mathlib.Core.Option.{some}
@@ -23,16 +23,16 @@ tagged by es = map (λ e. (by, e)) es
 -- ---- views
 
 module _ {E : Type 0} where
-  abbrev pub keeper : List (ℕ × E) → ℕ → View E
-  keeper log given = record { keeps = true; log = log; given = given; signs = false; by = 0; seen = []; mine = [] }
+  abbrev pub whole_log : List (ℕ × E) → ℕ → View E
+  whole_log log given = record { keeps = true; log = log; given = given; signs = false; by = 0; seen = []; mine = [] }
 
-  abbrev pub front : ℕ → List (ℕ × E) → List E → View E
-  front by seen mine = record { keeps = false; log = []; given = 0; signs = true; by = by; seen = seen; mine = mine }
+  abbrev pub thread_log : ℕ → List (ℕ × E) → List E → View E
+  thread_log by seen mine = record { keeps = false; log = []; given = 0; signs = true; by = by; seen = seen; mine = mine }
 
   abbrev pub nobody : View E
   nobody = record { keeps = false; log = []; given = 0; signs = false; by = 0; seen = []; mine = [] }
 
-  -- the keeper together with a thread
+  -- the whole log together with that of a thread
   abbrev pub both : View E → View E → View E
   both v w = record { keeps = v.keeps; log = v.log; given = v.given; signs = w.signs; by = w.by; seen = w.seen; mine = w.mine }
 

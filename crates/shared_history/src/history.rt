@@ -1,8 +1,8 @@
-//! The history that threads share, its keeper under the lock, and what each thread has seen of it.
+//! The history that threads share, the whole log under the lock, and what each thread has seen of it.
 
 ghost use Rattle.std.specs.Prelude.{◌≡◌, ◌+◌, ◌<◌, ◌++◌, ◌∷◌, ◌⊎◌, [], true};
 ghost use mathlib.Core.List.{IsPrefix};
-ghost use Rattle.shared_history.specs.Views.{Extends, IsFresh, both, front, keeper, own, view_in};
+ghost use Rattle.shared_history.specs.Views.{Extends, IsFresh, both, thread_log, whole_log, own, view_in};
 
 use crate::views::{Added, Adds, Enters, Grows, Meets, View};
 use atomic_table::{Badge, Seat, Shared, Table};
@@ -26,7 +26,7 @@ pub struct Opened<E> {
     table: Table<u64, View<E>, (), Grows, Global>,
     seat: Seat<u64, View<E>>,
     pub ghost words: { 0 < table.shared.table_id.words },
-    pub ghost seat_is: { (seat.table_id ≡ table.shared.table_id) × (seat.me ≡ (keeper [] 0, [])) },
+    pub ghost seat_is: { (seat.table_id ≡ table.shared.table_id) × (seat.me ≡ (whole_log [] 0, [])) },
 }
 
 /// The history. Threads share it.
@@ -49,42 +49,42 @@ impl<E, J: Naming<E>> Model for History<E, J> {
     ghost invariant = { λ h. (h.table.shared.table_id ≡ J.table) × (0 < h.table.shared.table_id.words) };
 }
 
-/// The one who knows all of it, and without whom nothing is added. It lies under the lock.
+/// The whole of it, without which nothing is added. It lies under the lock.
 #[derive(Drop)]
-pub struct Keeper<E, J: Naming<E>> {
+pub struct WholeLog<E, J: Naming<E>> {
     badge: Badge<View<E>>,
     of: PhantomData<J>,
 }
 
-impl<E, J: Naming<E>> Model for Keeper<E, J> {
+impl<E, J: Naming<E>> Model for WholeLog<E, J> {
     ghost use Rattle.std.specs.Prelude.{◌≡◌, ◌∷◌, []};
-    ghost use Rattle.shared_history.specs.Views.{IsFresh, keeper, view_in};
+    ghost use Rattle.shared_history.specs.Views.{IsFresh, whole_log, view_in};
     ghost use Rattle.shared_history.specs.declared.views.View.{View};
 
     ghost Value = { View E };
 
     ghost view = { λ k. view_in k.badge.views };
 
-    ghost invariant = { λ k. (k.badge.table_id ≡ J.table) × (k.badge.views ≡ view_in k.badge.views ∷ []) × (view_in k.badge.views ≡ keeper (view_in k.badge.views).log (view_in k.badge.views).given) × J.lawful (view_in k.badge.views).log × IsFresh (view_in k.badge.views) };
+    ghost invariant = { λ k. (k.badge.table_id ≡ J.table) × (k.badge.views ≡ view_in k.badge.views ∷ []) × (view_in k.badge.views ≡ whole_log (view_in k.badge.views).log (view_in k.badge.views).given) × J.lawful (view_in k.badge.views).log × IsFresh (view_in k.badge.views) };
 }
 
 /// What one thread has seen of it: a beginning, which is lawful, and in which the entries of its index are those that it made.
 #[derive(Drop)]
-pub struct Front<E, J: Naming<E>> {
+pub struct ThreadLog<E, J: Naming<E>> {
     badge: Badge<View<E>>,
     of: PhantomData<J>,
 }
 
-impl<E, J: Naming<E>> Model for Front<E, J> {
+impl<E, J: Naming<E>> Model for ThreadLog<E, J> {
     ghost use Rattle.std.specs.Prelude.{◌≡◌, ◌∷◌, []};
-    ghost use Rattle.shared_history.specs.Views.{front, own, view_in};
+    ghost use Rattle.shared_history.specs.Views.{thread_log, own, view_in};
     ghost use Rattle.shared_history.specs.declared.views.View.{View};
 
     ghost Value = { View E };
 
     ghost view = { λ f. view_in f.badge.views };
 
-    ghost invariant = { λ f. (f.badge.table_id ≡ J.table) × (f.badge.views ≡ view_in f.badge.views ∷ []) × (view_in f.badge.views ≡ front (view_in f.badge.views).by (view_in f.badge.views).seen (view_in f.badge.views).mine) × J.lawful (view_in f.badge.views).seen × (own (view_in f.badge.views).by (view_in f.badge.views).seen ≡ (view_in f.badge.views).mine) };
+    ghost invariant = { λ f. (f.badge.table_id ≡ J.table) × (f.badge.views ≡ view_in f.badge.views ∷ []) × (view_in f.badge.views ≡ thread_log (view_in f.badge.views).by (view_in f.badge.views).seen (view_in f.badge.views).mine) × J.lawful (view_in f.badge.views).seen × (own (view_in f.badge.views).by (view_in f.badge.views).seen ≡ (view_in f.badge.views).mine) };
 }
 
 impl<E> Opened<E> {
@@ -94,8 +94,8 @@ impl<E> Opened<E> {
         Ok(Opened { table, seat })
     }
 
-    /// The same under a name, and its keeper.
-    pub fn named<J: Naming<E>>(self) -> (History<E, J>, Keeper<E, J>)
+    /// The same under a name, with its whole log.
+    pub fn named<J: Naming<E>>(self) -> (History<E, J>, WholeLog<E, J>)
         requires name { self.table.shared.table_id ≡ J.table }
         requires lawful { J.lawful [] }
         ensures log { result.1.log ≡ [] }
@@ -107,7 +107,7 @@ impl<E> Opened<E> {
                 table,
                 of: PhantomData,
             },
-            Keeper {
+            WholeLog {
                 badge: seat.into_badge(),
                 of: PhantomData,
             },
@@ -124,13 +124,13 @@ fn taken_out<E>(badge: &mut Badge<View<E>>) -> Seat<u64, View<E>>
     mem::replace(badge, Badge::blank()).into_seat::<u64>()
 }
 
-// The keeper and a thread come together.
+// The whole log and that of a thread come together.
 fn meet<E>(
     shared: &Shared<u64, View<E>, (), Grows>,
     seat: &mut Seat<u64, View<E>>,
     own: Seat<u64, View<E>>,
 )
-    requires keeper { seat.old.table_id ≡ shared.now.table_id }
+    requires whole_log { seat.old.table_id ≡ shared.now.table_id }
     requires thread { own.table_id ≡ shared.now.table_id }
     requires words { 0 < shared.now.table_id.words }
     requires slots { own.me.1 ≡ [] }
@@ -179,8 +179,8 @@ fn part<E>(
     requires words { 0 < shared.now.table_id.words }
     requires both { (seat.old.me.0.keeps ≡ true) × (seat.old.me.0.signs ≡ true) }
     ensures tables { (seat.new.table_id ≡ seat.old.table_id) × (result.table_id ≡ seat.old.table_id) }
-    ensures keeper { seat.new.me ≡ (keeper seat.old.me.0.log seat.old.me.0.given, seat.old.me.1) }
-    ensures thread { result.me ≡ (front seat.old.me.0.by seat.old.me.0.seen seat.old.me.0.mine, []) }
+    ensures whole_log { seat.new.me ≡ (whole_log seat.old.me.0.log seat.old.me.0.given, seat.old.me.1) }
+    ensures thread { result.me ≡ (thread_log seat.old.me.0.by seat.old.me.0.seen seat.old.me.0.mine, []) }
 {
     shared.split_seat::<Meets>(seat)
 }
@@ -194,72 +194,77 @@ fn enter<E>(
     requires words { 0 < shared.now.table_id.words }
     requires keeps { seat.old.me.0.keeps ≡ true }
     ensures tables { (seat.new.table_id ≡ seat.old.table_id) × (result.table_id ≡ seat.old.table_id) }
-    ensures keeper { seat.new.me ≡ (keeper seat.old.me.0.log (seat.old.me.0.given + 1), seat.old.me.1) }
-    ensures thread { result.me ≡ (front seat.old.me.0.given seat.old.me.0.log [], []) }
+    ensures whole_log { seat.new.me ≡ (whole_log seat.old.me.0.log (seat.old.me.0.given + 1), seat.old.me.1) }
+    ensures thread { result.me ≡ (thread_log seat.old.me.0.given seat.old.me.0.log [], []) }
 {
     shared.split_seat::<Enters>(seat)
 }
 
 impl<E, J: Naming<E>> History<E, J> {
     /// A thread more, with the next index. It has seen all that happened, and has done nothing.
-    pub fn enter(&self, keeper: &mut Keeper<E, J>) -> Front<E, J>
-        ensures keeper { (keeper.new.log ≡ keeper.old.log) × (keeper.new.given ≡ keeper.old.given + 1) }
-        ensures thread { result ≡ front keeper.old.given keeper.old.log [] }
+    pub fn enter(&self, whole_log: &mut WholeLog<E, J>) -> ThreadLog<E, J>
+        ensures whole_log { (whole_log.new.log ≡ whole_log.old.log) × (whole_log.new.given ≡ whole_log.old.given + 1) }
+        ensures thread { result ≡ thread_log whole_log.old.given whole_log.old.log [] }
     {
-        let mut seat = taken_out(&mut keeper.badge);
+        let mut seat = taken_out(&mut whole_log.badge);
         let own = enter(&self.table.shared, &mut seat);
-        keeper.badge = seat.into_badge();
-        Front {
+        whole_log.badge = seat.into_badge();
+        ThreadLog {
             badge: own.into_badge(),
             of: PhantomData,
         }
     }
 
     /// Adds an entry to the history, under the thread's index.
-    pub fn record(&self, keeper: &mut Keeper<E, J>, me: &mut Front<E, J>, entry: &E)
-        requires lawful { J.lawful (keeper.old.log ++ (me.old.by, entry.now) ∷ []) }
-        ensures log { keeper.new.log ≡ keeper.old.log ++ (me.old.by, entry.now) ∷ [] }
-        ensures given { keeper.new.given ≡ keeper.old.given }
-        ensures thread { me.new ≡ front me.old.by (keeper.old.log ++ (me.old.by, entry.now) ∷ []) (me.old.mine ++ entry.now ∷ []) }
-        ensures begins { IsPrefix me.old.seen keeper.old.log }
+    pub fn record(&self, whole_log: &mut WholeLog<E, J>, me: &mut ThreadLog<E, J>, entry: &E)
+        requires lawful { J.lawful (whole_log.old.log ++ (me.old.by, entry.now) ∷ []) }
+        ensures log { whole_log.new.log ≡ whole_log.old.log ++ (me.old.by, entry.now) ∷ [] }
+        ensures given { whole_log.new.given ≡ whole_log.old.given }
+        ensures thread { me.new ≡ thread_log me.old.by (whole_log.old.log ++ (me.old.by, entry.now) ∷ []) (me.old.mine ++ entry.now ∷ []) }
+        ensures begins { IsPrefix me.old.seen whole_log.old.log }
     {
-        let mut seat = taken_out(&mut keeper.badge);
+        let mut seat = taken_out(&mut whole_log.badge);
         let own = taken_out(&mut me.badge);
         meet(&self.table.shared, &mut seat, own);
         add::<E, Brand>(&self.table.shared, &mut seat, entry);
         let own = part(&self.table.shared, &mut seat);
-        keeper.badge = seat.into_badge();
+        whole_log.badge = seat.into_badge();
         me.badge = own.into_badge();
     }
 
     /// Sees the whole history, and adds nothing.
-    pub fn observe(&self, keeper: &mut Keeper<E, J>, me: &mut Front<E, J>)
-        ensures keeper { keeper.new ≡ keeper.old }
-        ensures thread { me.new ≡ front me.old.by keeper.old.log me.old.mine }
-        ensures begins { IsPrefix me.old.seen keeper.old.log }
+    pub fn observe(&self, whole_log: &mut WholeLog<E, J>, me: &mut ThreadLog<E, J>)
+        ensures whole_log { whole_log.new ≡ whole_log.old }
+        ensures thread { me.new ≡ thread_log me.old.by whole_log.old.log me.old.mine }
+        ensures begins { IsPrefix me.old.seen whole_log.old.log }
     {
-        let mut seat = taken_out(&mut keeper.badge);
+        let mut seat = taken_out(&mut whole_log.badge);
         let own = taken_out(&mut me.badge);
         meet(&self.table.shared, &mut seat, own);
         look(&self.table.shared, &mut seat);
         let own = part(&self.table.shared, &mut seat);
-        keeper.badge = seat.into_badge();
+        whole_log.badge = seat.into_badge();
         me.badge = own.into_badge();
     }
 
     /// Of what two threads have seen, one begins the other.
-    pub fn compare(&self, keeper: &mut Keeper<E, J>, one: &mut Front<E, J>, other: &mut Front<E, J>)
+    pub fn compare(
+        &self,
+        whole_log: &mut WholeLog<E, J>,
+        one: &mut ThreadLog<E, J>,
+        other: &mut ThreadLog<E, J>,
+    )
         ensures order { IsPrefix one.old.seen other.old.seen ⊎ IsPrefix other.old.seen one.old.seen }
-        ensures keeper { keeper.new ≡ keeper.old }
-        ensures one { one.new ≡ front one.old.by keeper.old.log one.old.mine }
-        ensures other { other.new ≡ front other.old.by keeper.old.log other.old.mine }
+        ensures whole_log { whole_log.new ≡ whole_log.old }
+        ensures one { one.new ≡ thread_log one.old.by whole_log.old.log one.old.mine }
+        ensures other { other.new ≡ thread_log other.old.by whole_log.old.log other.old.mine }
     {
-        self.observe(keeper, one);
-        self.observe(keeper, other);
+        self.observe(whole_log, one);
+        self.observe(whole_log, other);
     }
 }
 
-impl<E, J: Naming<E>> Keeper<E, J> {
+impl<E, J: Naming<E>> WholeLog<E, J> {
     /// The whole log is lawful, and has nothing of an index that was not given yet: a call that does nothing.
     pub fn attest(&self)
         ensures lawful { J.lawful self.now.log }
@@ -269,12 +274,12 @@ impl<E, J: Naming<E>> Keeper<E, J> {
     }
 }
 
-impl<E, J: Naming<E>> Front<E, J> {
+impl<E, J: Naming<E>> ThreadLog<E, J> {
     /// What was seen is lawful, and has of its index the entries that it made and no others: a call that does nothing.
     pub fn attest(&self)
         ensures lawful { J.lawful self.now.seen }
         ensures own { own self.now.by self.now.seen ≡ self.now.mine }
-        ensures front { self.now ≡ front self.now.by self.now.seen self.now.mine }
+        ensures thread_log { self.now ≡ thread_log self.now.by self.now.seen self.now.mine }
     {
         let _badge = &self.badge;
     }

@@ -1,10 +1,10 @@
-//! What the keeper of a history and a thread know of it, and the rule that ties them.
+//! What the whole log of a history and that of a thread know of it, and the rule that ties them.
 
 use atomic_table::{Join, Play, Split, TableRule};
 use std::collections::LinkedList;
 use std::marker::{Brand, PhantomData};
 
-// The keeper knows the whole log, and how many indices were given to threads. A thread knows its index, the part of the log that it
+// The whole log has all entries, and how many indices were given to threads. A thread knows its index, the part of the log that it
 // has seen, and what it did itself. No value of it is made.
 pub struct View<E> {
     pub keeps: bool,
@@ -16,19 +16,19 @@ pub struct View<E> {
     pub mine: LinkedList<E>,
 }
 
-/// The log only grows, by the keeper with a thread of that index.
+/// The log only grows, by the whole log together with that of a thread of that index.
 pub struct Grows;
 
 impl<E> TableRule<u64, View<E>, ()> for Grows {
     ghost use Rattle.std.specs.Prelude.{[]};
-    ghost use Rattle.shared_history.specs.Views.{keeper, Kept};
+    ghost use Rattle.shared_history.specs.Views.{whole_log, Kept};
 
     ghost holds = { λ _ s. Kept s.views };
 
-    ghost first = { λ _. keeper [] 0 };
+    ghost first = { λ _. whole_log [] 0 };
 }
 
-/// The keeper and a thread come together, and part again.
+/// The whole log and that of a thread come together, and part again.
 pub struct Meets;
 
 impl<E> Join<View<E>> for Meets {
@@ -40,11 +40,11 @@ impl<E> Join<View<E>> for Meets {
 }
 
 impl<E> Split<View<E>> for Meets {
-    ghost use Rattle.shared_history.specs.Views.{keeper, front};
+    ghost use Rattle.shared_history.specs.Views.{whole_log, thread_log};
 
-    ghost left = { λ v. keeper v.log v.given };
+    ghost left = { λ v. whole_log v.log v.given };
 
-    ghost right = { λ v. front v.by v.seen v.mine };
+    ghost right = { λ v. thread_log v.by v.seen v.mine };
 }
 
 /// A thread more is given the next index.
@@ -52,11 +52,11 @@ pub struct Enters;
 
 impl<E> Split<View<E>> for Enters {
     ghost use Rattle.std.specs.Prelude.{◌+◌, []};
-    ghost use Rattle.shared_history.specs.Views.{keeper, front};
+    ghost use Rattle.shared_history.specs.Views.{whole_log, thread_log};
 
-    ghost left = { λ v. keeper v.log (v.given + 1) };
+    ghost left = { λ v. whole_log v.log (v.given + 1) };
 
-    ghost right = { λ v. front v.given v.log [] };
+    ghost right = { λ v. thread_log v.given v.log [] };
 }
 
 /// What is added. The call picks it.

@@ -27,7 +27,7 @@ use Rattle.table_requests.proofs.Lookups.{flight_in_found}
 use Rattle.table_image.specs.declared.data.Hold.{Hold}
 use Rattle.table_image.specs.declared.data.Image.{Image}
 use Rattle.table_image.specs.declared.data.Record.{Record}
-use Rattle.table_image.specs.declared.data.Stage.TheVariants.{Working, Answered}
+use Rattle.table_image.specs.declared.data.ImageStage.TheVariants.{Working, Answered}
 use Rattle.table_law.specs.Law.{IsGivenPath, IsKnownFile}
 use Rattle.table_image.specs.ImageLaw.{AreApart, AreCounts, AreHoldsCounted, AreKnown, IsLawfulImage, periods_in, is_kept, is_pinned, exclusive_of, sharers_of}
 use Rattle.table_image.proofs.Exported.{ListsBelow, ListsBelow-all, IsLawfulImage-shows, Mirrors, is_pinned-mirrors, ids-mirrors}

@@ -7,10 +7,10 @@ use Rattle.table_requests.specs.declared.data.Stage as kept
 use Rattle.table_requests.specs.declared.data.Stage.TheVariants as kept_stage
 use Rattle.table_requests.specs.RequestMaps.{has_exclusive, has_shared}
 use Rattle.table_image.specs.declared.data.Record.{Record}
-use Rattle.table_image.specs.declared.data.Stage.{Stage}
-use Rattle.table_image.specs.declared.data.Stage.TheVariants.{Working, Answered}
+use Rattle.table_image.specs.declared.data.ImageStage.{ImageStage}
+use Rattle.table_image.specs.declared.data.ImageStage.TheVariants.{Working, Answered}
 
-abbrev pub stage_of : kept.Stage → Stage
+abbrev pub stage_of : kept.Stage → ImageStage
 stage_of (kept_stage.Working work) = Working
 stage_of (kept_stage.Answered before opened) = Answered
 

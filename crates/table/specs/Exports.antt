@@ -5,8 +5,8 @@ use Rattle.holds.specs.declared.held.Held.{Held}
 use Rattle.tree.specs.Listed.{node_at, IsDistinct}
 use Rattle.table_image.specs.declared.data.Image.{Image}
 use Rattle.table_image.specs.declared.data.Record.{Record}
-use Rattle.table_image.specs.declared.data.Stage.{Stage as Shown}
-use Rattle.table_image.specs.declared.data.Stage.TheVariants as shown
+use Rattle.table_image.specs.declared.data.ImageStage.{ImageStage as Shown}
+use Rattle.table_image.specs.declared.data.ImageStage.TheVariants as shown
 use Rattle.table_image.specs.ImageLaw.{AreHoldsCounted, periods_in}
 use Rattle.table_steps.specs.World.{Answered, RequestInFlight, Stage, Working, World}
 

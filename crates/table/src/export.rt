@@ -15,7 +15,7 @@ use holds::{GivenPath, GivenPaths, Held, Paths};
 use paths::Path;
 use std::alloc::{AllocError, Global};
 use table_image::{
-    Births, Hold, Holds, Image, Nodes, Numbers, OpenFiles, Postings, Record, Records, Stage,
+    Births, Hold, Holds, Image, ImageStage, Nodes, Numbers, OpenFiles, Postings, Record, Records,
 };
 use table_requests::{RequestInFlight, RequestsInFlight};
 use table_steps::State;
@@ -163,13 +163,13 @@ fn copy_record(alloc: Global, flight: &RequestInFlight) -> Result<Record, AllocE
 }
 
 /// How far the request has come.
-fn stage(flight: &RequestInFlight) -> Stage
+fn stage(flight: &RequestInFlight) -> ImageStage
     ensures { result ≡ stage_of flight.now.stage }
 {
     if flight.stage.is_working() {
-        Stage::Working
+        ImageStage::Working
     } else {
-        Stage::Answered
+        ImageStage::Answered
     }
 }
 

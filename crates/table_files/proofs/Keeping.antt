@@ -12,7 +12,7 @@ use Rattle.indexmap.specs.IndexMap.{IndexMap, IsUnchanged}
 use Rattle.collections.specs.Living.{found, joined, living, places}
 use Rattle.collections.specs.Sum.{IsSum}
 use Rattle.table_files.specs.Counts.{AddUpTo, openings_in}
-use Rattle.table_files.specs.declared.counts.Counts.{Counts}
+use Rattle.table_files.specs.declared.counts.OpenCounts.{OpenCounts}
 use Rattle.table_files.specs.declared.data.OpenFile.{OpenFile}
 use Rattle.table_files.specs.declared.listed.OpenEntry.{OpenEntry}
 use Rattle.table_files.specs.OpenEntry.{IsFiled, IsNumbered, count_in}
@@ -38,7 +38,7 @@ module _ {S : Type 0} (old new : IndexMap ℕ (Option ℕ) S) (same : IsUnchange
     all = sum.all;
   }
 
-module _ (v w : Vec OpenEntry Global) (counts counts' : Counts) (last room : ℕ) (filed : IsFiled v counts last room) where
+module _ (v w : Vec OpenEntry Global) (counts counts' : OpenCounts) (last room : ℕ) (filed : IsFiled v counts last room) where
   -- what opening a file asks for
   pub few_opened : 0 < room → (number : ℕ) → openings_in counts.by_number number + 1 ≤ vec_capacity v
   few_opened some number =

@@ -13,7 +13,7 @@ use Rattle.table_files.specs.declared.data.OpenFile.{OpenFile}
 use Rattle.table_files.specs.declared.listed.OpenEntry.{OpenEntry}
 use Rattle.table_files.specs.Handles.{AreOpenEntries, of_node}
 use Rattle.table_files.specs.Counts.{openings_in}
-use Rattle.table_files.specs.declared.counts.Counts.{Counts}
+use Rattle.table_files.specs.declared.counts.OpenCounts.{OpenCounts}
 use Rattle.table_files.specs.OpenEntry.{Filing, IsFiled, IsNumbered, file_in, files_of, filing, opened_in}
 
 abbrev pub key : OpenEntry → ℕ
@@ -85,10 +85,10 @@ listed fs last room numbered = record {
 pub are_entries_kept : (v : Vec OpenEntry Global) (last room : ℕ) → IsNumbered v.items last → AreOpenEntries (files_of (filing v last room))
 are_entries_kept v last room numbered = listed v.items last room numbered
 
-pub are_entries : (v : Vec OpenEntry Global) (counts : Counts) (last room : ℕ) (all : Filing) → IsFiled v counts last room → filing v last room ≡ all → AreOpenEntries (files_of all)
+pub are_entries : (v : Vec OpenEntry Global) (counts : OpenCounts) (last room : ℕ) (all : Filing) → IsFiled v counts last room → filing v last room ≡ all → AreOpenEntries (files_of all)
 are_entries v counts last room all filed is = subst (λ (a : Filing). AreOpenEntries (files_of a)) is (are_entries_kept v last room filed.numbered)
 
-pub openings_listed : (v : Vec OpenEntry Global) (counts : Counts) (last room : ℕ) (all : Filing) (number n : ℕ) → IsFiled v counts last room → filing v last room ≡ all → n ≡ openings_in counts.by_number number
+pub openings_listed : (v : Vec OpenEntry Global) (counts : OpenCounts) (last room : ℕ) (all : Filing) (number n : ℕ) → IsFiled v counts last room → filing v last room ≡ all → n ≡ openings_in counts.by_number number
     → IsSum (files_of all).at (of_node number) n
 unfolding files_of
 openings_listed v counts last room all number n filed is e =
@@ -110,7 +110,7 @@ any_counted p (x ∷ xs) =
           ap (nat_lt 0) rest ∙ (any_counted p xs ∙ sym (ap (λ b. b || list_any p xs) miss))
     ]
 
-pub opened_listed : (v : Vec OpenEntry Global) (counts : Counts) (last room : ℕ) (all : Filing) (number n : ℕ) → IsFiled v counts last room → filing v last room ≡ all → n ≡ openings_in counts.by_number number
+pub opened_listed : (v : Vec OpenEntry Global) (counts : OpenCounts) (last room : ℕ) (all : Filing) (number n : ℕ) → IsFiled v counts last room → filing v last room ≡ all → n ≡ openings_in counts.by_number number
     → nat_lt 0 n ≡ (files_of all).opened number
 unfolding files_of
 opened_listed v counts last room all number n filed is e =

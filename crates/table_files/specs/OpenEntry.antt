@@ -4,7 +4,7 @@ use Rattle.std.specs.List.{list_any}
 use Rattle.std.specs.declared.alloc.Global.{Global}
 use Rattle.collections.specs.Living.{places}
 use Rattle.table_files.specs.Counts.{AddUpTo, openings_in}
-use Rattle.table_files.specs.declared.counts.Counts.{Counts}
+use Rattle.table_files.specs.declared.counts.OpenCounts.{OpenCounts}
 use Rattle.table_files.specs.declared.listed.OpenEntry.{OpenEntry}
 use Rattle.table_files.specs.Handles.{Files, Opened}
 
@@ -45,7 +45,7 @@ abbrev pub count_in : List OpenEntry → ℕ → ℕ
 count_in files number = count_by (λ (f : OpenEntry). f.file.number == number) files
 
 -- what always holds of the files: they are counted, and there is the room
-pub record IsFiled (files : Vec OpenEntry Global) (counts : Counts) (last room : ℕ) : Type 0 where
+pub record IsFiled (files : Vec OpenEntry Global) (counts : OpenCounts) (last room : ℕ) : Type 0 where
   pub numbered : IsNumbered files.items last
   pub counted : (number : ℕ) → openings_in counts.by_number number ≡ count_in files.items number
   pub total : AddUpTo counts.by_number counts.nodes (vec_len files)

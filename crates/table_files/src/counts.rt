@@ -11,25 +11,25 @@ use std::alloc::{AllocError, Global};
 
 /// How many files of each node are open: a number stands there for each node with one.
 #[derive(Drop)]
-pub(crate) struct Counts {
+pub(crate) struct OpenCounts {
     pub(crate) by_number: IndexMap<u64, Option<u64>>,
     /// How many nodes have an open file.
     pub(crate) nodes: usize,
 }
 
 /// No file is open.
-pub(crate) fn no_counts(alloc: Global) -> Counts
+pub(crate) fn no_counts(alloc: Global) -> OpenCounts
     ensures none { (n : ℕ) → openings_in result.by_number n ≡ 0 }
     ensures total { AddUpTo result.by_number result.nodes 0 }
 {
-    Counts {
+    OpenCounts {
         by_number: IndexMap::new(alloc),
         nodes: 0,
     }
 }
 
 /// How many files of the node are open.
-pub(crate) fn openings_of(counts: &Counts, number: u64) -> u64
+pub(crate) fn openings_of(counts: &OpenCounts, number: u64) -> u64
     ensures { result ≡ openings_in counts.now.by_number number }
 {
     match value_of(&counts.by_number, &number) {
@@ -39,7 +39,7 @@ pub(crate) fn openings_of(counts: &Counts, number: u64) -> u64
 }
 
 /// One file more of the node is open. It takes no memory.
-pub(crate) fn raise(counts: &mut Counts, number: u64)
+pub(crate) fn raise(counts: &mut OpenCounts, number: u64)
     requires few { openings_in counts.old.by_number number + 1 < 2 ^ 64 }
     requires nodes { counts.old.nodes + 1 < 2 ^ 64 }
     requires room { 2 * (live counts.old.by_number + 1) ≤ places counts.old.by_number }
@@ -57,7 +57,7 @@ pub(crate) fn raise(counts: &mut Counts, number: u64)
 }
 
 /// One file less of the node is open. It takes no memory.
-pub(crate) fn lower(counts: &mut Counts, number: u64)
+pub(crate) fn lower(counts: &mut OpenCounts, number: u64)
     requires some { 0 < openings_in counts.old.by_number number }
     requires nodes { counts.old.nodes ≡ live counts.old.by_number }
     ensures lowered { (n : ℕ) → openings_in counts.new.by_number n ≡ openings_in counts.old.by_number n - (if nat_eq number n then 1 else 0) }
@@ -74,7 +74,7 @@ pub(crate) fn lower(counts: &mut Counts, number: u64)
 }
 
 /// Makes places for so many nodes with open files. Without memory nothing changes.
-pub(crate) fn make_room(counts: &mut Counts, nodes: usize) -> Result<(), AllocError>
+pub(crate) fn make_room(counts: &mut OpenCounts, nodes: usize) -> Result<(), AllocError>
     requires nodes { counts.old.nodes ≡ live counts.old.by_number }
     requires more { counts.old.nodes ≤ nodes }
     ensures ok { OnOk result (2 * nodes ≤ places counts.new.by_number) }

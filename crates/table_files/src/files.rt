@@ -6,7 +6,7 @@ ghost use Rattle.table_files.specs.declared.listed.OpenEntry.{OpenEntry};
 ghost use Rattle.table_files.specs.OpenEntry.{file_in, files_of, opened_in};
 ghost use Rattle.table_files.specs.Handles.{AreOpenEntries, after_close, after_open, no_files, of_node};
 
-use crate::counts::{Counts, lower, make_room, no_counts, openings_of, raise};
+use crate::counts::{OpenCounts, lower, make_room, no_counts, openings_of, raise};
 use crate::data::OpenFile;
 use crate::listed::{OpenEntry, index_of};
 use std::alloc::{AllocError, Global};
@@ -16,7 +16,7 @@ use std::marker::Model;
 #[derive(Drop)]
 pub struct Files {
     files: Vec<OpenEntry>,
-    counts: Counts,
+    counts: OpenCounts,
     last: u64,
     /// How many more may be opened without memory.
     room: usize,

@@ -12,11 +12,11 @@ use Rattle.holds.proofs.Among.{contains_read}
 use Rattle.holds.proofs.Prefixing.{prefixes_are}
 use Rattle.tree.specs.Places.{Lookup, IsPathOf, IsTree}
 use Rattle.table_footprints.specs.declared.gatherings.Gathering.{Gathering}
-use Rattle.table_footprints.specs.declared.found.Found.{Found}
-use Rattle.table_footprints.specs.declared.refusal.Refusal.{Refusal}
-use Rattle.table_footprints.specs.declared.refusal.Refusal.TheVariants as refusal
-use Rattle.table_footprints.specs.declared.footprints.Hold.{Hold}
-use Rattle.table_footprints.specs.declared.footprints.Hold.TheVariants.{Shared, Exclusive}
+use Rattle.table_footprints.specs.declared.found.AtLocation.{AtLocation}
+use Rattle.table_footprints.specs.declared.refusal.FootprintRefusal.{FootprintRefusal}
+use Rattle.table_footprints.specs.declared.refusal.FootprintRefusal.TheVariants as refusal
+use Rattle.table_footprints.specs.declared.footprints.HoldMode.{HoldMode}
+use Rattle.table_footprints.specs.declared.footprints.HoldMode.TheVariants.{Shared, Exclusive}
 use Rattle.table_footprints.specs.declared.footprints.Location as told_location
 use Rattle.table_footprints.specs.Asked.{HasPath, IsThere}
 use Rattle.table_footprints.specs.Gatherings.{Adds, IsBadPath, IsBadFootprint, IsLongPath, IsGathering, IsFound, IsNoGathering, IsOwnAt, IsPinAt, IsSharedAt, IsShortPath, IsTaken, HasNoNode, location_of, own_paths, shared_path, told}
@@ -36,7 +36,7 @@ pub told_in : (ls : List told_location.Location) (i : ℕ) (l : told_location.Lo
 told_in ls i l within read = map_in (λ x. location_of x) ls l (contains_read ls i l l within read refl)
 
 -- one of some that is refused
-pub bad_row : (at : Lookup) (ls : List Location) (l : Location) (r : Refusal) → Contains ls l → IsBadPath at l r → IsBadFootprint at ls r
+pub bad_row : (at : Lookup) (ls : List Location) (l : Location) (r : FootprintRefusal) → Contains ls l → IsBadPath at l r → IsBadFootprint at ls r
 bad_row at ls l refusal.Stale here bad = absurd bad
 bad_row at ls l refusal.TooLong here bad = any_in (IsLongPath at) ls l here bad
 bad_row at ls l refusal.IntoItself here bad = absurd bad
@@ -78,8 +78,8 @@ pin_two xs a b o same n =
 
 -- ---- what is held of one location
 
-module _ (at : Lookup) (tree : IsTree at) (l : Location) (f : Found) (found : IsFound at l f) where
-  shared_here : (hold : Hold) (p : Names) → Contains (prefixes (shared_path hold f)) p ↔ IsSharedAt at hold p l
+module _ (at : Lookup) (tree : IsTree at) (l : Location) (f : AtLocation) (found : IsFound at l f) where
+  shared_here : (hold : HoldMode) (p : Names) → Contains (prefixes (shared_path hold f)) p ↔ IsSharedAt at hold p l
   shared_here Shared p = (
     λ h. record { path = f.path; leads = found.path; begins = (prefixes_are f.path).only p h },
     λ it. (prefixes_are f.path).all p (subst (λ q. IsSomePrefix p q) (location_once at tree l it.path f.path it.leads found.path) it.begins),
@@ -89,14 +89,14 @@ module _ (at : Lookup) (tree : IsTree at) (l : Location) (f : Found) (found : Is
     λ it. (prefixes_are f.above).all p (subst (λ q. IsSomePrefix p q) (location_once at tree (AtNode (base_of l)) it.path f.above it.leads found.above) it.begins),
   )
 
-  own_here : (hold : Hold) (p : Names) → Contains (own_paths hold f) p ↔ IsOwnAt at hold p l
+  own_here : (hold : HoldMode) (p : Names) → Contains (own_paths hold f) p ↔ IsOwnAt at hold p l
   own_here Shared p = (λ h. none_in p h, λ bad. absurd bad)
   own_here Exclusive p = (
     λ h. subst (λ q. HasPath at l q) (only_in f.path p h) found.path,
     λ leads. subst (λ q. Contains (f.path ∷ []) q) (location_once at tree l f.path p found.path leads) (first_in f.path []),
   )
 
-  module _ (hold : Hold) (ls : List Location) where
+  module _ (hold : HoldMode) (ls : List Location) where
     vacant_more : (b : Bool) (o : Option ℕ) → (b ≡ true → Any (HasNoNode at) ls) → ((n : ℕ) → (o ≡ Some n) ↔ IsThere at l n) → (b || is_none o) ≡ true → Any (HasNoNode at) (ls ++ l ∷ [])
     vacant_more true o before node is = (any_push (HasNoNode at) ls l).1 (inl (before refl))
     vacant_more false None before node is = (any_push (HasNoNode at) ls l).1 (inr (λ n there. none-some n ((node n).1 there)))
@@ -133,7 +133,7 @@ module _ (at : Lookup) (tree : IsTree at) (l : Location) (f : Found) (found : Is
       taken = λ e. taken_more old.absent f.node is.taken found.node (sym adds.absent ∙ e);
     }
 
-pub draft_none : (at : Lookup) (hold : Hold) (room : ℕ) (x : Gathering) → IsNoGathering room x → IsGathering at hold [] x
+pub draft_none : (at : Lookup) (hold : HoldMode) (room : ℕ) (x : Gathering) → IsNoGathering room x → IsGathering at hold [] x
 draft_none at hold room x is = record {
   numbers = ap (λ (leads : List GivenPath). map (λ (lead : GivenPath). lead.number) leads) is.given;
   leads = λ k d within. absurd (omega (arith, within, ap (λ (leads : List GivenPath). length leads) is.given));

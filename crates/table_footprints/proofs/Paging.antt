@@ -13,10 +13,10 @@ use Rattle.tree.specs.Places.{Lookup, IsTree, Leads}
 use Rattle.table_footprints.specs.declared.gatherings.Gathering.{Gathering}
 use Rattle.table_requests.specs.declared.data.Case.TheVariants as cases
 use Rattle.table_footprints.specs.declared.gatherings.Reservation.{Reservation}
-use Rattle.table_footprints.specs.declared.found.Found.{Found}
-use Rattle.table_footprints.specs.declared.refusal.Refusal.{Refusal}
-use Rattle.table_footprints.specs.declared.refusal.Refusal.TheVariants as refusal
-use Rattle.table_footprints.specs.declared.footprints.Hold.TheVariants.{Shared}
+use Rattle.table_footprints.specs.declared.found.AtLocation.{AtLocation}
+use Rattle.table_footprints.specs.declared.refusal.FootprintRefusal.{FootprintRefusal}
+use Rattle.table_footprints.specs.declared.refusal.FootprintRefusal.TheVariants as refusal
+use Rattle.table_footprints.specs.declared.footprints.HoldMode.TheVariants.{Shared}
 use Rattle.table_footprints.specs.Asked.{ArePaths, HasPath, Holds, IsAboveAt, IsLong, IsPin, IsStale, IsThere, IsUnsound, long, no_memory, stale}
 use Rattle.table_footprints.specs.Gatherings.{Adds, IsBadFootprint, IsGathering, IsReserved, IsFound, IsLongPath, IsNoGathering, IsPinAt, IsShortPath, IsReservation, refusal_errno}
 use Rattle.table_footprints.specs.Pages.{AddsName, IsPage}
@@ -39,7 +39,7 @@ name_in folder names name h = later_in (AtNode folder) (page_names folder names)
 
 module _ (at : Lookup) (tree : IsTree at) (folder : ℕ) where
   -- the folder alone
-  pub page_start : (room : ℕ) (none one : Gathering) (f : Found) → IsNoGathering room none → IsFound at (AtNode folder) f → Adds none folder f Shared one → IsPage at folder [] one
+  pub page_start : (room : ℕ) (none one : Gathering) (f : AtLocation) → IsNoGathering room none → IsFound at (AtNode folder) f → Adds none folder f Shared one → IsPage at folder [] one
   page_start room none one f empty found adds =
       let is : IsGathering at Shared (AtNode folder ∷ []) one = draft_more at tree (AtNode folder) f found Shared [] none one (draft_none at Shared room none empty) adds in
       record {
@@ -61,7 +61,7 @@ module _ (at : Lookup) (tree : IsTree at) (folder : ℕ) where
       }
 
   -- one name more
-  pub page_more : (ls : List Location) (l : Location) (f : Found) (old new : Gathering) → IsPage at folder ls old → IsFound at l f → AddsName old f new → IsPage at folder (ls ++ l ∷ []) new
+  pub page_more : (ls : List Location) (l : Location) (f : AtLocation) (old new : Gathering) → IsPage at folder ls old → IsFound at l f → AddsName old f new → IsPage at folder (ls ++ l ∷ []) new
   page_more ls l f old new is found adds = record {
     numbers = ap (λ (leads : List GivenPath). map (λ (lead : GivenPath). lead.number) leads) adds.given ∙ is.numbers;
     leads = rw adds.given is.leads;
@@ -97,7 +97,7 @@ module _ (at : Lookup) (tree : IsTree at) (folder : ℕ) where
     pub page_lost : (Leads at folder → ⊥) → IsUnsound at (page_footprint folder names) (refusal_errno refusal.Stale)
     page_lost lost = stale refl (record { number = folder; named = first_in folder []; lost = lost })
 
-    pub page_bad : Leads at folder → (r : Refusal) → IsBadFootprint at (AtNode folder ∷ page_names folder names) r → IsUnsound at (page_footprint folder names) (refusal_errno r)
+    pub page_bad : Leads at folder → (r : FootprintRefusal) → IsBadFootprint at (AtNode folder ∷ page_names folder names) r → IsUnsound at (page_footprint folder names) (refusal_errno r)
     page_bad leads refusal.Stale bad = absurd bad
     page_bad leads refusal.TooLong bad =
         let it = in_any (IsLongPath at) (AtNode folder ∷ page_names folder names) bad in

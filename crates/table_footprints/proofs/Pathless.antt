@@ -25,8 +25,8 @@ use Rattle.tree.specs.Places.{Lookup, IsPathOf, IsTree, Leads}
 use Rattle.tree.proofs.Climbing.{climbs_alive, path_of_lead}
 use Rattle.tree.proofs.LookupLemmas.{cases_option}
 use Rattle.table_footprints.specs.declared.gatherings.Reservation.{Reservation}
-use Rattle.table_footprints.specs.declared.refusal.Refusal.{Refusal}
-use Rattle.table_footprints.specs.declared.refusal.Refusal.TheVariants as refusal
+use Rattle.table_footprints.specs.declared.refusal.FootprintRefusal.{FootprintRefusal}
+use Rattle.table_footprints.specs.declared.refusal.FootprintRefusal.TheVariants as refusal
 use Rattle.table_footprints.specs.Asked.{HasPath, IsStale, IsUnsound, long, misplaced, no_memory, stale}
 use Rattle.table_footprints.specs.Cases.{HasShortPath, IsClosingCase, IsLastOpening, Seen}
 use Rattle.table_footprints.specs.Gatherings.{IsClosing, IsClosingPath, IsNothing, IsReservation, IsWanted, IsWithoutPath, TellsPath, refusal_errno, refusal_of}
@@ -114,9 +114,9 @@ module _ (at : Lookup) (tree : IsTree at) (number : ℕ) where
   no_long (misplaced a b bad) short = bad
   no_long (no_memory is a) short = let bad : int_eq ENAMETOOLONG ENOMEM ≡ true = (Decides-int_eq ENAMETOOLONG ENOMEM).1 is in false≢true bad
 
-  pub no_short : (r : Refusal) → IsWithoutPath r → IsUnsound at (node_footprint number) (refusal_errno r) → HasShortPath at number → ⊥
-  no_short r (inl e) unsound = no_stale (subst (λ (q : Refusal). IsUnsound at (node_footprint number) (refusal_errno q)) e unsound)
-  no_short r (inr e) unsound = no_long (subst (λ (q : Refusal). IsUnsound at (node_footprint number) (refusal_errno q)) e unsound)
+  pub no_short : (r : FootprintRefusal) → IsWithoutPath r → IsUnsound at (node_footprint number) (refusal_errno r) → HasShortPath at number → ⊥
+  no_short r (inl e) unsound = no_stale (subst (λ (q : FootprintRefusal). IsUnsound at (node_footprint number) (refusal_errno q)) e unsound)
+  no_short r (inr e) unsound = no_long (subst (λ (q : FootprintRefusal). IsUnsound at (node_footprint number) (refusal_errno q)) e unsound)
 
   -- the same of the fault of the tree
   pub no_fault : (e : TreeFault) → IsPathFault at number e → TellsPath at number (refusal_of e)
@@ -139,10 +139,10 @@ module _ (at : Lookup) (tree : IsTree at) (number : ℕ) where
   starved files fh (cases.Hiding n k) bad = absurd bad
 
 -- want of memory
-pub closing_refused : (seen : Seen) → IsTree seen.at → (many : ℕ) → IsSum seen.files (λ file. 1) many → (want : Want) (number fh : ℕ) (r : Refusal) → want ≡ wants.Release number fh → r ≡ refusal.Memory → IsRefusedRequest seen want (refusal_errno r)
+pub closing_refused : (seen : Seen) → IsTree seen.at → (many : ℕ) → IsSum seen.files (λ file. 1) many → (want : Want) (number fh : ℕ) (r : FootprintRefusal) → want ≡ wants.Release number fh → r ≡ refusal.Memory → IsRefusedRequest seen want (refusal_errno r)
 closing_refused seen tree many sum want number fh r is starving =
     let it = closing_there seen.at tree number seen.files many sum in
-    subst (λ (q : Refusal). IsRefusedRequest seen want (refusal_errno q)) (sym starving) (subst (λ (v : Want). IsRefusedRequest seen v (refusal_errno refusal.Memory)) (sym is)
+    subst (λ (q : FootprintRefusal). IsRefusedRequest seen want (refusal_errno q)) (sym starving) (subst (λ (v : Want). IsRefusedRequest seen v (refusal_errno refusal.Memory)) (sym is)
     (record { footprint = footprint_of (wants.Release number fh) it.0; footprint_is = record { case = it.0; fits = it.1; footprint = refl }; unsound = starved seen.at tree number seen.files fh it.0 it.1 }))
 
 -- ---- what it asks for

@@ -15,11 +15,11 @@ use Rattle.paths.specs.Prefixes.{Name, Names, path_bytes}
 use Rattle.tree.specs.Places.{Lookup, IsCensus, IsNamed, IsTree, Leads}
 use Rattle.table_footprints.specs.declared.gatherings.Gathering.{Gathering}
 use Rattle.table_footprints.specs.declared.gatherings.Reservation.{Reservation}
-use Rattle.table_footprints.specs.declared.found.Found.{Found}
-use Rattle.table_footprints.specs.declared.refusal.Refusal.{Refusal}
-use Rattle.table_footprints.specs.declared.refusal.Refusal.TheVariants as refusal
-use Rattle.table_footprints.specs.declared.footprints.Change as told_change
-use Rattle.table_footprints.specs.declared.footprints.Hold.TheVariants.{Exclusive}
+use Rattle.table_footprints.specs.declared.found.AtLocation.{AtLocation}
+use Rattle.table_footprints.specs.declared.refusal.FootprintRefusal.{FootprintRefusal}
+use Rattle.table_footprints.specs.declared.refusal.FootprintRefusal.TheVariants as refusal
+use Rattle.table_footprints.specs.declared.footprints.ChangeKind as told_change
+use Rattle.table_footprints.specs.declared.footprints.HoldMode.TheVariants.{Exclusive}
 use Rattle.table_footprints.specs.Asked.{ArePaths, HasPath, Holds, IsAboveAt, IsLong, IsPin, IsPrefixAt, IsStale, IsThere, IsUnsound, long, misplaced, no_memory, stale}
 use Rattle.table_footprints.specs.Cases.{IsHidingCase}
 use Rattle.table_footprints.specs.Gatherings.{AreEnough, AreNames, AreRooted, IsBadFootprint, IsGathering, IsReserved, IsFound, IsLongPath, IsLost, IsPinAt, IsRootedAt, IsSharedAt, IsShortPath, IsReservation, IsWrongChange, MayChange, refusal_errno}
@@ -83,7 +83,7 @@ module _ (ls : List Location) (folder : ℕ) where
 any_more : (P : Location → Type 0) (ls more : List Location) → Any P ls → Any P (ls ++ more)
 any_more P ls more h = let it = in_any P ls h in any_in P (ls ++ more) it.0 (Contains-append_left ls more it.0 it.1) it.2
 
-pub bad_more : (at : Lookup) (ls more : List Location) (r : Refusal) → IsBadFootprint at ls r → IsBadFootprint at (ls ++ more) r
+pub bad_more : (at : Lookup) (ls more : List Location) (r : FootprintRefusal) → IsBadFootprint at ls r → IsBadFootprint at (ls ++ more) r
 bad_more at ls more refusal.Stale bad = absurd bad
 bad_more at ls more refusal.TooLong bad = any_more (IsLongPath at) ls more bad
 bad_more at ls more refusal.IntoItself bad = absurd bad
@@ -115,7 +115,7 @@ gathered_start at ls x is = record {
 }
 
 -- one name more beside them
-pub gathered_more : (at : Lookup) → IsTree at → (ls all : List Location) (l : Location) (f : Found) (old new : Gathering) → IsGathered at ls all old → IsFound at l f → AddsBeside old f new → IsGathered at ls (all ++ l ∷ []) new
+pub gathered_more : (at : Lookup) → IsTree at → (ls all : List Location) (l : Location) (f : AtLocation) (old new : Gathering) → IsGathered at ls all old → IsFound at l f → AddsBeside old f new → IsGathered at ls (all ++ l ∷ []) new
 gathered_more at tree ls all l f old new is found adds = record {
   numbers = ap (λ (leads : List GivenPath). map (λ (lead : GivenPath). lead.number) leads) adds.given ∙ is.numbers;
   leads = rw adds.given is.leads;
@@ -172,7 +172,7 @@ module _ (at : Lookup) (tree : IsTree at) (ls : List Location) (change : told_ch
       let it = in_any (IsLost at) ls lost in
       stale refl (record { number = base_of it.0; named = map_in (λ l. base_of l) ls it.0 it.1; lost = it.2 })
 
-  pub going_bad : AreRooted at ls → (r : Refusal) → IsBadFootprint at all r → IsUnsound at d (refusal_errno r)
+  pub going_bad : AreRooted at ls → (r : FootprintRefusal) → IsBadFootprint at all r → IsUnsound at d (refusal_errno r)
   going_bad rooted refusal.Stale bad = absurd bad
   going_bad rooted refusal.TooLong bad =
       let it = in_any (IsLongPath at) all bad in

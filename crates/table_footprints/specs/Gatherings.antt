@@ -16,13 +16,13 @@ use Rattle.tree.specs.Places.{Lookup, IsPathOf, Leads}
 use Rattle.table_footprints.specs.declared.data.NewRequest.{NewRequest}
 use Rattle.table_footprints.specs.declared.gatherings.Gathering.{Gathering}
 use Rattle.table_footprints.specs.declared.gatherings.Reservation.{Reservation}
-use Rattle.table_footprints.specs.declared.found.Found.{Found}
-use Rattle.table_footprints.specs.declared.refusal.Refusal.{Refusal}
-use Rattle.table_footprints.specs.declared.refusal.Refusal.TheVariants as refusal
-use Rattle.table_footprints.specs.declared.footprints.Change as told_change
-use Rattle.table_footprints.specs.declared.footprints.Change.TheVariants.{Stays, Cuts, Exchanges, Moves}
-use Rattle.table_footprints.specs.declared.footprints.Hold.{Hold}
-use Rattle.table_footprints.specs.declared.footprints.Hold.TheVariants.{Shared, Exclusive}
+use Rattle.table_footprints.specs.declared.found.AtLocation.{AtLocation}
+use Rattle.table_footprints.specs.declared.refusal.FootprintRefusal.{FootprintRefusal}
+use Rattle.table_footprints.specs.declared.refusal.FootprintRefusal.TheVariants as refusal
+use Rattle.table_footprints.specs.declared.footprints.ChangeKind as told_change
+use Rattle.table_footprints.specs.declared.footprints.ChangeKind.TheVariants.{Stays, Cuts, Exchanges, Moves}
+use Rattle.table_footprints.specs.declared.footprints.HoldMode.{HoldMode}
+use Rattle.table_footprints.specs.declared.footprints.HoldMode.TheVariants.{Shared, Exclusive}
 use Rattle.table_footprints.specs.declared.footprints.Location as told_location
 use Rattle.table_footprints.specs.declared.footprints.Location.TheVariants as locations
 use Rattle.table_footprints.specs.declared.footprints.UniformFootprint.{UniformFootprint}
@@ -34,14 +34,14 @@ use Rattle.table_footprints.specs.Footprints.{Change, Footprint, Location, AtNam
 
 -- ---- refusals
 
-abbrev pub refusal_errno : Refusal → ℤ
+abbrev pub refusal_errno : FootprintRefusal → ℤ
 refusal_errno refusal.Stale = ESTALE
 refusal_errno refusal.TooLong = ENAMETOOLONG
 refusal_errno refusal.IntoItself = EINVAL
 refusal_errno refusal.OntoFolder = ENOTEMPTY
 refusal_errno refusal.Memory = ENOMEM
 
-abbrev pub refusal_of : TreeFault → Refusal
+abbrev pub refusal_of : TreeFault → FootprintRefusal
 refusal_of fault.Unknown = refusal.Stale
 refusal_of fault.Cut = refusal.Stale
 refusal_of fault.PathLong = refusal.TooLong
@@ -60,11 +60,11 @@ told ls = map (λ l. location_of l) ls
 abbrev pub locations_of : UniformFootprint → List Location
 locations_of footprint = told footprint.locations.now
 
-abbrev pub shared_in : Hold → List Location → List Location
+abbrev pub shared_in : HoldMode → List Location → List Location
 shared_in Shared ls = ls
 shared_in Exclusive ls = []
 
-abbrev pub exclusive_in : Hold → List Location → List Location
+abbrev pub exclusive_in : HoldMode → List Location → List Location
 exclusive_in Shared ls = []
 exclusive_in Exclusive ls = ls
 
@@ -84,7 +84,7 @@ change_in Exchanges [] = stays
 change_in Exchanges (l ∷ []) = stays
 change_in Exchanges (l ∷ m ∷ ls) = exchanges l m
 
-abbrev pub footprint_by : List Location → Hold → Bool → told_change.Change → Case → Footprint
+abbrev pub footprint_by : List Location → HoldMode → Bool → told_change.Change → Case → Footprint
 footprint_by ls hold enters change c = record {
   given = map (λ l. base_of l) ls;
   paths = ls;
@@ -155,21 +155,21 @@ abbrev pub IsLongPath : Lookup → Location → Type 0
 IsLongPath at l = (path : Names) × HasPath at l path × (4096 < path_bytes path)
 
 -- why a location with a way to the root is refused, and why one of some is
-abbrev pub IsBadPath : Lookup → Location → Refusal → Type 0
+abbrev pub IsBadPath : Lookup → Location → FootprintRefusal → Type 0
 IsBadPath at l refusal.Stale = ⊥
 IsBadPath at l refusal.TooLong = IsLongPath at l
 IsBadPath at l refusal.IntoItself = ⊥
 IsBadPath at l refusal.OntoFolder = ⊥
 IsBadPath at l refusal.Memory = Unit {0}
 
-abbrev pub IsBadFootprint : Lookup → List Location → Refusal → Type 0
+abbrev pub IsBadFootprint : Lookup → List Location → FootprintRefusal → Type 0
 IsBadFootprint at ls refusal.Stale = ⊥
 IsBadFootprint at ls refusal.TooLong = Any (IsLongPath at) ls
 IsBadFootprint at ls refusal.IntoItself = ⊥
 IsBadFootprint at ls refusal.OntoFolder = ⊥
 IsBadFootprint at ls refusal.Memory = Unit {0}
 
-pub record IsFound (at : Lookup) (l : Location) (f : Found) : Type 0 where
+pub record IsFound (at : Lookup) (l : Location) (f : AtLocation) : Type 0 where
   pub above : IsPathOf at (base_of l) f.above
   pub path : HasPath at l f.path
   pub short : path_bytes f.path ≤ 4096
@@ -205,16 +205,16 @@ IsWrongChange Exchanges (p ∷ q ∷ paths) e = IsRefusedExchange p q e
 -- ---- drafts
 
 -- the path whose nonempty prefixes are shared, and those that are held exclusively
-abbrev pub shared_path : Hold → Found → Names
+abbrev pub shared_path : HoldMode → AtLocation → Names
 shared_path Shared f = f.path
 shared_path Exclusive f = f.above
 
-abbrev pub own_paths : Hold → Found → List Names
+abbrev pub own_paths : HoldMode → AtLocation → List Names
 own_paths Shared f = []
 own_paths Exclusive f = f.path ∷ []
 
 -- one location more
-pub record Adds (old : Gathering) (number : ℕ) (f : Found) (hold : Hold) (new : Gathering) : Type 0 where
+pub record Adds (old : Gathering) (number : ℕ) (f : AtLocation) (hold : HoldMode) (new : Gathering) : Type 0 where
   pub given : new.given ≡ old.given ++ record { number = number; path = f.above } ∷ []
   pub shared : new.shared ≡ old.shared ++ prefixes (shared_path hold f)
   pub exclusive : new.exclusive ≡ old.exclusive ++ own_paths hold f
@@ -223,11 +223,11 @@ pub record Adds (old : Gathering) (number : ℕ) (f : Found) (hold : Hold) (new 
   pub room : old.pins.room ≤ new.pins.room + 2
   pub absent : new.absent ≡ (old.absent || is_none f.node)
 
-abbrev pub IsSharedAt : Lookup → Hold → Names → Location → Type 0
+abbrev pub IsSharedAt : Lookup → HoldMode → Names → Location → Type 0
 IsSharedAt at Shared p l = IsPrefixAt at p l
 IsSharedAt at Exclusive p l = IsPrefixAt at p (AtNode (base_of l))
 
-abbrev pub IsOwnAt : Lookup → Hold → Names → Location → Type 0
+abbrev pub IsOwnAt : Lookup → HoldMode → Names → Location → Type 0
 IsOwnAt at Shared p l = ⊥
 IsOwnAt at Exclusive p l = HasPath at l p
 
@@ -245,7 +245,7 @@ abbrev pub IsTaken : Lookup → Location → Type 0
 IsTaken at l = (n : ℕ) × IsThere at l n
 
 -- all that was found at these locations
-pub record IsGathering (at : Lookup) (hold : Hold) (ls : List Location) (x : Gathering) : Type 0 where
+pub record IsGathering (at : Lookup) (hold : HoldMode) (ls : List Location) (x : Gathering) : Type 0 where
   pub numbers : map (λ (lead : GivenPath). lead.number) x.given ≡ map (λ l. base_of l) ls
   pub leads : All (λ (lead : GivenPath). IsPathOf at lead.number lead.path) x.given
   pub shared : (p : Names) → Contains x.shared p ↔ Any (IsSharedAt at hold p) ls
@@ -326,11 +326,11 @@ pub record IsClosingPath (at : Lookup) (number : ℕ) (last : Bool) (t : Reserva
   pub reservation : IsReservation at (closed_footprint number t.case) t
 
 -- the node has no path, or one that is too long
-abbrev pub IsWithoutPath : Refusal → Type 0
+abbrev pub IsWithoutPath : FootprintRefusal → Type 0
 IsWithoutPath r = (r ≡ refusal.Stale) ⊎ (r ≡ refusal.TooLong)
 
 -- where it says that a node has no path, or one that is too long, the node has no other
-abbrev pub TellsPath : Lookup → ℕ → Refusal → Type 0
+abbrev pub TellsPath : Lookup → ℕ → FootprintRefusal → Type 0
 TellsPath at number r = IsWithoutPath r → HasShortPath at number → ⊥
 
 -- the path of the node is held exclusively, and each nonempty prefix of that of its parent is shared

@@ -7,10 +7,10 @@ use Rattle.holds.specs.declared.held.GivenPath.{GivenPath}
 use Rattle.tree.specs.Places.{Lookup, IsPathOf}
 use Rattle.table_footprints.specs.declared.gatherings.Gathering.{Gathering}
 use Rattle.table_footprints.specs.declared.gatherings.Reservation.{Reservation}
-use Rattle.table_footprints.specs.declared.found.Found.{Found}
+use Rattle.table_footprints.specs.declared.found.AtLocation.{AtLocation}
 use Rattle.table_footprints.specs.declared.removals.Gone.{Gone}
-use Rattle.table_footprints.specs.declared.footprints.Change as told_change
-use Rattle.table_footprints.specs.declared.footprints.Hold.TheVariants.{Exclusive}
+use Rattle.table_footprints.specs.declared.footprints.ChangeKind as told_change
+use Rattle.table_footprints.specs.declared.footprints.HoldMode.TheVariants.{Exclusive}
 use Rattle.table_footprints.specs.declared.footprints.UniformFootprint.{UniformFootprint}
 use Rattle.table_footprints.specs.Asked.{HasPath, IsThere, IsUnsound}
 use Rattle.table_footprints.specs.Cases.{IsHidingCase, Seen}
@@ -38,7 +38,7 @@ abbrev pub going_footprint : UniformFootprint → Gone → Case → Footprint
 going_footprint footprint gone c = going_in (locations_of footprint) footprint.change gone.parent (hidden_in c)
 
 -- one name more that is held exclusively, beside those of the footprint
-pub record AddsBeside (old : Gathering) (f : Found) (new : Gathering) : Type 0 where
+pub record AddsBeside (old : Gathering) (f : AtLocation) (new : Gathering) : Type 0 where
   pub given : new.given ≡ old.given
   pub shared : new.shared ≡ old.shared
   pub exclusive : new.exclusive ≡ old.exclusive ++ f.path ∷ []

@@ -7,10 +7,10 @@ ghost use Rattle.tree.specs.Places.{IsPathOf, IsTree, at_in};
 ghost use Rattle.table_footprints.specs.Cases.{IsLastOpening};
 ghost use Rattle.table_footprints.specs.Gatherings.{IsClosing, IsClosingPath, IsHeldExclusively, IsNothing, IsWithoutPath, TellsPath};
 
-use crate::footprints::{Change, Hold, Location, UniformFootprint};
+use crate::footprints::{ChangeKind, HoldMode, Location, UniformFootprint};
 use crate::found::above;
 use crate::gatherings::{Gathering, Reservation, reservation_of};
-use crate::refusal::Refusal;
+use crate::refusal::FootprintRefusal;
 use holds::{GivenPath, GivenPaths, Held, Paths, prefixes_of};
 use paths::Path;
 use std::alloc::{AllocError, Global};
@@ -19,9 +19,9 @@ use table_requests::{Case, Givens, Pins, Promise};
 use tree::Tree;
 
 /// Nothing is held, pinned or told.
-fn nothing(alloc: Global) -> Result<Reservation, Refusal>
+fn nothing(alloc: Global) -> Result<Reservation, FootprintRefusal>
     ensures ok { IfOk result IsNothing }
-    ensures err { IfErr result (λ refusal. refusal ≡ Refusal.Memory) }
+    ensures err { IfErr result (λ refusal. refusal ≡ FootprintRefusal.Memory) }
 {
     let gathering = Gathering::new(alloc, 0)?;
     let reservation = gathering.into_reservation(alloc, Case::Pathless, 0, 0)?;
@@ -29,12 +29,13 @@ fn nothing(alloc: Global) -> Result<Reservation, Refusal>
 }
 
 /// Whether it says that a node has no path, or one that is too long.
-fn is_without_path(refusal: Refusal) -> bool
+fn is_without_path(refusal: FootprintRefusal) -> bool
     ensures { IsTrue result ↔ IsWithoutPath refusal }
 {
     match refusal {
-        Refusal::Stale | Refusal::TooLong => true,
-        Refusal::IntoItself | Refusal::OntoFolder | Refusal::Memory => false,
+        FootprintRefusal::Stale | FootprintRefusal::TooLong => true,
+        FootprintRefusal::IntoItself | FootprintRefusal::OntoFolder | FootprintRefusal::Memory =>
+            false,
     }
 }
 
@@ -74,7 +75,11 @@ fn held_alone(alloc: Global, _tree: &Tree, number: u64, path: &Path) -> Result<H
 }
 
 /// What the last opening of a hidden file asks for: its node is removed where its work is done.
-fn last_reservation(alloc: Global, tree: &Tree, number: u64) -> Result<Reservation, Refusal>
+fn last_reservation(
+    alloc: Global,
+    tree: &Tree,
+    number: u64,
+) -> Result<Reservation, FootprintRefusal>
     requires { number ≢ 1 }
     ensures ok { IfOk result (IsClosingPath (at_in tree.now) number true) }
     ensures err { IfErr result (TellsPath (at_in tree.now) number) }
@@ -98,15 +103,19 @@ fn last_reservation(alloc: Global, tree: &Tree, number: u64) -> Result<Reservati
 }
 
 /// What any other opening asks for: that the path of its node stays.
-fn plain_reservation(alloc: Global, tree: &Tree, number: u64) -> Result<Reservation, Refusal>
+fn plain_reservation(
+    alloc: Global,
+    tree: &Tree,
+    number: u64,
+) -> Result<Reservation, FootprintRefusal>
     ensures ok { IfOk result (IsClosingPath (at_in tree.now) number false) }
     ensures err { IfErr result (TellsPath (at_in tree.now) number) }
 {
     let footprint = UniformFootprint {
         locations: &[Location::AtNode(number)],
-        hold: Hold::Shared,
+        hold: HoldMode::Shared,
         enters: false,
-        change: Change::Stays,
+        change: ChangeKind::Stays,
     };
     reservation_of(alloc, tree, &footprint)
 }
@@ -117,7 +126,7 @@ fn path_reservation(
     tree: &Tree,
     number: u64,
     last: bool,
-) -> Result<Reservation, Refusal>
+) -> Result<Reservation, FootprintRefusal>
     requires { last ≡ true → number ≢ 1 }
     ensures ok { IfOk result (IsClosingPath (at_in tree.now) number last) }
     ensures err { IfErr result (TellsPath (at_in tree.now) number) }
@@ -135,9 +144,9 @@ pub(crate) fn closing_reservation(
     tree: &Tree,
     files: &Files,
     number: u64,
-) -> Result<Reservation, Refusal>
+) -> Result<Reservation, FootprintRefusal>
     ensures ok { IfOk result (IsClosing (at_in tree.now) (files_of files.now).at number) }
-    ensures err { IfErr result (λ refusal. refusal ≡ Refusal.Memory) }
+    ensures err { IfErr result (λ refusal. refusal ≡ FootprintRefusal.Memory) }
     ensures tree { IsTree (at_in tree.now) }
     ensures files { AreOpenEntries (files_of files.now) }
 {
@@ -151,5 +160,5 @@ pub(crate) fn closing_reservation(
     if is_without_path(refusal) {
         return nothing(alloc);
     }
-    Err(Refusal::Memory)
+    Err(FootprintRefusal::Memory)
 }

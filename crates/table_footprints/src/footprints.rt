@@ -10,7 +10,7 @@ ghost use Rattle.table_footprints.specs.Footprints.{are_same};
 use crate::closing::closing_reservation;
 use crate::gatherings::{Reservation, reservation_of, reservation_with_file};
 use crate::pages::page_reservation;
-use crate::refusal::Refusal;
+use crate::refusal::FootprintRefusal;
 use crate::removals::{Gone, going_reservation};
 use paths::Name;
 use std::alloc::Global;
@@ -55,7 +55,7 @@ impl Location<'_> {
 
 /// How paths are held.
 #[derive(Clone, Copy)]
-pub(crate) enum Hold {
+pub(crate) enum HoldMode {
     /// Others may hold them too, with their nonempty prefixes.
     Shared,
     /// Nobody else may hold them, and their proper prefixes are shared.
@@ -64,7 +64,7 @@ pub(crate) enum Hold {
 
 /// What becomes of names.
 #[derive(Clone, Copy)]
-pub(crate) enum Change {
+pub(crate) enum ChangeKind {
     Stays,
     /// What stands at the first location is cut.
     Cuts,
@@ -79,10 +79,10 @@ pub(crate) enum Change {
 pub(crate) struct UniformFootprint<'a> {
     /// Whose paths the ticket tells.
     pub(crate) locations: &'a [Location<'a>],
-    pub(crate) hold: Hold,
+    pub(crate) hold: HoldMode,
     /// Whether an entry may be given for the name.
     pub(crate) enters: bool,
-    pub(crate) change: Change,
+    pub(crate) change: ChangeKind,
 }
 
 /// Whether a move may replace what stands at its target: it is not told to keep it, and moves from elsewhere.
@@ -99,7 +99,7 @@ pub(crate) fn reservation_for(
     files: &Files,
     counter: u32,
     want: &Want,
-) -> Result<Reservation, Refusal>
+) -> Result<Reservation, FootprintRefusal>
     ensures ok { IfOk result (IsWanted (seen_of tree.now files.now counter) want.now) }
     ensures err { IfErr result (λ refusal. IsRefusedRequest (seen_of tree.now files.now counter) want.now (refusal_errno refusal)) }
 {
@@ -107,18 +107,18 @@ pub(crate) fn reservation_for(
         Want::Node { number, handle: _ } => {
             let footprint = UniformFootprint {
                 locations: &[Location::AtNode(*number)],
-                hold: Hold::Shared,
+                hold: HoldMode::Shared,
                 enters: false,
-                change: Change::Stays,
+                change: ChangeKind::Stays,
             };
             reservation_of(alloc, tree, &footprint)
         }
         Want::Name { parent, name } => {
             let footprint = UniformFootprint {
                 locations: &[Location::AtName(*parent, name)],
-                hold: Hold::Shared,
+                hold: HoldMode::Shared,
                 enters: true,
-                change: Change::Stays,
+                change: ChangeKind::Stays,
             };
             reservation_of(alloc, tree, &footprint)
         }
@@ -129,9 +129,9 @@ pub(crate) fn reservation_for(
         } => {
             let footprint = UniformFootprint {
                 locations: &[Location::AtName(*parent, name)],
-                hold: Hold::Exclusive,
+                hold: HoldMode::Exclusive,
                 enters: false,
-                change: Change::Cuts,
+                change: ChangeKind::Cuts,
             };
             let gone = Gone {
                 parent: *parent,
@@ -151,9 +151,9 @@ pub(crate) fn reservation_for(
             let target = Location::AtName(*new_parent, new_name);
             let footprint = UniformFootprint {
                 locations: &[source, target],
-                hold: Hold::Exclusive,
+                hold: HoldMode::Exclusive,
                 enters: false,
-                change: Change::Moves,
+                change: ChangeKind::Moves,
             };
             let gone = Gone {
                 parent: *new_parent,
@@ -173,9 +173,9 @@ pub(crate) fn reservation_for(
                     Location::AtName(*parent, name),
                     Location::AtName(*new_parent, new_name),
                 ],
-                hold: Hold::Exclusive,
+                hold: HoldMode::Exclusive,
                 enters: false,
-                change: Change::Exchanges,
+                change: ChangeKind::Exchanges,
             };
             reservation_of(alloc, tree, &footprint)
         }
@@ -183,9 +183,9 @@ pub(crate) fn reservation_for(
         Want::Open { number, access: _ } => {
             let footprint = UniformFootprint {
                 locations: &[Location::AtNode(*number)],
-                hold: Hold::Shared,
+                hold: HoldMode::Shared,
                 enters: false,
-                change: Change::Stays,
+                change: ChangeKind::Stays,
             };
             reservation_with_file(alloc, tree, &footprint)
         }
@@ -196,9 +196,9 @@ pub(crate) fn reservation_for(
         } => {
             let footprint = UniformFootprint {
                 locations: &[Location::AtName(*parent, name)],
-                hold: Hold::Shared,
+                hold: HoldMode::Shared,
                 enters: true,
-                change: Change::Stays,
+                change: ChangeKind::Stays,
             };
             reservation_with_file(alloc, tree, &footprint)
         }

@@ -8,15 +8,15 @@ ghost use Rattle.table_footprints.specs.Asked.{IsRefusedExchange, IsRefusedMove}
 ghost use Rattle.table_footprints.specs.Laws.{base_of};
 ghost use Rattle.table_footprints.specs.Footprints as footprints;
 
-use crate::footprints::{Change, Location};
-use crate::refusal::Refusal;
+use crate::footprints::{ChangeKind, Location};
+use crate::refusal::FootprintRefusal;
 use paths::{Name, Path};
 use std::alloc::{AllocError, Global};
 use tree::{Key, Tree};
 
 /// What stands at a location.
 #[derive(Drop)]
-pub(crate) struct Found {
+pub(crate) struct AtLocation {
     /// The path of the node, or of the one that the name is under.
     pub(crate) above: Path,
     pub(crate) path: Path,
@@ -33,14 +33,14 @@ pub(crate) fn above(path: &Path) -> Result<Path, AllocError>
 }
 
 /// What stands at the location of a node.
-fn find_node(alloc: Global, tree: &Tree, number: u64) -> Result<Found, Refusal>
+fn find_node(alloc: Global, tree: &Tree, number: u64) -> Result<AtLocation, FootprintRefusal>
     requires { Leads (at_in tree.now) number }
     ensures ok { IfOk result (IsFound (at_in tree.now) (footprints.AtNode number)) }
     ensures err { IfErr result (IsBadPath (at_in tree.now) (footprints.AtNode number)) }
 {
     let path = tree.path(alloc, number)?;
     let above = path.copy()?;
-    Ok(Found {
+    Ok(AtLocation {
         above,
         path,
         node: Some(number),
@@ -48,7 +48,12 @@ fn find_node(alloc: Global, tree: &Tree, number: u64) -> Result<Found, Refusal>
 }
 
 /// What stands at a name under a node.
-fn find_name(alloc: Global, tree: &Tree, parent: u64, name: &Name) -> Result<Found, Refusal>
+fn find_name(
+    alloc: Global,
+    tree: &Tree,
+    parent: u64,
+    name: &Name,
+) -> Result<AtLocation, FootprintRefusal>
     requires { Leads (at_in tree.now) parent }
     ensures ok { IfOk result (IsFound (at_in tree.now) (footprints.AtName parent name.now)) }
     ensures err { IfErr result (IsBadPath (at_in tree.now) (footprints.AtName parent name.now)) }
@@ -58,11 +63,15 @@ fn find_name(alloc: Global, tree: &Tree, parent: u64, name: &Name) -> Result<Fou
     let path = tree.path_of_name(alloc, &key)?;
     let node = tree.find(&key);
     let above = above(&path)?;
-    Ok(Found { above, path, node })
+    Ok(AtLocation { above, path, node })
 }
 
 /// What stands at the location.
-pub(crate) fn find(alloc: Global, tree: &Tree, location: &Location) -> Result<Found, Refusal>
+pub(crate) fn find(
+    alloc: Global,
+    tree: &Tree,
+    location: &Location,
+) -> Result<AtLocation, FootprintRefusal>
     requires { Leads (at_in tree.now) (base_of (location_of location.now)) }
     ensures ok { IfOk result (IsFound (at_in tree.now) (location_of location.now)) }
     ensures err { IfErr result (IsBadPath (at_in tree.now) (location_of location.now)) }
@@ -74,23 +83,23 @@ pub(crate) fn find(alloc: Global, tree: &Tree, location: &Location) -> Result<Fo
 }
 
 /// Tests that each node leads to the root.
-pub(crate) fn expect_rooted(tree: &Tree, locations: &[Location]) -> Result<(), Refusal>
+pub(crate) fn expect_rooted(tree: &Tree, locations: &[Location]) -> Result<(), FootprintRefusal>
     requires { 0 < length locations.now }
     ensures ok { OnOk result (AreRooted (at_in tree.now) (told locations.now)) }
-    ensures err { IfErr result (λ refusal. (refusal ≡ Refusal.Stale) × Any (IsLost (at_in tree.now)) (told locations.now)) }
+    ensures err { IfErr result (λ refusal. (refusal ≡ FootprintRefusal.Stale) × Any (IsLost (at_in tree.now)) (told locations.now)) }
     ensures census { IsCensus (at_in tree.now) tree.now.living tree.now.counts }
     ensures tree { IsTree (at_in tree.now) }
 {
     for location in locations {
         if !tree.is_below(location.base(), 1) {
-            return Err(Refusal::Stale);
+            return Err(FootprintRefusal::Stale);
         }
     }
     Ok(())
 }
 
 /// Tests that the path may be moved to the other.
-fn expect_movable(path: &Path, target: &Path) -> Result<(), Refusal>
+fn expect_movable(path: &Path, target: &Path) -> Result<(), FootprintRefusal>
     ensures ok { OnOk result (CanMove path.now target.now) }
     ensures err { IfErr result (λ refusal. IsRefusedMove path.now target.now (refusal_errno refusal)) }
 {
@@ -98,16 +107,16 @@ fn expect_movable(path: &Path, target: &Path) -> Result<(), Refusal>
         return Ok(());
     }
     if path.is_prefix_of(target) {
-        return Err(Refusal::IntoItself);
+        return Err(FootprintRefusal::IntoItself);
     }
     if target.is_prefix_of(path) {
-        return Err(Refusal::OntoFolder);
+        return Err(FootprintRefusal::OntoFolder);
     }
     Ok(())
 }
 
 /// Tests that the two paths may change places.
-fn expect_exchangeable(path: &Path, other: &Path) -> Result<(), Refusal>
+fn expect_exchangeable(path: &Path, other: &Path) -> Result<(), FootprintRefusal>
     ensures ok { OnOk result (AreExchangeable path.now other.now) }
     ensures err { IfErr result (λ refusal. IsRefusedExchange path.now other.now (refusal_errno refusal)) }
 {
@@ -115,23 +124,23 @@ fn expect_exchangeable(path: &Path, other: &Path) -> Result<(), Refusal>
         return Ok(());
     }
     if path.is_prefix_of(other) {
-        return Err(Refusal::IntoItself);
+        return Err(FootprintRefusal::IntoItself);
     }
     if other.is_prefix_of(path) {
-        return Err(Refusal::IntoItself);
+        return Err(FootprintRefusal::IntoItself);
     }
     Ok(())
 }
 
 /// Tests that what stands at the first of the paths may change so.
-pub(crate) fn expect_change(change: Change, paths: &[Path]) -> Result<(), Refusal>
+pub(crate) fn expect_change(change: ChangeKind, paths: &[Path]) -> Result<(), FootprintRefusal>
     requires { AreEnough change (length paths.now) }
     ensures ok { OnOk result (MayChange change paths.now) }
     ensures err { IfErr result (λ refusal. IsWrongChange change paths.now (refusal_errno refusal)) }
 {
     match change {
-        Change::Stays | Change::Cuts => Ok(()),
-        Change::Moves => expect_movable(&paths[0], &paths[1]),
-        Change::Exchanges => expect_exchangeable(&paths[0], &paths[1]),
+        ChangeKind::Stays | ChangeKind::Cuts => Ok(()),
+        ChangeKind::Moves => expect_movable(&paths[0], &paths[1]),
+        ChangeKind::Exchanges => expect_exchangeable(&paths[0], &paths[1]),
     }
 }

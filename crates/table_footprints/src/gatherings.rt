@@ -7,9 +7,9 @@ ghost use Rattle.table_footprints.specs.Asked.{IsUnsound};
 ghost use Rattle.table_footprints.specs.Gatherings.{Adds, AreRooted, entered_case, IsAgreed, IsBadFootprint, IsGathering, IsReserved, IsFit, IsNoGathering, IsOpening, footprint_from, entries_of, refusal_errno, locations_of, own_paths, shared_path};
 ghost use Rattle.table_footprints.specs.Footprints.{births_in};
 
-use crate::footprints::{Hold, UniformFootprint};
-use crate::found::{Found, expect_change, expect_rooted, find};
-use crate::refusal::Refusal;
+use crate::footprints::{HoldMode, UniformFootprint};
+use crate::found::{AtLocation, expect_change, expect_rooted, find};
+use crate::refusal::FootprintRefusal;
 use holds::{GivenPath, GivenPaths, Held, Paths, push_prefixes};
 use std::alloc::{AllocError, Global};
 use table_requests::{Case, Givens, Pins, Promise};
@@ -96,7 +96,7 @@ impl Gathering {
     }
 
     /// Holds the path of what was found.
-    fn hold(&mut self, alloc: Global, found: &Found, hold: Hold) -> Result<(), AllocError>
+    fn hold(&mut self, alloc: Global, found: &AtLocation, hold: HoldMode) -> Result<(), AllocError>
         ensures shared { OnOk result (self.new.shared ≡ self.old.shared ++ prefixes (shared_path hold found.now)) }
         ensures exclusive { OnOk result (self.new.exclusive ≡ self.old.exclusive ++ own_paths hold found.now) }
         ensures given { self.new.given ≡ self.old.given }
@@ -105,8 +105,8 @@ impl Gathering {
         ensures absent { self.new.absent ≡ self.old.absent }
     {
         match hold {
-            Hold::Shared => push_prefixes(alloc, &mut self.shared, &found.path),
-            Hold::Exclusive => {
+            HoldMode::Shared => push_prefixes(alloc, &mut self.shared, &found.path),
+            HoldMode::Exclusive => {
                 self.exclusive.push(alloc, found.path.copy()?)?;
                 push_prefixes(alloc, &mut self.shared, &found.above)
             }
@@ -118,8 +118,8 @@ impl Gathering {
         &mut self,
         alloc: Global,
         number: u64,
-        found: Found,
-        hold: Hold,
+        found: AtLocation,
+        hold: HoldMode,
     ) -> Result<(), AllocError>
         requires { 2 ≤ self.old.pins.room }
         ensures { OnOk result (Adds self.old number found hold self.new) }
@@ -127,7 +127,7 @@ impl Gathering {
         pin(&mut self.pins, number, found.node);
         self.absent = self.absent || found.node.is_none();
         self.hold(alloc, &found, hold)?;
-        let Found {
+        let AtLocation {
             above,
             path,
             node: _,
@@ -213,7 +213,7 @@ pub(crate) fn gathering_of(
     tree: &Tree,
     footprint: &UniformFootprint,
     more: usize,
-) -> Result<Gathering, Refusal>
+) -> Result<Gathering, FootprintRefusal>
     requires tree { IsTree (at_in tree.now) }
     requires rooted { AreRooted (at_in tree.now) (locations_of footprint.now) }
     requires few { length footprint.now.locations.now ≤ 2 }
@@ -236,7 +236,7 @@ pub(crate) fn reservation_of(
     alloc: Global,
     tree: &Tree,
     footprint: &UniformFootprint,
-) -> Result<Reservation, Refusal>
+) -> Result<Reservation, FootprintRefusal>
     requires { IsFit footprint.now }
     ensures ok { IfOk result (IsAgreed (at_in tree.now) footprint.now) }
     ensures err { IfErr result (λ refusal. (c : Case) → IsUnsound (at_in tree.now) (footprint_from footprint.now c) (refusal_errno refusal)) }
@@ -261,7 +261,7 @@ pub(crate) fn reservation_with_file(
     alloc: Global,
     tree: &Tree,
     footprint: &UniformFootprint,
-) -> Result<Reservation, Refusal>
+) -> Result<Reservation, FootprintRefusal>
     requires { IsFit footprint.now }
     ensures ok { IfOk result (IsOpening (at_in tree.now) footprint.now) }
     ensures err { IfErr result (λ refusal. (c : Case) → IsUnsound (at_in tree.now) (footprint_from footprint.now c) (refusal_errno refusal)) }

@@ -7,10 +7,10 @@ ghost use Rattle.table_footprints.specs.Gatherings.{IsBadFootprint, IsReservatio
 ghost use Rattle.table_footprints.specs.Pages.{AddsName, IsPage};
 ghost use Rattle.table_footprints.specs.Footprints.{AtNode, page_names, page_footprint};
 
-use crate::footprints::{Hold, Location};
-use crate::found::{Found, expect_rooted, find};
+use crate::footprints::{HoldMode, Location};
+use crate::found::{AtLocation, expect_rooted, find};
 use crate::gatherings::{Gathering, Reservation};
-use crate::refusal::Refusal;
+use crate::refusal::FootprintRefusal;
 use paths::Name;
 use std::alloc::{AllocError, Global};
 use table_requests::{Case, Pins};
@@ -29,11 +29,11 @@ pub(crate) fn pin_found(pins: &mut Pins, found: Option<u64>)
 }
 
 /// Adds what was found at a name of which nothing is held.
-fn add_name(alloc: Global, gathering: &mut Gathering, found: Found) -> Result<(), AllocError>
+fn add_name(alloc: Global, gathering: &mut Gathering, found: AtLocation) -> Result<(), AllocError>
     requires { 1 ≤ gathering.old.pins.room }
     ensures { OnOk result (AddsName gathering.old found gathering.new) }
 {
-    let Found {
+    let AtLocation {
         above: _,
         path,
         node,
@@ -44,7 +44,12 @@ fn add_name(alloc: Global, gathering: &mut Gathering, found: Found) -> Result<()
 }
 
 /// What is found at the folder, with room for so many names: what stands there and what is given are pinned.
-fn folder_draft(alloc: Global, tree: &Tree, folder: u64, names: usize) -> Result<Gathering, Refusal>
+fn folder_draft(
+    alloc: Global,
+    tree: &Tree,
+    folder: u64,
+    names: usize,
+) -> Result<Gathering, FootprintRefusal>
     requires tree { IsTree (at_in tree.now) }
     requires rooted { Leads (at_in tree.now) folder }
     requires short { 2 * names + 2 < 2 ^ 64 }
@@ -54,12 +59,17 @@ fn folder_draft(alloc: Global, tree: &Tree, folder: u64, names: usize) -> Result
 {
     let mut gathering = Gathering::new(alloc, 2 * names + 2)?;
     let found = find(alloc, tree, &Location::AtNode(folder))?;
-    gathering.add(alloc, folder, found, Hold::Shared)?;
+    gathering.add(alloc, folder, found, HoldMode::Shared)?;
     Ok(gathering)
 }
 
 /// What is found at the folder and at the names.
-fn page_draft(alloc: Global, tree: &Tree, folder: u64, names: &[Name]) -> Result<Gathering, Refusal>
+fn page_draft(
+    alloc: Global,
+    tree: &Tree,
+    folder: u64,
+    names: &[Name],
+) -> Result<Gathering, FootprintRefusal>
     requires tree { IsTree (at_in tree.now) }
     requires rooted { Leads (at_in tree.now) folder }
     ensures ok { IfOk result (IsPage (at_in tree.now) folder (page_names folder names.now)) }
@@ -80,7 +90,7 @@ pub(crate) fn page_reservation(
     tree: &Tree,
     folder: u64,
     names: &[Name],
-) -> Result<Reservation, Refusal>
+) -> Result<Reservation, FootprintRefusal>
     ensures ok { IfOk result (λ reservation. (reservation.case ≡ Case.Plain) × IsReservation (at_in tree.now) (page_footprint folder names.now) reservation) }
     ensures err { IfErr result (λ refusal. IsUnsound (at_in tree.now) (page_footprint folder names.now) (refusal_errno refusal)) }
 {

@@ -9,7 +9,7 @@ use tree::TreeFault;
 
 /// Why a footprint is refused.
 #[derive(Clone, Copy)]
-pub(crate) enum Refusal {
+pub(crate) enum FootprintRefusal {
     /// A node that it names is not alive, or is cut.
     Stale,
     /// A path is longer than 4,096 bytes.
@@ -22,39 +22,39 @@ pub(crate) enum Refusal {
     Memory,
 }
 
-impl Refusal {
+impl FootprintRefusal {
     /// Its error number.
     pub(crate) fn errno(self) -> i32
         ensures { result ≡ refusal_errno self }
     {
         match self {
-            Refusal::Stale => ESTALE,
-            Refusal::TooLong => ENAMETOOLONG,
-            Refusal::IntoItself => EINVAL,
-            Refusal::OntoFolder => ENOTEMPTY,
-            Refusal::Memory => ENOMEM,
+            FootprintRefusal::Stale => ESTALE,
+            FootprintRefusal::TooLong => ENAMETOOLONG,
+            FootprintRefusal::IntoItself => EINVAL,
+            FootprintRefusal::OntoFolder => ENOTEMPTY,
+            FootprintRefusal::Memory => ENOMEM,
         }
     }
 }
 
-impl From<AllocError> for Refusal {
-    ghost use Rattle.table_footprints.specs.declared.refusal.Refusal.{Refusal};
+impl From<AllocError> for FootprintRefusal {
+    ghost use Rattle.table_footprints.specs.declared.refusal.FootprintRefusal.{FootprintRefusal};
 
-    ghost from_gives = { λ _ refusal. refusal ≡ Refusal.Memory };
+    ghost from_gives = { λ _ refusal. refusal ≡ FootprintRefusal.Memory };
 
-    fn from(_error: AllocError) -> Refusal {
-        Refusal::Memory
+    fn from(_error: AllocError) -> FootprintRefusal {
+        FootprintRefusal::Memory
     }
 }
 
-impl From<TreeFault> for Refusal {
+impl From<TreeFault> for FootprintRefusal {
     ghost from_gives = { λ fault refusal. refusal ≡ refusal_of fault };
 
-    fn from(fault: TreeFault) -> Refusal {
+    fn from(fault: TreeFault) -> FootprintRefusal {
         match fault {
-            TreeFault::Unknown | TreeFault::Cut => Refusal::Stale,
-            TreeFault::PathLong => Refusal::TooLong,
-            TreeFault::Full | TreeFault::Memory => Refusal::Memory,
+            TreeFault::Unknown | TreeFault::Cut => FootprintRefusal::Stale,
+            TreeFault::PathLong => FootprintRefusal::TooLong,
+            TreeFault::Full | TreeFault::Memory => FootprintRefusal::Memory,
         }
     }
 }

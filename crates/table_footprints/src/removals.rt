@@ -10,11 +10,11 @@ ghost use Rattle.table_footprints.specs.Laws.{base_of};
 ghost use Rattle.table_footprints.specs.Removals.{AddsBeside, AreGoingTerms, IsGathered, IsGoing, IsRefusedGoing};
 ghost use Rattle.table_footprints.specs.Footprints.{hidden_in, hidden_names, names_under};
 
-use crate::footprints::{Hold, Location, UniformFootprint};
-use crate::found::{Found, expect_change, expect_rooted, find};
+use crate::footprints::{HoldMode, Location, UniformFootprint};
+use crate::found::{AtLocation, expect_change, expect_rooted, find};
 use crate::gatherings::{Gathering, Reservation, gathering_of};
 use crate::pages::pin_found;
-use crate::refusal::Refusal;
+use crate::refusal::FootprintRefusal;
 use paths::Name;
 use paths::reserved::{candidate, hidden_name};
 use std::alloc::{AllocError, Global};
@@ -82,11 +82,11 @@ pub(crate) fn candidates(alloc: Global, case: Case) -> Result<Names, AllocError>
 }
 
 /// Adds what was found at a name beside the one that goes.
-fn add_beside(alloc: Global, gathering: &mut Gathering, found: Found) -> Result<(), AllocError>
+fn add_beside(alloc: Global, gathering: &mut Gathering, found: AtLocation) -> Result<(), AllocError>
     requires { 1 ≤ gathering.old.pins.room }
     ensures { OnOk result (AddsBeside gathering.old found gathering.new) }
 {
-    let Found {
+    let AtLocation {
         above: _,
         path,
         node,
@@ -104,11 +104,11 @@ fn gathered(
     footprint: &UniformFootprint,
     folder: u64,
     beside: &[Name],
-) -> Result<Gathering, Refusal>
+) -> Result<Gathering, FootprintRefusal>
     requires tree { IsTree (at_in tree.now) }
     requires rooted { AreRooted (at_in tree.now) (locations_of footprint.now) }
     requires few { length footprint.now.locations.now ≤ 2 }
-    requires exclusive { footprint.now.hold ≡ Hold.Exclusive }
+    requires exclusive { footprint.now.hold ≡ HoldMode.Exclusive }
     requires under { Contains (map (λ l. base_of l) (locations_of footprint.now)) folder }
     ensures ok { IfOk result (IsGathered (at_in tree.now) (locations_of footprint.now) (locations_of footprint.now ++ names_under folder beside.now)) }
     ensures err { IfErr result (IsBadFootprint (at_in tree.now) (locations_of footprint.now ++ names_under folder beside.now)) }
@@ -129,7 +129,7 @@ pub(crate) fn going_reservation(
     counter: u32,
     footprint: &UniformFootprint,
     gone: &Gone,
-) -> Result<Reservation, Refusal>
+) -> Result<Reservation, FootprintRefusal>
     requires { IsGoing footprint.now gone.now }
     ensures ok { IfOk result (AreGoingTerms (seen_of tree.now files.now counter) footprint.now gone.now) }
     ensures err { IfErr result (λ refusal. IsRefusedGoing (seen_of tree.now files.now counter) footprint.now gone.now (refusal_errno refusal)) }

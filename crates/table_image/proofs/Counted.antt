@@ -12,8 +12,8 @@ use Rattle.holds.specs.Conflicts.{is_among}
 use Rattle.holds.proofs.Among.{among_found}
 use Rattle.table_image.specs.declared.data.Hold.{Hold}
 use Rattle.table_image.specs.declared.data.Record.{Record}
-use Rattle.table_image.specs.declared.data.Stage.{Stage}
-use Rattle.table_image.specs.declared.data.Stage.TheVariants.{Working, Answered}
+use Rattle.table_image.specs.declared.data.ImageStage.{ImageStage}
+use Rattle.table_image.specs.declared.data.ImageStage.TheVariants.{Working, Answered}
 use Rattle.table_image.specs.ImageLaw.{is_working, shares, holds_exclusively, AreHoldsCounted}
 use Rattle.table_image.specs.Parts.{IsHoldCount, HaveOtherPaths, IsStored, AreStored}
 
@@ -75,11 +75,11 @@ stored_not_absent hs path some none = none some.0 some.1 some.2 (ap (λ (h : Hol
 
 -- ---- what a record holds
 
-working : (stage : Stage) → is_working stage ≡ true → stage ≡ Working
+working : (stage : ImageStage) → is_working stage ≡ true → stage ≡ Working
 working Working is = refl
 working Answered is = absurd (false≢true is)
 
-unheld : (stage : Stage) (ps : List Names) (path : Names) → (stage ≡ Working → Contains ps path → ⊥) → (is_working stage && is_among ps path) ≡ false
+unheld : (stage : ImageStage) (ps : List Names) (path : Names) → (stage ≡ Working → Contains ps path → ⊥) → (is_working stage && is_among ps path) ≡ false
 unheld stage ps path none = elim (cases_Bool (is_working stage && is_among ps path)) [
   | inl both ↦
       let parts = and_parts (is_working stage) (is_among ps path) both in
@@ -87,7 +87,7 @@ unheld stage ps path none = elim (cases_Bool (is_working stage && is_among ps pa
   | inr neither ↦ neither
 ]
 
-held : (stage : Stage) (ps : List Names) (path : Names) → stage ≡ Working → Contains ps path → (is_working stage && is_among ps path) ≡ true
+held : (stage : ImageStage) (ps : List Names) (path : Names) → stage ≡ Working → Contains ps path → (is_working stage && is_among ps path) ≡ true
 held stage ps path is found = and_from (is_working stage) (is_among ps path) (ap is_working is) (contains_among ps path found)
 
 stored_at : (hs : List Hold) (ps : List Names) (path : Names) → All (IsStored hs) ps → Contains ps path → IsStored hs path

@@ -11,13 +11,13 @@ use Rattle.tree.specs.Listed.{node_at, IsDistinct}
 use Rattle.table_image.specs.declared.data.Hold.{Hold}
 use Rattle.table_image.specs.declared.data.Image.{Image}
 use Rattle.table_image.specs.declared.data.Record.{Record}
-use Rattle.table_image.specs.declared.data.Stage.{Stage}
-use Rattle.table_image.specs.declared.data.Stage.TheVariants.{Working, Answered}
+use Rattle.table_image.specs.declared.data.ImageStage.{ImageStage}
+use Rattle.table_image.specs.declared.data.ImageStage.TheVariants.{Working, Answered}
 use Rattle.table_law.specs.Law.{IsKnownFile, IsGivenPath, IsLawful}
 
 -- ---- what requests hold
 
-abbrev pub is_working : Stage → Bool
+abbrev pub is_working : ImageStage → Bool
 is_working Working = true
 is_working Answered = false
 

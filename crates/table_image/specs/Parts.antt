@@ -16,7 +16,7 @@ use Rattle.tree.specs.declared.nodes.Place.TheVariants.{Root, Named}
 use Rattle.tree.specs.Places.{Lookup, IsAlive, IsNamed, IsTree, Leads}
 use Rattle.table_image.specs.declared.data.Hold.{Hold}
 use Rattle.table_image.specs.declared.data.Record.{Record}
-use Rattle.table_image.specs.declared.data.Stage.TheVariants.{Working}
+use Rattle.table_image.specs.declared.data.ImageStage.TheVariants.{Working}
 use Rattle.table_law.specs.Law.{AreAlive, AreMarksNamed, HasPlainRoot, HasReason, HaveReasons, IsBornInOrder, IsCounted, IsUnborne}
 use Rattle.table_image.specs.ImageLaw.{IsCountOf, sharers_of, exclusive_of}
 

@@ -9,7 +9,7 @@ use tree::Node;
 
 /// How far a request has come.
 #[derive(Clone, Copy, Debug, PartialEq, Eq)]
-pub enum Stage {
+pub enum ImageStage {
     /// It was begun, and its work goes on.
     Working,
     /// Its work has ended, and its reply is not settled yet.
@@ -44,7 +44,7 @@ pub struct Record {
     pub id: u64,
     /// The number that the client gave the request.
     pub unique: u64,
-    pub stage: Stage,
+    pub stage: ImageStage,
     /// The nodes that may not go before it is settled.
     pub pins: Numbers,
     /// What it holds, for as long as its work goes on.

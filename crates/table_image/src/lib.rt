@@ -9,7 +9,7 @@ mod lawful;
 mod one;
 
 pub use data::{
-    Births, Hold, Holds, Image, ImageOne, Nodes, Numbers, OpenFiles, Postings, Record, Records,
-    Stage,
+    Births, Hold, Holds, Image, ImageOne, ImageStage, Nodes, Numbers, OpenFiles, Postings, Record,
+    Records,
 };
 pub use items::Items;

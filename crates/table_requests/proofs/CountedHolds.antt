@@ -16,7 +16,7 @@ use Rattle.holds.specs.Numbers.{Adds, AreNumbers, IsHeldUp, counted_in, holders_
 use Rattle.holds.proofs.Among.{among_found, contains_read}
 use Rattle.holds.proofs.Numbering.{counted_no, counted_yes, none_found}
 use Rattle.table_files.proofs.Listing.{any_counted}
-use Rattle.table_requests.specs.declared.data.Ended.{Ended}
+use Rattle.table_requests.specs.declared.data.EndedRequest.{EndedRequest}
 use Rattle.table_requests.specs.declared.data.RequestInFlight.{RequestInFlight}
 use Rattle.table_requests.specs.declared.data.Work.{Work}
 use Rattle.table_requests.specs.declared.data.Stage.{Stage}
@@ -237,7 +237,7 @@ pub holders_opening : (fs gs : List RequestInFlight) (i handle : ℕ) → i < le
 holders_opening fs gs i handle within written d = holders_set fs gs i (opening (get_or fs i d) handle) d within (written d) (shared_noted (get_or fs i d).stage handle) (exclusive_noted (get_or fs i d).stage handle)
 
 -- a request that was answered is taken out, if one is
-pub holders_taken : (fs gs : List RequestInFlight) (i : ℕ) → i < length fs → (o : Option Ended) → IfNone o (gs ≡ fs) → IfSome o (λ ended. (d : RequestInFlight) → (get_or fs i d).stage ≡ Answered ended.before ended.opened) → IfSome o (λ _. gs ≡ remove fs i)
+pub holders_taken : (fs gs : List RequestInFlight) (i : ℕ) → i < length fs → (o : Option EndedRequest) → IfNone o (gs ≡ fs) → IfSome o (λ ended. (d : RequestInFlight) → (get_or fs i d).stage ≡ Answered ended.before ended.opened) → IfSome o (λ _. gs ≡ remove fs i)
     → (d : RequestInFlight) → HaveSameHolders fs gs
 holders_taken fs gs i within None same stage is d = subst (λ (hs : List RequestInFlight). HaveSameHolders fs hs) (sym same) (same_holders fs)
 holders_taken fs gs i within (Some ended) same stage is d = record {

@@ -5,7 +5,7 @@ use Rattle.std.proofs.lemmas.Bool.{cases_Bool, lt-ltb, ltb-false, ltb-true}
 use Rattle.std.proofs.lemmas.List.Sums.{sum_by-cons, sum_by-remove, sum_by-set, sum_by_push}
 use Rattle.std.specs.declared.alloc.Global.{Global}
 use Rattle.table_files.proofs.Listing.{any_counted}
-use Rattle.table_requests.specs.declared.data.Ended.{Ended}
+use Rattle.table_requests.specs.declared.data.EndedRequest.{EndedRequest}
 use Rattle.table_requests.specs.declared.data.RequestInFlight.{RequestInFlight}
 use Rattle.table_requests.specs.declared.data.Work.{Work}
 use Rattle.table_requests.specs.declared.pin_counts.PinCounts.{PinCounts}
@@ -86,7 +86,7 @@ pins_in-pinning fs gs i number within written d n =
 pub pins_in-remove : (fs : List RequestInFlight) (i : ℕ) (d : RequestInFlight) (n : ℕ) → i < length fs → pins_in (remove fs i) n + times n (get_or fs i d).pins.numbers ≡ pins_in fs n
 pins_in-remove fs i d n within = sum_by-remove (λ (f : RequestInFlight). times n f.pins.numbers) fs i d within
 
-pub taken_pins : (fs gs : List RequestInFlight) (i : ℕ) (d : RequestInFlight) → i < length fs → (o : Option Ended) → IfSome o (λ ended. (e : RequestInFlight) → (get_or fs i e).pins ≡ ended.pins) → IfSome o (λ _. gs ≡ remove fs i)
+pub taken_pins : (fs gs : List RequestInFlight) (i : ℕ) (d : RequestInFlight) → i < length fs → (o : Option EndedRequest) → IfSome o (λ ended. (e : RequestInFlight) → (get_or fs i e).pins ≡ ended.pins) → IfSome o (λ _. gs ≡ remove fs i)
     → IfSome o (λ ended. (n : ℕ) → pins_in gs n + times n ended.pins.numbers ≡ pins_in fs n)
 taken_pins fs gs i d within None pins is = is
 taken_pins fs gs i d within (Some ended) pins is = λ n.

@@ -6,7 +6,7 @@ use Rattle.std.proofs.lemmas.List.{length-set, length-append}
 use Rattle.std.proofs.lemmas.List.Edits.{length-remove}
 use Rattle.std.proofs.lemmas.List.Sums.{sum_by-set, sum_by-remove, sum_by_push}
 use Rattle.std.specs.declared.alloc.Global.{Global}
-use Rattle.table_requests.specs.declared.data.Ended.{Ended}
+use Rattle.table_requests.specs.declared.data.EndedRequest.{EndedRequest}
 use Rattle.table_requests.specs.declared.data.RequestInFlight.{RequestInFlight}
 use Rattle.table_requests.specs.declared.data.Work.{Work}
 use Rattle.table_requests.specs.declared.data.Stage.{Stage}
@@ -79,7 +79,7 @@ module _ (fs : List RequestInFlight) (i id : ℕ) (within : i < length fs) (foun
       subst (λ (a : RequestsInFlight). AreBelow n a) (sym at) (below_with (flight_in fs) n id y all (all id x stood))
 
   -- what is taken out, if one was answered
-  pub below_taken : (gs : List RequestInFlight) (o : Option Ended) → HaveOwnIds fs → IfNone o (gs ≡ fs) → IfSome o (λ _. gs ≡ remove fs i) → (n : ℕ) → AreBelow n (flight_in fs) → AreBelow n (flight_in gs)
+  pub below_taken : (gs : List RequestInFlight) (o : Option EndedRequest) → HaveOwnIds fs → IfNone o (gs ≡ fs) → IfSome o (λ _. gs ≡ remove fs i) → (n : ℕ) → AreBelow n (flight_in fs) → AreBelow n (flight_in gs)
   below_taken gs None apart same is n all = subst (λ (hs : List RequestInFlight). AreBelow n (flight_in hs)) (sym same) all
   below_taken gs (Some ps) apart same is n all =
       let x = (alive_at fs i id within found).0 in
@@ -161,7 +161,7 @@ module _ (fs : List RequestInFlight) (i id : ℕ) (within : i < length fs) (foun
         files = omega (arith, q);
       })
 
-  pub Goes-listed : (gs : List RequestInFlight) (room room' : ℕ) (ended : Ended) → HaveOwnIds fs → ((d : RequestInFlight) → (get_or fs i d).stage ≡ Answered ended.before ended.opened) → ((d : RequestInFlight) → (get_or fs i d).pins ≡ ended.pins) → gs ≡ remove fs i
+  pub Goes-listed : (gs : List RequestInFlight) (room room' : ℕ) (ended : EndedRequest) → HaveOwnIds fs → ((d : RequestInFlight) → (get_or fs i d).stage ≡ Answered ended.before ended.opened) → ((d : RequestInFlight) → (get_or fs i d).pins ≡ ended.pins) → gs ≡ remove fs i
       → Goes (requests_of (record { flights = fs; room = room })) id ended (requests_of (record { flights = gs; room = room' }))
   unfolding requests_of
   Goes-listed gs room room' ended apart stage pins is =
@@ -190,11 +190,11 @@ module _ (fs : List RequestInFlight) (i id : ℕ) (within : i < length fs) (foun
   none_answered stage f there = ap (λ (g : RequestInFlight). is_working g.stage) (same_Some f (alive_at fs i id within found).0 (sym there ∙ stood) ∙ sym (read f)) ∙ stage f
 
   -- what is taken out, if one was answered
-  pub Goes_taken : (gs : List RequestInFlight) (room room' : ℕ) (o : Option Ended) → HaveOwnIds fs → IfSome o (λ ended. (d : RequestInFlight) → (get_or fs i d).stage ≡ Answered ended.before ended.opened) → IfSome o (λ ended. (d : RequestInFlight) → (get_or fs i d).pins ≡ ended.pins) → IfSome o (λ _. gs ≡ remove fs i)
+  pub Goes_taken : (gs : List RequestInFlight) (room room' : ℕ) (o : Option EndedRequest) → HaveOwnIds fs → IfSome o (λ ended. (d : RequestInFlight) → (get_or fs i d).stage ≡ Answered ended.before ended.opened) → IfSome o (λ ended. (d : RequestInFlight) → (get_or fs i d).pins ≡ ended.pins) → IfSome o (λ _. gs ≡ remove fs i)
       → IfSome o (λ ended. Goes (requests_of (record { flights = fs; room = room })) id ended (requests_of (record { flights = gs; room = room' })))
   Goes_taken gs room room' None apart stage pins is = is
   Goes_taken gs room room' (Some ended) apart stage pins is = Goes-listed gs room room' ended apart stage pins is
 
-pub taken_apart : (fs gs : List RequestInFlight) (i : ℕ) → i < length fs → (o : Option Ended) → HaveOwnIds fs → IfNone o (gs ≡ fs) → IfSome o (λ _. gs ≡ remove fs i) → HaveOwnIds gs
+pub taken_apart : (fs gs : List RequestInFlight) (i : ℕ) → i < length fs → (o : Option EndedRequest) → HaveOwnIds fs → IfNone o (gs ≡ fs) → IfSome o (λ _. gs ≡ remove fs i) → HaveOwnIds gs
 taken_apart fs gs i within None apart same is = subst HaveOwnIds (sym same) apart
 taken_apart fs gs i within (Some ps) apart same is = subst HaveOwnIds (sym is) (HaveOwnIds-remove fs i within apart)

@@ -5,7 +5,7 @@ use Rattle.paths.specs.Prefixes.{Names}
 use Rattle.holds.specs.Conflicts.{Conflict, is_among}
 use Rattle.holds.specs.declared.held.Held.{Held}
 use Rattle.collections.specs.Sum.{IsSum}
-use Rattle.table_requests.specs.declared.data.Ended.{Ended}
+use Rattle.table_requests.specs.declared.data.EndedRequest.{EndedRequest}
 use Rattle.table_requests.specs.declared.data.RequestInFlight.{RequestInFlight}
 use Rattle.table_requests.specs.declared.data.Stage.{Stage}
 use Rattle.table_requests.specs.declared.data.Stage.TheVariants.{Working, Answered}
@@ -189,7 +189,7 @@ pub record Notes (old : RequestMaps) (id : ℕ) (f : RequestInFlight) (handle : 
   pub files : new.files ≡ old.files
 
 -- an answered request goes, with its pins
-pub record Goes (old : RequestMaps) (id : ℕ) (ended : Ended) (new : RequestMaps) : Type 0 where
+pub record Goes (old : RequestMaps) (id : ℕ) (ended : EndedRequest) (new : RequestMaps) : Type 0 where
   pub flight : RequestInFlight
   pub here : old.at id ≡ Some flight
   pub answered : flight.stage ≡ Answered ended.before ended.opened

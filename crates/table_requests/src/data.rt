@@ -313,7 +313,7 @@ pub struct RequestInFlight {
 
 /// What an answered request leaves as it goes.
 #[derive(Drop)]
-pub struct Ended {
+pub struct EndedRequest {
     /// The nodes that it pinned.
     pub pins: Pins,
     /// How many of them it pinned before its end gave any.

@@ -9,7 +9,7 @@ mod pin_counts;
 mod request_maps;
 
 pub use data::{
-    Case, Ended, Given, Givens, Handle, Pins, Promise, RequestInFlight, Stage, Want, Work,
+    Case, EndedRequest, Given, Givens, Handle, Pins, Promise, RequestInFlight, Stage, Want, Work,
 };
 pub use names::Names;
 pub use request_maps::RequestsInFlight;

@@ -9,7 +9,7 @@ ghost use Rattle.table_requests.specs.RequestMaps.{is_working, answered, opening
 ghost use Rattle.table_requests.specs.Listed.{flight_in, in_flight, requests_of, AreBelow, HaveOwnIds};
 ghost use Rattle.table_requests.specs.PinCounts.{pins_in, times};
 
-use crate::data::{Ended, RequestInFlight, Stage, Work};
+use crate::data::{EndedRequest, RequestInFlight, Stage, Work};
 use std::mem;
 
 /// The place of the request in the list. Where ids rise, as they do where each is the next one, that takes as many steps
@@ -145,7 +145,7 @@ pub fn note_for(flights: &mut Vec<RequestInFlight>, id: u64, handle: u64)
 }
 
 /// Takes the request at that place out if it was answered, and gives what it leaves.
-fn take_at(flights: &mut Vec<RequestInFlight>, i: usize) -> Option<Ended>
+fn take_at(flights: &mut Vec<RequestInFlight>, i: usize) -> Option<EndedRequest>
     requires { i < vec_len flights.old }
     ensures none { IfNone result ((d : RequestInFlight) → is_working (slice_index_or flights.old.items i d).stage ≡ true) }
     ensures same { IfNone result (flights.new.items ≡ flights.old.items) }
@@ -161,7 +161,7 @@ fn take_at(flights: &mut Vec<RequestInFlight>, i: usize) -> Option<Ended>
     let before = *before;
     let opened = *opened;
     let flight = flights.remove(i);
-    Some(Ended {
+    Some(EndedRequest {
         pins: flight.pins,
         before,
         opened,
@@ -169,7 +169,7 @@ fn take_at(flights: &mut Vec<RequestInFlight>, i: usize) -> Option<Ended>
 }
 
 /// Takes an answered request out, and gives what it leaves.
-pub fn take_answered(flights: &mut Vec<RequestInFlight>, id: u64) -> Option<Ended>
+pub fn take_answered(flights: &mut Vec<RequestInFlight>, id: u64) -> Option<EndedRequest>
     requires { HaveOwnIds flights.old.items }
     ensures none { IfNone result (HasNoneAnswered (flight_in flights.old.items) id) }
     ensures same { IfNone result (flights.new.items ≡ flights.old.items) }

@@ -5,7 +5,7 @@ ghost use Rattle.table_requests.specs.declared.data.RequestInFlight.{RequestInFl
 ghost use Rattle.table_requests.specs.RequestMaps.{files_promised, no_requests, nodes_promised, postings_promised, AreLawfulRequests, IsTallied, HasNoneWorking, HasNoneAnswered, Adds, Answers, Notes, PinsMore, Goes, HoldsUp, HasExclusiveHolder, has_exclusive, has_shared, most_posted_by, pinned_at};
 ghost use Rattle.table_requests.specs.Listed.{requests_of, flight_in, pinned_in};
 
-use crate::data::{Ended, Promise, RequestInFlight, Work};
+use crate::data::{EndedRequest, Promise, RequestInFlight, Work};
 use crate::held_paths::{
     HeldPaths, add_holder, drop_holder, exclusive_on, holds_exclusively, holds_up, nothing_held,
     shared_on,
@@ -230,7 +230,7 @@ impl RequestsInFlight {
     }
 
     /// Takes the request out and gives what it leaves, if one was answered under the id.
-    pub fn take(&mut self, id: u64) -> Option<Ended>
+    pub fn take(&mut self, id: u64) -> Option<EndedRequest>
         ensures none { IfNone result (HasNoneAnswered (requests_of self.old).at id) }
         ensures same { IfNone result (self.new ≡ self.old) }
         ensures some { IfSome result (λ ended. Goes (requests_of self.old) id ended (requests_of self.new)) }

@@ -28,10 +28,10 @@ use Rattle.table.proofs.Closing.{flights_renewed}
 use Rattle.table_steps.specs.World.{Answered, RequestInFlight, RequestsInFlight, IsAtWork, IsLawfulWorld, Stage, Work, Working, World, with_entry}
 use Rattle.table.specs.Gains.{GainsInAll}
 use Rattle.table.proofs.Gaining.{gains_in_all, gains_same, in_all_on}
-use Rattle.table_runs.specs.declared.calls.Call.{Call}
-use Rattle.table_runs.specs.declared.calls.Call.TheVariants as call
-use Rattle.table_runs.specs.declared.calls.Told.{Told}
-use Rattle.table_runs.specs.declared.calls.Told.TheVariants as told
+use Rattle.table_runs.specs.declared.calls.TableCall.{TableCall}
+use Rattle.table_runs.specs.declared.calls.TableCall.TheVariants as call
+use Rattle.table_runs.specs.declared.calls.CallResult.{CallResult}
+use Rattle.table_runs.specs.declared.calls.CallResult.TheVariants as told
 use Rattle.table_runs.specs.declared.pending.Started.{Started}
 use Rattle.table_runs.specs.Outstanding.{Outstanding}
 use Rattle.table_runs.specs.Runs.{ChangesNothing, IsCurrent, IsCurrentAt, IsStep, NotBoth, PutsTicket, Runs, SpendsTicket}
@@ -239,7 +239,7 @@ same_tickets old new hand hand' was is stays same id current = record {
 }
 
 -- after any call the one ticket of an id is still current, if it was, or if it was put by the call
-pub current_step : (old : World) (hand : Outstanding) (c : Call) (t : Told) (new : World) (hand' : Outstanding) → IsLawfulWorld old → IsLawfulWorld new → IsStep old hand c t new hand' → (id : ℕ) → IsCurrentAt old hand id → IsCurrentAt new hand' id
+pub current_step : (old : World) (hand : Outstanding) (c : TableCall) (t : CallResult) (new : World) (hand' : Outstanding) → IsLawfulWorld old → IsLawfulWorld new → IsStep old hand c t new hand' → (id : ℕ) → IsCurrentAt old hand id → IsCurrentAt new hand' id
 current_step old hand (call.Begin unique want) told.Begun new hand' was is puts id current = current_begin old hand unique want new hand' was is puts id current
 current_step old hand (call.Begin unique want) told.Busy new hand' was is (begins, same) id current = current_same old new hand hand' begins.begins.2 same id current
 current_step old hand (call.Begin unique want) (told.Refused e) new hand' was is (begins, same) id current = current_same old new hand hand' begins.begins.1 same id current
@@ -286,7 +286,7 @@ current_step old hand call.ClosePeriod (told.Forgot amount) new hand' was is bad
 
 -- ---- many calls
 
-pub runs_more : (old : World) (hand : Outstanding) (cs : List Call) (ts : List Told) (mid : World) (between : Outstanding) (c : Call) (t : Told) (new : World) (hand' : Outstanding) → Runs old hand cs ts mid between → IsStep mid between c t new hand' → IsLawfulWorld new → Runs old hand (cs ++ c ∷ []) (ts ++ t ∷ []) new hand'
+pub runs_more : (old : World) (hand : Outstanding) (cs : List TableCall) (ts : List CallResult) (mid : World) (between : Outstanding) (c : TableCall) (t : CallResult) (new : World) (hand' : Outstanding) → Runs old hand cs ts mid between → IsStep mid between c t new hand' → IsLawfulWorld new → Runs old hand (cs ++ c ∷ []) (ts ++ t ∷ []) new hand'
 runs_more old hand [] [] mid between c t new hand' same step lawful =
     (new, hand', subst (λ w. IsStep w hand c t new hand') same.world (subst (λ h. IsStep mid h c t new hand') same.hand_is step), lawful, record { world = refl; hand_is = refl })
 runs_more old hand [] (s ∷ ts) mid between c t new hand' bad step lawful = absurd bad
@@ -294,50 +294,50 @@ runs_more old hand (d ∷ cs) [] mid between c t new hand' bad step lawful = abs
 runs_more old hand (d ∷ cs) (s ∷ ts) mid between c t new hand' runs step lawful =
     (runs.0, runs.1, runs.2, runs.3, runs_more runs.0 runs.1 cs ts mid between c t new hand' runs.4 step lawful)
 
-pub runs_same : (old : World) (hand : Outstanding) (cs : List Call) (ts : List Told) (mid : World) (between : Outstanding) (new : World) (hand' : Outstanding) → Runs old hand cs ts mid between → ChangesNothing mid between new hand' → Runs old hand cs ts new hand'
+pub runs_same : (old : World) (hand : Outstanding) (cs : List TableCall) (ts : List CallResult) (mid : World) (between : Outstanding) (new : World) (hand' : Outstanding) → Runs old hand cs ts mid between → ChangesNothing mid between new hand' → Runs old hand cs ts new hand'
 runs_same old hand cs ts mid between new hand' runs same =
     subst (λ w. Runs old hand cs ts w hand') (sym same.world) (subst (λ h. Runs old hand cs ts mid h) (sym same.hand_is) runs)
 
 -- each call told one thing
-pub runs_length : (old : World) (hand : Outstanding) (cs : List Call) (ts : List Told) (new : World) (hand' : Outstanding) → Runs old hand cs ts new hand' → length cs ≡ length ts
+pub runs_length : (old : World) (hand : Outstanding) (cs : List TableCall) (ts : List CallResult) (new : World) (hand' : Outstanding) → Runs old hand cs ts new hand' → length cs ≡ length ts
 runs_length old hand [] [] new hand' runs = refl
 runs_length old hand [] (t ∷ ts) new hand' bad = absurd bad
 runs_length old hand (c ∷ cs) [] new hand' bad = absurd bad
 runs_length old hand (c ∷ cs) (t ∷ ts) new hand' runs = ap (λ n. suc n) (runs_length runs.0 runs.1 cs ts new hand' runs.4)
 
 -- the calls that were made are the first of the list
-pub runs_first : (old : World) (hand : Outstanding) (cs : List Call) (ts : List Told) (new : World) (hand' : Outstanding) (calls rest : List Call) → calls ≡ cs ++ rest → Runs old hand cs ts new hand' → Runs old hand (take (length ts) calls) ts new hand'
+pub runs_first : (old : World) (hand : Outstanding) (cs : List TableCall) (ts : List CallResult) (new : World) (hand' : Outstanding) (calls rest : List TableCall) → calls ≡ cs ++ rest → Runs old hand cs ts new hand' → Runs old hand (take (length ts) calls) ts new hand'
 runs_first old hand cs ts new hand' calls rest is runs =
     let first : take (length ts) calls ≡ cs = ap (λ n. take n calls) (sym (runs_length old hand cs ts new hand' runs)) ∙ (ap (take (length cs)) is ∙ take-append_seam cs rest) in
     subst (λ xs. Runs old hand xs ts new hand') (sym first) runs
 
 -- what is told besides comes last
-pub told_more : (o u v : List Told) (t : Told) → u ≡ o ++ drop (length o) u → v ≡ u ++ t ∷ [] → drop (length o) v ≡ drop (length o) u ++ t ∷ []
+pub told_more : (o u v : List CallResult) (t : CallResult) → u ≡ o ++ drop (length o) u → v ≡ u ++ t ∷ [] → drop (length o) v ≡ drop (length o) u ++ t ∷ []
 told_more o u v t was is =
     let whole : v ≡ o ++ (drop (length o) u ++ t ∷ []) = is ∙ (ap (λ xs. xs ++ t ∷ []) was ∙ append_assoc o (drop (length o) u) (t ∷ [])) in
     ap (drop (length o)) whole ∙ drop-append_seam o (drop (length o) u ++ t ∷ [])
 
-pub told_whole : (o u v : List Told) (t : Told) → u ≡ o ++ drop (length o) u → v ≡ u ++ t ∷ [] → v ≡ o ++ drop (length o) v
+pub told_whole : (o u v : List CallResult) (t : CallResult) → u ≡ o ++ drop (length o) u → v ≡ u ++ t ∷ [] → v ≡ o ++ drop (length o) v
 told_whole o u v t was is =
     is ∙ (ap (λ xs. xs ++ t ∷ []) was ∙ (append_assoc o (drop (length o) u) (t ∷ []) ∙ ap (λ xs. o ++ xs) (sym (told_more o u v t was is))))
 
 -- ---- a run
 
 -- what stands after the first calls of a run, with what they told
-pub record HasRun (old : World) (hand : Outstanding) (before : Part) (made : List Call) (ts : List Told) (new : World) (hand' : Outstanding) (after : Part) : Type 0 where
+pub record HasRun (old : World) (hand : Outstanding) (before : Part) (made : List TableCall) (ts : List CallResult) (new : World) (hand' : Outstanding) (after : Part) : Type 0 where
   pub runs : Runs old hand made ts new hand'
   pub current : (id : ℕ) → IsCurrentAt old hand id → IsCurrentAt new hand' id
   pub gains : GainsInAll old before new after
 
 -- no call was made yet
-pub no_run : (w : World) (hand : Outstanding) (share : Part) (ts : List Told) → IsLawfulWorld w → ts ≡ [] → HasRun w hand share [] ts w hand share
+pub no_run : (w : World) (hand : Outstanding) (share : Part) (ts : List CallResult) → IsLawfulWorld w → ts ≡ [] → HasRun w hand share [] ts w hand share
 no_run w hand share ts lawful none = record {
   runs = subst (λ us. Runs w hand [] us w hand) (sym none) (record { world = refl; hand_is = refl });
   current = λ id start. start;
   gains = gains_in_all w w share share (gains_same w w share share lawful refl refl);
 }
 
-pub run_more : (old : World) (hand : Outstanding) (before : Part) (made : List Call) (ts : List Told) (mid : World) (between : Outstanding) (among : Part) (c : Call) (t : Told) (new : World) (hand' : Outstanding) (after : Part)
+pub run_more : (old : World) (hand : Outstanding) (before : Part) (made : List TableCall) (ts : List CallResult) (mid : World) (between : Outstanding) (among : Part) (c : TableCall) (t : CallResult) (new : World) (hand' : Outstanding) (after : Part)
     → HasRun old hand before made ts mid between among → IsStep mid between c t new hand' → ((id : ℕ) → IsCurrentAt mid between id → IsCurrentAt new hand' id) → GainsInAll mid among new after
     → HasRun old hand before (made ++ c ∷ []) (ts ++ t ∷ []) new hand' after
 run_more old hand before made ts mid between among c t new hand' after run step current gains = record {
@@ -347,7 +347,7 @@ run_more old hand before made ts mid between among c t new hand' after run step 
 }
 
 -- a call that found no memory
-pub run_refused : (old : World) (hand : Outstanding) (before : Part) (made : List Call) (ts : List Told) (mid : World) (between : Outstanding) (among : Part) (new : World) (hand' : Outstanding) (after : Part)
+pub run_refused : (old : World) (hand : Outstanding) (before : Part) (made : List TableCall) (ts : List CallResult) (mid : World) (between : Outstanding) (among : Part) (new : World) (hand' : Outstanding) (after : Part)
     → HasRun old hand before made ts mid between among → ChangesNothing mid between new hand' → GainsInAll mid among new after
     → HasRun old hand before made ts new hand' after
 run_refused old hand before made ts mid between among new hand' after run same gains = record {

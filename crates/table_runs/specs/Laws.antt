@@ -6,8 +6,8 @@ use Rattle.table_requests.specs.declared.data.Case.{Case}
 use Rattle.table_requests.specs.declared.data.Want.{Want}
 use Rattle.table_runs.specs.Outstanding.{Outstanding}
 use Rattle.table_runs.specs.Runs.{Runs}
-use Rattle.table_runs.specs.declared.calls.Call.TheVariants as call
-use Rattle.table_runs.specs.declared.calls.Told.TheVariants as told
+use Rattle.table_runs.specs.declared.calls.TableCall.TheVariants as call
+use Rattle.table_runs.specs.declared.calls.CallResult.TheVariants as told
 use Rattle.table_steps.specs.World.{IsLawfulWorld, IsPinned, World}
 use Rattle.tree.specs.Places.{HasChild}
 use Rattle.tree.specs.declared.nodes.Node.{Node}

@@ -8,10 +8,10 @@ use Rattle.table_steps.specs.Answers.{Answer, Claim, Settlement}
 use Rattle.table.specs.Renewing.{FinishesAnew, ForgetsAnew, SettlesAnew}
 use Rattle.table_steps.specs.Steps.{Begins, ClosesPeriod, IsTicket}
 use Rattle.table_steps.specs.World.{RequestInFlight, IsAtWork, IsLawfulWorld, Work, World}
-use Rattle.table_runs.specs.declared.calls.Call.{Call}
-use Rattle.table_runs.specs.declared.calls.Call.TheVariants as call
-use Rattle.table_runs.specs.declared.calls.Told.{Told}
-use Rattle.table_runs.specs.declared.calls.Told.TheVariants as told
+use Rattle.table_runs.specs.declared.calls.TableCall.{TableCall}
+use Rattle.table_runs.specs.declared.calls.TableCall.TheVariants as call
+use Rattle.table_runs.specs.declared.calls.CallResult.{CallResult}
+use Rattle.table_runs.specs.declared.calls.CallResult.TheVariants as told
 use Rattle.table_runs.specs.declared.pending.Started.{Started}
 use Rattle.table_runs.specs.Outstanding.{Outstanding}
 
@@ -65,7 +65,7 @@ pub record SpendsAnswer (old : World) (hand : Outstanding) (place : ℕ) (taken 
   pub hand_is : hand' ≡ record hand { answers = remove hand.answers place }
 
 -- one call, by what it told
-abbrev pub IsStep : World → Outstanding → Call → Told → World → Outstanding → Type 0
+abbrev pub IsStep : World → Outstanding → TableCall → CallResult → World → Outstanding → Type 0
 IsStep old hand (call.Begin unique want) told.Begun new hand' = PutsTicket old hand unique want new hand'
 IsStep old hand (call.Begin unique want) told.Busy new hand' = Begins old unique want begin.Busy new × (hand' ≡ hand)
 IsStep old hand (call.Begin unique want) (told.Refused e) new hand' = Begins old unique want (begin.Refused e) new × (hand' ≡ hand)
@@ -79,7 +79,7 @@ IsStep old hand c t new hand' = ⊥
 
 -- ---- all calls of a list, in order, each with what it told. The world after each is lawful
 
-abbrev pub Runs : World → Outstanding → List Call → List Told → World → Outstanding → Type 0
+abbrev pub Runs : World → Outstanding → List TableCall → List CallResult → World → Outstanding → Type 0
 Runs old hand [] [] new hand' = ChangesNothing old hand new hand'
 Runs old hand (c ∷ cs) (t ∷ ts) new hand' = (mid : World) × (between : Outstanding) × IsStep old hand c t mid between × IsLawfulWorld mid × Runs mid between cs ts new hand'
 Runs old hand cs ts new hand' = ⊥

@@ -6,7 +6,7 @@ ghost use Rattle.table.specs.Gains.{GainsInAll};
 ghost use Rattle.table_steps.specs.Answers.{Answer};
 ghost use Rattle.table_steps.specs.Kept.{world_of};
 ghost use Rattle.table_steps.specs.World.{IsLawfulWorld};
-ghost use Rattle.table_runs.specs.declared.calls.Call.TheVariants as Call;
+ghost use Rattle.table_runs.specs.declared.calls.TableCall.TheVariants as TableCall;
 ghost use Rattle.table_runs.specs.Outstanding.{Outstanding};
 ghost use Rattle.table_runs.specs.Runs.{ChangesNothing, IsCurrentAt, IsStep, Runs};
 
@@ -17,7 +17,7 @@ use table::{Answered, Begin, Outcome, Settled, Table, Want};
 
 /// One call. A ticket and an answer are named by their place in what is pending.
 #[derive(Drop)]
-pub enum Call {
+pub enum TableCall {
     /// Takes up a request.
     Begin { unique: u64, want: Want },
     /// Ends the work on the request of a ticket.
@@ -32,7 +32,7 @@ pub enum Call {
 
 /// What a call told.
 #[derive(Drop)]
-pub enum Told {
+pub enum CallResult {
     /// At its place nothing was pending, so that nothing was done.
     Nothing,
     /// The request goes on. Its ticket is the last one pending.
@@ -57,8 +57,8 @@ fn begin<T: Ledgers>(
     tickets: &mut Vec<Started>,
     unique: u64,
     want: Want,
-) -> Result<Told, AllocError>
-    ensures begins { IfOk result (λ told. (answers : List Answer) → IsStep (world_of table.old) (record { tickets = tickets.old.items; answers = answers }) (Call.Begin unique want) told (world_of table.new) (record { tickets = tickets.new.items; answers = answers })) }
+) -> Result<CallResult, AllocError>
+    ensures begins { IfOk result (λ told. (answers : List Answer) → IsStep (world_of table.old) (record { tickets = tickets.old.items; answers = answers }) (TableCall.Begin unique want) told (world_of table.new) (record { tickets = tickets.new.items; answers = answers })) }
     ensures refused { OnErr result ((world_of table.new ≡ world_of table.old) × (tickets.new.items ≡ tickets.old.items)) }
     ensures lawful { IsLawfulWorld (world_of table.new) }
     ensures postings { (world_of table.new).postings ≡ (world_of table.old).postings }
@@ -69,10 +69,10 @@ fn begin<T: Ledgers>(
     match table.begin(unique, want) {
         Begin::Go(ticket) => {
             tickets.push_reserved(Started { ticket, want: copy });
-            Ok(Told::Begun)
+            Ok(CallResult::Begun)
         }
-        Begin::Busy => Ok(Told::Busy),
-        Begin::Refused(errno) => Ok(Told::Refused(errno)),
+        Begin::Busy => Ok(CallResult::Busy),
+        Begin::Refused(errno) => Ok(CallResult::Refused(errno)),
     }
 }
 
@@ -83,21 +83,21 @@ fn finish<T: Ledgers>(
     pending: &mut Pending,
     place: usize,
     outcome: Outcome,
-) -> Result<Told, AllocError>
-    ensures finishes { IfOk result (λ told. IsStep (world_of table.old) pending.old (Call.Finish place outcome) told (world_of table.new) pending.new) }
+) -> Result<CallResult, AllocError>
+    ensures finishes { IfOk result (λ told. IsStep (world_of table.old) pending.old (TableCall.Finish place outcome) told (world_of table.new) pending.new) }
     ensures refused { OnErr result (ChangesNothing (world_of table.old) pending.old (world_of table.new) pending.new) }
     ensures lawful { IsLawfulWorld (world_of table.new) }
     ensures gains { GainsInAll (world_of table.old) share.old (world_of table.new) share.new }
 {
     table.attest(); // proof: its law
     if pending.tickets.len() <= place {
-        return Ok(Told::Nothing);
+        return Ok(CallResult::Nothing);
     }
     pending.answers.reserve(1)?;
     let Started { ticket, want: _ } = pending.tickets.remove(place);
     let answered = table.finish(share, ticket, outcome);
     pending.answers.push_reserved(answered);
-    Ok(Told::Finished)
+    Ok(CallResult::Finished)
 }
 
 /// Ends the request of the answer at that place.
@@ -107,26 +107,26 @@ fn settle<T: Ledgers>(
     pending: &mut Pending,
     place: usize,
     taken: bool,
-) -> Told
-    ensures settles { IsStep (world_of table.old) pending.old (Call.Settle place taken) result (world_of table.new) pending.new }
+) -> CallResult
+    ensures settles { IsStep (world_of table.old) pending.old (TableCall.Settle place taken) result (world_of table.new) pending.new }
     ensures lawful { IsLawfulWorld (world_of table.new) }
     ensures gains { GainsInAll (world_of table.old) share.old (world_of table.new) share.new }
 {
     table.attest(); // proof: its law
     if pending.answers.len() <= place {
-        return Told::Nothing;
+        return CallResult::Nothing;
     }
     let answered = pending.answers.remove(place);
-    Told::Settled(table.settle(share, answered, taken))
+    CallResult::Settled(table.settle(share, answered, taken))
 }
 
 /// Ends a period of the ledger.
-fn close_period<T: Ledgers>(table: &mut Table<T>) -> Told
-    ensures closes { (hand : Outstanding) → IsStep (world_of table.old) hand Call.ClosePeriod result (world_of table.new) hand }
+fn close_period<T: Ledgers>(table: &mut Table<T>) -> CallResult
+    ensures closes { (hand : Outstanding) → IsStep (world_of table.old) hand TableCall.ClosePeriod result (world_of table.new) hand }
     ensures lawful { IsLawfulWorld (world_of table.new) }
     ensures totals { totals_over (world_of table.new).postings ≡ totals_over (world_of table.old).postings }
 {
-    Told::Closed(table.close_period())
+    CallResult::Closed(table.close_period())
 }
 
 /// Makes one call.
@@ -134,19 +134,19 @@ fn step<T: Ledgers>(
     table: &mut Table<T>,
     share: &mut Share<T>,
     pending: &mut Pending,
-    call: Call,
-) -> Result<Told, AllocError>
+    call: TableCall,
+) -> Result<CallResult, AllocError>
     ensures step { IfOk result (λ told. IsStep (world_of table.old) pending.old call told (world_of table.new) pending.new) }
     ensures refused { OnErr result (ChangesNothing (world_of table.old) pending.old (world_of table.new) pending.new) }
     ensures lawful { IsLawfulWorld (world_of table.new) }
     ensures gains { GainsInAll (world_of table.old) share.old (world_of table.new) share.new }
 {
     match call {
-        Call::Begin { unique, want } => begin(table, &mut pending.tickets, unique, want),
-        Call::Finish { place, outcome } => finish(table, share, pending, place, outcome),
-        Call::Settle { place, taken } => Ok(settle(table, share, pending, place, taken)),
-        Call::Forget { number, n } => Ok(Told::Forgot(table.forget(share, number, n))),
-        Call::ClosePeriod => Ok(close_period(table)),
+        TableCall::Begin { unique, want } => begin(table, &mut pending.tickets, unique, want),
+        TableCall::Finish { place, outcome } => finish(table, share, pending, place, outcome),
+        TableCall::Settle { place, taken } => Ok(settle(table, share, pending, place, taken)),
+        TableCall::Forget { number, n } => Ok(CallResult::Forgot(table.forget(share, number, n))),
+        TableCall::ClosePeriod => Ok(close_period(table)),
     }
 }
 
@@ -155,8 +155,8 @@ pub fn make<T: Ledgers>(
     table: &mut Table<T>,
     share: &mut Share<T>,
     pending: &mut Pending,
-    call: Call,
-) -> Result<Told, AllocError>
+    call: TableCall,
+) -> Result<CallResult, AllocError>
     ensures step { IfOk result (λ told. IsStep (world_of table.old) pending.old call told (world_of table.new) pending.new) }
     ensures refused { OnErr result (ChangesNothing (world_of table.old) pending.old (world_of table.new) pending.new) }
     ensures lawful { IsLawfulWorld (world_of table.new) }
@@ -173,8 +173,8 @@ pub fn run<T: Ledgers>(
     table: &mut Table<T>,
     share: &mut Share<T>,
     pending: &mut Pending,
-    calls: Vec<Call>,
-    told: &mut Vec<Told>,
+    calls: Vec<TableCall>,
+    told: &mut Vec<CallResult>,
 ) -> Result<(), AllocError>
     ensures told { told.new.items ≡ told.old.items ++ drop (length told.old.items) told.new.items }
     ensures runs { let ts = drop (length told.old.items) told.new.items in Runs (world_of table.old) pending.old (take (length ts) calls.items) ts (world_of table.new) pending.new }

@@ -5,6 +5,6 @@ mod calls;
 mod laws;
 mod pending;
 
-pub use calls::{Call, Told, make, run};
+pub use calls::{CallResult, TableCall, make, run};
 pub use laws::forgotten_are_gone;
 pub use pending::{Pending, Started};

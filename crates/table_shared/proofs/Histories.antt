@@ -5,7 +5,7 @@ use Rattle.shared_history.specs.Views.{own, own_if}
 use Rattle.table_steps.specs.World.{World}
 use Rattle.table_shared.specs.Histories.{IsHistory, calls_by, calls_if, calls_of, history_of, last_world, unless_busy}
 use Rattle.table_shared.specs.Runs.{Call, IsRun, Log, after, call_in, call_of, end_of}
-use Rattle.table_shared.specs.declared.entries.Entry.{Entry}
+use Rattle.table_shared.specs.declared.entries.LogEntry.{LogEntry}
 
 module _ {L : Type 0} where
   pub history_run : (start : World) (log : Log L) → IsRun start log → IsHistory start (history_of log)
@@ -16,7 +16,7 @@ module _ {L : Type 0} where
   last_is start [] = refl
   last_is start (x ∷ log) = last_is (after x) log
 
-  calls_own : (b : Bool) (e : Entry L) (es : List (Entry L)) → calls_of (own_if b e es) ≡ calls_if b (call_of e.event) ++ calls_of es
+  calls_own : (b : Bool) (e : LogEntry L) (es : List (LogEntry L)) → calls_of (own_if b e es) ≡ calls_if b (call_of e.event) ++ calls_of es
   calls_own true e es = refl
   calls_own false e es = refl
 
@@ -26,6 +26,6 @@ module _ {L : Type 0} where
   calls_are index (x ∷ log) = ap (λ (cs : List Call). calls_if (x.0 == index) (call_in x) ++ cs) (calls_are index log) ∙ sym (calls_own (x.0 == index) x.1 (own index log))
 
   -- one entry more
-  pub calls_more : (es : List (Entry L)) (e : Entry L) → calls_of (es ++ e ∷ []) ≡ calls_of es ++ unless_busy (call_of e.event)
+  pub calls_more : (es : List (LogEntry L)) (e : LogEntry L) → calls_of (es ++ e ∷ []) ≡ calls_of es ++ unless_busy (call_of e.event)
   calls_more [] e = append-nil (unless_busy (call_of e.event))
   calls_more (x ∷ es) e = ap (λ (cs : List Call). unless_busy (call_of x.event) ++ cs) (calls_more es e) ∙ sym (append_assoc (unless_busy (call_of x.event)) (calls_of es) (unless_busy (call_of e.event)))

@@ -2,7 +2,7 @@
 use Rattle.std.specs.Prelude.{ℕ, ◌≡◌, ◌==◌, Bool, true, false, List, [], ◌∷◌, ◌++◌, map}
 use Rattle.table_steps.specs.declared.data.Begin.TheVariants as begin
 use Rattle.table_steps.specs.World.{IsLawfulWorld, World}
-use Rattle.table_shared.specs.declared.entries.Entry.{Entry}
+use Rattle.table_shared.specs.declared.entries.LogEntry.{LogEntry}
 use Rattle.table_shared.specs.Runs.{Call, IsStep, Log, after, began, call_in, call_of, finished, forgot, looked, settled}
 
 -- a call that a thread made, and the world after it
@@ -46,7 +46,7 @@ calls_by index (made ∷ history) = calls_if (made.by == index) made.call ++ cal
 
 module _ {L : Type 0} where
   -- of the entries that one thread made
-  abbrev pub calls_of : List (Entry L) → List Call
+  abbrev pub calls_of : List (LogEntry L) → List Call
   calls_of [] = []
   calls_of (entry ∷ entries) = unless_busy (call_of entry.event) ++ calls_of entries
 

@@ -9,7 +9,7 @@ use Rattle.table_steps.specs.Kept.{world_of}
 use Rattle.table.specs.Renewing.{BeginsAnew, FinishesAnew, ForgetsAnew, SettlesAnew}
 use Rattle.table_steps.specs.World.{IsLawfulWorld, World}
 use Rattle.shared_history.specs.declared.views.View.{View}
-use Rattle.table_shared.specs.declared.entries.Entry.{Entry}
+use Rattle.table_shared.specs.declared.entries.LogEntry.{LogEntry}
 use Rattle.table_shared.specs.declared.entries.Event.{Event}
 use Rattle.table_shared.specs.declared.entries.Event.TheVariants as event
 
@@ -43,13 +43,13 @@ IsStep old (looked fh told) new = (told ≡ old.files fh) × (new ≡ old)
 
 -- a log: entries, each with the index of the thread that made it. L stands for the ledgers of the table
 abbrev pub Log : Type 0 → Type 0
-Log L = List (ℕ × Entry L)
+Log L = List (ℕ × LogEntry L)
 
 module _ {L : Type 0} where
-  abbrev pub after : ℕ × Entry L → World
+  abbrev pub after : ℕ × LogEntry L → World
   after x = world_of x.1.after.value
 
-  abbrev pub call_in : ℕ × Entry L → Call
+  abbrev pub call_in : ℕ × LogEntry L → Call
   call_in x = call_of x.1.event
 
   -- each call led on from where the one before it ended, and all worlds on the way are lawful
@@ -64,10 +64,10 @@ module _ {L : Type 0} where
 
   -- ---- what one thread sees
 
-  -- the thread made this call: its front is a log that begins with the one before, and then this call, under its index. It is a run
-  pub record Makes (start : World) (call : Call) (old new : View (Entry L)) : Type 0 where
+  -- the thread made this call: its log begins with the one before, and then this call, under its index. It is a run
+  pub record Makes (start : World) (call : Call) (old new : View (LogEntry L)) : Type 0 where
     pub between : Log L
-    pub entry : Entry L
+    pub entry : LogEntry L
     pub call_is : call_of entry.event ≡ call
     pub seen : new.seen ≡ (old.seen ++ between) ++ (old.by, entry) ∷ []
     pub run : IsRun start new.seen

@@ -40,7 +40,7 @@ pub enum Event {
 
 /// The call, and the table after it.
 #[derive(Drop)]
-pub struct Entry<T: Ledgers> {
+pub struct LogEntry<T: Ledgers> {
     pub event: Event,
     pub after: Snapshot<Table<T>>,
 }
@@ -74,7 +74,7 @@ pub struct Runs<O> {
     of: PhantomData<O>,
 }
 
-impl<T: Ledgers, O: Opening> Naming<Entry<T>> for Runs<O> {
+impl<T: Ledgers, O: Opening> Naming<LogEntry<T>> for Runs<O> {
     ghost use Rattle.table_shared.specs.Runs.{IsRun};
     ghost use Rattle.table_steps.specs.World.{opened_world};
 

@@ -2,9 +2,9 @@
 #![tactic(auto)]
 
 pub mod entries;
-pub mod halls;
 pub mod recorded;
+pub mod shared_table;
 
-pub use entries::{Entry, Event, Opening, Runs};
-pub use halls::{Closed, Hall};
+pub use entries::{Event, LogEntry, Opening, Runs};
 pub use recorded::Recorded;
+pub use shared_table::{Closed, SharedTable};

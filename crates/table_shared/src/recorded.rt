@@ -1,9 +1,9 @@
-//! The table under a lock, beside the keeper of its history.
+//! The table under a lock, beside the whole log of its history.
 
 ghost use Rattle.std.specs.Prelude.{◌≡◌, ◌+◌, ◌<◌, ◌≤◌, ℕ, [], Bool};
 ghost use Rattle.ledger.specs.Shares.{plus};
 ghost use Rattle.ledger.specs.Sums.{totals_of};
-ghost use Rattle.shared_history.specs.Views.{front, own};
+ghost use Rattle.shared_history.specs.Views.{thread_log, own};
 ghost use Rattle.table_steps.specs.Answers.{entries_in};
 ghost use Rattle.table_steps.specs.Kept.{world_of};
 ghost use Rattle.table.specs.Gains.{GainsInAll};
@@ -11,27 +11,27 @@ ghost use Rattle.table_steps.specs.World.{opened_world};
 ghost use Rattle.table_shared.specs.Runs as Call;
 ghost use Rattle.table_shared.specs.Runs.{IsRun, IsStep, Makes, call_of, end_of};
 
-use crate::entries::{Entry, Event, Opening, Runs};
+use crate::entries::{Event, LogEntry, Opening, Runs};
 use ledger::{Ledgers, Share};
-use shared_history::{Front, History, Keeper, Opened};
+use shared_history::{History, Opened, ThreadLog, WholeLog};
 use std::marker::Model;
 use std::snapshot::Snapshot;
 use table::{Answered, Begin, Outcome, Settled, Table, Ticket};
 use table_files::OpenFile;
 use table_requests::Want;
 
-/// A table and the keeper of its history, which is a run of the opened table. The table is where it ends. It has as many threads at most
+/// A table and the whole log of its history, which is a run of the opened table. The table is where it ends. It has as many threads at most
 /// as it was opened for.
 #[derive(Drop)]
 pub struct Recorded<T: Ledgers, O: Opening> {
     table: Table<T>,
-    keeper: Keeper<Entry<T>, Runs<O>>,
+    whole_log: WholeLog<LogEntry<T>, Runs<O>>,
 }
 
 impl<T: Ledgers, O: Opening> Model for Recorded<T, O> {
     ghost use Rattle.std.specs.Prelude.{◌≡◌, ◌≤◌};
     ghost use Rattle.shared_history.specs.declared.views.View.{View};
-    ghost use Rattle.table_shared.specs.declared.entries.Entry.{Entry};
+    ghost use Rattle.table_shared.specs.declared.entries.LogEntry.{LogEntry};
     ghost use Rattle.table_shared.specs.Runs.{end_of};
     ghost use Rattle.table_steps.specs.Kept.{world_of};
     ghost use Rattle.table_steps.specs.World.{opened_world};
@@ -40,35 +40,35 @@ impl<T: Ledgers, O: Opening> Model for Recorded<T, O> {
     ghost use Rattle.std.specs.Ordering.{nat_cmp};
     ghost use Rattle.tree.specs.contracts.nodes.Node as node;
 
-    ghost Value = { View (Entry T) };
+    ghost Value = { View (LogEntry T) };
 
     ghost coded = { Prim.hlevel (codes, map.code {R = nat_cmp} coded_ℕ node.the_row.coded) };
 
-    ghost view = { λ r. r.keeper };
+    ghost view = { λ r. r.whole_log };
 
-    ghost invariant = { λ r. (world_of r.table ≡ end_of (opened_world O.limits) r.keeper.log) × (r.keeper.given ≤ O.threads) };
+    ghost invariant = { λ r. (world_of r.table ≡ end_of (opened_world O.limits) r.whole_log.log) × (r.whole_log.given ≤ O.threads) };
 }
 
 impl<T: Ledgers, O: Opening> Recorded<T, O> {
     /// The table that was just opened, with a history of nothing.
     pub fn new(
-        opened: Opened<Entry<T>>,
+        opened: Opened<LogEntry<T>>,
         table: Table<T>,
-    ) -> (History<Entry<T>, Runs<O>>, Recorded<T, O>)
+    ) -> (History<LogEntry<T>, Runs<O>>, Recorded<T, O>)
         requires history { opened.table.shared.table_id ≡ O.history }
         requires table { world_of table ≡ opened_world O.limits }
         ensures log { (result.1.log ≡ []) × (result.1.given ≡ 0) }
     {
         table.attest(); // proof: its law
-        let (history, keeper) = opened.named::<Runs<O>>();
-        (history, Recorded { table, keeper })
+        let (history, whole_log) = opened.named::<Runs<O>>();
+        (history, Recorded { table, whole_log })
     }
 
     /// Ends the period of the ledger where that is due, and takes up a request. Busy and a refusal change nothing else.
     pub fn begin(
         &mut self,
-        history: &History<Entry<T>, Runs<O>>,
-        me: &mut Front<Entry<T>, Runs<O>>,
+        history: &History<LogEntry<T>, Runs<O>>,
+        me: &mut ThreadLog<LogEntry<T>, Runs<O>>,
         unique: u64,
         want: Want,
     ) -> Begin
@@ -83,15 +83,15 @@ impl<T: Ledgers, O: Opening> Recorded<T, O> {
             want: asked,
             told: Snapshot::of(&begin),
         };
-        enter(history, &mut self.keeper, me, &self.table, event);
+        enter(history, &mut self.whole_log, me, &self.table, event);
         begin
     }
 
     /// Ends the work on a request.
     pub fn finish(
         &mut self,
-        history: &History<Entry<T>, Runs<O>>,
-        me: &mut Front<Entry<T>, Runs<O>>,
+        history: &History<LogEntry<T>, Runs<O>>,
+        me: &mut ThreadLog<LogEntry<T>, Runs<O>>,
         share: &mut Share<T>,
         ticket: Ticket,
         outcome: Outcome,
@@ -109,15 +109,15 @@ impl<T: Ledgers, O: Opening> Recorded<T, O> {
             outcome: came,
             told: Snapshot::of(&answered),
         };
-        enter(history, &mut self.keeper, me, &self.table, event);
+        enter(history, &mut self.whole_log, me, &self.table, event);
         answered
     }
 
     /// Ends a request whose reply was taken, or was not.
     pub fn settle(
         &mut self,
-        history: &History<Entry<T>, Runs<O>>,
-        me: &mut Front<Entry<T>, Runs<O>>,
+        history: &History<LogEntry<T>, Runs<O>>,
+        me: &mut ThreadLog<LogEntry<T>, Runs<O>>,
         share: &mut Share<T>,
         answered: Answered,
         taken: bool,
@@ -135,15 +135,15 @@ impl<T: Ledgers, O: Opening> Recorded<T, O> {
             taken,
             told: Snapshot::of(&settled),
         };
-        enter(history, &mut self.keeper, me, &self.table, event);
+        enter(history, &mut self.whole_log, me, &self.table, event);
         settled
     }
 
     /// The client gives lookups of a node back.
     pub fn forget(
         &mut self,
-        history: &History<Entry<T>, Runs<O>>,
-        me: &mut Front<Entry<T>, Runs<O>>,
+        history: &History<LogEntry<T>, Runs<O>>,
+        me: &mut ThreadLog<LogEntry<T>, Runs<O>>,
         share: &mut Share<T>,
         number: u64,
         n: u64,
@@ -159,15 +159,15 @@ impl<T: Ledgers, O: Opening> Recorded<T, O> {
             n,
             told: amount,
         };
-        enter(history, &mut self.keeper, me, &self.table, event);
+        enter(history, &mut self.whole_log, me, &self.table, event);
         amount
     }
 
     /// The open file under a handle.
     pub fn find(
         &mut self,
-        history: &History<Entry<T>, Runs<O>>,
-        me: &mut Front<Entry<T>, Runs<O>>,
+        history: &History<LogEntry<T>, Runs<O>>,
+        me: &mut ThreadLog<LogEntry<T>, Runs<O>>,
         fh: u64,
     ) -> Option<OpenFile>
         ensures makes { Makes (opened_world O.limits) (Call.looked fh result) me.old me.new }
@@ -178,17 +178,20 @@ impl<T: Ledgers, O: Opening> Recorded<T, O> {
             fh,
             told: Snapshot::of(&found),
         };
-        enter(history, &mut self.keeper, me, &self.table, event);
+        enter(history, &mut self.whole_log, me, &self.table, event);
         found
     }
 
     /// A thread more, with an index of its own. It has seen all that happened, and has done nothing.
-    pub fn thread(&mut self, history: &History<Entry<T>, Runs<O>>) -> Front<Entry<T>, Runs<O>>
+    pub fn thread(
+        &mut self,
+        history: &History<LogEntry<T>, Runs<O>>,
+    ) -> ThreadLog<LogEntry<T>, Runs<O>>
         requires room { self.old.given < O.threads }
-        ensures thread { result ≡ front self.old.given self.old.log [] }
-        ensures keeper { (self.new.log ≡ self.old.log) × (self.new.given ≡ self.old.given + 1) }
+        ensures thread { result ≡ thread_log self.old.given self.old.log [] }
+        ensures whole_log { (self.new.log ≡ self.old.log) × (self.new.given ≡ self.old.given + 1) }
     {
-        history.enter(&mut self.keeper)
+        history.enter(&mut self.whole_log)
     }
 
     /// The history is a run, in which nobody made a call but the threads that the table was opened for: a call that does nothing.
@@ -196,16 +199,20 @@ impl<T: Ledgers, O: Opening> Recorded<T, O> {
         ensures run { IsRun (opened_world O.limits) self.now.log }
         ensures nobody { (index : ℕ) → O.threads ≤ index → own index self.now.log ≡ [] }
     {
-        self.keeper.attest(); // proof: its law
+        self.whole_log.attest(); // proof: its law
     }
 
     /// What a thread made is what the whole history has of it.
-    pub fn look(&mut self, history: &History<Entry<T>, Runs<O>>, me: &mut Front<Entry<T>, Runs<O>>)
+    pub fn look(
+        &mut self,
+        history: &History<LogEntry<T>, Runs<O>>,
+        me: &mut ThreadLog<LogEntry<T>, Runs<O>>,
+    )
         ensures own { own me.old.by self.old.log ≡ me.old.mine }
         ensures me { (me.new.by ≡ me.old.by) × (me.new.mine ≡ me.old.mine) }
         ensures same { self.new ≡ self.old }
     {
-        history.observe(&mut self.keeper, me);
+        history.observe(&mut self.whole_log, me);
         me.attest(); // proof: its law
     }
 
@@ -213,30 +220,33 @@ impl<T: Ledgers, O: Opening> Recorded<T, O> {
     pub fn into_table(self) -> Table<T>
         ensures { world_of result ≡ end_of (opened_world O.limits) self.log }
     {
-        let Recorded { table, keeper: _ } = self;
+        let Recorded {
+            table,
+            whole_log: _,
+        } = self;
         table
     }
 }
 
 // The call that led to the table is the next of the history.
 fn enter<T: Ledgers, O: Opening>(
-    history: &History<Entry<T>, Runs<O>>,
-    keeper: &mut Keeper<Entry<T>, Runs<O>>,
-    me: &mut Front<Entry<T>, Runs<O>>,
+    history: &History<LogEntry<T>, Runs<O>>,
+    whole_log: &mut WholeLog<LogEntry<T>, Runs<O>>,
+    me: &mut ThreadLog<LogEntry<T>, Runs<O>>,
     table: &Table<T>,
     event: Event,
 )
-    requires { IsStep (end_of (opened_world O.limits) keeper.old.log) (call_of event) (world_of table.now) }
+    requires { IsStep (end_of (opened_world O.limits) whole_log.old.log) (call_of event) (world_of table.now) }
     ensures makes { Makes (opened_world O.limits) (call_of event) me.old me.new }
-    ensures log { keeper.new.log ≡ me.new.seen }
-    ensures given { keeper.new.given ≡ keeper.old.given }
-    ensures end { world_of table.now ≡ end_of (opened_world O.limits) keeper.new.log }
+    ensures log { whole_log.new.log ≡ me.new.seen }
+    ensures given { whole_log.new.given ≡ whole_log.old.given }
+    ensures end { world_of table.now ≡ end_of (opened_world O.limits) whole_log.new.log }
 {
-    keeper.attest(); // proof: its law
+    whole_log.attest(); // proof: its law
     table.attest(); // proof: its law
-    let entry = Entry {
+    let entry = LogEntry {
         event,
         after: Snapshot::of(table),
     };
-    history.record(keeper, me, &entry);
+    history.record(whole_log, me, &entry);
 }

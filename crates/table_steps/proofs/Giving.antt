@@ -32,8 +32,8 @@ module _ (s : State) (id : ℕ) (key : Key) (may : MayEnter s id (key ∷ [])) w
   mine = first_in key []
 
   -- where no node stands at the name, one was promised
-  pub room_to_bear : IsFree (at_in s.tree) key.parent key.name → (0 < s.tree.room) × (0 < s.ledger.places)
-  room_to_bear free = elim may.births [
+  pub room_to_create : IsFree (at_in s.tree) key.parent key.name → (0 < s.tree.room) × (0 < s.ledger.places)
+  room_to_create free = elim may.births [
     | inl one ↦ (omega (arith, one, may.room.nodes), omega (arith, one, may.room.births))
     | inr named ↦ let it = named key mine in absurd (free it.0 it.1)
   ]

@@ -19,8 +19,8 @@ use Rattle.tree.specs.declared.nodes.Key.{Key}
 use Rattle.tree.specs.Places.{IsAlive, IsNamed, Lookup, at_in}
 use Rattle.table_footprints.specs.NewRequests.{footprint_in}
 use Rattle.table_footprints.specs.Footprints.{AtNode, Opening, stays}
-use Rattle.table_steps.specs.declared.acts.Entries.{Entries as Entered}
-use Rattle.table_steps.specs.declared.acts.Entries.TheVariants.{Nothing, One, Page}
+use Rattle.table_steps.specs.declared.acts.EnteredNames.{EnteredNames as Entered}
+use Rattle.table_steps.specs.declared.acts.EnteredNames.TheVariants.{Nothing, One, Page}
 use Rattle.table_steps.specs.declared.acts.Opens.{Opens as Opening_}
 use Rattle.table_steps.specs.declared.acts.Opens.TheVariants as opens
 use Rattle.terms.specs.declared.limits.Limits.{Limits}

@@ -7,7 +7,7 @@ use Rattle.std.proofs.lemmas.Bool.{or_cases, or_left, true≢false, eqb-true}
 use Rattle.ledger.specs.Periods.{Periods}
 use Rattle.ledger.specs.Postings.{Postings}
 use Rattle.tree.specs.Places.{Lookup, Nodes, at_in, IsPathOf}
-use Rattle.table_requests.specs.declared.data.Ended.{Ended}
+use Rattle.table_requests.specs.declared.data.EndedRequest.{EndedRequest}
 use Rattle.table_requests.specs.declared.data.RequestInFlight.{RequestInFlight as Recorded}
 use Rattle.table_requests.specs.declared.data.Stage.{Stage as Recording}
 use Rattle.table_requests.specs.declared.data.Stage.TheVariants as recorded
@@ -70,7 +70,7 @@ untaken_within : (taken : Bool) (given : List ℕ) → length (untaken_of taken 
 untaken_within true given = omega arith
 untaken_within false given = omega arith
 
-module _ (s : State) (kept : IsKept s) (flights : InFlight) (id : ℕ) (ended : Ended) (goes : Goes (requests_of s.flights) id ended (requests_of flights)) (law : AreLawfulRequests (requests_of flights)) where
+module _ (s : State) (kept : IsKept s) (flights : InFlight) (id : ℕ) (ended : EndedRequest) (goes : Goes (requests_of s.flights) id ended (requests_of flights)) (law : AreLawfulRequests (requests_of flights)) where
   abbrev pins : List ℕ
   pins = ended.pins.numbers
 

@@ -19,10 +19,10 @@ use Rattle.table_footprints.specs.Asked.{Holds, IsMisplaced}
 use Rattle.table_footprints.specs.Laws.{AreOwn, IsGrounded, base_of}
 use Rattle.table_footprints.specs.NewRequests.{IsProvided}
 use Rattle.table_footprints.specs.Footprints.{Change, Footprint, AtName, AtNode, Location, Opening, cuts, exchanges, hides, moves, page_keys, page_names, replaces, stays}
-use Rattle.table_steps.specs.declared.acts.Change.{Change as Changing}
-use Rattle.table_steps.specs.declared.acts.Change.TheVariants.{Stays, Cuts, CutsNode, Exchanges, Moves, Hides, Replaces}
-use Rattle.table_steps.specs.declared.acts.Entries.{Entries}
-use Rattle.table_steps.specs.declared.acts.Entries.TheVariants.{Nothing, One, Page}
+use Rattle.table_steps.specs.declared.acts.NameChange.{NameChange as Changing}
+use Rattle.table_steps.specs.declared.acts.NameChange.TheVariants.{Stays, Cuts, CutsNode, Exchanges, Moves, Hides, Replaces}
+use Rattle.table_steps.specs.declared.acts.EnteredNames.{EnteredNames}
+use Rattle.table_steps.specs.declared.acts.EnteredNames.TheVariants.{Nothing, One, Page}
 use Rattle.table_steps.specs.declared.keys.Keys.{Keys}
 use Rattle.table_steps.specs.declared.keys.FolderKeys.{FolderKeys}
 use Rattle.table_steps.specs.declared.acts.Opens.{Opens}
@@ -40,18 +40,18 @@ use Rattle.table_steps.specs.World.{RequestInFlight, IsReady, World, with_entry}
 
 -- ---- the acts of a footprint
 
-abbrev pub keys_in : Entries → List Key
+abbrev pub keys_in : EnteredNames → List Key
 keys_in Nothing = []
 keys_in (One keys) = keys.key ∷ []
 keys_in (Page keys) = page_keys keys.folder keys.names
 
-abbrev pub is_page : Entries → Bool
+abbrev pub is_page : EnteredNames → Bool
 is_page Nothing = false
 is_page (One keys) = false
 is_page (Page keys) = true
 
 -- the folder of a page
-abbrev pub folders_in : Entries → List ℕ
+abbrev pub folders_in : EnteredNames → List ℕ
 folders_in Nothing = []
 folders_in (One keys) = []
 folders_in (Page keys) = keys.folder ∷ []
@@ -87,7 +87,7 @@ exclusive_in opens.Nothing = None
 exclusive_in (opens.Node number access) = Some (record { target = AtNode number; access = access })
 exclusive_in (opens.Entry access) = None
 
-abbrev pub with_in : Opens → Entries → Option Opening
+abbrev pub with_in : Opens → EnteredNames → Option Opening
 with_in opens.Nothing entries = None
 with_in (opens.Node number access) entries = None
 with_in (opens.Entry access) Nothing = None
@@ -141,7 +141,7 @@ OpensGiven s id (opens.Entry access) None opened new = (opened ≡ None) × (new
 OpensGiven s id (opens.Entry access) (Some g) opened new = (opened ≡ Some ((files_of s.files).last + 1)) × OpensAt s id g.number access new
 
 -- what was given for the one name, if there is one
-abbrev pub IsGivenFor : State → Entries → List (Option Given) → Option Given → Type 0
+abbrev pub IsGivenFor : State → EnteredNames → List (Option Given) → Option Given → Type 0
 IsGivenFor new Nothing given entered = entered ≡ None
 IsGivenFor new (One keys) given entered = (g : Given) × (entered ≡ Some g) × (given ≡ Some g ∷ []) × IsAlive (at_in new.tree) g.number
 IsGivenFor new (Page keys) given entered = entered ≡ None

@@ -14,7 +14,7 @@ use tree::Key;
 
 /// The names for which entries may be given.
 #[derive(Drop)]
-pub(crate) enum Entries {
+pub(crate) enum EnteredNames {
     Nothing,
     One(Keys),
     Page(FolderKeys),
@@ -22,7 +22,7 @@ pub(crate) enum Entries {
 
 /// What becomes of names once the work is done.
 #[derive(Drop)]
-pub(crate) enum Change {
+pub(crate) enum NameChange {
     Stays,
     /// What stands there is cut.
     Cuts(Key),
@@ -51,20 +51,20 @@ pub(crate) enum Opens {
 /// What the outcomes of a request may do.
 #[derive(Drop)]
 pub(crate) struct Acts {
-    pub(crate) entries: Entries,
-    pub(crate) change: Change,
+    pub(crate) entries: EnteredNames,
+    pub(crate) change: NameChange,
     /// The names that an open file may be hidden under.
     pub(crate) candidates: Option<FolderKeys>,
     pub(crate) opens: Opens,
 }
 
 /// What becomes of the node whose file was closed when the request began: it goes with its last opening, if it is hidden.
-fn closing_change(number: u64, case: Case) -> Change
+fn closing_change(number: u64, case: Case) -> NameChange
     ensures { change_in result ≡ closed_change number case }
 {
     match case {
-        Case::Last => Change::CutsNode(number),
-        Case::Plain | Case::Absent | Case::Pathless | Case::Hiding { .. } => Change::Stays,
+        Case::Last => NameChange::CutsNode(number),
+        Case::Plain | Case::Absent | Case::Pathless | Case::Hiding { .. } => NameChange::Stays,
     }
 }
 
@@ -97,20 +97,20 @@ pub(crate) fn acts_of(
 {
     match want {
         Want::Node { .. } => Acts {
-            entries: Entries::Nothing,
-            change: Change::Stays,
+            entries: EnteredNames::Nothing,
+            change: NameChange::Stays,
             candidates: None,
             opens: Opens::Nothing,
         },
         Want::Name { parent, name } => Acts {
-            entries: Entries::One(Keys::new(parent, name, copy)),
-            change: Change::Stays,
+            entries: EnteredNames::One(Keys::new(parent, name, copy)),
+            change: NameChange::Stays,
             candidates: None,
             opens: Opens::Nothing,
         },
         Want::Remove { parent, name, .. } => Acts {
-            entries: Entries::Nothing,
-            change: Change::Cuts(Key { parent, name }),
+            entries: EnteredNames::Nothing,
+            change: NameChange::Cuts(Key { parent, name }),
             candidates: Some(FolderKeys {
                 folder: parent,
                 names: beside,
@@ -125,8 +125,8 @@ pub(crate) fn acts_of(
             new_name,
             ..
         } => Acts {
-            entries: Entries::Nothing,
-            change: Change::Moves(Key { parent, name }, Keys::new(new_parent, new_name, copy)),
+            entries: EnteredNames::Nothing,
+            change: NameChange::Moves(Key { parent, name }, Keys::new(new_parent, new_name, copy)),
             candidates: Some(FolderKeys {
                 folder: new_parent,
                 names: beside,
@@ -140,8 +140,8 @@ pub(crate) fn acts_of(
             new_parent,
             new_name,
         } => Acts {
-            entries: Entries::Nothing,
-            change: Change::Exchanges(
+            entries: EnteredNames::Nothing,
+            change: NameChange::Exchanges(
                 Keys::new(parent, name, only(copies)),
                 Keys::new(new_parent, new_name, copy),
             ),
@@ -149,18 +149,18 @@ pub(crate) fn acts_of(
             opens: Opens::Nothing,
         },
         Want::Page { folder, names } => Acts {
-            entries: Entries::Page(FolderKeys {
+            entries: EnteredNames::Page(FolderKeys {
                 folder,
                 names,
                 copies,
             }),
-            change: Change::Stays,
+            change: NameChange::Stays,
             candidates: None,
             opens: Opens::Nothing,
         },
         Want::Open { number, access } => Acts {
-            entries: Entries::Nothing,
-            change: Change::Stays,
+            entries: EnteredNames::Nothing,
+            change: NameChange::Stays,
             candidates: None,
             opens: Opens::Node(number, access),
         },
@@ -169,13 +169,13 @@ pub(crate) fn acts_of(
             name,
             access,
         } => Acts {
-            entries: Entries::One(Keys::new(parent, name, copy)),
-            change: Change::Stays,
+            entries: EnteredNames::One(Keys::new(parent, name, copy)),
+            change: NameChange::Stays,
             candidates: None,
             opens: Opens::Entry(access),
         },
         Want::Release { number, .. } => Acts {
-            entries: Entries::Nothing,
+            entries: EnteredNames::Nothing,
             change: closing_change(number, case),
             candidates: None,
             opens: Opens::Nothing,

@@ -41,7 +41,7 @@ fn enter_again(
 }
 
 /// Bears a node at the name, and counts its first entry.
-fn bear(
+fn create(
     tree: &mut Tree,
     ledger: &mut Ledger,
     _flights: &RequestsInFlight,
@@ -91,6 +91,6 @@ pub(crate) fn enter(
 {
     match tree.find_guessed(&keys.key, guess) {
         Some(number) => enter_again(tree, ledger, flights, files, number, &keys.key),
-        None => bear(tree, ledger, flights, files, keys),
+        None => create(tree, ledger, flights, files, keys),
     }
 }

@@ -8,11 +8,11 @@ ghost use Rattle.table_footprints.specs.NewRequests.{footprint_in};
 ghost use Rattle.table_requests.specs.Listed.{requests_of};
 ghost use Rattle.table_requests.specs.RequestMaps.{most_posted_by};
 
-use crate::acts::{Acts, Change, acts_of};
+use crate::acts::{Acts, NameChange, acts_of};
 use crate::data::{Answered, Outcome, Ticket};
 use crate::give::give_none;
 use crate::hiding::{hide, replace};
-use crate::places::{alter, losing};
+use crate::name_changes::{alter, losing};
 use crate::state::State;
 use crate::sweep::sweep_change;
 use table_requests::{Givens, Work};
@@ -38,14 +38,14 @@ fn with_file(answered: Answered, opened: Option<u64>) -> Answered
 
 impl State {
     /// Cuts, moves or hides names, with all below them, and drops what nothing keeps any more.
-    fn change(&mut self, change: Change)
+    fn change(&mut self, change: NameChange)
         requires kept { IsKept self.old }
         requires may { MayAlter self.old (change_in change) }
         ensures changes { ChangesNames (world_of self.old) (change_in change) (world_of self.new) }
         ensures rest { self.new ≡ record self.old { tree = self.new.tree } }
         ensures kept { IsKept self.new }
     {
-        if matches!(change, Change::Stays) {
+        if matches!(change, NameChange::Stays) {
             return;
         }
         let losing = losing(&self.tree, &change);

@@ -11,7 +11,7 @@ ghost use Rattle.tree.specs.declared.nodes.Key.{Key as Under};
 ghost use Rattle.tree.specs.Places.{IsAlive, IsPathOf, at_in};
 ghost use Rattle.table_footprints.specs.Footprints.{page_keys};
 
-use crate::acts::Entries;
+use crate::acts::EnteredNames;
 use crate::data::Answered;
 use crate::entries::enter;
 use crate::found::FoundNames;
@@ -24,21 +24,26 @@ use table_requests::{Given, Givens};
 /// Where a request's pins have the node that stood at its first name as it began, if one did: behind the node that its name is under.
 const FIRST_FOUND: usize = 1;
 
-impl Entries {
+impl EnteredNames {
     /// How many names they are.
     fn len(&self) -> usize
         ensures { result ≡ length (keys_in self.now) }
     {
         match self {
-            Entries::Nothing => 0,
-            Entries::One(_) => 1,
-            Entries::Page(page) => page.names.as_slice().len(),
+            EnteredNames::Nothing => 0,
+            EnteredNames::One(_) => 1,
+            EnteredNames::Page(page) => page.names.as_slice().len(),
         }
     }
 }
 
 /// The answer of a request that gives nothing for its names.
-pub(crate) fn give_none(id: u64, entries: &Entries, answer: Givens, opened: Option<u64>) -> Answered
+pub(crate) fn give_none(
+    id: u64,
+    entries: &EnteredNames,
+    answer: Givens,
+    opened: Option<u64>,
+) -> Answered
     requires room { length (keys_in entries.now) ≤ answer.room }
     requires unanswered { answer.items ≡ [] }
     ensures { result ≡ record { id = id; given = map (λ _. None) (keys_in entries.now); lost = false; opened = opened } }
@@ -173,7 +178,7 @@ impl State {
     pub(crate) fn give_entry(
         &mut self,
         id: u64,
-        entries: Entries,
+        entries: EnteredNames,
         answer: Givens,
     ) -> (Answered, Option<Given>)
         requires kept { IsKept self.old }
@@ -190,7 +195,7 @@ impl State {
         ensures kept { IsKept self.new }
     {
         match entries {
-            Entries::One(keys) => {
+            EnteredNames::One(keys) => {
                 let mut given = answer;
                 let entered = self.give(id, keys, FIRST_FOUND);
                 given.add(Some(entered));
@@ -202,8 +207,11 @@ impl State {
                 };
                 (answered, Some(entered))
             }
-            Entries::Nothing => (give_none(id, &Entries::Nothing, answer, None), None),
-            Entries::Page(page) => (give_none(id, &Entries::Page(page), answer, None), None),
+            EnteredNames::Nothing => (give_none(id, &EnteredNames::Nothing, answer, None), None),
+            EnteredNames::Page(page) => (
+                give_none(id, &EnteredNames::Page(page), answer, None),
+                None,
+            ),
         }
     }
 
@@ -212,7 +220,7 @@ impl State {
         &mut self,
         id: u64,
         held: &Held,
-        entries: Entries,
+        entries: EnteredNames,
         found: &FoundNames,
         answer: Givens,
     ) -> Answered
@@ -227,15 +235,15 @@ impl State {
         ensures kept { IsKept self.new }
     {
         match entries {
-            Entries::Page(page) => {
+            EnteredNames::Page(page) => {
                 let found = found.as_slice();
                 if found.len() != page.names.as_slice().len() {
-                    return give_none(id, &Entries::Page(page), answer, None);
+                    return give_none(id, &EnteredNames::Page(page), answer, None);
                 }
                 self.give_page(id, path_of(held), page, found, answer)
             }
-            Entries::Nothing => give_none(id, &Entries::Nothing, answer, None),
-            Entries::One(keys) => give_none(id, &Entries::One(keys), answer, None),
+            EnteredNames::Nothing => give_none(id, &EnteredNames::Nothing, answer, None),
+            EnteredNames::One(keys) => give_none(id, &EnteredNames::One(keys), answer, None),
         }
     }
 }

@@ -5,7 +5,7 @@ ghost use Rattle.std.specs.List.{slice_get};
 ghost use Rattle.table_steps.specs.Ending.{candidates_in, change_in, keyed_name, names_in};
 ghost use Rattle.table_steps.specs.Steps.{hiding_at, replacing_at};
 
-use crate::acts::Change;
+use crate::acts::NameChange;
 use crate::keys::{FolderKeys, Keys};
 
 /// The key of the name of that index, counted from 0, if there is one.
@@ -39,33 +39,33 @@ fn candidate_at(candidates: Option<FolderKeys>, index: u8) -> Option<Keys>
 }
 
 /// What was to be cut is hidden under the candidate of that index. Where there is none, nothing changes.
-pub(crate) fn hide(change: Change, candidates: Option<FolderKeys>, index: u8) -> Change
+pub(crate) fn hide(change: NameChange, candidates: Option<FolderKeys>, index: u8) -> NameChange
     ensures { change_in result ≡ hiding_at (change_in change) (slice_get (candidates_in candidates) index) }
 {
     let Some(candidate) = candidate_at(candidates, index) else {
-        return Change::Stays;
+        return NameChange::Stays;
     };
     match change {
-        Change::Cuts(key) => Change::Hides(key, candidate),
-        _ => Change::Stays,
+        NameChange::Cuts(key) => NameChange::Hides(key, candidate),
+        _ => NameChange::Stays,
     }
 }
 
 /// What was to be replaced is hidden under the candidate of that index, and then the move is made, if `moved`. Where there is
 /// no such candidate, nothing changes.
 pub(crate) fn replace(
-    change: Change,
+    change: NameChange,
     candidates: Option<FolderKeys>,
     index: u8,
     moved: bool,
-) -> Change
+) -> NameChange
     ensures { change_in result ≡ replacing_at (change_in change) (slice_get (candidates_in candidates) index) moved }
 {
     let Some(candidate) = candidate_at(candidates, index) else {
-        return Change::Stays;
+        return NameChange::Stays;
     };
     match change {
-        Change::Moves(key, target) => Change::Replaces(key, target, candidate, moved),
-        _ => Change::Stays,
+        NameChange::Moves(key, target) => NameChange::Replaces(key, target, candidate, moved),
+        _ => NameChange::Stays,
     }
 }

@@ -16,7 +16,7 @@ use crate::state::State;
 use crate::sweep::sweep_pins;
 use ledger::{Ledger, Posting};
 use table_files::Files;
-use table_requests::{Ended, RequestsInFlight};
+use table_requests::{EndedRequest, RequestsInFlight};
 use terms::Counts;
 use tree::Tree;
 
@@ -116,7 +116,7 @@ impl State {
         let Some(ended) = self.flights.take(id) else {
             return settled;
         };
-        let Ended {
+        let EndedRequest {
             pins,
             before,
             opened,

@@ -1,7 +1,7 @@
 //! What is told of a file or a folder beside its kind and its size, and what sets it.
 
-use crate::places::sample_folder;
 use crate::rows::{tell_folder, tell_hold, tell_tree};
+use crate::sample_trees::sample_folder;
 use crate::telling::{Item, Step, tell};
 use std::fs;
 use std::test::Fail;

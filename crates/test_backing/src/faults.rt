@@ -1,7 +1,7 @@
 //! A real folder whose system fails, or changes between two of its calls.
 
 use crate::asking::{expect_count, expect_rows};
-use crate::places::{place_of, sample_folder};
+use crate::sample_trees::{place_of, sample_folder};
 use backing_folder::{Folder, System};
 use std::alloc::{Allocator, Global};
 use std::fs::{File, Metadata, OpenOptions, Permissions};

@@ -16,13 +16,13 @@ mod moved;
 #[cfg(test)]
 mod moves;
 #[cfg(test)]
-mod places;
-#[cfg(test)]
 mod random;
 #[cfg(test)]
 mod remembered;
 #[cfg(test)]
 mod rows;
+#[cfg(test)]
+mod sample_trees;
 #[cfg(test)]
 mod seen;
 #[cfg(test)]

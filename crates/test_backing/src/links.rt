@@ -1,6 +1,6 @@
 //! What a real folder does not show.
 
-use crate::places::{place_of, sample_folder};
+use crate::sample_trees::{place_of, sample_folder};
 use crate::telling::{Item, Step, tell};
 use backing_folder::Folder;
 use std::fs;

@@ -1,7 +1,7 @@
 //! The rows of moves that replace nothing, and of exchanges.
 
-use crate::places::sample_folder;
 use crate::rows::{tell_folder, tell_hold, tell_tree};
+use crate::sample_trees::sample_folder;
 use std::fs;
 use std::test::Fail;
 

@@ -1,7 +1,7 @@
 //! Random calls on a memory tree and on a real folder, side by side.
 
 use crate::asking::{ask, expect, expect_count};
-use crate::places::new_folder;
+use crate::sample_trees::new_folder;
 use backing::MemTree;
 use backing_folder::{Folder, System};
 use std::alloc::{AllocError, Global};

@@ -1,7 +1,7 @@
 //! What a real folder remembers, and others change meanwhile. A folder that is opened just now remembers nothing.
 
 use crate::asking::{expect, expect_count};
-use crate::places::sample_folder;
+use crate::sample_trees::sample_folder;
 use crate::telling::{Item, Step, tell};
 use backing_folder::{Folder, System};
 use std::alloc::Global;

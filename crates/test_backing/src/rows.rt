@@ -1,8 +1,8 @@
 //! The rows of the calls' definition.
 
 use crate::asking::{expect, expect_count, expect_rows, path_of};
-use crate::places::{sample_folder, sample_tree};
-use backing::{Fault, MemTree, Shared};
+use crate::sample_trees::{sample_folder, sample_tree};
+use backing::{MemTree, PlannedFault, Shared};
 use backing_folder::Folder;
 use std::alloc::Global;
 use std::fs;
@@ -180,7 +180,7 @@ fn rows_through_a_hold(rt: HostRuntime) -> Result<(), Fail> {
 #[derive(Clone, Copy)]
 enum Step<'a> {
     /// That call is to fail so.
-    Plan(u64, Fault),
+    Plan(u64, PlannedFault),
     /// A call, and its answer.
     Ask(&'a str, &'a str),
     /// So many of the calls so far have failed.
@@ -210,7 +210,7 @@ fn tell(alloc: Global, steps: &[Step]) -> Result<(), Fail> {
 #[test]
 fn a_call_fails_after_its_work(rt: HostRuntime) -> Result<(), Fail> {
     const STEPS: &[Step] = &[
-        Step::Plan(2, Fault::After(5)),
+        Step::Plan(2, PlannedFault::After(5)),
         Step::Ask("mkdir m", "done"),
         Step::Ask("mkdir n", "fault 5"),
         Step::Ask("stat n", "folder 0"),
@@ -222,15 +222,15 @@ fn a_call_fails_after_its_work(rt: HostRuntime) -> Result<(), Fail> {
 #[test]
 fn a_call_fails_before_its_work(rt: HostRuntime) -> Result<(), Fail> {
     const STEPS: &[Step] = &[
-        Step::Plan(0, Fault::Before(1)),
-        Step::Plan(1, Fault::After(30)),
-        Step::Plan(1, Fault::Before(28)),
-        Step::Plan(3, Fault::After(28)),
+        Step::Plan(0, PlannedFault::Before(1)),
+        Step::Plan(1, PlannedFault::After(30)),
+        Step::Plan(1, PlannedFault::Before(28)),
+        Step::Plan(3, PlannedFault::After(28)),
         Step::Ask("mkdir n", "fault 28"),
         Step::Ask("stat n", "fault 2"),
         Step::Ask("mkdir a", "fault 28"),
         Step::Ask("stat a", "file 3"),
-        Step::Plan(4, Fault::Before(1)),
+        Step::Plan(4, PlannedFault::Before(1)),
         Step::Ask("stat a", "file 3"),
         Step::Failed(2),
     ];
@@ -293,7 +293,7 @@ fn a_file_is_put_as_calls_would(rt: HostRuntime) -> Result<(), Fail> {
 fn two_holds_see_one_tree(rt: HostRuntime) -> Result<(), Fail> {
     let alloc = rt.alloc();
     let mut tree = sample_tree(alloc)?;
-    tree.fail_at(3, Fault::Before(5))?;
+    tree.fail_at(3, PlannedFault::Before(5))?;
     let tree = Arc::new(alloc, Mutex::new(tree))?;
     let mut one = Shared::new(rt, Arc::try_clone(&tree)?);
     let mut two = Shared::new(rt, tree);

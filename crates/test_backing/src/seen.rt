@@ -2,7 +2,7 @@
 //! what was seen.
 
 use crate::asking::{expect, expect_count};
-use crate::places::sample_folder;
+use crate::sample_trees::sample_folder;
 use crate::telling::{Item, Step, tell};
 use backing_folder::{Folder, System};
 use std::alloc::Global;

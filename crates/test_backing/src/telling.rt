@@ -1,7 +1,7 @@
 //! Stories of a real folder: what the system puts into it, and what its calls answer. Each is told to a new sample folder.
 
 use crate::asking::{expect, expect_count, path_of};
-use crate::places::{place_of, sample_folder};
+use crate::sample_trees::{place_of, sample_folder};
 use backing::{Answer, Call, Calls, Details, Time};
 use backing_folder::{Folder, System};
 use std::os::unix::fs::{MetadataExt, PermissionsExt, symlink};

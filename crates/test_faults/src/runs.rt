@@ -8,7 +8,7 @@ use crate::product::{Ran, has_bytes, serve_session, what_stands};
 use crate::session::{ASKS, HIDDEN, LEDGER, REQUESTS, STANDS};
 use crate::slow::{PLAIN, Plan, run_slow};
 use crate::world::FaultAt;
-use backing::Fault;
+use backing::PlannedFault;
 use engine::{Sent, SessionEnd};
 use errno::EIO;
 use ledger::Blanks;
@@ -143,7 +143,7 @@ fn failed_hiding(rt: HostRuntime) -> Result<(), Fail> {
     let plan = Plan {
         fault: Some(FaultAt {
             call: 5,
-            fault: Fault::After(EIO),
+            fault: PlannedFault::After(EIO),
         }),
         ..PLAIN
     };
@@ -176,7 +176,7 @@ fn failed_removal(rt: HostRuntime) -> Result<(), Fail> {
     let plan = Plan {
         fault: Some(FaultAt {
             call: 14,
-            fault: Fault::Before(EIO),
+            fault: PlannedFault::Before(EIO),
         }),
         ..PLAIN
     };
@@ -196,11 +196,11 @@ fn failing_calls(alloc: Global) -> Result<Vec<Plan>, AllocError> {
         let call = made.saturating_add(1);
         let before = FaultAt {
             call,
-            fault: Fault::Before(EIO),
+            fault: PlannedFault::Before(EIO),
         };
         let after = FaultAt {
             call,
-            fault: Fault::After(EIO),
+            fault: PlannedFault::After(EIO),
         };
         plans.push(Plan {
             fault: Some(before),

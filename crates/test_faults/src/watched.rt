@@ -32,7 +32,7 @@ impl<'a> Watched<'a> {
 }
 
 impl Calls for Watched<'_> {
-    ghost use Rattle.backing.specs.Known.{memory_counts};
+    ghost use Rattle.backing.specs.KnownTreeLemmas.{memory_counts};
     ghost use Rattle.backing.specs.Memory.{Gives};
 
     ghost gives = { λ old call answer new. Gives old.tree call answer new.tree };

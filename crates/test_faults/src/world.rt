@@ -2,7 +2,7 @@
 
 use crate::asks::Ask;
 use crate::items::{Item, Told, sample_items, work};
-use backing::Fault;
+use backing::PlannedFault;
 use ledger::Posting;
 use std::alloc::{AllocError, Global};
 use table_files::OpenEntry;
@@ -28,7 +28,7 @@ pub struct Listed {
 #[derive(Clone, Copy, Debug, PartialEq, Eq)]
 pub struct FaultAt {
     pub call: usize,
-    pub fault: Fault,
+    pub fault: PlannedFault,
 }
 
 /// All that there is.
@@ -157,13 +157,13 @@ impl World {
             Some(
                 FaultAt {
                     call,
-                    fault: Fault::Before(errno),
+                    fault: PlannedFault::Before(errno),
                 },
             ) if call == made => Ok(Told::Error(errno)),
             Some(
                 FaultAt {
                     call,
-                    fault: Fault::After(errno),
+                    fault: PlannedFault::After(errno),
                 },
             ) if call == made => {
                 work(&mut self.items, ask)?;

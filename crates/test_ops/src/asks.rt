@@ -1,7 +1,7 @@
 //! What a script asks and comes to, by the places of its ticket's paths.
 
 use backing::{Call, NewTime};
-use ops::{Found, ScriptResult};
+use ops::{FoundFile, ScriptResult};
 use paths::Path;
 use table::Ticket;
 
@@ -71,9 +71,9 @@ pub enum Stands {
 pub enum Ends {
     Error(i32),
     Nothing,
-    NewEntry(Found),
-    NewFile(Found),
-    Attributes(Found),
+    NewEntry(FoundFile),
+    NewFile(FoundFile),
+    Attributes(FoundFile),
     Opening,
     /// So many bytes are told.
     Bytes(usize),
@@ -89,7 +89,7 @@ pub enum Ends {
     /// A closed file was not removed.
     Kept,
     /// What stands at the two names of a page, and whether something does.
-    Looked([Option<Found>; 2], [bool; 2]),
+    Looked([Option<FoundFile>; 2], [bool; 2]),
 }
 
 /// What a finding is.

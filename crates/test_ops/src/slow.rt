@@ -4,7 +4,7 @@ use crate::asks::{Ask, Ends, Form, Stands};
 use crate::setting::{asks_to_set, made_with};
 use backing::{Answer, Kind};
 use errno::{EBUSY, EEXIST, EIO, EISDIR, ENOENT, ENOTDIR};
-use ops::{Found, Settings};
+use ops::{FoundFile, Settings};
 use std::slice::Iter;
 use wire::Operation;
 
@@ -15,7 +15,7 @@ const CANDIDATES: usize = 10;
 #[derive(Clone, Copy, Debug, PartialEq, Eq)]
 enum Counts {
     Done,
-    Found(Found),
+    Found(FoundFile),
     Names(usize),
     Bytes(usize),
     Wrote(u32),
@@ -64,7 +64,7 @@ fn counts_as(ask: Ask, answer: &Answer) -> Counts {
                 size,
                 details,
             },
-        ) if *kind == Kind::File || *size == 0 => Counts::Found(Found {
+        ) if *kind == Kind::File || *size == 0 => Counts::Found(FoundFile {
             kind: *kind,
             size: *size,
             details: *details,

@@ -3,7 +3,7 @@
 use crate::frames::{AGREED, INIT, LOOKUP_A, MAKE_M, bytes_of};
 use crate::host::Host;
 use crate::pipes::pipe;
-use crate::places::{Shown, expect, new_folder, place_of};
+use crate::sample_folders::{Shown, expect, new_folder, place_of};
 use mirrord_programs::{Standard, run};
 use std::alloc::Global;
 use std::io;

@@ -2,7 +2,7 @@
 
 use crate::frames::{AGREED, ENTRY_A, INIT, LOOKUP_A, bytes_of};
 use crate::host::Host;
-use crate::places::{Shown, expect, new_folder};
+use crate::sample_folders::{Shown, expect, new_folder};
 use mirrord_programs::{Device, Standard, run};
 use std::alloc::Global;
 use std::io;

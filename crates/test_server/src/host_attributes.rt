@@ -3,7 +3,7 @@
 use crate::frames::{AGREED, ATTRIBUTES, DESTROY, DESTROYED, FORGET_A, INIT, RELEASE, RENAMED};
 use crate::host::Host;
 use crate::pipes::run_words;
-use crate::places::{Shown, expect, new_folder, place_of};
+use crate::sample_folders::{Shown, expect, new_folder, place_of};
 use std::os::unix::fs::MetadataExt;
 use std::test::Fail;
 use std::{fs, io};

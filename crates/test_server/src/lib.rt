@@ -16,4 +16,4 @@ mod meetings;
 #[cfg(test)]
 mod pipes;
 #[cfg(test)]
-mod places;
+mod sample_folders;

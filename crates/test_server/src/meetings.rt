@@ -8,7 +8,7 @@ use crate::frames::{
     UNLINK_K, UNLINK_N, WRITE_DE, WROTE_DE, bytes_of,
 };
 use crate::host::Host;
-use crate::places::{Shown, expect, new_folder, place_of, shown_at};
+use crate::sample_folders::{Shown, expect, new_folder, place_of, shown_at};
 use mirrord_programs::{Standard, run};
 use std::io::{Read, Write};
 use std::os::unix::net::UnixStream;

@@ -5,7 +5,7 @@ use crate::frames::{
     FORGET_A, INIT, LOOKUP_A, MAKE_M, RENAME_A, RENAMED, STALE, bytes_of,
 };
 use crate::host::Host;
-use crate::places::{Shown, expect, new_folder};
+use crate::sample_folders::{Shown, expect, new_folder};
 use mirrord_programs::{Standard, run};
 use std::io::Write;
 use std::test::Fail;

@@ -2,7 +2,7 @@
 
 use crate::frames::run_words;
 use engine::Settings;
-use mirrord_programs::{Options, Refusal, read_options};
+use mirrord_programs::{Options, OptionsRefusal, read_options};
 use std::alloc::Global;
 use std::test::Fail;
 
@@ -81,7 +81,7 @@ fn whose_attributes(rt: HostRuntime) -> Result<(), Fail> {
 
 /// A command line that can be read and is refused, why, and what is written on standard error.
 #[derive(Clone, Copy)]
-struct Refused(&'static [&'static str], Refusal, &'static str);
+struct Refused(&'static [&'static str], OptionsRefusal, &'static str);
 
 const WITH_OWNER: &str = "mirrord: with --attributes host there is no --uid and no --gid\n";
 
@@ -98,7 +98,7 @@ const REFUSED: &[Refused] = &[
             "--attributes=host",
             "--uid=1",
         ],
-        Refusal::Owner,
+        OptionsRefusal::Owner,
         WITH_OWNER,
     ),
     // The owner that is told where none is given.
@@ -110,7 +110,7 @@ const REFUSED: &[Refused] = &[
             "--uid=0",
             "--attributes=host",
         ],
-        Refusal::Owner,
+        OptionsRefusal::Owner,
         WITH_OWNER,
     ),
     Refused(
@@ -124,17 +124,17 @@ const REFUSED: &[Refused] = &[
             "--gid",
             "1",
         ],
-        Refusal::Owner,
+        OptionsRefusal::Owner,
         WITH_OWNER,
     ),
     Refused(
         &["mirrord", "pipe", "--root=/", "--attributes", "other"],
-        Refusal::Attributes,
+        OptionsRefusal::Attributes,
         NEITHER,
     ),
     Refused(
         &["mirrord", "pipe", "--root=/", "--attributes="],
-        Refusal::Attributes,
+        OptionsRefusal::Attributes,
         NEITHER,
     ),
     // What is told of attributes comes before what is told of an owner.
@@ -147,17 +147,17 @@ const REFUSED: &[Refused] = &[
             "--attributes=Host",
             "--uid=1",
         ],
-        Refusal::Attributes,
+        OptionsRefusal::Attributes,
         NEITHER,
     ),
     Refused(
         &["mirrord", "pipe", "--root=/", "--counts", "Free"],
-        Refusal::Counts,
+        OptionsRefusal::Counts,
         NO_COUNTS,
     ),
     Refused(
         &["mirrord", "serve", "--root=/", "--socket=/s", "--counts="],
-        Refusal::Counts,
+        OptionsRefusal::Counts,
         NO_COUNTS,
     ),
     // What is told of attributes comes before what is told of counts.
@@ -170,7 +170,7 @@ const REFUSED: &[Refused] = &[
             "--attributes=host",
             "--gid=1",
         ],
-        Refusal::Owner,
+        OptionsRefusal::Owner,
         WITH_OWNER,
     ),
 ];

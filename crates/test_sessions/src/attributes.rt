@@ -4,7 +4,7 @@ use crate::requests::{MAKE_M, NOTHING_NEW};
 use crate::stories::Says::{Attributes, Entry, Failed, Sizes};
 use crate::stories::Stands::{File, Folder, Nothing};
 use crate::stories::{NOTHING, Story, tell};
-use backing::Fault::Before;
+use backing::PlannedFault::Before;
 use errno::{EACCES, EBADF, EFBIG, EIO, EISDIR, ENFILE, ENOSPC, EPERM, ESTALE};
 use ledger::Blanks;
 use std::marker::Brand;

@@ -4,7 +4,7 @@ use crate::requests::MAKE_A;
 use crate::stories::Says::{Attributes, Done, Entries, Entry, Failed, Opened};
 use crate::stories::Stands::{File, Folder};
 use crate::stories::{NOTHING, Story, tell};
-use backing::Fault::{After, Before};
+use backing::PlannedFault::{After, Before};
 use errno::{EACCES, ESTALE};
 use ledger::Blanks;
 use std::marker::Brand;

@@ -3,7 +3,7 @@
 use crate::stories::Says::{Attributes, Bytes, Done, Entry, Failed, Opened, Wrote};
 use crate::stories::Stands::{File, Folder, Nothing};
 use crate::stories::{NOTHING, Story, tell};
-use backing::Fault::{After, Before};
+use backing::PlannedFault::{After, Before};
 use errno::{EIO, ENOENT};
 use ledger::Blanks;
 use std::marker::Brand;

@@ -4,7 +4,7 @@ use crate::requests::CREATE_N;
 use crate::stories::Says::{Attributes, Bytes, Created, Done, Entry, Failed, Opened, Wrote};
 use crate::stories::Stands::{File, Nothing};
 use crate::stories::{NOTHING, Story, tell};
-use backing::Fault::{After, Before};
+use backing::PlannedFault::{After, Before};
 use errno::{EACCES, EFBIG, EIO, ENOENT, ENOSPC};
 use ledger::Blanks;
 use std::marker::Brand;

@@ -4,7 +4,7 @@ use crate::requests::{MAKE_A, MAKE_D, MAKE_M, MAKE_N, MAKE_RESERVED};
 use crate::stories::Says::{Done, Entry, Failed};
 use crate::stories::Stands::{File, Folder, Nothing};
 use crate::stories::{NOTHING, Story, tell};
-use backing::Fault::{After, Before};
+use backing::PlannedFault::{After, Before};
 use errno::{EACCES, EEXIST, EIO, EISDIR, ENOENT, ENOTDIR, ENOTEMPTY, EPERM, ESTALE};
 use ledger::Blanks;
 use std::marker::Brand;

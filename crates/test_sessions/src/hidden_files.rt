@@ -4,7 +4,7 @@ use crate::requests::CREATE_A;
 use crate::stories::Says::{Attributes, Bytes, Created, Done, Entry, Failed, Opened, Wrote};
 use crate::stories::Stands::{File, Folder, Nothing};
 use crate::stories::{NOTHING, Story, tell};
-use backing::Fault::{After, Before};
+use backing::PlannedFault::{After, Before};
 use errno::{EBUSY, EIO, ENOENT, ENOTDIR};
 use ledger::Blanks;
 use std::marker::Brand;

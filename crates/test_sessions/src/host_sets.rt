@@ -6,7 +6,7 @@ use crate::host_stories::HOST;
 use crate::stories::Says::{Attributes, Entry, Failed, Opened};
 use crate::stories::Stands::File;
 use crate::stories::{Story, tell};
-use backing::Fault::{self, After, Before};
+use backing::PlannedFault::{self, After, Before};
 use errno::{EBADF, EFBIG, EIO, ENOSPC, EPERM};
 use ledger::{Blanks, Ledgers};
 use std::alloc::Global;

@@ -3,7 +3,7 @@
 use crate::stories::Says::{Attributes, Bytes, Done, Entry, Failed, Opened};
 use crate::stories::Stands::{File, Folder, Nothing};
 use crate::stories::{NOTHING, Story, tell};
-use backing::Fault::{After, Before};
+use backing::PlannedFault::{After, Before};
 use errno::{EEXIST, EINVAL, EIO, ENOENT, ENOTEMPTY, ESTALE};
 use ledger::Blanks;
 use std::marker::Brand;

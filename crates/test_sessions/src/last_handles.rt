@@ -4,7 +4,7 @@ use crate::requests::CREATE_X;
 use crate::stories::Says::{Bytes, Created, Done, Entry, Failed, Opened};
 use crate::stories::Stands::{File, Folder, Nothing};
 use crate::stories::{NOTHING, Story, tell};
-use backing::Fault::{After, Before};
+use backing::PlannedFault::{After, Before};
 use errno::{EBADF, EIO, ENOTEMPTY};
 use ledger::Blanks;
 use std::marker::Brand;

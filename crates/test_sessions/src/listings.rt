@@ -4,7 +4,7 @@ use crate::requests::MAKE_M;
 use crate::stories::Says::{Done, Entry, Failed, Names, Opened};
 use crate::stories::Stands::{File, Folder};
 use crate::stories::{NOTHING, Story, tell, tell_plainly};
-use backing::Fault::{After, Before};
+use backing::PlannedFault::{After, Before};
 use errno::{EACCES, EBADF, EINVAL, EIO, ENOTDIR, ESTALE};
 use ledger::Blanks;
 use std::marker::Brand;

@@ -4,7 +4,7 @@ use crate::requests::CREATE_N;
 use crate::stories::Says::{Attributes, Bytes, Created, Entry, Failed, Opened};
 use crate::stories::Stands::{File, Folder, Nothing};
 use crate::stories::{NOTHING, Story, tell};
-use backing::Fault::Before;
+use backing::PlannedFault::Before;
 use errno::{EACCES, EEXIST, EINVAL, EIO, EISDIR, ENFILE, EPERM, ESTALE};
 use ledger::Blanks;
 use std::marker::Brand;

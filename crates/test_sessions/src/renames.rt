@@ -4,7 +4,7 @@ use crate::requests::{MAKE_C, MAKE_X};
 use crate::stories::Says::{Attributes, Done, Entry, Failed};
 use crate::stories::Stands::{File, Folder, Nothing};
 use crate::stories::{NOTHING, Story, tell};
-use backing::Fault::{After, Before};
+use backing::PlannedFault::{After, Before};
 use errno::{EACCES, EINVAL, EIO, EISDIR, ENOENT, ENOTDIR, ENOTEMPTY, EPERM, ESTALE};
 use ledger::Blanks;
 use std::marker::Brand;
@@ -293,7 +293,7 @@ const MOVES_ONTO_OWN_FRONTS: &[Story] = &[
 ];
 
 #[test]
-fn moves_onto_own_fronts(rt: HostRuntime) -> Result<(), Fail> {
+fn moves_onto_own_prefixes(rt: HostRuntime) -> Result<(), Fail> {
     for story in MOVES_ONTO_OWN_FRONTS {
         tell::<HostRuntime, Brand>(&rt, rt.alloc(), Blanks::new(1), story)?;
     }

@@ -4,7 +4,7 @@ use crate::requests::CREATE_X;
 use crate::stories::Says::{Attributes, Bytes, Created, Done, Entry, Failed, Opened, Wrote};
 use crate::stories::Stands::{File, Folder, Nothing};
 use crate::stories::{NOTHING, Story, tell};
-use backing::Fault::Before;
+use backing::PlannedFault::Before;
 use errno::{EBUSY, EIO, ENOENT, ENOTDIR};
 use ledger::Blanks;
 use std::marker::Brand;

@@ -4,7 +4,7 @@ ghost use Rattle.std.specs.Prelude.{◌≡◌};
 
 use crate::client::{Client, FIXED, Over, serve_client};
 use crate::frames::{AGREED, INIT, lines_of};
-use backing::Fault;
+use backing::PlannedFault;
 use engine::Served;
 use handles::Dirs;
 use ledger::{Blanks, Ledgers};
@@ -22,7 +22,7 @@ pub fn serve_samples_by<H: Wait + RandomSource, T: Ledgers>(
     alloc: Global,
     blanks: Blanks,
     settings: Settings,
-    planned: Option<Fault>,
+    planned: Option<PlannedFault>,
     client: &mut Client,
 ) -> Result<Over, AllocError>
     requires names { blanks ≡ T.names }
@@ -46,7 +46,7 @@ pub fn serve_samples<H: Wait + RandomSource, T: Ledgers>(
     rt: &H,
     alloc: Global,
     blanks: Blanks,
-    planned: Option<Fault>,
+    planned: Option<PlannedFault>,
     client: &mut Client,
 ) -> Result<Over, AllocError>
     requires names { blanks ≡ T.names }

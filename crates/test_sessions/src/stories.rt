@@ -4,7 +4,7 @@ ghost use Rattle.std.specs.Prelude.{◌≡◌};
 
 use crate::answers::replies_of;
 use crate::client::{Client, FIXED, serve_client};
-use backing::{Answer, Call, Calls, Fault, Kind, MemTree};
+use backing::{Answer, Call, Calls, Kind, MemTree, PlannedFault};
 use engine::Served;
 use handles::{Dirs, Folders};
 use ledger::{Blanks, Ledgers};
@@ -34,7 +34,7 @@ pub struct Story<'a> {
     /// What is asked of which node, one after another. The requests are numbered from 1.
     pub asks: &'a [(u64, Operation<'a>)],
     /// Calls of the tree that fail, counted from 1.
-    pub faults: &'a [(u64, Fault)],
+    pub faults: &'a [(u64, PlannedFault)],
     /// What each request is answered.
     pub replies: &'a [Says<'a>],
     /// Paths, and what stands there in the end.
@@ -99,7 +99,7 @@ pub enum Says<'a> {
 }
 
 /// INIT 7.31, unique 0.
-fn init_reply_of(alloc: Global) -> Result<Vec<u8>, AllocError> {
+fn init_request_of(alloc: Global) -> Result<Vec<u8>, AllocError> {
     let request = Request {
         unique: 0,
         node: 0,
@@ -117,7 +117,7 @@ fn init_reply_of(alloc: Global) -> Result<Vec<u8>, AllocError> {
 
 fn frames_of(alloc: Global, asks: &[(u64, Operation<'_>)]) -> Result<Vec<Vec<u8>>, AllocError> {
     let mut frames = Vec::new(alloc);
-    frames.push(init_reply_of(alloc)?)?;
+    frames.push(init_request_of(alloc)?)?;
     let mut unique = 0u64;
     for (node, operation) in asks {
         unique = unique.saturating_add(1);

@@ -5,7 +5,7 @@ use crate::frames::{
     ABSENT, AGREED, DESTROY, ENTRY_A, ENTRY_E_REBORN, INIT, LOOKUP_A, LOOKUP_E, LOOKUP_ZZ,
 };
 use crate::sampled::{are_taken, bytes_of, client_from, client_of, serve_samples};
-use backing::Fault;
+use backing::PlannedFault;
 use engine::SessionEnd;
 use errno::EACCES;
 use ledger::{Blanks, Totals};
@@ -115,7 +115,7 @@ fn strange_errors(rt: HostRuntime) -> Result<(), Fail> {
     let reply = "10000000 fbffffff 0700000000000000";
     for errno in [0, -5, 4096] {
         let mut client = client_of(alloc, &[LOOKUP_A], 0)?;
-        let planned = Some(Fault::Before(errno));
+        let planned = Some(PlannedFault::Before(errno));
         let over = serve_samples::<HostRuntime, Brand>(
             &rt,
             alloc,
@@ -168,7 +168,7 @@ fn untaken_init(rt: HostRuntime) -> Result<(), Fail> {
 #[test]
 fn no_call_before_init(rt: HostRuntime) -> Result<(), Fail> {
     let alloc = rt.alloc();
-    let planned = Some(Fault::Before(EACCES));
+    let planned = Some(PlannedFault::Before(EACCES));
     let mut client = client_from(alloc, LOOKUP_A, &[INIT, LOOKUP_A], 0)?;
     let over = serve_samples::<HostRuntime, Brand>(
         &rt,
@@ -198,7 +198,7 @@ fn destroyed_session(rt: HostRuntime) -> Result<(), Fail> {
 
 // A link that breaks at the reply to a DESTROY is what ends the session.
 #[test]
-fn broken_farewell(rt: HostRuntime) -> Result<(), Fail> {
+fn broken_last_reply(rt: HostRuntime) -> Result<(), Fail> {
     let alloc = rt.alloc();
     let mut client = client_of(alloc, &[DESTROY, LOOKUP_ZZ], 2)?.breaking();
     let over = serve_samples::<HostRuntime, Brand>(&rt, alloc, Blanks::new(1), None, &mut client)?;

@@ -2,7 +2,7 @@
 
 use crate::narrow::{Narrow, make_narrow};
 use engine::Sent::{Broken, Taken};
-use engine::{Bytes, LinkOut, Sent};
+use engine::{LinkOut, ReplyBytes, Sent};
 use engine_streams::StreamLink;
 use smallvec::SmallVec;
 use std::alloc::{AllocError, Global};
@@ -10,17 +10,17 @@ use std::io;
 use std::test::Fail;
 
 /// A reply of so many bytes, each of which is its place. One of 16 is a header.
-fn reply(alloc: Global, place: u8, len: usize) -> Result<Bytes, AllocError> {
+fn reply(alloc: Global, place: u8, len: usize) -> Result<ReplyBytes, AllocError> {
     if len == 16 {
-        return Ok(Bytes::Header([place; 16]));
+        return Ok(ReplyBytes::Header([place; 16]));
     }
     let mut bytes = Vec::new(alloc);
     bytes.resize(len, place)?;
-    Ok(Bytes::Whole(SmallVec::from_vec(bytes)))
+    Ok(ReplyBytes::Whole(SmallVec::from_vec(bytes)))
 }
 
 /// Replies of these lengths. The first is of ones.
-fn replies(alloc: Global, lens: &[usize]) -> Result<Vec<Bytes>, AllocError> {
+fn replies(alloc: Global, lens: &[usize]) -> Result<Vec<ReplyBytes>, AllocError> {
     let mut frames = Vec::new(alloc);
     let mut place = 0u8;
     for len in lens {

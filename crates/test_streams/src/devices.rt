@@ -96,13 +96,13 @@ fn short_rooms_lose_nothing(rt: HostRuntime) -> Result<(), Fail> {
 }
 
 /// Replies of 16, 20 and 24 bytes.
-fn replies(alloc: Global) -> Result<Vec<engine::Bytes>, AllocError> {
+fn replies(alloc: Global) -> Result<Vec<engine::ReplyBytes>, AllocError> {
     let mut frames = Vec::new(alloc);
-    frames.push(engine::Bytes::Header([1; 16]))?;
+    frames.push(engine::ReplyBytes::Header([1; 16]))?;
     for (place, len) in [(2u8, 20usize), (3, 24)] {
         let mut bytes = Vec::new(alloc);
         bytes.resize(len, place)?;
-        frames.push(engine::Bytes::Whole(SmallVec::from_vec(bytes)))?;
+        frames.push(engine::ReplyBytes::Whole(SmallVec::from_vec(bytes)))?;
     }
     Ok(frames)
 }

@@ -18,8 +18,8 @@ past f (suc n) more = refl
 
 -- one that bears the next handle is put
 pub bears_put : (folders : List (Option OpenFolder)) (f : OpenFolder) → BearTheirs folders → f.fh ≡ length folders → BearTheirs (folders ++ Some f ∷ [])
-bears_put folders f bear next fh folder is = elim (cases_lt fh (length folders)) [
-  | inl there ↦ bear fh folder (sym (get_or-append folders (Some f ∷ []) None fh there) ∙ is)
+bears_put folders f theirs next fh folder is = elim (cases_lt fh (length folders)) [
+  | inl there ↦ theirs fh folder (sym (get_or-append folders (Some f ∷ []) None fh there) ∙ is)
   | inr beyond ↦ elim (cases_eq fh (length folders)) [
     | inl last ↦
         let same : Some f ≡ Some folder = sym (get_or-append_seam folders (Some f) [] None) ∙ (ap (λ (n : ℕ). at (folders ++ Some f ∷ []) n) (sym last) ∙ is) in
@@ -30,9 +30,9 @@ bears_put folders f bear next fh folder is = elim (cases_lt fh (length folders))
 
 -- one is given up
 pub bears_less : (folders : List (Option OpenFolder)) (i : ℕ) → i < length folders → BearTheirs folders → BearTheirs (slice_set folders i None)
-bears_less folders i within bear fh folder is = elim (cases_eq fh i) [
+bears_less folders i within theirs fh folder is = elim (cases_eq fh i) [
   | inl same ↦ absurd (none-some folder (sym (get_or-set_same folders i None None within) ∙ (ap (λ (n : ℕ). at (slice_set folders i None) n) (sym same) ∙ is)))
-  | inr other ↦ bear fh folder (sym (get_or-set_other folders i fh None None other) ∙ is)
+  | inr other ↦ theirs fh folder (sym (get_or-set_other folders i fh None None other) ∙ is)
 ]
 
 -- ---- of what is kept
@@ -41,10 +41,10 @@ pub at_shown : (kept : List (Option (Bor OpenFolder))) (folders : List (Option O
 at_shown kept folders fh entry view is = ap (λ (fs : List (Option OpenFolder)). at fs fh) (sym view) ∙ (get_or-map (option_map (λ folder. folder.now)) kept fh None ∙ ap (option_map (λ folder. folder.now)) (sym is))
 
 pub shown_put : (kept : List (Option (Bor OpenFolder))) (folder : Bor OpenFolder) → BearTheirs (shown kept) → folder.now.fh ≡ length kept → BearTheirs (shown (kept ++ Some folder ∷ []))
-shown_put kept folder bear next = rw (map-append (option_map (λ f. f.now)) kept (Some folder ∷ [])) (bears_put (shown kept) folder.now bear (next ∙ sym (length-map kept (option_map (λ f. f.now)))))
+shown_put kept folder theirs next = rw (map-append (option_map (λ f. f.now)) kept (Some folder ∷ [])) (bears_put (shown kept) folder.now theirs (next ∙ sym (length-map kept (option_map (λ f. f.now)))))
 
 pub shown_less : (kept : List (Option (Bor OpenFolder))) (i : ℕ) → i < length kept → BearTheirs (shown kept) → BearTheirs (shown (slice_set kept i None))
-shown_less kept i within bear = rw (map-set (option_map (λ f. f.now)) kept i None) (bears_less (shown kept) i (let n = length-map kept (option_map (λ f. f.now)) in omega (n, within, arith)) bear)
+shown_less kept i within theirs = rw (map-set (option_map (λ f. f.now)) kept i None) (bears_less (shown kept) i (let n = length-map kept (option_map (λ f. f.now)) in omega (n, within, arith)) theirs)
 
 pub some_shown : (entry : Option (Bor OpenFolder)) → is_some (option_map (λ folder. folder.now) entry) ≡ is_some entry
 some_shown None = refl

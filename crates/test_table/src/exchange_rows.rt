@@ -7,7 +7,7 @@ use crate::story::{DEFAULT, Flying, Holding, Living, Outcome, ROOT, Reply, Step,
 use crate::teller::run;
 use errno::EINVAL;
 use std::test::Fail;
-use table_image::Stage::Working;
+use table_image::ImageStage::Working;
 
 /// A file and a folder change places, with what is in the folder. Meanwhile both names are held.
 const FILE_AND_FOLDER: Story = Story {
@@ -75,7 +75,7 @@ const OWN_FRONTS: Story = Story {
 };
 
 #[test]
-fn exchanges_with_own_fronts(rt: HostRuntime) -> Result<(), Fail> {
+fn exchanges_with_own_prefixes(rt: HostRuntime) -> Result<(), Fail> {
     run(&rt, &OWN_FRONTS)
 }
 

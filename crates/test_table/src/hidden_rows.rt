@@ -10,7 +10,7 @@ use crate::teller::run;
 use errno::{EAGAIN, ENAMETOOLONG};
 use std::test::Fail;
 use table::Limits;
-use table_image::Stage::Working;
+use table_image::ImageStage::Working;
 
 /// The name `a`, and those that the file of node 2 may be hidden under while the counter is 0.
 const OF_TWO: &[&str] = &[

@@ -9,7 +9,7 @@ use crate::teller::run;
 use errno::{ENFILE, ESTALE};
 use std::test::Fail;
 use table::Limits;
-use table_image::Stage::{Answered, Working};
+use table_image::ImageStage::{Answered, Working};
 
 /// The LOOKUP of a name waits for its removal, though no node stands there. Then the directory has no such name.
 const AT_NO_NODE: Story = Story {

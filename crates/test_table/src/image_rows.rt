@@ -7,7 +7,7 @@ use crate::story::Told::{Amount, Given, Go};
 use crate::story::{DEFAULT, Flying, Holding, Living, Outcome, ROOT, Step, Story, Sum, TOP};
 use crate::teller::run;
 use std::test::Fail;
-use table_image::Stage::{Answered, Working};
+use table_image::ImageStage::{Answered, Working};
 
 const OPENED: Story = Story {
     limits: DEFAULT,

@@ -7,16 +7,16 @@ use ledger::{Posting, Totals};
 use paths::Name;
 use std::alloc::{AllocError, Global};
 use std::test::Fail;
-use table_image::Stage::{Answered, Working};
+use table_image::ImageStage::{Answered, Working};
 use table_image::{
-    Births, Hold, Holds, Image, Nodes, Numbers, OpenFiles, Postings, Record, Records, Stage,
+    Births, Hold, Holds, Image, ImageStage, Nodes, Numbers, OpenFiles, Postings, Record, Records,
 };
 use tree::{Key, Node, Place};
 
 /// A request that pins node 2: how far it is, a number and the path that it was given for it, the paths that it
 /// shares, and those that it holds alone.
 #[derive(Clone, Copy)]
-struct Made<'a>(Stage, u64, &'a str, &'a [&'a str], &'a [&'a str]);
+struct Made<'a>(ImageStage, u64, &'a str, &'a [&'a str], &'a [&'a str]);
 
 /// An image of these requests, of what they hold, and of the folder `a`, which is node 2 and was given once.
 struct Case<'a> {

@@ -8,7 +8,7 @@ use crate::story::{DEFAULT, Flying, Holding, Living, Outcome, ROOT, Reply, Step,
 use crate::teller::run;
 use errno::{EINVAL, ENOTEMPTY, ESTALE};
 use std::test::Fail;
-use table_image::Stage::{Answered, Working};
+use table_image::ImageStage::{Answered, Working};
 
 /// The folder `d` is node 2, and `x` in it is node 3.
 const KNOWN: &[Living] = &[
@@ -85,7 +85,7 @@ const OWN_FRONTS: Story = Story {
 };
 
 #[test]
-fn moves_onto_own_fronts(rt: HostRuntime) -> Result<(), Fail> {
+fn moves_onto_own_prefixes(rt: HostRuntime) -> Result<(), Fail> {
     run(&rt, &OWN_FRONTS)
 }
 

@@ -9,7 +9,7 @@ use crate::teller::run;
 use errno::{ENFILE, ESTALE};
 use std::test::Fail;
 use table::Limits;
-use table_image::Stage::{Answered, Working};
+use table_image::ImageStage::{Answered, Working};
 
 /// A page holds none of its names, so that `a` is removed meanwhile. It is given nothing while it is held alone.
 const REMOVED_MEANWHILE: Story = Story {

@@ -8,7 +8,7 @@ use crate::teller::run;
 use errno::EBADF;
 use std::test::Fail;
 use table::Limits;
-use table_image::Stage::Working;
+use table_image::ImageStage::Working;
 
 /// One file may be open. Its handle is closed when the release begins, so that another may be opened then, under the next handle; and it stays closed whatever
 /// the release comes to.

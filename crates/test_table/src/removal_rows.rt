@@ -8,7 +8,7 @@ use crate::story::{DEFAULT, Flying, Holding, Living, Outcome, ROOT, Reply, Step,
 use crate::teller::run;
 use errno::ESTALE;
 use std::test::Fail;
-use table_image::Stage::{Answered, Working};
+use table_image::ImageStage::{Answered, Working};
 
 /// The folder `d` is node 2, and `x` in it is node 3.
 const KNOWN: &[Living] = &[

@@ -13,8 +13,8 @@ use std::alloc::{AllocError, Global};
 use std::random::RandomSource;
 use std::test::Fail;
 use table::Outcome as TableOutcome;
-use table_image::Stage::Answered;
-use table_runs::{Call, Pending, Started, Told as CallTold};
+use table_image::ImageStage::Answered;
+use table_runs::{CallResult as CallTold, Pending, Started, TableCall};
 
 /// A call on what is pending.
 #[derive(Clone, Copy)]
@@ -68,22 +68,22 @@ const AFTER: &[Step] = &[
     Step::Requests(&[Flying(1, Answered, &[1, 3])]),
 ];
 
-fn call_of(alloc: Global, made: Made) -> Result<Call, AllocError> {
+fn call_of(alloc: Global, made: Made) -> Result<TableCall, AllocError> {
     Ok(match made {
-        Made::Begin(unique, asks) => Call::Begin {
+        Made::Begin(unique, asks) => TableCall::Begin {
             unique,
             want: want_of(alloc, asks)?,
         },
-        Made::Finish(place, outcome) => Call::Finish {
+        Made::Finish(place, outcome) => TableCall::Finish {
             place,
             outcome: outcome_of(alloc, outcome)?,
         },
-        Made::Settle(place, reply) => Call::Settle {
+        Made::Settle(place, reply) => TableCall::Settle {
             place,
             taken: reply == Reply::Taken,
         },
-        Made::Forget(number, n) => Call::Forget { number, n },
-        Made::ClosePeriod => Call::ClosePeriod,
+        Made::Forget(number, n) => TableCall::Forget { number, n },
+        Made::ClosePeriod => TableCall::ClosePeriod,
     })
 }
 
@@ -119,7 +119,7 @@ fn agrees(told: &CallTold, said: Told) -> bool {
     }
 }
 
-fn all_calls(alloc: Global) -> Result<Vec<Call>, AllocError> {
+fn all_calls(alloc: Global) -> Result<Vec<TableCall>, AllocError> {
     let mut calls = Vec::new(alloc);
     for (made, _) in CALLS {
         calls.push(call_of(alloc, *made)?)?;

@@ -2,7 +2,7 @@
 
 use ledger::Totals;
 use table::{Counts, Limits};
-use table_image::Stage;
+use table_image::ImageStage;
 
 /// The number of the root.
 pub const ROOT: u64 = 1;
@@ -153,7 +153,7 @@ pub const TOP: Living = Living(ROOT, 0, Spot::Root, 0);
 
 /// A request in flight: its unique number, how far it is, and the nodes that it pins.
 #[derive(Clone, Copy)]
-pub struct Flying<'a>(pub u64, pub Stage, pub &'a [u64]);
+pub struct Flying<'a>(pub u64, pub ImageStage, pub &'a [u64]);
 
 /// A path that is held: by how many that share it, and by how many alone.
 #[derive(Clone, Copy)]

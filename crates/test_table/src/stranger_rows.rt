@@ -7,7 +7,7 @@ use crate::story::Told::{Ended, Given, Go, Lost, NotGiven, Settled};
 use crate::story::{DEFAULT, Flying, Living, Outcome, ROOT, Reply, Step, Story, Sum, TOP};
 use crate::teller::run;
 use std::test::Fail;
-use table_image::Stage::Answered;
+use table_image::ImageStage::Answered;
 
 /// An outcome that is none of a LOOKUP acts as a failure.
 const MISFIT: Story = Story {

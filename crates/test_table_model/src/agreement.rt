@@ -7,7 +7,7 @@ use ledger::Posting;
 use paths::{Name, Path};
 use std::alloc::AllocError;
 use table::{Counts, Given};
-use table_image::{Image, Record, Stage};
+use table_image::{Image, ImageStage, Record};
 use tree::{Node, Place};
 
 fn node_of(image: &Image, number: u64) -> Option<&Node> {
@@ -215,7 +215,7 @@ impl Pairs {
     fn has_request(&self, list: &ListTable, request: &ListRequest, image: &Image) -> bool {
         image.records.as_slice().iter().any(|record| {
             record.unique == request.unique
-                && (record.stage == Stage::Working) == request.working
+                && (record.stage == ImageStage::Working) == request.working
                 && self.same_pins(list, request, record)
         })
     }

@@ -34,7 +34,7 @@ fn conflict(one: &Plan, other: &Plan) -> bool {
     is_in_the_way(one, other) || is_in_the_way(other, one)
 }
 
-/// Why a move or an exchange may not be made, if it may not: one of its paths is a proper front of the other.
+/// Why a move or an exchange may not be made, if it may not: one of its paths is a proper prefix of the other.
 fn astray(plan: &Plan) -> Option<i32> {
     let (Ask::Move(..) | Ask::Keep(..) | Ask::Exchange(..), [source, target, ..]) = (
         plan.ask,
@@ -42,9 +42,9 @@ fn astray(plan: &Plan) -> Option<i32> {
     ) else {
         return None;
     };
-    if source.is_proper_front_of(target) {
+    if source.is_proper_prefix_of(target) {
         Some(EINVAL)
-    } else if target.is_proper_front_of(source) {
+    } else if target.is_proper_prefix_of(source) {
         Some(if matches!(plan.ask, Ask::Exchange(..)) {
             EINVAL
         } else {

@@ -35,7 +35,7 @@ impl ListTable {
         free
     }
 
-    fn bear(&mut self, way: &Way) -> Result<Bearer, AllocError> {
+    fn create(&mut self, way: &Way) -> Result<Bearer, AllocError> {
         let number = self.free_number();
         let bearer = (number, self.births(number));
         self.postings.push(Posted::Born(bearer))?;
@@ -52,7 +52,7 @@ impl ListTable {
     fn give(&mut self, way: &Way) -> Result<Bearer, AllocError> {
         let bearer = match self.at(way).map(|node| node.bearer()) {
             Some(bearer) => bearer,
-            None => self.bear(way)?,
+            None => self.create(way)?,
         };
         self.postings.push(Posted::Entry(bearer))?;
         Ok(bearer)
@@ -100,7 +100,7 @@ impl ListTable {
         self.cut(new);
         for node in self.nodes.iter_mut() {
             let moved = match &node.way {
-                Some(way) if old.is_front_of(way) => Some(way.with_front(old, new)?),
+                Some(way) if old.is_prefix_of(way) => Some(way.with_prefix(old, new)?),
                 _ => None,
             };
             if moved.is_some() {
@@ -114,8 +114,8 @@ impl ListTable {
     fn exchange(&mut self, one: &Way, two: &Way) -> Result<(), AllocError> {
         for node in self.nodes.iter_mut() {
             let moved = match &node.way {
-                Some(way) if one.is_front_of(way) => Some(way.with_front(one, two)?),
-                Some(way) if two.is_front_of(way) => Some(way.with_front(two, one)?),
+                Some(way) if one.is_prefix_of(way) => Some(way.with_prefix(one, two)?),
+                Some(way) if two.is_prefix_of(way) => Some(way.with_prefix(two, one)?),
                 _ => None,
             };
             if moved.is_some() {

@@ -2,7 +2,7 @@
 
 use crate::asks::{Ask, Batch};
 use crate::list_table::{Bearer, ListFile, ListTable, Plan};
-use crate::words::{Way, Word, add_fronts};
+use crate::words::{Way, Word, add_prefixes};
 use std::alloc::AllocError;
 
 /// A path has at most so many bytes.
@@ -33,7 +33,7 @@ impl ListTable {
         let mut plan = self.empty_plan(ask);
         plan.given.push(number)?;
         plan.ways.push(way.copy()?)?;
-        add_fronts(&mut plan.shared, way)?;
+        add_prefixes(&mut plan.shared, way)?;
         Ok(plan)
     }
 
@@ -107,7 +107,7 @@ impl ListTable {
         plan.given.push(parent)?;
         plan.ways.push(path.copy()?)?;
         plan.exclusive.push(path.copy()?)?;
-        add_fronts(&mut plan.shared, way)?;
+        add_prefixes(&mut plan.shared, way)?;
         if let Some(bearer) = self.open_at(&path)
             && may_hide
         {
@@ -129,8 +129,8 @@ impl ListTable {
         let mut plan = self.empty_plan(ask);
         plan.given.push(parent)?;
         plan.given.push(new_parent)?;
-        add_fronts(&mut plan.shared, way)?;
-        add_fronts(&mut plan.shared, new_way)?;
+        add_prefixes(&mut plan.shared, way)?;
+        add_prefixes(&mut plan.shared, new_way)?;
         plan.same = source.is(&target);
         plan.ways.push(source.copy()?)?;
         plan.ways.push(target.copy()?)?;
@@ -173,7 +173,7 @@ impl ListTable {
         plan.given.push(number)?;
         plan.ways.push(way.copy()?)?;
         plan.exclusive.push(way.copy()?)?;
-        add_fronts(&mut plan.shared, &way.parent()?)?;
+        add_prefixes(&mut plan.shared, &way.parent()?)?;
         Ok(plan)
     }
 

@@ -35,7 +35,7 @@ impl ListNode {
 
     pub fn is_below(&self, way: &Way) -> bool {
         match &self.way {
-            Some(own) => way.is_front_of(own),
+            Some(own) => way.is_prefix_of(own),
             None => false,
         }
     }

@@ -71,11 +71,11 @@ impl Way {
     }
 
     pub fn is(&self, other: &Way) -> bool {
-        self.words.len() == other.words.len() && self.is_front_of(other)
+        self.words.len() == other.words.len() && self.is_prefix_of(other)
     }
 
     /// Whether the other path begins with these names.
-    pub fn is_front_of(&self, other: &Way) -> bool {
+    pub fn is_prefix_of(&self, other: &Way) -> bool {
         if other.words.len() < self.words.len() {
             return false;
         }
@@ -87,13 +87,13 @@ impl Way {
         true
     }
 
-    pub fn is_proper_front_of(&self, other: &Way) -> bool {
-        self.words.len() < other.words.len() && self.is_front_of(other)
+    pub fn is_proper_prefix_of(&self, other: &Way) -> bool {
+        self.words.len() < other.words.len() && self.is_prefix_of(other)
     }
 
     /// Whether the other path is this one and one name more.
     pub fn is_parent_of(&self, other: &Way) -> bool {
-        self.words.len().saturating_add(1) == other.words.len() && self.is_front_of(other)
+        self.words.len().saturating_add(1) == other.words.len() && self.is_prefix_of(other)
     }
 
     /// One byte and its name's bytes for each name.
@@ -105,8 +105,8 @@ impl Way {
         sum
     }
 
-    /// The path with another front in place of that one, with which it begins.
-    pub fn with_front(&self, old: &Way, new: &Way) -> Result<Way, AllocError> {
+    /// The path with another prefix in place of that one, with which it begins.
+    pub fn with_prefix(&self, old: &Way, new: &Way) -> Result<Way, AllocError> {
         let mut way = new.copy()?;
         let rest = self.words.get(old.words.len()..).unwrap_or(&[]);
         way.words.extend_from_slice(rest)?;
@@ -126,12 +126,12 @@ pub fn add_once(ways: &mut Vec<Way>, way: Way) -> Result<(), AllocError> {
     Ok(())
 }
 
-/// Adds each nonempty front of the path that is not there yet, the path itself among them.
-pub fn add_fronts(ways: &mut Vec<Way>, way: &Way) -> Result<(), AllocError> {
-    let mut front = Way::of(*ways.allocator(), &[])?;
+/// Adds each nonempty prefix of the path that is not there yet, the path itself among them.
+pub fn add_prefixes(ways: &mut Vec<Way>, way: &Way) -> Result<(), AllocError> {
+    let mut prefix = Way::of(*ways.allocator(), &[])?;
     for word in &way.words {
-        front = front.below(*word)?;
-        add_once(ways, front.copy()?)?;
+        prefix = prefix.below(*word)?;
+        add_once(ways, prefix.copy()?)?;
     }
     Ok(())
 }

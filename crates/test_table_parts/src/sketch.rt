@@ -6,7 +6,7 @@ use paths::Name;
 use std::alloc::{AllocError, Global};
 use table_files::{Access, OpenEntry, OpenFile};
 use table_image::{
-    Births, Holds, Image, Nodes, Numbers, OpenFiles, Postings, Record, Records, Stage,
+    Births, Holds, Image, ImageStage, Nodes, Numbers, OpenFiles, Postings, Record, Records,
 };
 use tree::{Key, Node, Place};
 
@@ -82,7 +82,7 @@ fn pinning(alloc: Global, id: u64, number: u64) -> Result<Record, AllocError> {
     Ok(Record {
         id,
         unique: 9,
-        stage: Stage::Working,
+        stage: ImageStage::Working,
         pins,
         held: Held {
             given: GivenPaths::from_vec(Vec::new(alloc)),

@@ -27,7 +27,7 @@ struct Counted<H: Wait + Drop> {
 }
 
 impl<H: Wait + Drop> Calls for Counted<H> {
-    ghost use Rattle.backing.specs.Known.{shared_counts};
+    ghost use Rattle.backing.specs.KnownTreeLemmas.{shared_counts};
     ghost use Rattle.backing.specs.SharedTree.{Shows};
 
     ghost gives = { λ old call answer new. Shows old.tree call answer new.tree };

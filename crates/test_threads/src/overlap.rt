@@ -42,7 +42,7 @@ fn meet(has_called: &mut bool, came: &AtomicU32, met: &AtomicU32) {
 }
 
 impl<H: Wait + Drop> Calls for Meets<H> {
-    ghost use Rattle.backing.specs.Known.{shared_counts};
+    ghost use Rattle.backing.specs.KnownTreeLemmas.{shared_counts};
     ghost use Rattle.backing.specs.SharedTree.{Shows};
 
     ghost gives = { λ old call answer new. Shows old.tree call answer new.tree };

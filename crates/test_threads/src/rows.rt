@@ -87,7 +87,7 @@ fn none_and_five_serve_nobody(rt: HostRuntime) -> Result<(), Fail> {
 }
 
 /// Eight entries, the end by the client, and one more request.
-const FAREWELL: &[(u64, Operation<'static>)] = &[
+const LAST_JOB: &[(u64, Operation<'static>)] = &[
     (1, Lookup { name: "a" }),
     (1, Lookup { name: "a" }),
     (1, Lookup { name: "a" }),
@@ -103,7 +103,7 @@ const FAREWELL: &[(u64, Operation<'static>)] = &[
 /// The reply to DESTROY is the last, whatever was queued before it.
 const DESTROYED: Story = Story {
     says: "the end by the client, one worker",
-    asks: FAREWELL,
+    asks: LAST_JOB,
     end: SessionEnd::Destroyed,
     offers: 10,
     last: 10,

@@ -13,12 +13,12 @@ use crossbeam_channel::bounded_with;
 use engine::{Served, SessionEnd};
 use engine_queues::Job;
 use engine_queues::jobs::{Cut, Fair, Hand, JobPass, JobSender};
-use engine_queues::letters::{InOrder, Letter, ReplyLane, ReplyPass, ReplySender, Roles};
 use engine_queues::passes::Passes;
-use engine_turns::{Kept, Reader, Reply, Visitor, Worker};
+use engine_queues::replies::{InOrder, QueuedReply, ReplyLane, ReplyPass, ReplySender, Roles};
+use engine_turns::{JobReply, Reader, TableHandle, ThreadShare, Worker};
 use handles::Dirs;
 use ledger::{Blanks, Ledgers, Posting, Share};
-use shared_history::{Front, Opened};
+use shared_history::{Opened, ThreadLog};
 use std::alloc::{AllocError, Global};
 use std::marker::Brand;
 use std::random::RandomSource;
@@ -26,7 +26,7 @@ use std::sync::{Arc, Mutex, Wait};
 use std::test::Fail;
 use table::{Limits, Seeds, Table};
 use table_image::Image;
-use table_shared::{Entry, Hall, Opening, Runs};
+use table_shared::{LogEntry, Opening, Runs, SharedTable};
 use wire::Operation;
 use wire::Operation::Lookup;
 
@@ -45,10 +45,10 @@ fn asks<H: Wait + Clone + Drop>(rt: &H, alloc: Global) -> Result<Asks<H>, AllocE
 /// The passes of the only worker.
 pub fn passes_of(
     jobs: &JobSender<Job>,
-    replies: &ReplySender<Reply>,
+    replies: &ReplySender<JobReply>,
     read: &mut JobPass<Job>,
-    written: &mut ReplyPass<Reply>,
-) -> Passes<Job, Reply>
+    written: &mut ReplyPass<JobReply>,
+) -> Passes<Job, JobReply>
     requires read { IsSeatAt (sends_on jobs.now) read.old }
     requires parts { 1 < (view read.old).parts }
     requires written { IsSeatAt (sends_on replies.now) written.old }
@@ -77,8 +77,8 @@ pub fn passes_of(
 fn lone_worker<H: Wait + Clone + Drop>(rt: &H, alloc: Global) -> Result<Worker, AllocError> {
     let (jobs, work, mut read) = bounded_with::<Option<Job>, Hand<Job>, Fair, Global>(alloc, 16)?;
     let (replies, receiver, mut written) = bounded_with::<
-        Option<Letter<Reply>>,
-        ReplyLane<Reply>,
+        Option<QueuedReply<JobReply>>,
+        ReplyLane<JobReply>,
         InOrder,
         Global,
     >(alloc, 16)?;
@@ -90,16 +90,16 @@ fn lone_worker<H: Wait + Clone + Drop>(rt: &H, alloc: Global) -> Result<Worker, 
     Ok(worker)
 }
 
-/// A table in a hall, with the fronts of a worker and of a writer.
-pub fn hall_of<T: Ledgers, N: Opening>(
+/// A shared table, with the logs of a worker and of a writer.
+pub fn shared_table_of<T: Ledgers, N: Opening>(
     alloc: Global,
-    opened: Opened<Entry<T>>,
+    opened: Opened<LogEntry<T>>,
     table: Table<T>,
 ) -> Result<
     (
-        Hall<T, N>,
-        Front<Entry<T>, Runs<N>>,
-        Front<Entry<T>, Runs<N>>,
+        SharedTable<T, N>,
+        ThreadLog<LogEntry<T>, Runs<N>>,
+        ThreadLog<LogEntry<T>, Runs<N>>,
     ),
     AllocError,
 >
@@ -107,24 +107,24 @@ pub fn hall_of<T: Ledgers, N: Opening>(
     requires table { world_of table ≡ opened_world N.limits }
     requires threads { N.threads ≡ 2 }
 {
-    let (hall, mut fronts) = Hall::<T, N>::new(alloc, opened, table, 2)?;
-    let writer = fronts.pop().ok_or(AllocError)?;
-    let worker = fronts.pop().ok_or(AllocError)?;
-    Ok((hall, worker, writer))
+    let (shared_table, mut thread_logs) = SharedTable::<T, N>::new(alloc, opened, table, 2)?;
+    let writer = thread_logs.pop().ok_or(AllocError)?;
+    let worker = thread_logs.pop().ok_or(AllocError)?;
+    Ok((shared_table, worker, writer))
 }
 
 /// Both jobs are worked on.
 fn work_both<H: Wait + Drop, T: Ledgers, N: Opening>(
     rt: &H,
-    hall: &Hall<T, N>,
-    front: Front<Entry<T>, Runs<N>>,
+    shared_table: &SharedTable<T, N>,
+    thread_log: ThreadLog<LogEntry<T>, Runs<N>>,
     share: &mut Share<T>,
     worker: &mut Worker,
     served: &mut Served<MemTree, &Dirs>,
 ) {
-    let mut visitor = Visitor::new(rt, hall, front);
+    let mut table_handle = TableHandle::new(rt, shared_table, thread_log);
     for _ in 0..2 {
-        let _turn = worker.turn_known(&mut visitor, share, served);
+        let _turn = worker.turn_known(&mut table_handle, share, served);
     }
 }
 
@@ -132,9 +132,9 @@ fn work_both<H: Wait + Drop, T: Ledgers, N: Opening>(
 fn work<H: Wait + Drop, T: Ledgers, N: Opening>(
     rt: &H,
     alloc: Global,
-    opened: Opened<Entry<T>>,
+    opened: Opened<LogEntry<T>>,
     table: Table<T>,
-    mut kept: Kept<T>,
+    mut kept: ThreadShare<T>,
     mut worker: Worker,
     tree: MemTree,
     dirs: &Dirs,
@@ -143,10 +143,17 @@ fn work<H: Wait + Drop, T: Ledgers, N: Opening>(
     requires table { world_of table ≡ opened_world N.limits }
     requires threads { N.threads ≡ 2 }
 {
-    let (hall, front, _writer) = hall_of::<T, N>(alloc, opened, table)?;
+    let (shared_table, thread_log, _writer) = shared_table_of::<T, N>(alloc, opened, table)?;
     let mut served = Served { calls: tree, dirs };
-    work_both(rt, &hall, front, &mut kept.share, &mut worker, &mut served);
-    let image = hall.close().into_table().export()?;
+    work_both(
+        rt,
+        &shared_table,
+        thread_log,
+        &mut kept.share,
+        &mut worker,
+        &mut served,
+    );
+    let image = shared_table.close().into_table().export()?;
     Ok((image, worker.handed_back))
 }
 
@@ -166,7 +173,7 @@ fn work_anew<H: Wait + Drop, T: Ledgers>(
     let (table, mut shares) = Table::<T>::open(alloc, Limits::default(), seeds, blanks, 1)?;
     let share = shares.pop().unwrap();
     shares.destroy_empty();
-    let kept = Kept { share };
+    let kept = ThreadShare { share };
     let opened = Opened::new(alloc)?;
     work::<H, T, Brand>(rt, alloc, opened, table, kept, worker, tree, &dirs)
 }

@@ -6,17 +6,17 @@ ghost use Rattle.table_steps.specs.World.{opened_world};
 
 use crate::client::{Asks, Fates, Heard, Hears};
 use crate::teller::{Comes, SETTINGS, holds_of, pieces_of};
-use crate::turns::{hall_of, passes_of};
+use crate::turns::{passes_of, shared_table_of};
 use backing::Shared;
 use crossbeam_channel::bounded_with;
 use engine::{Sent, Served};
 use engine_queues::Job;
 use engine_queues::jobs::{Fair, Hand};
-use engine_queues::letters::{InOrder, Letter, ReplyLane};
-use engine_turns::{Kept, Reader, Reply, Visitor, Worker, Writer};
+use engine_queues::replies::{InOrder, QueuedReply, ReplyLane};
+use engine_turns::{JobReply, Reader, TableHandle, ThreadShare, Worker, Writer};
 use handles::Dirs;
 use ledger::{Blanks, Ledgers, Posting, Share};
-use shared_history::{Front, Opened};
+use shared_history::{Opened, ThreadLog};
 use std::alloc::{AllocError, Global};
 use std::marker::Brand;
 use std::random::RandomSource;
@@ -24,7 +24,7 @@ use std::sync::{Arc, Mutex, Wait};
 use std::test::Fail;
 use table::{Limits, Seeds, Settled, Table};
 use table_image::Image;
-use table_shared::{Entry, Hall, Opening, Runs};
+use table_shared::{LogEntry, Opening, Runs, SharedTable};
 use wire::Operation;
 use wire::Operation::Lookup;
 
@@ -46,8 +46,8 @@ fn both<H: Wait + Drop>(
 ) -> Result<(Worker, Writer), AllocError> {
     let (jobs, work, mut read) = bounded_with::<Option<Job>, Hand<Job>, Fair, Global>(alloc, 16)?;
     let (replies, receiver, mut written) = bounded_with::<
-        Option<Letter<Reply>>,
-        ReplyLane<Reply>,
+        Option<QueuedReply<JobReply>>,
+        ReplyLane<JobReply>,
         InOrder,
         Global,
     >(alloc, 16)?;
@@ -62,29 +62,29 @@ fn both<H: Wait + Drop>(
 /// All jobs are worked on. Then their replies are written together.
 fn work_and_write<H: Wait + Drop, T: Ledgers, N: Opening>(
     rt: &H,
-    hall: &Hall<T, N>,
-    front: Front<Entry<T>, Runs<N>>,
-    own: &mut Front<Entry<T>, Runs<N>>,
+    shared_table: &SharedTable<T, N>,
+    thread_log: ThreadLog<LogEntry<T>, Runs<N>>,
+    own: &mut ThreadLog<LogEntry<T>, Runs<N>>,
     share: &mut Share<T>,
     worker: &mut Worker,
     writer: &mut Writer,
     served: &mut Served<Shared<H>, &Dirs>,
     hears: &mut Hears<H>,
 ) {
-    let mut visitor = Visitor::new(rt, hall, front);
+    let mut table_handle = TableHandle::new(rt, shared_table, thread_log);
     for _ in 0..4 {
-        let _turn = worker.turn(&mut visitor, share, served);
+        let _turn = worker.turn(&mut table_handle, share, served);
     }
-    let _count = writer.turns(rt, hears, hall, own, share, &mut served.dirs);
+    let _count = writer.turns(rt, hears, shared_table, own, share, &mut served.dirs);
 }
 
 /// The same. What the table is then is the result.
 fn write<H: Wait + Drop, T: Ledgers, N: Opening>(
     rt: &H,
     alloc: Global,
-    opened: Opened<Entry<T>>,
+    opened: Opened<LogEntry<T>>,
     table: Table<T>,
-    mut kept: Kept<T>,
+    mut kept: ThreadShare<T>,
     mut worker: Worker,
     writer: &mut Writer,
     tree: Shared<H>,
@@ -95,12 +95,12 @@ fn write<H: Wait + Drop, T: Ledgers, N: Opening>(
     requires table { world_of table ≡ opened_world N.limits }
     requires threads { N.threads ≡ 2 }
 {
-    let (hall, front, mut own) = hall_of::<T, N>(alloc, opened, table)?;
+    let (shared_table, thread_log, mut own) = shared_table_of::<T, N>(alloc, opened, table)?;
     let mut served = Served { calls: tree, dirs };
     work_and_write(
         rt,
-        &hall,
-        front,
+        &shared_table,
+        thread_log,
         &mut own,
         &mut kept.share,
         &mut worker,
@@ -108,7 +108,7 @@ fn write<H: Wait + Drop, T: Ledgers, N: Opening>(
         &mut served,
         hears,
     );
-    hall.close().into_table().export()
+    shared_table.close().into_table().export()
 }
 
 /// The same from a new table.
@@ -129,7 +129,7 @@ fn write_anew<H: Wait + Drop, T: Ledgers>(
     let (table, mut shares) = Table::<T>::open(alloc, Limits::default(), seeds, blanks, 1)?;
     let share = shares.pop().unwrap();
     shares.destroy_empty();
-    let kept = Kept { share };
+    let kept = ThreadShare { share };
     let opened = Opened::new(alloc)?;
     write::<H, T, Brand>(
         rt, alloc, opened, table, kept, worker, writer, tree, &dirs, hears,

@@ -6,7 +6,7 @@ use payload::Payload;
 use std::alloc::Global;
 use std::test::Fail;
 use wire::{
-    Attributes, Entry, Forgotten, Kind, NO_INO, Reply, ReplyBody, encode_dirent,
+    Attributes, Entry, ForgetOne, Kind, NO_INO, Reply, ReplyBody, encode_dirent,
     encode_plus_dirent, encode_reply, split_pair,
 };
 
@@ -152,7 +152,7 @@ fn pairs_of_a_batch(rt: HostRuntime) -> Result<(), Fail> {
         let Some((pair, more)) = split_pair(rest) else {
             return Err(Fail::from(("the pair of", node)));
         };
-        assert_eq!(rt; pair, Forgotten { node, nlookup });
+        assert_eq!(rt; pair, ForgetOne { node, nlookup });
         rest = more;
     }
     assert_eq!(rt; split_pair(rest).is_none(), true);

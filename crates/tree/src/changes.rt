@@ -151,7 +151,7 @@ pub(crate) fn drop_number(store: &mut Store, number: u64)
 }
 
 /// A node is born at the key's place, under the slab's next key, which with one more is the result.
-pub(crate) fn bear(store: &mut Store, generation: u64, key: Key, copy: Key) -> u64
+pub(crate) fn create(store: &mut Store, generation: u64, key: Key, copy: Key) -> u64
     requires copy { copy ≡ key }
     requires stored { IsStored store.old.nodes store.old.index store.old.named }
     requires free { IsFree (slot_at store.old.nodes) key.parent key.name }

@@ -10,20 +10,20 @@ const PAIR_LEN: usize = 16;
 
 /// Lookups of one node that a client gives back (`fuse_forget_one`).
 #[derive(Clone, Copy, Debug, PartialEq, Eq)]
-pub struct Forgotten {
+pub struct ForgetOne {
     pub node: u64,
     pub nlookup: u64,
 }
 
 /// The first of these pairs, and the others.
-pub fn split_pair(pairs: &[u8]) -> Option<(Forgotten, &[u8])>
+pub fn split_pair(pairs: &[u8]) -> Option<(ForgetOne, &[u8])>
     ensures { MatchOption result (pairs_in pairs.now ≡ [])
         (λ x. (pairs_in pairs.now ≡ x.0 ∷ pairs_in x.1.now) × (length x.1.now < length pairs.now)) }
 {
     if pairs.len() < PAIR_LEN {
         return None;
     }
-    let pair = Forgotten {
+    let pair = ForgetOne {
         node: LittleEndian::read_u64(pairs),
         nlookup: LittleEndian::read_u64(&pairs[8..]),
     };

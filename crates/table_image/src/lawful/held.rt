@@ -2,19 +2,19 @@
 
 ghost use Rattle.std.specs.Prelude.{◌≡◌, ◌≢◌, ◌↔◌, ◌==◌, IsTrue, All, AllPairs, Any};
 ghost use Rattle.table_image.specs.declared.data.Hold.{Hold};
-ghost use Rattle.table_image.specs.declared.data.Stage.TheVariants as Stage;
+ghost use Rattle.table_image.specs.declared.data.ImageStage.TheVariants as ImageStage;
 ghost use Rattle.table_image.specs.ImageLaw.{is_working, shares, holds_exclusively, sharers_of, exclusive_of, AreHoldsCounted, AreClear, AreApart};
 ghost use Rattle.table_image.specs.Parts.{IsStored, IsHoldCount, HaveOtherPaths, AreStored};
 
-use crate::data::{Hold, Record, Stage};
+use crate::data::{Hold, ImageStage, Record};
 use paths::Path;
 
 /// Whether the work on the request goes on.
 pub fn is_working(holder: &Record) -> bool
     ensures test { result ≡ is_working holder.now.stage }
-    ensures working { IsTrue result ↔ (holder.now.stage ≡ Stage.Working) }
+    ensures working { IsTrue result ↔ (holder.now.stage ≡ ImageStage.Working) }
 {
-    matches!(holder.stage, Stage::Working)
+    matches!(holder.stage, ImageStage::Working)
 }
 
 /// Whether the request is worked on and shares the path.

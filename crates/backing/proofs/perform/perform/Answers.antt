@@ -1,6 +1,6 @@
 use Rattle.std.proofs.Common.{List, sym, subst}
 use Rattle.backing.specs.declared.call.Call.{Call}
-use Rattle.backing.specs.declared.entries.Entry.{Entry}
+use Rattle.backing.specs.declared.entries.TreeEntry.{TreeEntry}
 use Rattle.backing.specs.Calls.{asked, AskSetPermissions, AskSetOwner, AskSetTimes}
 use Rattle.backing.specs.Entries.{tree_of}
 use Rattle.backing.specs.Refusals.{Ends}
@@ -35,15 +35,15 @@ returns-in-SetLen-clause-ends c = subst (λ (call : Call). Ends (tree_of c.args.
 
 pub returns-in-SetPermissions-clause-ends : goal.returns-in-SetPermissions-clause-ends
 returns-in-SetPermissions-clause-ends c =
-    let ends = subst (λ (es : List Entry). Ends (tree_of es) (AskSetPermissions c.in-SetPermissions.path.now c.in-SetPermissions.permissions) c.set_details.result (tree_of es)) c.deref-in-SetPermissions.ensures.value (c.set_details.ensures.permissions c.in-SetPermissions.permissions) in
+    let ends = subst (λ (es : List TreeEntry). Ends (tree_of es) (AskSetPermissions c.in-SetPermissions.path.now c.in-SetPermissions.permissions) c.set_details.result (tree_of es)) c.deref-in-SetPermissions.ensures.value (c.set_details.ensures.permissions c.in-SetPermissions.permissions) in
     subst (λ (call : Call). Ends (tree_of c.args.entries.now.items) (asked call) c.set_details.result (tree_of c.args.entries.now.items)) (sym c.in-SetPermissions.is) ends
 
 pub returns-in-SetOwner-clause-ends : goal.returns-in-SetOwner-clause-ends
 returns-in-SetOwner-clause-ends c =
-    let ends = subst (λ (es : List Entry). Ends (tree_of es) (AskSetOwner c.in-SetOwner.path.now c.in-SetOwner.uid c.in-SetOwner.gid) c.set_details-in-SetOwner.result (tree_of es)) c.deref-in-SetOwner.ensures.value (c.set_details-in-SetOwner.ensures.owner c.in-SetOwner.uid c.in-SetOwner.gid) in
+    let ends = subst (λ (es : List TreeEntry). Ends (tree_of es) (AskSetOwner c.in-SetOwner.path.now c.in-SetOwner.uid c.in-SetOwner.gid) c.set_details-in-SetOwner.result (tree_of es)) c.deref-in-SetOwner.ensures.value (c.set_details-in-SetOwner.ensures.owner c.in-SetOwner.uid c.in-SetOwner.gid) in
     subst (λ (call : Call). Ends (tree_of c.args.entries.now.items) (asked call) c.set_details-in-SetOwner.result (tree_of c.args.entries.now.items)) (sym c.in-SetOwner.is) ends
 
 pub returns-in-SetTimes-clause-ends : goal.returns-in-SetTimes-clause-ends
 returns-in-SetTimes-clause-ends c =
-    let ends = subst (λ (es : List Entry). Ends (tree_of es) (AskSetTimes c.in-SetTimes.path.now c.in-SetTimes.accessed c.in-SetTimes.modified) c.set_details-in-SetTimes.result (tree_of es)) c.deref-in-SetTimes.ensures.value (c.set_details-in-SetTimes.ensures.times c.in-SetTimes.accessed c.in-SetTimes.modified) in
+    let ends = subst (λ (es : List TreeEntry). Ends (tree_of es) (AskSetTimes c.in-SetTimes.path.now c.in-SetTimes.accessed c.in-SetTimes.modified) c.set_details-in-SetTimes.result (tree_of es)) c.deref-in-SetTimes.ensures.value (c.set_details-in-SetTimes.ensures.times c.in-SetTimes.accessed c.in-SetTimes.modified) in
     subst (λ (call : Call). Ends (tree_of c.args.entries.now.items) (asked call) c.set_details-in-SetTimes.result (tree_of c.args.entries.now.items)) (sym c.in-SetTimes.is) ends

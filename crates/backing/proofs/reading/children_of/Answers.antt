@@ -4,7 +4,7 @@ use Rattle.paths.specs.Prefixes.{Name, Names}
 use Rattle.std.specs.declared.alloc.Global.{Global}
 use Rattle.backing.specs.declared.call.Kind.{Kind}
 use Rattle.backing.specs.declared.call.Child.{Child}
-use Rattle.backing.specs.declared.entries.Entry.{Entry}
+use Rattle.backing.specs.declared.entries.TreeEntry.{TreeEntry}
 use Rattle.backing.specs.Entries.{look, tree_of}
 use Rattle.backing.specs.Calls.{Lists}
 use Rattle.backing.proofs.Listing.{Listed, listed_child, listed_other, look-take_none, lists_all}
@@ -17,9 +17,9 @@ loop-entry-preserved c =
     let i = c.loop-entry.entry-index in
     let x = c.entry-item.result in
     let p = c.args.folder.now in
-    let fresh : look (take i es) x.path ≡ None = subst (λ (e : Entry). look (take i es) e.path ≡ None) (sym c.entry-item.is) (look-take_none es i x c.requires.distinct c.loop-entry-test.true) in
-    let more : take (i + 1) es ≡ take i es ++ x ∷ [] = take_more es i x c.loop-entry-test.true ∙ ap (λ (e : Entry). take i es ++ e ∷ []) (sym c.entry-item.is) in
-    subst (λ (ys : List Entry). Listed ys p c.match-child_of.list.items) (sym more) (elim c.match-child_of.branch [
+    let fresh : look (take i es) x.path ≡ None = subst (λ (e : TreeEntry). look (take i es) e.path ≡ None) (sym c.entry-item.is) (look-take_none es i x c.requires.distinct c.loop-entry-test.true) in
+    let more : take (i + 1) es ≡ take i es ++ x ∷ [] = take_more es i x c.loop-entry-test.true ∙ ap (λ (e : TreeEntry). take i es ++ e ∷ []) (sym c.entry-item.is) in
+    subst (λ (ys : List TreeEntry). Listed ys p c.match-child_of.list.items) (sym more) (elim c.match-child_of.branch [
       | in-Some+in_ok-push_child-in-Some w ↦
           let name = w.in-Some.name.now in
           let path : x.path ≡ p ++ name ∷ [] = w.in-Some.ensures.some ∙ ap (λ (q : Names). q ++ name ∷ []) c.names.ensures in
@@ -36,5 +36,5 @@ pub returns : goal.returns
 returns c =
     let es = c.args.entries.now in
     let whole : take c.loop-entry.entry-index es ≡ es = take_all c.loop-entry.entry-index es c.loop-entry-test.false in
-    let all : Listed es c.args.folder.now c.loop-entry.list.items = subst (λ (ys : List Entry). Listed ys c.args.folder.now c.loop-entry.list.items) whole c.loop-entry.invariant in
+    let all : Listed es c.args.folder.now c.loop-entry.list.items = subst (λ (ys : List TreeEntry). Listed ys c.args.folder.now c.loop-entry.list.items) whole c.loop-entry.invariant in
     subst (λ (cs : List Child). Lists (tree_of es) c.args.folder.now cs) (sym c.from_vec.ensures) (lists_all es c.args.folder.now c.loop-entry.list.items all)

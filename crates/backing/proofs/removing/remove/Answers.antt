@@ -1,5 +1,5 @@
 use Rattle.std.proofs.Common.{refl, List, [], ◌∷◌, subst}
-use Rattle.backing.specs.declared.entries.Entry.{Entry}
+use Rattle.backing.specs.declared.entries.TreeEntry.{TreeEntry}
 use Rattle.backing.specs.Calls.{PassesAll, Reached, Present, NoFolder}
 use Rattle.backing.specs.Entries.{tree_of}
 use Rattle.backing.proofs.removing.remove.Goals as goal
@@ -7,4 +7,4 @@ use Rattle.backing.proofs.removing.remove.Goals as goal
 pub returns-clause-ends : goal.returns-clause-ends
 returns-clause-ends c =
     let p = c.args.path.now in
-    (subst (λ (xs : List Entry). PassesAll (tree_of xs) (Reached p ∷ Present p ∷ NoFolder p ∷ [])) c.deref.ensures.value c.in_ok-expect_file.ensures.ok, (refl, c.take_out.ensures.taken))
+    (subst (λ (xs : List TreeEntry). PassesAll (tree_of xs) (Reached p ∷ Present p ∷ NoFolder p ∷ [])) c.deref.ensures.value c.in_ok-expect_file.ensures.ok, (refl, c.take_out.ensures.taken))

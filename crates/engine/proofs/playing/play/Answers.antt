@@ -9,12 +9,12 @@ use Rattle.engine.specs.Playing.{Playing}
 use Rattle.ops.specs.Ahead.{after_hide, calls_after, calls_ending, calls_from, calls_hiding, end_of, plan_ahead, plan_ending, plan_from}
 use Rattle.ops.specs.Looking.{plan_looking}
 use Rattle.ops.specs.Scripts.{Plan, hide, next_of}
-use Rattle.ops.specs.declared.findings.Found.{Found}
+use Rattle.ops.specs.declared.findings.FoundFile.{FoundFile}
 use Rattle.paths.specs.Prefixes.{Names}
 use Rattle.engine.proofs.Runs.{played_on, played}
 use Rattle.engine.proofs.playing.play.Goals as goal
 
-looks_left : (left : List Names) (found : List (Option Found)) (call : Asked) → next_of (plan_looking (record { left = left; found = found })) ≡ Some call → 0 < length left
+looks_left : (left : List Names) (found : List (Option FoundFile)) (call : Asked) → next_of (plan_looking (record { left = left; found = found })) ≡ Some call → 0 < length left
 looks_left [] found call e = absurd (none-some call e)
 looks_left (p ∷ ps) found call e = omega arith
 

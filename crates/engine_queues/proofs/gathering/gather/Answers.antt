@@ -7,10 +7,10 @@ use Rattle.crossbeam_channel.specs.Ends.{sends_on}
 use Rattle.engine_queues.specs.Gathered.{numbers_of, puts_of, takings_of}
 use Rattle.engine_queues.specs.Totals.{items_of}
 use Rattle.engine_queues.specs.declared.jobs.Hand.{Hand}
-use Rattle.engine_queues.specs.declared.letters.ReplyLane.{ReplyLane}
+use Rattle.engine_queues.specs.declared.replies.ReplyLane.{ReplyLane}
 use Rattle.engine_queues.specs.declared.passes.Passes.{Passes}
 use Rattle.engine_queues.proofs.JobSteps as jobs
-use Rattle.engine_queues.proofs.LetterSteps as letters
+use Rattle.engine_queues.proofs.ReplySteps as queued_replies
 use Rattle.engine_queues.proofs.Putting.{all_accounts, all_whole, back_none, ended_one, ended_some, front_none, next_numbers, none_of, one_more, some_more}
 use Rattle.engine_queues.proofs.gathering.gather.Goals as goal
 
@@ -79,7 +79,7 @@ pub learn_as-requires-clause-rule : goal.learn_as-requires-clause-rule
 learn_as-requires-clause-rule g c = jobs.learns _ _ (let p = c.loop-passes.invariant.parts in let s = c.in-None.ensures.steps in omega arith)
 
 pub learn_as-requires-2-clause-rule : goal.learn_as-requires-2-clause-rule
-learn_as-requires-2-clause-rule g c = letters.learns _ _ c.loop-passes.invariant.gets (let m = c.loop-passes.invariant.made in let s = c.in-None.ensures.steps in omega arith)
+learn_as-requires-2-clause-rule g c = queued_replies.learns _ _ c.loop-passes.invariant.gets (let m = c.loop-passes.invariant.made in let s = c.in-None.ensures.steps in omega arith)
 
 pub returns-clause-jobs : goal.returns-clause-jobs
 returns-clause-jobs g c =

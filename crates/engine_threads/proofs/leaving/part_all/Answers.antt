@@ -4,7 +4,7 @@ use Rattle.std.specs.Vec.Iter.{into_iter_items}
 use Rattle.table_shared.specs.Histories.{calls_of}
 use Rattle.engine_queues.specs.declared.job.Job.{Job}
 use Rattle.engine_queues.specs.declared.passes.Passes.{Passes}
-use Rattle.engine_turns.specs.declared.replies.Reply.{Reply}
+use Rattle.engine_turns.specs.declared.replies.JobReply.{JobReply}
 use Rattle.engine_threads.specs.declared.working.WorkerEnd.{WorkerEnd}
 use Rattle.engine_threads.specs.Worked.{did}
 use Rattle.engine_threads.proofs.Lists.{next_put}
@@ -18,12 +18,12 @@ loop-end-preserved g c =
     let s = c.in-Some.ensures.steps in
     let from = into_iter_items c.loop-end.end-iterator in
     let rest = into_iter_items c.next.new.self in
-    let Pass : Type 0 = Passes Job Reply in
+    let Pass : Type 0 = Passes Job JobReply in
     let End : Type 0 = WorkerEnd g.row.T.Denot g.row.N.Denot g.row.C.Denot in
     let passes : List End → List Pass = λ (es : List End). map (λ (e : End). e.passes) es in
     let log = c.args.closed.now.table.log in
-    let P : End → Type 0 = λ (e : End). did log e.front.by ≡ calls_of e.front.mine in
-    let this : P c.in-Some.end = ap (λ l. did l c.in-Some.end.front.by) (sym i.same) ∙ c.part.ensures.did in
+    let P : End → Type 0 = λ (e : End). did log e.thread_log.by ≡ calls_of e.thread_log.mine in
+    let this : P c.in-Some.end = ap (λ l. did l c.in-Some.end.thread_log.by) (sym i.same) ∙ c.part.ensures.did in
     record {
       did = λ others. i.did (All-same P from (c.in-Some.end ∷ rest) s.0 (All-cons P c.in-Some.end rest this others));
       same = c.part.ensures.same ∙ i.same;

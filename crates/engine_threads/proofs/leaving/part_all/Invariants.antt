@@ -9,7 +9,7 @@ abbrev pub invariant-loop-end : goal.invariant-loop-end
 invariant-loop-end g l =
     let rest = into_iter_items l.end-iterator in
     record {
-      did : All (λ e. did l.fn.closed.table.log e.front.by ≡ calls_of e.front.mine) rest → All (λ e. did l.fn.closed.table.log e.front.by ≡ calls_of e.front.mine) l.fn.ends.items;
+      did : All (λ e. did l.fn.closed.table.log e.thread_log.by ≡ calls_of e.thread_log.mine) rest → All (λ e. did l.fn.closed.table.log e.thread_log.by ≡ calls_of e.thread_log.mine) l.fn.ends.items;
       same : l.closed.table.log ≡ l.fn.closed.table.log;
       passes : l.passes.items ++ map (λ e. e.passes) rest ≡ map (λ e. e.passes) l.fn.ends.items;
       counts : l.handed_back.items ++ map (λ e. e.handed_back) rest ≡ map (λ e. e.handed_back) l.fn.ends.items;

@@ -20,8 +20,8 @@ serve_opened-requires-clause-shares g c κs within =
 
 pub returns-clause-reads : goal.returns-clause-reads
 returns-clause-reads g c =
-    subst (λ (link : g.row.I.Denot). IfSome c.serve_opened.result (λ a. ∥ HasReadAll g.I.LinkIn.receives (Some link) a.passed.input (queued_of (view a.passed.read.value).put) (option_map shown a.passed.farewell.value) a.passed.is_job_handed_back ∥₁)) c.in_ok-host.ensures.0 c.serve_opened.ensures.reads
+    subst (λ (link : g.row.I.Denot). IfSome c.serve_opened.result (λ a. ∥ HasReadAll g.I.LinkIn.receives (Some link) a.passed.input (queued_of (view a.passed.read.value).put) (option_map shown a.passed.last_job.value) a.passed.is_job_handed_back ∥₁)) c.in_ok-session_base.ensures.0 c.serve_opened.ensures.reads
 
 pub returns-clause-served : goal.returns-clause-served
 returns-clause-served g c =
-    subst (λ (link : g.row.O.Denot). IfSome c.serve_opened.result (λ a. ∥ ((history : List Made) × HasServed g.C.Calls.gives g.O.LinkOut.sends c.args.limits c.args.settings c.args.trees.items link a.passed a.sums.totals history) ∥₁)) c.in_ok-host.ensures.1 c.serve_opened.ensures.served
+    subst (λ (link : g.row.O.Denot). IfSome c.serve_opened.result (λ a. ∥ ((history : List Made) × HasServed g.C.Calls.gives g.O.LinkOut.sends c.args.limits c.args.settings c.args.trees.items link a.passed a.sums.totals history) ∥₁)) c.in_ok-session_base.ensures.1 c.serve_opened.ensures.served

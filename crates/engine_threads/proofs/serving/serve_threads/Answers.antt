@@ -24,7 +24,7 @@ pub returns-in-Some-clause-only : goal.returns-in-Some-clause-only
 returns-in-Some-clause-only g c none =
     let p = c.in-Some.account.passed in
     let put = queued_of (view p.read.value).put in
-    let farewell = option_map shown p.farewell.value in
+    let last_job = option_map shown p.last_job.value in
     let back = p.is_job_handed_back in
-    let reads = subst (λ (input : Option SessionEnd). ∥ HasReadAll g.I.LinkIn.receives (Some c.args.link_in) input put farewell back ∥₁) (c.ended_by.ensures.only none) c.in-Some.ensures.reads in
-    absurd (some_input g.I.LinkIn.receives (Some c.args.link_in) ends.NoWorkers put farewell back reads refl)
+    let reads = subst (λ (input : Option SessionEnd). ∥ HasReadAll g.I.LinkIn.receives (Some c.args.link_in) input put last_job back ∥₁) (c.ended_by.ensures.only none) c.in-Some.ensures.reads in
+    absurd (some_input g.I.LinkIn.receives (Some c.args.link_in) ends.NoWorkers put last_job back reads refl)

@@ -1,6 +1,6 @@
 use denote.Param.{param}
 use denote.Param.Send.{IsSend, IsSync, sendable}
-use Rattle.engine_threads.proofs.Crossing.{shared_send, staff_send, worker_end_send}
+use Rattle.engine_threads.proofs.Crossing.{shared_send, ready_worker_send, worker_end_send}
 use Rattle.engine_threads.proofs.starting.start_one.Goals as goal
 
 pub spawn_with-requires-send-F : goal.spawn_with-requires-send-F
@@ -23,7 +23,7 @@ spawn_with-requires-send-F g c κs within =
     let f : IsSend C = search sendable in
     let m : IsSend S = search sendable in
     let shared = shared_send H T N I O S g.N.Opening g.I.LinkIn g.O.LinkOut g.S.Source g.S.Sink g.T.Ledgers h k s y n d e m in
-    let staff = staff_send T N C g.N.Opening g.T.Ledgers s y n f in
+    let ready_workers = ready_worker_send T N C g.N.Opening g.T.Ledgers s y n f in
     search sendable depth 20
 
 pub spawn_with-requires-send-T : goal.spawn_with-requires-send-T

@@ -1,6 +1,6 @@
 use Rattle.std.proofs.Common.{[], ◌∙◌, refl}
 use Rattle.crossbeam_channel.specs.Claims.{view}
-use Rattle.engine_turns.specs.Visits.{on_table_of}
+use Rattle.engine_turns.specs.TableCalls.{on_table_of}
 use Rattle.engine_turns.specs.Turns.{means, outbox, standing}
 use Rattle.engine_threads.specs.Worked.{does_shared}
 use Rattle.engine_threads.proofs.Chains.{works_on}
@@ -17,10 +17,10 @@ loop-preserved g c =
     let t = c.turn in
     let one = c.in-Worked._settled in
     record {
-      jobs = t.ensures.rings.0 ∙ i.jobs;
-      replies = t.ensures.rings.1 ∙ i.replies;
-      number = t.ensures.rings.2 ∙ i.number;
+      jobs = t.ensures.queues.0 ∙ i.jobs;
+      replies = t.ensures.queues.1 ∙ i.replies;
+      number = t.ensures.queues.2 ∙ i.number;
       settings = t.ensures.settings ∙ i.settings;
-      worked = works_on (does_shared g.C.Calls.gives) w.session.settings w.number l.worker.session.settings l.worker.number (standing (view w.job_pass) (outbox (view w.reply_pass) w.handed_back) (means c.args.served.now c.args.kept.now.share (on_table_of c.args.visitor.now.front)))
-          (standing (view l.worker.job_pass) (outbox (view l.worker.reply_pass) l.worker.handed_back) (means l.served l.kept.share (on_table_of l.visitor.front))) (standing (view t.new.self.job_pass) (outbox (view t.new.self.reply_pass) t.new.self.handed_back) (means t.new.served t.new.share (on_table_of t.new.visitor.front))) one i.settings i.number i.worked (t.ensures.worked one c.in-Worked.is);
+      worked = works_on (does_shared g.C.Calls.gives) w.session.settings w.number l.worker.session.settings l.worker.number (standing (view w.job_pass) (outbox (view w.reply_pass) w.handed_back) (means c.args.served.now c.args.kept.now.share (on_table_of c.args.table_handle.now.thread_log)))
+          (standing (view l.worker.job_pass) (outbox (view l.worker.reply_pass) l.worker.handed_back) (means l.served l.kept.share (on_table_of l.table_handle.thread_log))) (standing (view t.new.self.job_pass) (outbox (view t.new.self.reply_pass) t.new.self.handed_back) (means t.new.served t.new.share (on_table_of t.new.table_handle.thread_log))) one i.settings i.number i.worked (t.ensures.worked one c.in-Worked.is);
     }

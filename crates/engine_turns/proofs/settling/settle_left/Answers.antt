@@ -5,7 +5,7 @@ use Rattle.table_shared.specs.Runs.{settled}
 use Rattle.engine.specs.Folders.{GivesUp}
 use Rattle.engine.proofs.Endings.{none_given_up}
 use Rattle.engine_queues.specs.declared.left.Left.{Left}
-use Rattle.engine_turns.specs.Visits.{on_table_of, settlement_of}
+use Rattle.engine_turns.specs.TableCalls.{on_table_of, settlement_of}
 use Rattle.engine_turns.proofs.Stepping.{made}
 use Rattle.engine_turns.specs.Turns.{IsEnded, ending}
 use Rattle.engine_turns.proofs.Answering.{none_more}
@@ -16,7 +16,7 @@ returns-in_default-clause-ends g c = record {
   folders = [];
   chain = refl;
   calls = [];
-  on_table = none_more (on_table_of c.args.front.now);
+  on_table = none_more (on_table_of c.args.thread_log.now);
   so = subst (λ (o : Option Left). IsEnded o c.args.taken (ending _ [] [])) (sym c.in_default.is) (record { settled_is = refl; gives_up = none_given_up c.args.taken; settles = refl });
 }
 
@@ -31,7 +31,7 @@ returns-clause-ends g c =
       folders = up.folders;
       chain = up.chain;
       calls = call ∷ [];
-      on_table = made start call c.args.front.now s.new.me s.ensures.makes;
+      on_table = made start call c.args.thread_log.now s.new.me s.ensures.makes;
       so = subst (λ (o : Option Left). IsEnded o c.args.taken (ending (Some s.result) up.folders (call ∷ []))) (sym c.in-Some.is) (record {
         settled_is = ap Some (s.ensures.settled ∙ ap (λ (a : Answer). settlement_of a c.args.taken) parts.ensures.0);
         gives_up = subst (λ (p : Option ℕ). GivesUp c.args.taken p up.folders) parts.ensures.1 up.so;

@@ -1,5 +1,5 @@
 use Rattle.std.proofs.Common.{inl, ap, subst, sym, ◌∙◌}
-use Rattle.engine.specs.Alone.{opened_idle}
+use Rattle.engine.specs.AloneLemmas.{opened_idle}
 use Rattle.table_steps.specs.Kept.{world_of}
 use Rattle.table_steps.specs.World.{World, opened_world}
 use Rattle.table_hiding.specs.Hiding.{KeepsHidden}

@@ -1,7 +1,7 @@
 use Rattle.std.proofs.Common.{◌&&◌, Bool, not, refl, ap, ◌∙◌}
 use Rattle.std.proofs.lemmas.Result.{IfErr-weaker, IfOk-weaker}
 use Rattle.table_requests.specs.declared.data.Case.TheVariants as cases
-use Rattle.table_footprints.specs.declared.refusal.Refusal.{Refusal}
+use Rattle.table_footprints.specs.declared.refusal.FootprintRefusal.{FootprintRefusal}
 use Rattle.table_footprints.specs.Cases.{seen_of}
 use Rattle.table_footprints.specs.Gatherings.{IsWanted, refusal_errno}
 use Rattle.table_footprints.specs.NewRequests.{IsRefusedRequest}
@@ -14,7 +14,7 @@ pub returns-in-Node-clause-err : goal.returns-in-Node-clause-err
 returns-in-Node-clause-err c =
     let seen = seen_of c.args.tree.now c.args.files.now c.args.counter in
     let t = c.reservation_of.ensures in
-    IfErr-weaker c.reservation_of.result _ (λ (r : Refusal). IsRefusedRequest seen c.args.want.now (refusal_errno r))
+    IfErr-weaker c.reservation_of.result _ (λ (r : FootprintRefusal). IsRefusedRequest seen c.args.want.now (refusal_errno r))
     (λ r unsound. node_refused seen c.args.want.now _ c.in-Node.handle (refusal_errno r) c.in-Node.is (unsound cases.Plain)) t.err
 
 pub returns-in-Node-clause-ok : goal.returns-in-Node-clause-ok
@@ -31,7 +31,7 @@ pub returns-in-Name-clause-err : goal.returns-in-Name-clause-err
 returns-in-Name-clause-err c =
     let seen = seen_of c.args.tree.now c.args.files.now c.args.counter in
     let t = c.reservation_of-in-Name.ensures in
-    IfErr-weaker c.reservation_of-in-Name.result _ (λ (r : Refusal). IsRefusedRequest seen c.args.want.now (refusal_errno r)) (λ r unsound. refused_as seen c.args.want.now _ (refusal_errno r) c.in-Name.is (entry_there seen.at _ _ t.tree t.census c.in-Name.parent c.in-Name.name) unsound) t.err
+    IfErr-weaker c.reservation_of-in-Name.result _ (λ (r : FootprintRefusal). IsRefusedRequest seen c.args.want.now (refusal_errno r)) (λ r unsound. refused_as seen c.args.want.now _ (refusal_errno r) c.in-Name.is (entry_there seen.at _ _ t.tree t.census c.in-Name.parent c.in-Name.name) unsound) t.err
 
 pub returns-in-Remove-clause-ok : goal.returns-in-Remove-clause-ok
 returns-in-Remove-clause-ok c =
@@ -41,7 +41,7 @@ returns-in-Remove-clause-ok c =
 pub returns-in-Remove-clause-err : goal.returns-in-Remove-clause-err
 returns-in-Remove-clause-err c =
     let seen = seen_of c.args.tree.now c.args.files.now c.args.counter in
-    IfErr-weaker c.going_reservation.result _ (λ (r : Refusal). IsRefusedRequest seen c.args.want.now (refusal_errno r)) (λ r bad. removal_refused seen c.args.want.now _ _ _ (refusal_errno r) bad.case c.in-Remove.is bad.fits bad.unsound) c.going_reservation.ensures.err
+    IfErr-weaker c.going_reservation.result _ (λ (r : FootprintRefusal). IsRefusedRequest seen c.args.want.now (refusal_errno r)) (λ r bad. removal_refused seen c.args.want.now _ _ _ (refusal_errno r) bad.case c.in-Remove.is bad.fits bad.unsound) c.going_reservation.ensures.err
 
 pub returns-in-Move-clause-ok : goal.returns-in-Move-clause-ok
 returns-in-Move-clause-ok c =
@@ -53,7 +53,7 @@ pub returns-in-Move-clause-err : goal.returns-in-Move-clause-err
 returns-in-Move-clause-err c =
     let seen = seen_of c.args.tree.now c.args.files.now c.args.counter in
     let apart = c.may_replace.ensures ∙ ap (λ (b : Bool). not c.in-Move.keep && not b) c.is.ensures in
-    IfErr-weaker c.going_reservation-in-Move.result _ (λ (r : Refusal). IsRefusedRequest seen c.args.want.now (refusal_errno r)) (λ r bad. move_refused seen c.args.want.now _ _ _ _ _ _ c.in-Move.is apart (refusal_errno r) bad.case bad.fits bad.unsound) c.going_reservation-in-Move.ensures.err
+    IfErr-weaker c.going_reservation-in-Move.result _ (λ (r : FootprintRefusal). IsRefusedRequest seen c.args.want.now (refusal_errno r)) (λ r bad. move_refused seen c.args.want.now _ _ _ _ _ _ c.in-Move.is apart (refusal_errno r) bad.case bad.fits bad.unsound) c.going_reservation-in-Move.ensures.err
 
 pub returns-in-Exchange-clause-ok : goal.returns-in-Exchange-clause-ok
 returns-in-Exchange-clause-ok c =
@@ -63,7 +63,7 @@ returns-in-Exchange-clause-ok c =
 pub returns-in-Exchange-clause-err : goal.returns-in-Exchange-clause-err
 returns-in-Exchange-clause-err c =
     let seen = seen_of c.args.tree.now c.args.files.now c.args.counter in
-    IfErr-weaker c.reservation_of-in-Exchange.result _ (λ (r : Refusal). IsRefusedRequest seen c.args.want.now (refusal_errno r)) (λ r unsound. exchange_refused seen c.args.want.now _ _ _ _ c.in-Exchange.is (refusal_errno r) (unsound cases.Plain)) c.reservation_of-in-Exchange.ensures.err
+    IfErr-weaker c.reservation_of-in-Exchange.result _ (λ (r : FootprintRefusal). IsRefusedRequest seen c.args.want.now (refusal_errno r)) (λ r unsound. exchange_refused seen c.args.want.now _ _ _ _ c.in-Exchange.is (refusal_errno r) (unsound cases.Plain)) c.reservation_of-in-Exchange.ensures.err
 
 pub returns-in-Open-clause-ok : goal.returns-in-Open-clause-ok
 returns-in-Open-clause-ok c =
@@ -74,7 +74,7 @@ pub returns-in-Open-clause-err : goal.returns-in-Open-clause-err
 returns-in-Open-clause-err c =
     let seen = seen_of c.args.tree.now c.args.files.now c.args.counter in
     let t = c.reservation_with_file.ensures in
-    IfErr-weaker c.reservation_with_file.result _ (λ (r : Refusal). IsRefusedRequest seen c.args.want.now (refusal_errno r))
+    IfErr-weaker c.reservation_with_file.result _ (λ (r : FootprintRefusal). IsRefusedRequest seen c.args.want.now (refusal_errno r))
     (λ r unsound. refused_as seen c.args.want.now _ (refusal_errno r) c.in-Open.is (cases.Plain, refl) (λ k. unsound_opening seen.at (node_footprint c.in-Open.number) _ (refusal_errno r) (unsound k))) t.err
 
 pub returns-in-Create-clause-ok : goal.returns-in-Create-clause-ok
@@ -86,7 +86,7 @@ pub returns-in-Create-clause-err : goal.returns-in-Create-clause-err
 returns-in-Create-clause-err c =
     let seen = seen_of c.args.tree.now c.args.files.now c.args.counter in
     let t = c.reservation_with_file-in-Create.ensures in
-    IfErr-weaker c.reservation_with_file-in-Create.result _ (λ (r : Refusal). IsRefusedRequest seen c.args.want.now (refusal_errno r))
+    IfErr-weaker c.reservation_with_file-in-Create.result _ (λ (r : FootprintRefusal). IsRefusedRequest seen c.args.want.now (refusal_errno r))
     (λ r unsound. refused_as seen c.args.want.now _ (refusal_errno r) c.in-Create.is (entry_there seen.at _ _ t.tree t.census c.in-Create.parent c.in-Create.name) (λ k. unsound_opening seen.at (name_footprint c.in-Create.parent c.in-Create.name k) _ (refusal_errno r) (unsound k))) t.err
 
 pub returns-in-Release-clause-ok : goal.returns-in-Release-clause-ok
@@ -97,4 +97,4 @@ returns-in-Release-clause-ok c =
 pub returns-in-Release-clause-err : goal.returns-in-Release-clause-err
 returns-in-Release-clause-err c =
     let seen = seen_of c.args.tree.now c.args.files.now c.args.counter in
-    IfErr-weaker c.closing_reservation.result _ (λ (r : Refusal). IsRefusedRequest seen c.args.want.now (refusal_errno r)) (λ r starving. closing_refused seen c.closing_reservation.ensures.tree _ c.closing_reservation.ensures.files.many c.args.want.now _ _ r c.in-Release.is starving) c.closing_reservation.ensures.err
+    IfErr-weaker c.closing_reservation.result _ (λ (r : FootprintRefusal). IsRefusedRequest seen c.args.want.now (refusal_errno r)) (λ r starving. closing_refused seen c.closing_reservation.ensures.tree _ c.closing_reservation.ensures.files.many c.args.want.now _ _ r c.in-Release.is starving) c.closing_reservation.ensures.err

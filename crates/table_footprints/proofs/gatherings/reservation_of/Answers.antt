@@ -3,8 +3,8 @@ use Rattle.std.proofs.lemmas.List.{length-map}
 use Rattle.std.proofs.lemmas.Result.{err_from_is_err_and}
 use Rattle.paths.specs.Prefixes.{Names}
 use Rattle.tree.specs.Places.{at_in}
-use Rattle.table_footprints.specs.declared.refusal.Refusal.{Refusal}
-use Rattle.table_footprints.specs.declared.refusal.Refusal.TheVariants.{Memory}
+use Rattle.table_footprints.specs.declared.refusal.FootprintRefusal.{FootprintRefusal}
+use Rattle.table_footprints.specs.declared.refusal.FootprintRefusal.TheVariants.{Memory}
 use Rattle.table_footprints.specs.Asked.{IsUnsound}
 use Rattle.table_footprints.specs.Gatherings.{IsReserved, IsShortPath, footprint_from, entered_case, refusal_errno, location_of, locations_of}
 use Rattle.table_footprints.specs.Footprints.{births_in}
@@ -17,7 +17,7 @@ returns-in_err-expect_rooted-clause-err c =
     let p = err_from_is_err_and c.from_residual.result c.from_residual.ensures.1 in
     let footprint = c.args.footprint.now in
     let it = c.in_err-expect_rooted.ensures.err in
-    rw (p.1, p.2) (λ k. subst (λ (r : Refusal). IsUnsound (at_in c.args.tree.now) (footprint_from footprint k) (refusal_errno r)) (sym it.0) (lost_refused (at_in c.args.tree.now) c.expect_rooted.ensures.tree (locations_of footprint) footprint.hold footprint.enters footprint.change k it.1))
+    rw (p.1, p.2) (λ k. subst (λ (r : FootprintRefusal). IsUnsound (at_in c.args.tree.now) (footprint_from footprint k) (refusal_errno r)) (sym it.0) (lost_refused (at_in c.args.tree.now) c.expect_rooted.ensures.tree (locations_of footprint) footprint.hold footprint.enters footprint.change k it.1))
 
 pub returns-in_err-gathering-clause-err : goal.returns-in_err-gathering-clause-err
 returns-in_err-gathering-clause-err c =

@@ -1,8 +1,8 @@
 use Rattle.std.proofs.Common.{ℕ, [], ◌∷◌, sym, subst}
 use Rattle.std.proofs.lemmas.Result.{err_from_is_err_and}
 use Rattle.tree.specs.Places.{Lookup, Leads, at_in}
-use Rattle.table_footprints.specs.declared.refusal.Refusal.{Refusal}
-use Rattle.table_footprints.specs.declared.refusal.Refusal.TheVariants.{Memory}
+use Rattle.table_footprints.specs.declared.refusal.FootprintRefusal.{FootprintRefusal}
+use Rattle.table_footprints.specs.declared.refusal.FootprintRefusal.TheVariants.{Memory}
 use Rattle.table_footprints.specs.Asked.{IsUnsound}
 use Rattle.table_footprints.specs.Gatherings.{AreRooted, IsLost, IsRootedAt, refusal_errno}
 use Rattle.table_footprints.specs.Footprints.{AtNode, page_footprint}
@@ -18,7 +18,7 @@ returns-in_err-expect_rooted-clause-err c =
     let p = err_from_is_err_and c.from_residual.result c.from_residual.ensures.1 in
     let at = at_in c.args.tree.now in
     let it = c.in_err-expect_rooted.ensures.err in
-    rw (p.1, p.2) (subst (λ (r : Refusal). IsUnsound at (page_footprint c.args.folder c.args.names.now) (refusal_errno r)) (sym it.0)
+    rw (p.1, p.2) (subst (λ (r : FootprintRefusal). IsUnsound at (page_footprint c.args.folder c.args.names.now) (refusal_errno r)) (sym it.0)
     (page_lost at c.expect_rooted.ensures.tree c.args.folder c.args.names.now (any_only (IsLost at) (AtNode c.args.folder) it.1)))
 
 pub returns-in_err-gathering-clause-err : goal.returns-in_err-gathering-clause-err

@@ -2,7 +2,7 @@ use Rattle.std.proofs.Common.{◌++◌, Contains, take, arith, sym, subst, refl}
 use Rattle.std.proofs.lemmas.Result.{err_from_is_err_and}
 use Rattle.holds.proofs.Among.{contains_read}
 use Rattle.tree.specs.Places.{at_in}
-use Rattle.table_footprints.specs.declared.footprints.Hold.{Hold}
+use Rattle.table_footprints.specs.declared.footprints.HoldMode.{HoldMode}
 use Rattle.table_footprints.specs.Gatherings.{IsGathering, locations_of}
 use Rattle.table_footprints.specs.Removals.{IsGathered}
 use Rattle.table_footprints.specs.Footprints.{AtName, names_under}
@@ -24,7 +24,7 @@ loop-other-init c =
     let ls = locations_of c.args.footprint.now in
     record {
       gathered = subst (λ ms. IsGathered at ls ms c.in_ok-gathering.gathering) (sym (beside_none ls c.args.folder))
-          (gathered_start at ls c.in_ok-gathering.gathering (subst (λ (hold : Hold). IsGathering at hold ls c.in_ok-gathering.gathering) c.requires.exclusive c.in_ok-gathering.ensures.ok));
+          (gathered_start at ls c.in_ok-gathering.gathering (subst (λ (hold : HoldMode). IsGathering at hold ls c.in_ok-gathering.gathering) c.requires.exclusive c.in_ok-gathering.ensures.ok));
       room = omega (arith, c.in_ok-gathering.ensures.room);
     }
 

@@ -6,9 +6,9 @@ use Rattle.table_files.specs.OpenEntry.{files_of}
 use Rattle.table_requests.specs.declared.data.Case.{Case}
 use Rattle.paths.specs.Prefixes.{Name}
 use Rattle.tree.specs.Places.{at_in}
-use Rattle.table_footprints.specs.declared.refusal.Refusal.{Refusal}
-use Rattle.table_footprints.specs.declared.refusal.Refusal.TheVariants as refusals
-use Rattle.table_footprints.specs.declared.footprints.Hold.{Hold}
+use Rattle.table_footprints.specs.declared.refusal.FootprintRefusal.{FootprintRefusal}
+use Rattle.table_footprints.specs.declared.refusal.FootprintRefusal.TheVariants as refusals
+use Rattle.table_footprints.specs.declared.footprints.HoldMode.{HoldMode}
 use Rattle.table_footprints.specs.Cases.{IsHidingCase, seen_of}
 use Rattle.table_footprints.specs.Gatherings.{AreNames, IsBadFootprint, IsShortPath, IsReservation, exclusive_in, refusal_errno, location_of, locations_of}
 use Rattle.table_footprints.specs.Removals.{IsGathered, IsRefusedGoing, going_footprint}
@@ -26,7 +26,7 @@ returns-in_err-expect_rooted-clause-err c =
     let gone = c.args.gone.now in
     let seen = seen_of c.args.tree.now c.args.files.now c.args.counter in
     let case = hiding_there at _ _ r.tree r.census (files_of c.args.files.now) c.len-files.ensures.law c.args.counter gone.parent gone.name.now gone.may_hide in
-    rw (p.1, p.2) (subst (λ (k : Refusal). IsRefusedGoing seen footprint gone (refusal_errno k)) (sym it.0)
+    rw (p.1, p.2) (subst (λ (k : FootprintRefusal). IsRefusedGoing seen footprint gone (refusal_errno k)) (sym it.0)
     (record { case = case.0; fits = case.1; unsound = going_lost at r.tree (locations_of footprint) footprint.change gone.parent (hidden_in case.0) it.1 }))
 
 pub returns-in_err-found-clause-err : goal.returns-in_err-found-clause-err
@@ -117,7 +117,7 @@ returns-clause-ok c =
     let hidden : c.as_slice.result.now ≡ hidden_in case = c.as_slice.ensures ∙ c.in_ok-beside.ensures in
     let is : IsGathered at ls (ls ++ names_under gone.parent (hidden_in case)) x = subst (λ (ns : List Name). IsGathered at ls (ls ++ names_under gone.parent ns) x) hidden c.in_ok-gathering.ensures.ok in
     let may = rw c.as_slice-2.ensures at c.in_ok-expect_change.ensures.ok in
-    let names = subst (λ (hold : Hold). AreNames (exclusive_in hold ls)) c.requires.exclusive c.requires.fit.names in
+    let names = subst (λ (hold : HoldMode). AreNames (exclusive_in hold ls)) c.requires.exclusive c.requires.fit.names in
     let same = c.in_ok-reservation.ensures.case_is in
     let t = c.in_ok-reservation.reservation in
     record {

@@ -4,12 +4,12 @@ use Rattle.std.proofs.lemmas.Grind.{common_steps}
 use Rattle.std.specs.Vec.Iter.{into_iter_items}
 use Rattle.table_steps.specs.Kept.{world_of}
 use Rattle.table.proofs.Gaining.{gains_in_all, gains_same}
-use Rattle.table_runs.specs.declared.calls.Call.{Call}
-use Rattle.table_runs.specs.declared.calls.Told.{Told}
+use Rattle.table_runs.specs.declared.calls.TableCall.{TableCall}
+use Rattle.table_runs.specs.declared.calls.CallResult.{CallResult}
 use Rattle.table_runs.proofs.Running.{HasRun, no_run, run_more, run_refused, runs_first, runs_length, told_more, told_whole}
 use Rattle.table_runs.proofs.calls.run.Goals as goal
 
-nothing_left : (calls : List Call) → length calls ≡ 0 → calls ≡ []
+nothing_left : (calls : List TableCall) → length calls ≡ 0 → calls ≡ []
 nothing_left [] none = refl
 nothing_left (call ∷ calls) none = absurd (omega arith)
 
@@ -78,7 +78,7 @@ loop-next-init g c =
     let none : drop (length o) c.reserve.new.self.items ≡ [] = ap (drop (length o)) same ∙ drop-length o in
     record {
       run = no_run (world_of c.args.table.now) c.args.pending.now c.args.share.now (drop (length o) c.reserve.new.self.items) c.attest.ensures none;
-      told = same ∙ (sym (append-nil o) ∙ ap (λ (l : List Told). o ++ l) (sym none));
+      told = same ∙ (sym (append-nil o) ∙ ap (λ (l : List CallResult). o ++ l) (sym none));
       calls = search rules;
       left = search rules;
       room = grind (arith, common_steps);

@@ -6,5 +6,5 @@ returns-in-None-clause-more c = record {
   born = 1;
   one = omega arith;
   none = λ n named. absurd (c.in-None.ensures.none n named);
-  more_is = c.bear.ensures.more;
+  more_is = c.create.ensures.more;
 }

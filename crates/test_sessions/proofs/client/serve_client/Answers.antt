@@ -1,4 +1,4 @@
-use Rattle.engine.specs.Alone.{opened_idle}
+use Rattle.engine.specs.AloneLemmas.{opened_idle}
 use Rattle.table_steps.specs.Kept.{world_of}
 use Rattle.test_sessions.proofs.client.serve_client.Goals as goal
 

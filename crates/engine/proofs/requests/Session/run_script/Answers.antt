@@ -24,7 +24,7 @@ returns-in-Listed-clause-runs g c =
       made = played.made;
       end = listed_end c.in-Listed.children;
       makes = played.makes;
-      concludes = record { folders = c.list.ensures.concludes.folders; chain = c.list.ensures.concludes.chain; so = c.list.ensures.concludes.so c.args.page.now played.made listed };
+      concludes = record { folders = c.finish_opendir.ensures.concludes.folders; chain = c.finish_opendir.ensures.concludes.chain; so = c.finish_opendir.ensures.concludes.so c.args.page.now played.made listed };
     }
 
 pub returns-in_default : goal.returns-in_default
@@ -36,9 +36,9 @@ returns-in_default g c =
         made = played.made;
         end = end_of c.play.result;
         makes = subst (λ (calls : g.row.C.Denot). Makes g.C.Calls.gives c.args.served.now.calls played.made calls) (sym c.offer_room.ensures) played.makes;
-        concludes = record { folders = []; chain = refl; so = c.tell-sent.ensures.concludes c.args.page.now played.made follows };
+        concludes = record { folders = []; chain = refl; so = c.finish_and_reply-sent.ensures.concludes c.args.page.now played.made follows };
       };
-      gains = c.tell-sent.ensures.gains;
-      settings = c.tell-sent.ensures.settings;
-      agreed = c.tell-sent.ensures.agreed;
+      gains = c.finish_and_reply-sent.ensures.gains;
+      settings = c.finish_and_reply-sent.ensures.settings;
+      agreed = c.finish_and_reply-sent.ensures.agreed;
     }

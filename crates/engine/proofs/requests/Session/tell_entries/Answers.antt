@@ -2,7 +2,7 @@ use Rattle.std.proofs.Common.{Bool, false, List, None, Option, refl, ap, subst, 
 use Rattle.table_requests.specs.declared.data.Given.{Given}
 use Rattle.ops.specs.Replies.{entries_bytes, reply_to}
 use Rattle.ops.specs.declared.findings.ScriptResult.TheVariants.{Looked}
-use Rattle.ops.specs.declared.findings.Found.{Found}
+use Rattle.ops.specs.declared.findings.FoundFile.{FoundFile}
 use Rattle.table_steps.specs.declared.data.Outcome.TheVariants.{Entries}
 use Rattle.wire.specs.declared.reply.ReplyBody.TheVariants.{Data}
 use Rattle.engine.specs.Walks.{begun, by_rules, with_table}
@@ -16,7 +16,7 @@ returns-in-Ok-clause-concludes g c made follows =
     let answered = c.finish-answered.result in
     let finishes = subst (λ (there : List Bool). g.R.Reach.steps.finishes (g.R.Reach.world c.args.table.now) c.args.ticket.id (Entries there) answered (g.R.Reach.world c.finish-answered.new.self)) c.into_parts-there.ensures.there c.finish-answered.ensures.finishes in
     let told = c.in-Ok.ensures.ok
-    ∙ ap (λ (fs : List (Option Found)). Data (entries_bytes s page.from page.entries fs c.given.result.now)) (c.deref.ensures.value ∙ c.into_parts-there.ensures.found)
+    ∙ ap (λ (fs : List (Option FoundFile)). Data (entries_bytes s page.from page.entries fs c.given.result.now)) (c.deref.ensures.value ∙ c.into_parts-there.ensures.found)
     ∙ ap (λ (gs : List (Option Given)). Data (entries_bytes s page.from page.entries c.args.looked gs)) c.given.ensures in
     concluded_entries (by_rules g.R.Reach.steps s g.L.Outlet.sends) (begun c.args.request page c.args.ticket) made c.args.looked c.in-Ok.body answered (with_table c.args.link.now (g.R.Reach.world c.args.table.now)) (with_table c.settle-sent.new.link (g.R.Reach.world c.settle-sent.new.table))
     (g.R.Reach.world c.finish-answered.new.self) c.settle-sent.result.0 c.settle-sent.result.1 follows finishes told c.settle-sent.ensures.replies c.settle-sent.ensures.settles

@@ -2,7 +2,7 @@ use Rattle.std.proofs.Common.{◌-◌, ℕ, Option, ◌++◌, sym, ap, ◌∙◌
 use Rattle.std.specs.Prelude.{option_to_list, slice_index_or}
 use Rattle.engine_threads.proofs.ended.Account.new.Goals as goal
 
--- the last number is that of the starter
+-- the last number is that of the coordinator
 pub invariant_of-result : goal.invariant_of-result
 invariant_of-result g =
     let counts = g.args.counts in

@@ -4,7 +4,7 @@ use Rattle.wire.specs.Stream.{Cutting}
 use Rattle.engine.specs.declared.ends.SessionEnd.TheVariants as ends
 use Rattle.engine_queues.specs.declared.job.Job.{Job}
 use Rattle.engine_turns.specs.Shown.{progress, shown}
-use Rattle.engine_turns.specs.Verdicts.{IsFarewell, Queued}
+use Rattle.engine_turns.specs.Verdicts.{EndsSession, Queued}
 use Rattle.engine_turns.proofs.Receiving.{stopped_after}
 use Rattle.engine_turns.proofs.Queuing.{all_queued, nothing_queued, one_queued, told_same}
 use Rattle.engine_turns.proofs.reader.Reader.queue_all.Goals as goal
@@ -13,26 +13,26 @@ shown_as : (job : Job) (agreed : Bool) (frame : List ℕ) → job.agreed ≡ agr
 shown_as job agreed frame a f = ap₂ (λ (b : Bool) (bytes : List ℕ). record { agreed = b; frame = bytes }) a f
 
 pub loop-frame-init : goal.loop-frame-init
-loop-frame-init g c = record { so_far = nothing_queued _; ring = refl; parts = refl }
+loop-frame-init g c = record { so_far = nothing_queued _; queue = refl; parts = refl }
 
 pub returns-in-Ok-None-clause-all : goal.returns-in-Ok-None-clause-all
 returns-in-Ok-None-clause-all g c =
     let none = rw c.in-Ok-None.field-0-is at c.in-Ok-None.ensures.none in
     all_queued (progress c.args.self.now) (progress c.loop-frame.self) _ None c.loop-frame.invariant.so_far refl refl refl (ap (λ (k : Cutting). k.kept) none.1, none.0, told_same)
 
-pub returns-then-is_farewell-clause-all : goal.returns-then-is_farewell-clause-all
-returns-then-is_farewell-clause-all g c =
+pub returns-then-ends_session-clause-all : goal.returns-then-ends_session-clause-all
+returns-then-ends_session-clause-all g c =
     let l = c.loop-frame.self in
     let frame = rw c.in-Ok-Some.field-0-is at c.in-Ok-Some.ensures.frame in
     let job = c.job_of.ensures in
     all_queued (progress c.args.self.now) (progress l) _ (Some ends.Destroyed) c.loop-frame.invariant.so_far refl refl refl (
       c.in-Ok-Some.frame.items,
       frame.front,
-      subst (λ (f : List ℕ). IsFarewell l.agreed f) c.as_slice.ensures (c.is_farewell.ensures.yes c.if-is_farewell.true),
-      record { farewell_is = ap (λ (q : Queued). Some q) (shown_as c.job_of.result l.agreed c.in-Ok-Some.frame.items job.1 (ap (λ v. v.items) job.2)); handed_back_is = refl },
+      subst (λ (f : List ℕ). EndsSession l.agreed f) c.as_slice.ensures (c.ends_session.ensures.yes c.if-ends_session.true),
+      record { last_job_is = ap (λ (q : Queued). Some q) (shown_as c.job_of.result l.agreed c.in-Ok-Some.frame.items job.1 (ap (λ v. v.items) job.2)); handed_back_is = refl },
     )
 
--- it is no farewell
+-- it does not end the session
 pub returns-then-not-queue-clause-all : goal.returns-then-not-queue-clause-all
 returns-then-not-queue-clause-all g c =
     let l = c.loop-frame.self in
@@ -40,16 +40,16 @@ returns-then-not-queue-clause-all g c =
     let no = c.queue.ensures.no c.if-not-queue.true in
     let items = c.in-Ok-Some.frame.items in
     let frame = rw c.in-Ok-Some.field-0-is at c.in-Ok-Some.ensures.frame in
-    let other : IsFarewell l.agreed items → ⊥ = λ f. c.is_farewell.ensures.no c.if-is_farewell.false (subst (λ (b : List ℕ). IsFarewell l.agreed b) (sym c.as_slice.ensures) f) in
+    let other : EndsSession l.agreed items → ⊥ = λ f. c.ends_session.ensures.no c.if-ends_session.false (subst (λ (b : List ℕ). EndsSession l.agreed b) (sym c.as_slice.ensures) f) in
     all_queued (progress c.args.self.now) (progress l) (progress n) (Some ends.Memory) c.loop-frame.invariant.so_far no.0 no.1
     (ap₂ (λ (k : ℕ) (bytes : List ℕ). take k bytes) c.queue.ensures.room.1 (ap (λ v. v.items) c.queue.ensures.room.0))
     (inr (record {
       frame = items;
       front = frame.front ∙ ap (λ (k : Cutting). items ++ k.kept) (sym c.queue.ensures.cutter);
       framed = frame.framed;
-      other = subst (λ (b : Bool). IsFarewell b items → ⊥) (sym no.1) other;
+      other = subst (λ (b : Bool). EndsSession b items → ⊥) (sym no.1) other;
       tells = record {
-        farewell_is = ap (λ (j : Option Job). option_map shown j) c.queue.ensures.farewell;
+        last_job_is = ap (λ (j : Option Job). option_map shown j) c.queue.ensures.last_job;
         handed_back_is = no.2 ∙ ap (λ (b : Bool). Some (record { agreed = b; frame = items })) (sym no.1);
       };
     }))
@@ -64,10 +64,10 @@ loop-frame-preserved g c =
     record {
       so_far = one_queued (progress c.args.self.now) (progress l) (progress n) c.in-Ok-Some.frame.items c.loop-frame.invariant.so_far
           (frame.front ∙ ap (λ (k : Cutting). c.in-Ok-Some.frame.items ++ k.kept) (sym c.queue.ensures.cutter)) frame.framed
-          (λ f. c.is_farewell.ensures.no c.if-is_farewell.false (subst (λ (b : List ℕ). IsFarewell l.agreed b) (sym c.as_slice.ensures) f)) yes.1 yes.0
-          (record { farewell_is = ap (λ (j : Option Job). option_map shown j) c.queue.ensures.farewell; handed_back_is = ap (λ (j : Option Job). option_map shown j) yes.2 })
+          (λ f. c.ends_session.ensures.no c.if-ends_session.false (subst (λ (b : List ℕ). EndsSession l.agreed b) (sym c.as_slice.ensures) f)) yes.1 yes.0
+          (record { last_job_is = ap (λ (j : Option Job). option_map shown j) c.queue.ensures.last_job; handed_back_is = ap (λ (j : Option Job). option_map shown j) yes.2 })
           (ap₂ (λ (k : ℕ) (bytes : List ℕ). take k bytes) room.1 (ap (λ v. v.items) room.0));
-      ring = c.queue.ensures.ring ∙ c.loop-frame.invariant.ring;
+      queue = c.queue.ensures.queue ∙ c.loop-frame.invariant.queue;
       parts = c.queue.ensures.parts ∙ c.loop-frame.invariant.parts;
     }
 

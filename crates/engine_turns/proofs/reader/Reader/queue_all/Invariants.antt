@@ -8,7 +8,7 @@ use Rattle.engine_turns.proofs.reader.Reader.queue_all.Given as goal
 abbrev pub invariant-loop-frame : goal.invariant-loop-frame
 invariant-loop-frame g l = record {
   so_far : Queueing (progress l.initial.self) (progress l.self);
-  ring : sends_on l.self.to ≡ sends_on l.initial.self.to;
+  queue : sends_on l.self.to ≡ sends_on l.initial.self.to;
   parts : (view l.self.pass).parts ≡ (view l.initial.self.pass).parts;
 }
 

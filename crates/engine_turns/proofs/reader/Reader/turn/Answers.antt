@@ -22,7 +22,7 @@ returns-in-Ok-clause-reads g c =
     let front = c.receive_behind.ensures.front ∙ ap (take s.unkept) c.as_mut_slice.ensures.value in
     let grown = ap (take (s.unkept + n)) whole ∙ front_grown s.room.items room s.unkept n front in
     reads_all g.L.LinkIn.receives c.args.link.now c.receive_behind.new.link (progress s) (progress c.queue_all.new.self) c.queue_all.result (take n (drop s.unkept room)) c.in-Bytes.ensures.brought _
-    (all_kept s.agreed (queued_of (view s.pass).put) (option_map shown s.farewell) (option_map shown s.handed_back) s.cutter.kept c.feed.new.self.kept (take s.unkept s.room.items) (take (s.unkept + n) items) (take n (drop s.unkept room))
+    (all_kept s.agreed (queued_of (view s.pass).put) (option_map shown s.last_job) (option_map shown s.handed_back) s.cutter.kept c.feed.new.self.kept (take s.unkept s.room.items) (take (s.unkept + n) items) (take n (drop s.unkept room))
     (ap (λ (k : Cutting). k.kept) c.in-Ok.ensures.ok ∙ ap (λ bytes. s.cutter.kept ++ take (s.unkept + n) bytes) c.deref.ensures.value) grown) c.queue_all.ensures.all
 
 pub returns-in-Err-BadLength-clause-reads : goal.returns-in-Err-BadLength-clause-reads
@@ -37,7 +37,7 @@ returns-in-Err-BadLength-clause-reads g c =
     let grown = ap (take (s.unkept + n)) whole ∙ front_grown s.room.items room s.unkept n front in
     rw arm.len-is (keeps_none g.L.LinkIn.receives c.args.link.now c.receive_behind.new.link (progress s) _ (Some (ends.BadLength arm.len)) (take n (drop s.unkept room)) c.in-Bytes.ensures.brought
     (met_bad s.cutter arm.len ((arm.ensures.bad arm.len).0 (ap Err arm.field-0-is)) s.stopped_by)
-    (none_kept s.agreed (queued_of (view s.pass).put) (option_map shown s.farewell) (option_map shown s.handed_back) s.cutter.kept c.feed.new.self.kept (take s.unkept s.room.items) (take (s.unkept + n) items) (take n (drop s.unkept room))
+    (none_kept s.agreed (queued_of (view s.pass).put) (option_map shown s.last_job) (option_map shown s.handed_back) s.cutter.kept c.feed.new.self.kept (take s.unkept s.room.items) (take (s.unkept + n) items) (take n (drop s.unkept room))
     (ap (λ (k : Cutting). k.kept) arm.ensures.err) grown))
 
 pub returns-in-Err-Memory-clause-reads : goal.returns-in-Err-Memory-clause-reads
@@ -50,5 +50,5 @@ returns-in-Err-Memory-clause-reads g c =
     let front = c.receive_behind.ensures.front ∙ ap (take s.unkept) c.as_mut_slice.ensures.value in
     let grown = ap (take (s.unkept + n)) whole ∙ front_grown s.room.items room s.unkept n front in
     keeps_none g.L.LinkIn.receives c.args.link.now c.receive_behind.new.link (progress s) _ (Some ends.Memory) (take n (drop s.unkept room)) c.in-Bytes.ensures.brought tt
-    (none_kept s.agreed (queued_of (view s.pass).put) (option_map shown s.farewell) (option_map shown s.handed_back) s.cutter.kept c.feed.new.self.kept (take s.unkept s.room.items) (take (s.unkept + n) items) (take n (drop s.unkept room))
+    (none_kept s.agreed (queued_of (view s.pass).put) (option_map shown s.last_job) (option_map shown s.handed_back) s.cutter.kept c.feed.new.self.kept (take s.unkept s.room.items) (take (s.unkept + n) items) (take n (drop s.unkept room))
     (ap (λ (k : Cutting). k.kept) c.in-Err-Memory.ensures.err) grown)

@@ -18,6 +18,6 @@ returns-clause-read g c =
     let s = c.args.self in
     let r = c.new.result in
     let same = c.new.ensures.same in
-    subst (λ (end : Option SessionEnd). ∥ HasReadAll g.I.LinkIn.receives g.S.Source.heard_from end (queued_of (view r.pass).put) (option_map shown r.farewell) r.is_handed_back ∥₁) (sym same.1)
-    (has_ended g.I.LinkIn.receives g.S.Source.heard_from (reading s.link s.reader) s.end (queued_of (view r.pass).put) (option_map shown r.farewell) r.is_handed_back
+    subst (λ (end : Option SessionEnd). ∥ HasReadAll g.I.LinkIn.receives g.S.Source.heard_from end (queued_of (view r.pass).put) (option_map shown r.last_job) r.is_handed_back ∥₁) (sym same.1)
+    (has_ended g.I.LinkIn.receives g.S.Source.heard_from (reading s.link s.reader) s.end (queued_of (view r.pass).put) (option_map shown r.last_job) r.is_handed_back
     (ap (λ (v : Hand Job). queued_of v.put) same.0) (ap (λ (o : Option Job). option_map shown o) same.2) (same.3 ∙ is_same s.reader.handed_back) s.read)

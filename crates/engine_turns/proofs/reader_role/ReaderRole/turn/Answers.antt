@@ -11,7 +11,7 @@ invariant_of-self g c =
     let n = c.turn-self.new in
     let now = reading s.link s.reader in
     record {
-      ring = s.ring ∙ ap (λ q. Some q) (sym c.turn-self.ensures.ring);
+      queue = s.queue ∙ ap (λ q. Some q) (sym c.turn-self.ensures.queue);
       parts = (let a = s.parts in let b = c.turn-self.ensures.parts in omega arith);
       read = has_read_on g.I.LinkIn.receives g.S.Source.heard_from now (reading n.link n.self) c.turn-self.result
           (subst (λ (o : Option SessionEnd). ∥ HasRead g.I.LinkIn.receives g.S.Source.heard_from o now ∥₁) c.in-None.is s.read) c.turn-self.ensures.reads;

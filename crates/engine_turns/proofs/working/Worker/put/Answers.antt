@@ -1,19 +1,19 @@
 use Rattle.std.proofs.Common.{◌≡◌, ◌+◌, [], false, Option, refl, sym, ap, ◌∙◌, subst}
 use Rattle.std.specs.Option.{option_or}
 use Rattle.table_steps.specs.Answers.{Settlement}
-use Rattle.engine_queues.proofs.LetterSteps.{posts}
-use Rattle.engine_queues.specs.declared.letters.ReplyLane.{ReplyLane}
-use Rattle.engine_turns.specs.declared.replies.Reply.{Reply}
+use Rattle.engine_queues.proofs.ReplySteps.{posts}
+use Rattle.engine_queues.specs.declared.replies.ReplyLane.{ReplyLane}
+use Rattle.engine_turns.specs.declared.replies.JobReply.{JobReply}
 use Rattle.engine.specs.Batches.{bytes_of}
-use Rattle.engine_turns.specs.Visits.{left_in, on_table_of, visited_of}
-use Rattle.engine_turns.specs.Slips.{bytes_in}
+use Rattle.engine_turns.specs.TableCalls.{left_in, on_table_of, turn_end_of}
+use Rattle.engine_turns.specs.ReplyBuffers.{bytes_in}
 use Rattle.engine_turns.specs.Turns.{IsEnded, ended_as, ending, handed_back, is_put, none, outbox}
 use Rattle.engine_queues.specs.declared.left.Left.{Left}
 use Rattle.engine_turns.proofs.Answering.{left_by, none_more}
 use Rattle.engine_turns.proofs.working.Worker.put.Goals as goal
 
 pub returns-in_default-clause-puts : goal.returns-in_default-clause-puts
-returns-in_default-clause-puts g c = record { folders = []; chain = refl; calls = []; on_table = none_more (on_table_of c.args.visitor.now.front); so = none (ap bytes_in c.in_default.is) refl c.parted-left.ensures.settled refl refl }
+returns-in_default-clause-puts g c = record { folders = []; chain = refl; calls = []; on_table = none_more (on_table_of c.args.table_handle.now.thread_log); so = none (ap bytes_in c.in_default.is) refl c.parted-left.ensures.settled refl refl }
 
 pub send_as-requires-clause-rule : goal.send_as-requires-clause-rule
 send_as-requires-clause-rule g c = (posts _ _ _ _ c.args.self.now.sends (sym c.args.self.now.from), λ items views b at. tt)
@@ -25,16 +25,16 @@ returns-in-Ok-clause-puts g c =
       folders = [];
       chain = refl;
       calls = [];
-      on_table = none_more (on_table_of c.args.visitor.now.front);
+      on_table = none_more (on_table_of c.args.table_handle.now.thread_log);
       so = is_put (bytes_of c.in-Some.bytes) (record { from = c.args.self.now.number; reply = c.reply_to.result }) (ap bytes_in c.in-Some.is)
           (record { from_is = refl; settings_are = r.0; job_is = r.1; bytes_are = ap bytes_of r.2; left_is = r.3 ∙ c.parted-left.ensures.left })
-          (ap (λ (l : ReplyLane Reply). outbox l c.args.self.now.handed_back) c.in-Ok.ensures.rule) c.parted-left.ensures.settled refl refl;
+          (ap (λ (l : ReplyLane JobReply). outbox l c.args.self.now.handed_back) c.in-Ok.ensures.rule) c.parted-left.ensures.settled refl refl;
     }
 
 pub returns-in-Some-into_inner-clause-puts : goal.returns-in-Some-into_inner-clause-puts
 returns-in-Some-into_inner-clause-puts g c =
     let back = sym c.in-Some-into_inner.is ∙ (c.into_inner.ensures ∙ c.in-Err.ensures.rule.0) in
-    let left : c.into_left-left.result ≡ left_in (visited_of c.args.come_to) = c.into_left-left.ensures ∙ (ap left_by back ∙ (c.reply_to.ensures.3 ∙ c.parted-left.ensures.left)) in
+    let left : c.into_left-left.result ≡ left_in (turn_end_of c.args.turn_result) = c.into_left-left.ensures ∙ (ap left_by back ∙ (c.reply_to.ensures.3 ∙ c.parted-left.ensures.left)) in
     let up = c.settle_left-untaken.ensures.ends in
     let so = subst (λ (o : Option Left). IsEnded o false (ending c.settle_left-untaken.result up.folders up.calls)) left up.so in
     record {
@@ -42,5 +42,5 @@ returns-in-Some-into_inner-clause-puts g c =
       chain = up.chain;
       calls = up.calls;
       on_table = up.on_table;
-      so = handed_back (bytes_of c.in-Some.bytes) (ap bytes_in c.in-Some.is) (ap (λ (l : ReplyLane Reply). outbox l (c.args.self.now.handed_back + 1)) c.in-Err.ensures.rule.1) (c.or.ensures ∙ (ap (λ (o : Option Settlement). option_or o c.parted-left.result.1) so.settled_is ∙ ap (λ (o : Option Settlement). option_or (ended_as (left_in (visited_of c.args.come_to)) false) o) c.parted-left.ensures.settled)) so.gives_up so.settles;
+      so = handed_back (bytes_of c.in-Some.bytes) (ap bytes_in c.in-Some.is) (ap (λ (l : ReplyLane JobReply). outbox l (c.args.self.now.handed_back + 1)) c.in-Err.ensures.rule.1) (c.or.ensures ∙ (ap (λ (o : Option Settlement). option_or o c.parted-left.result.1) so.settled_is ∙ ap (λ (o : Option Settlement). option_or (ended_as (left_in (turn_end_of c.args.turn_result)) false) o) c.parted-left.ensures.settled)) so.gives_up so.settles;
     }

@@ -5,7 +5,7 @@ use Rattle.engine.specs.Serving.{does}
 use Rattle.engine_queues.specs.declared.job.Job.{Job}
 use Rattle.engine_queues.proofs.JobSteps.{takes as takes_one}
 use Rattle.engine_queues.specs.declared.jobs.Hand.{Hand}
-use Rattle.engine_turns.specs.Visits.{on_table_of}
+use Rattle.engine_turns.specs.TableCalls.{on_table_of}
 use Rattle.engine_turns.specs.Turns.{AnswersJob, means, outbox, standing}
 use Rattle.engine_turns.proofs.Answering.{settled_by}
 use Rattle.engine_turns.proofs.working.Worker.turn.Goals as goal
@@ -21,6 +21,6 @@ returns-in-Ok-Some-clause-worked g c settled e =
     let same : c.meet.result ≡ settled = ap settled_by e in
     record {
       job = c.in-Ok-Some.job;
-      answers = subst₂ (λ (h : Hand Job) (o : Option Settlement). AnswersJob (does g.C.Calls.gives g.D.Folders.keeps) s.session.settings s.number c.in-Ok-Some.job (standing h (outbox (view s.reply_pass) s.handed_back) (means c.args.served.now c.args.share.now (on_table_of c.args.visitor.now.front))) o
-          (standing (view a.self.job_pass) (outbox (view a.self.reply_pass) a.self.handed_back) (means a.served a.share (on_table_of a.visitor.front)))) taken same c.meet.ensures.answers;
+      answers = subst₂ (λ (h : Hand Job) (o : Option Settlement). AnswersJob (does g.C.Calls.gives g.D.Folders.keeps) s.session.settings s.number c.in-Ok-Some.job (standing h (outbox (view s.reply_pass) s.handed_back) (means c.args.served.now c.args.share.now (on_table_of c.args.table_handle.now.thread_log))) o
+          (standing (view a.self.job_pass) (outbox (view a.self.reply_pass) a.self.handed_back) (means a.served a.share (on_table_of a.table_handle.thread_log)))) taken same c.meet.ensures.answers;
     }

@@ -1,6 +1,6 @@
 use Rattle.std.proofs.Common.{ap, ◌∙◌, arith}
 use Rattle.crossbeam_channel.specs.Claims.{view}
-use Rattle.engine_queues.proofs.LetterSteps.{gets}
+use Rattle.engine_queues.proofs.ReplySteps.{gets}
 use Rattle.engine_turns.proofs.Batching.{gets_more}
 use Rattle.engine_turns.proofs.writing.Writer.take_queued.Goals as goal
 
@@ -14,9 +14,9 @@ loop-preserved g c =
     let p = c.put.ensures in
     let rule = rw c.in-Ok-Some.field-0-is at c.in-Ok-Some.ensures.rule in
     record {
-      ring = i.ring;
+      queue = i.queue;
       made = ap (λ v. v.made) rule ∙ i.made;
-      gets = gets_more (view c.args.self.now.pass) (view l.self.pass) (view c.try_recv_as.new.pass) l.self.batch.left.items c.put.new.self.left.items l.self.batch.bytes.items c.put.new.self.bytes.items c.in-Ok-Some.letter
+      gets = gets_more (view c.args.self.now.pass) (view l.self.pass) (view c.try_recv_as.new.pass) l.self.batch.left.items c.put.new.self.left.items l.self.batch.bytes.items c.put.new.self.bytes.items c.in-Ok-Some.queued_reply
           i.gets rule p.left p.bytes;
       few = (let a = p.len.0 in let b = i.few in omega arith);
       same = (let a = p.len.1 in let b = p.len.0 in omega arith);

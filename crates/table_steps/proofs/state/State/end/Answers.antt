@@ -7,7 +7,7 @@ use Rattle.table_requests.specs.RequestMaps.{is_working}
 use Rattle.tree.specs.declared.nodes.Key.{Key}
 use Rattle.table_footprints.specs.NewRequests.{footprint_in}
 use Rattle.table_footprints.specs.Footprints.{Change, Footprint, Location, Opening, stays}
-use Rattle.table_steps.specs.declared.acts.Entries.{Entries as Entered}
+use Rattle.table_steps.specs.declared.acts.EnteredNames.{EnteredNames as Entered}
 use Rattle.table_steps.specs.Keeping.{kept_by}
 use Rattle.table_steps.specs.declared.data.Outcome.{Outcome}
 use Rattle.std.specs.List.{slice_get}

@@ -1,8 +1,8 @@
-use Rattle.table_steps.proofs.Giving.{alive, give_enters, give_kept, give_more, room_to_bear}
+use Rattle.table_steps.proofs.Giving.{alive, give_enters, give_kept, give_more, room_to_create}
 use Rattle.table_steps.proofs.state.State.give.Goals as goal
 
 pub enter-entered-requires-clause-node_room : goal.enter-entered-requires-clause-node_room
-enter-entered-requires-clause-node_room c = room_to_bear c.args.self.now c.args.id c.args.keys.key c.requires.may
+enter-entered-requires-clause-node_room c = room_to_create c.args.self.now c.args.id c.args.keys.key c.requires.may
 
 pub returns-clause-enters : goal.returns-clause-enters
 returns-clause-enters c =

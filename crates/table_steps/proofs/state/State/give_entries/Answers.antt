@@ -8,8 +8,8 @@ use Rattle.tree.specs.declared.nodes.Key.{Key}
 use Rattle.tree.specs.Places.{Lookup, IsPathOf, at_in}
 use Rattle.table_footprints.proofs.Members.{first_in}
 use Rattle.table_footprints.specs.Footprints.{page_keys}
-use Rattle.table_steps.specs.declared.acts.Entries.{Entries}
-use Rattle.table_steps.specs.declared.acts.Entries.TheVariants.{Page}
+use Rattle.table_steps.specs.declared.acts.EnteredNames.{EnteredNames}
+use Rattle.table_steps.specs.declared.acts.EnteredNames.TheVariants.{Page}
 use Rattle.table_steps.specs.declared.keys.FolderKeys.{FolderKeys}
 use Rattle.table_steps.specs.Answers.{Answer}
 use Rattle.table_steps.specs.Ending.{GivesAll, LeadsTo, is_page, keys_in, folders_in}
@@ -29,13 +29,13 @@ returns-then-found-as_slice-clause-gives c f here =
     let many : length keys ≡ length names = length-map names (λ (name : Name). let k : Key = record { parent = c.in-Page.page.folder; name = name } in k) in
     let other : length found ≡ length keys → ⊥ = λ e. c.if-found-as_slice.true (ap {B = ℕ} length c.as_slice-found.ensures ∙ (e ∙ (many ∙ sym (ap {B = ℕ} length c.as_slice.ensures)))) in
     let none : page_found true keys found ≡ none_found keys = cond-false (length found == length keys) found (none_found keys) (ne_eqb (length found) (length keys) other) in
-    subst (λ (e : Entries). GivesAll w c.args.id (flight_of f) (keys_in e) (page_found (is_page e) (keys_in e) found) given w) (sym c.in-Page.is)
+    subst (λ (e : EnteredNames). GivesAll w c.args.id (flight_of f) (keys_in e) (page_found (is_page e) (keys_in e) found) given w) (sym c.in-Page.is)
     (subst (λ (bs : List Bool). GivesAll w c.args.id (flight_of f) keys bs given w) (sym none)
     (subst (λ (gs : List (Option Given)). GivesAll w c.args.id (flight_of f) keys (none_found keys) gs w) (sym (ap (λ (a : Answer). a.given) c.give_none.ensures))
     (none_given c.args.self.now c.args.id may.flight may.here may.answered f here keys)))
 
-folder_lead : (at : Lookup) (given : List GivenPath) (entries : Entries) (page : FolderKeys) → entries ≡ Page page → ((n : ℕ) → Contains (folders_in entries) n → LeadsTo at given n) → LeadsTo at given page.folder
-folder_lead at given entries page is leads = leads page.folder (subst (λ (e : Entries). Contains (folders_in e) page.folder) (sym is) (first_in page.folder []))
+folder_lead : (at : Lookup) (given : List GivenPath) (entries : EnteredNames) (page : FolderKeys) → entries ≡ Page page → ((n : ℕ) → Contains (folders_in entries) n → LeadsTo at given n) → LeadsTo at given page.folder
+folder_lead at given entries page is leads = leads page.folder (subst (λ (e : EnteredNames). Contains (folders_in e) page.folder) (sym is) (first_in page.folder []))
 
 pub path_of-requires : goal.path_of-requires
 path_of-requires c =

@@ -1,7 +1,7 @@
 use Rattle.std.proofs.Common.{List, Option, sym, ap, subst}
 use Rattle.table_requests.specs.declared.data.Given.{Given}
 use Rattle.table_footprints.specs.Footprints.{page_keys}
-use Rattle.table_steps.specs.declared.acts.Entries.{Entries}
+use Rattle.table_steps.specs.declared.acts.EnteredNames.{EnteredNames}
 use Rattle.table_steps.specs.Answers.{Answer}
 use Rattle.table_steps.specs.Ending.{GivesAll, is_page, keys_in}
 use Rattle.table_steps.specs.Kept.{flight_of, world_of}
@@ -15,6 +15,6 @@ returns-in-Page-clause-gives c f here =
     let may = c.requires.may in
     let keys = page_keys c.in-Page.page.folder c.in-Page.page.names in
     let given = c.give_none-in-Page.result.given in
-    subst (λ (e : Entries). GivesAll w c.args.id (flight_of f) (keys_in e) (one_found (is_page e) (keys_in e)) given w) (sym c.in-Page.is)
+    subst (λ (e : EnteredNames). GivesAll w c.args.id (flight_of f) (keys_in e) (one_found (is_page e) (keys_in e)) given w) (sym c.in-Page.is)
     (subst (λ (gs : List (Option Given)). GivesAll w c.args.id (flight_of f) keys (none_found keys) gs w) (sym (ap (λ (a : Answer). a.given) c.give_none-in-Page.ensures))
     (none_given c.args.self.now c.args.id may.flight may.here may.answered f here keys))

@@ -1,0 +1,10 @@
+use Rattle.std.proofs.Common.{ap}
+use Rattle.engine_queues.proofs.JobSteps as jobs
+use Rattle.engine_queues.proofs.ReplySteps as queued_replies
+use Rattle.engine_threads.proofs.making_workers.cut_passes.Goals as goal
+
+pub another-job_pass-requires-clause-rule : goal.another-job_pass-requires-clause-rule
+another-job_pass-requires-clause-rule c = jobs.forks _ _ c.requires.parts
+
+pub another-reply_pass-requires-clause-rule : goal.another-reply_pass-requires-clause-rule
+another-reply_pass-requires-clause-rule c = queued_replies.forks _ _ (ap (λ lane. lane.gets) c.requires.writes)

@@ -1,0 +1,193 @@
+//! The two queues of a session, as they are made.
+
+ghost use Rattle.std.specs.Prelude.{◌≡◌, ◌<◌, [], true, false, length, None, IfSome};
+ghost use Rattle.crossbeam_channel.specs.Claims.{view, IsSeatAt};
+ghost use Rattle.crossbeam_channel.specs.Ends.{sends_on, receives_on};
+ghost use Rattle.engine_queues.specs.Jobs.{hand};
+ghost use Rattle.engine_turns.specs.Writes.{none_got};
+
+use crate::last_job::Coordinator;
+use crate::turns::JOINED;
+use crossbeam_channel::bounded_with;
+use engine::Settings;
+use engine_queues::Job;
+use engine_queues::jobs::{Fair, Hand, JobPass, JobReceiver, JobSender};
+use engine_queues::replies::{
+    InOrder, QueuedReply, ReplyLane, ReplyPass, ReplyReceiver, ReplySender,
+};
+use engine_turns::{JobReply, Reader, Shares, ThreadShare, Writer};
+use ledger::Ledgers;
+use std::alloc::Global;
+
+/// How many jobs wait at most: more than one receive can bring, which has 3,276 frames at most.
+const JOBS: usize = 3_328;
+
+/// How many replies wait to be offered at most: as many as four threads may leave, so that nobody waits for a place.
+const REPLIES: usize = 4 * JOINED;
+
+/// Where jobs and replies are put.
+pub struct Senders {
+    pub jobs: JobSender<Job>,
+    pub replies: ReplySender<JobReply>,
+}
+
+impl Drop for Senders {
+    // A call: else whoever drops them is checked for each part of a queue.
+    fn drop(self) {
+        let Senders {
+            jobs: _,
+            replies: _,
+        } = self;
+    }
+}
+
+/// Where they are taken out, and the first pass of each queue, of which all others are made.
+pub struct Receivers {
+    pub work: JobReceiver<Job>,
+    pub read: JobPass<Job>,
+    pub writes: ReplyReceiver<JobReply>,
+    pub written: ReplyPass<JobReply>,
+}
+
+impl Drop for Receivers {
+    // A call, as that of the senders.
+    fn drop(self) {
+        let Receivers {
+            work: _,
+            read: _,
+            writes: _,
+            written: _,
+        } = self;
+    }
+}
+
+/// What takes from the queues, but for the workers, and the writer's share.
+#[derive(Drop)]
+pub struct Ends<T: Ledgers> {
+    pub coordinator: Coordinator,
+    pub reader: Reader,
+    pub writer: Writer,
+    pub kept: ThreadShare<T>,
+}
+
+/// An empty queue of jobs: both ends, and the pass that has put and taken nothing. None is want of memory.
+fn job_queue(alloc: Global) -> Option<(JobSender<Job>, JobReceiver<Job>, JobPass<Job>)>
+    ensures { IfSome result (λ q. (receives_on q.1 ≡ sends_on q.0) × IsSeatAt (sends_on q.0) q.2 × (view q.2 ≡ hand 8 [] [])) }
+{
+    bounded_with::<Option<Job>, Hand<Job>, Fair, Global>(alloc, JOBS).ok()
+}
+
+/// An empty queue of replies: both ends, and the pass that has got nothing and that no sender's was made of. None is want of memory.
+fn reply_queue(
+    alloc: Global,
+) -> Option<
+    (
+        ReplySender<JobReply>,
+        ReplyReceiver<JobReply>,
+        ReplyPass<JobReply>,
+    ),
+>
+    ensures { IfSome result (λ q. (receives_on q.1 ≡ sends_on q.0) × IsSeatAt (sends_on q.0) q.2 × (view q.2 ≡ none_got 0)) }
+{
+    bounded_with::<Option<QueuedReply<JobReply>>, ReplyLane<JobReply>, InOrder, Global>(
+        alloc, REPLIES,
+    ).ok()
+}
+
+/// Both queues, with nothing in them. None is want of memory.
+pub fn queues(alloc: Global) -> Option<(Senders, Receivers)>
+    ensures work { IfSome result (λ q. receives_on q.1.work ≡ sends_on q.0.jobs) }
+    ensures read { IfSome result (λ q. IsSeatAt (sends_on q.0.jobs) q.1.read) }
+    ensures unread { IfSome result (λ q. view q.1.read ≡ hand 8 [] []) }
+    ensures writes { IfSome result (λ q. receives_on q.1.writes ≡ sends_on q.0.replies) }
+    ensures written { IfSome result (λ q. IsSeatAt (sends_on q.0.replies) q.1.written) }
+    ensures unwritten { IfSome result (λ q. view q.1.written ≡ none_got 0) }
+{
+    let (jobs, work, read) = job_queue(alloc)?;
+    let (replies, writes, written) = reply_queue(alloc)?;
+    let senders = Senders { jobs, replies };
+    let receivers = Receivers {
+        work,
+        read,
+        writes,
+        written,
+    };
+    Some((senders, receivers))
+}
+
+/// A reader with a sender of its own. None is want of memory.
+fn reader_of(alloc: Global, jobs: &JobSender<Job>, read: JobPass<Job>) -> Option<Reader>
+    requires seat { IsSeatAt (sends_on jobs.now) read }
+    requires parts { 0 < (view read).parts }
+    requires takes_none { length (view read).taken ≡ 0 }
+    requires puts_none { (view read).put ≡ [] }
+    ensures queue { IfSome result (λ r. sends_on r.to ≡ sends_on jobs.now) }
+    ensures pass { IfSome result (λ r. view r.pass ≡ view read) }
+    ensures unheard { IfSome result (λ r. (r.cutter.kept ≡ []) × (r.agreed ≡ false) × (r.last_job ≡ None)) }
+    ensures none_back { IfSome result (λ r. (r.unkept ≡ 0) × (r.handed_back ≡ None)) }
+{
+    let jobs = jobs.try_clone().ok()?;
+    Reader::new(alloc, jobs, read).ok()
+}
+
+/// What the coordinator answers with. None is want of memory.
+fn coordinator_of(
+    alloc: Global,
+    settings: Settings,
+    work: JobReceiver<Job>,
+    replies: &ReplySender<JobReply>,
+) -> Option<Coordinator>
+    ensures settings { IfSome result (λ s. s.settings ≡ settings) }
+    ensures work { IfSome result (λ s. receives_on s.work ≡ receives_on work) }
+    ensures queue { IfSome result (λ s. sends_on s.replies ≡ sends_on replies.now) }
+{
+    let replies = replies.try_clone().ok()?;
+    Some(Coordinator {
+        alloc,
+        settings,
+        work,
+        replies,
+    })
+}
+
+impl Receivers {
+    /// What takes from the queues. None is want of memory, or a share that is missing.
+    pub fn into_ends<T: Ledgers>(
+        self,
+        alloc: Global,
+        settings: Settings,
+        senders: &Senders,
+        shares: &mut Shares<T>,
+    ) -> Option<Ends<T>>
+        requires seat { IsSeatAt (sends_on senders.now.jobs) self.read }
+        requires parts { 0 < (view self.read).parts }
+        requires takes_none { length (view self.read).taken ≡ 0 }
+        requires puts_none { (view self.read).put ≡ [] }
+        requires reply_seat { IsSeatAt (receives_on self.writes) self.written }
+        requires gets { ((view self.written).gets ≡ true) × (length (view self.written).known ≡ 0) }
+        ensures settings { IfSome result (λ e. e.coordinator.settings ≡ settings) }
+        ensures work { IfSome result (λ e. receives_on e.coordinator.work ≡ receives_on self.work) }
+        ensures queue { IfSome result (λ e. sends_on e.coordinator.replies ≡ sends_on senders.now.replies) }
+        ensures reads { IfSome result (λ e. (sends_on e.reader.to ≡ sends_on senders.now.jobs) × (view e.reader.pass ≡ view self.read)) }
+        ensures unheard { IfSome result (λ e. (e.reader.cutter.kept ≡ []) × (e.reader.agreed ≡ false) × (e.reader.last_job ≡ None)) }
+        ensures none_back { IfSome result (λ e. (e.reader.unkept ≡ 0) × (e.reader.handed_back ≡ None)) }
+        ensures writes { IfSome result (λ e. (receives_on e.writer.replies ≡ receives_on self.writes) × (view e.writer.pass ≡ view self.written) × (e.writer.is_broken ≡ false)) }
+    {
+        let kept = shares.take()?;
+        let Receivers {
+            work,
+            read,
+            writes,
+            written,
+        } = self;
+        let coordinator = coordinator_of(alloc, settings, work, &senders.replies)?;
+        let writer = Writer::new(alloc, writes, written).ok()?;
+        let reader = reader_of(alloc, &senders.jobs, read)?;
+        Some(Ends {
+            coordinator,
+            reader,
+            writer,
+            kept,
+        })
+    }
+}

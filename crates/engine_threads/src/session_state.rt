@@ -1,0 +1,136 @@
+//! What the threads of a session share.
+
+use engine::{LinkIn, LinkOut};
+use engine_turns::{ReaderRole, Sink, Sleepers, Source, WriterRole};
+use handles::Dirs;
+use ledger::Ledgers;
+use std::sync::atomic::{AtomicBool, AtomicU64, Ordering};
+use std::sync::{Arc, Mutex};
+use table_shared::{Opening, SharedTable};
+
+/// What threads tell one another without a lock.
+#[derive(Drop)]
+pub struct Signs {
+    /// Whether there may be replies that nobody offers yet.
+    pub is_ready: AtomicBool,
+    /// Whether the writer saw the link break.
+    pub is_broken: AtomicBool,
+    /// Whether no more jobs will be queued.
+    pub is_over: AtomicBool,
+    /// How many receives have ended.
+    pub receives: AtomicU64,
+    /// How many jobs were queued.
+    pub queued: AtomicU64,
+    /// How many of them were worked on.
+    pub worked: AtomicU64,
+    /// How often of late a receive found that a request had waited there: each that does counts four, each other one less.
+    pub backlog: AtomicU64,
+    /// Whether jobs take long: few were worked on while a thread watched, though there were some.
+    pub is_slow: AtomicBool,
+}
+
+/// Fewer jobs than this that are worked on in the millisecond of a thread that watches are few.
+const FEW: u64 = 16;
+
+/// Above this, which is so where more than one receive in five finds a request waiting, threads are wanted that receive.
+const BACKLOG: u64 = 16;
+
+/// What it is counted up to.
+const MOST_BACKLOG: u64 = 64;
+
+impl Signs {
+    pub fn new() -> Signs {
+        Signs {
+            is_ready: AtomicBool::new(false),
+            is_broken: AtomicBool::new(false),
+            is_over: AtomicBool::new(false),
+            receives: AtomicU64::new(0),
+            queued: AtomicU64::new(0),
+            worked: AtomicU64::new(0),
+            backlog: AtomicU64::new(0),
+            is_slow: AtomicBool::new(false),
+        }
+    }
+
+    pub fn tell_ready(&self) {
+        self.is_ready.store(true, Ordering::SeqCst);
+    }
+
+    pub fn tell_over(&self) {
+        self.is_over.store(true, Ordering::SeqCst);
+    }
+
+    pub fn is_over(&self) -> bool {
+        self.is_over.load(Ordering::SeqCst)
+    }
+
+    /// A receive has ended, which queued so many jobs.
+    pub fn tell_received(&self, queued: u64) {
+        self.queued.fetch_add(queued, Ordering::SeqCst);
+        self.receives.fetch_add(1, Ordering::SeqCst);
+    }
+
+    /// A job was worked on, and its reply may be there.
+    pub fn tell_worked(&self) {
+        self.worked.fetch_add(1, Ordering::SeqCst);
+        self.tell_ready();
+    }
+
+    /// How many jobs were worked on.
+    pub fn worked(&self) -> u64 {
+        self.worked.load(Ordering::SeqCst)
+    }
+
+    /// Whether jobs are queued or worked on.
+    pub fn is_busy(&self) -> bool {
+        self.queued.load(Ordering::SeqCst) != self.worked()
+    }
+
+    /// A thread has watched, before which so many jobs were worked on.
+    pub fn tell_watched(&self, before: u64) {
+        let is_slow = self.is_busy() && self.worked().wrapping_sub(before) < FEW;
+        self.is_slow.store(is_slow, Ordering::SeqCst);
+    }
+
+    /// What a receive brought had waited there, or not. Receives are made one after another.
+    pub fn tell_backlog(&self, was_waiting: bool) {
+        let before = self.backlog.load(Ordering::SeqCst);
+        let after = if was_waiting {
+            before.saturating_add(4).min(MOST_BACKLOG)
+        } else {
+            before.saturating_sub(1)
+        };
+        self.backlog.store(after, Ordering::SeqCst);
+    }
+
+    /// Whether requests wait where they are received, by what receives of late found.
+    pub fn has_backlog(&self) -> bool {
+        self.backlog.load(Ordering::SeqCst) > BACKLOG
+    }
+
+    /// Whether jobs take long.
+    pub fn is_slow(&self) -> bool {
+        self.is_slow.load(Ordering::SeqCst)
+    }
+}
+
+/// What all threads of a session share. Both roles are only ever tried: who finds one taken goes on to another turn.
+#[derive(Drop)]
+pub struct Common<
+    H: Drop,
+    T: Ledgers,
+    N: Opening,
+    I: LinkIn + Drop,
+    O: LinkOut + Drop,
+    S: Source<I> + Sink<O>,
+> {
+    pub rt: H,
+    pub shared_table: SharedTable<T, N>,
+    pub dirs: Dirs,
+    pub reader: Mutex<ReaderRole<I, S>>,
+    pub writer: Mutex<WriterRole<T, N, O, S>>,
+    pub sleepers: Sleepers,
+    pub signs: Signs,
+}
+
+pub type SharedState<H, T, N, I, O, S> = Arc<Common<H, T, N, I, O, S>>;

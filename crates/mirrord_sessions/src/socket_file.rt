@@ -1,0 +1,64 @@
+//! Where one client is waited for.
+
+use crate::folder::Unserved;
+use std::fs::File;
+use std::io::ErrorKind;
+use std::net::Net;
+use std::os::unix::fs::MetadataExt;
+use std::os::unix::net::{UnixListener, UnixStream};
+use std::rt::Files;
+use std::{fs, io};
+
+/// Why nobody is waited for.
+fn unheard(error: io::Error) -> Unserved {
+    match error.kind() {
+        ErrorKind::OutOfMemory => Unserved::Memory,
+        _ => Unserved::NoSocket,
+    }
+}
+
+/// The device and the inode number of what stands at the path, without following a link there.
+fn identity_of<R: Files<File = File> + AllocGlobal>(rt: &R, path: &str) -> Option<(u64, u64)> {
+    match fs::symlink_metadata(rt, path) {
+        Ok(metadata) => Some((metadata.dev(), metadata.ino())),
+        Err(_) => None,
+    }
+}
+
+/// A socket that a client may connect to, and the file that was made for it.
+#[derive(Drop)]
+pub struct SocketFile {
+    listener: UnixListener,
+    made: Option<(u64, u64)>,
+}
+
+impl SocketFile {
+    /// Makes the file of the socket.
+    pub fn new<H: Net + Files<File = File> + AllocGlobal>(
+        rt: &H,
+        path: &str,
+    ) -> Result<SocketFile, Unserved> {
+        match UnixListener::bind(rt, path) {
+            Ok(listener) => Ok(SocketFile {
+                listener,
+                made: identity_of(rt, path),
+            }),
+            Err(error) => Err(unheard(error)),
+        }
+    }
+
+    /// Waits for one client.
+    pub fn accept(&self) -> Result<UnixStream, Unserved> {
+        match self.listener.accept() {
+            Ok((stream, _)) => Ok(stream),
+            Err(error) => Err(unheard(error)),
+        }
+    }
+
+    /// Removes the file that was made at `path`, if it still is what stands there. A fault of this is passed over.
+    pub fn remove<R: Files<File = File> + AllocGlobal>(&self, rt: &R, path: &str) {
+        if self.made.is_some() && identity_of(rt, path) == self.made {
+            let _ = fs::remove_file(rt, path);
+        }
+    }
+}
