@@ -3,7 +3,7 @@ use Rattle.backing_folder.proofs.Passing.{SoFar}
 use Rattle.backing_folder.proofs.parts.write_all.Given as goal
 
 abbrev pub invariant-loop-count : goal.invariant-loop-count
-invariant-loop-count g l = SoFar (g.F.Parts.writes l.file) l.offset l.count l.bytes
+invariant-loop-count g l = SoFar (g.F.PartialFile.writes l.file) l.offset l.count l.bytes
 
 abbrev pub decreases-loop-count : goal.decreases-loop-count
 decreases-loop-count g l = length l.initial.bytes - l.count
