@@ -80,7 +80,7 @@ module _ (at : Lookup) (tree : IsTree at) where
 
   -- ---- tests
 
-  module _ (ls : List Location) (hold : HoldMode) (enters : Bool) (change : told_change.Change) (c : Case) where
+  module _ (ls : List Location) (hold : HoldMode) (enters : Bool) (change : told_change.ChangeKind) (c : Case) where
     not_stale : AreRooted at ls → IsStale at (footprint_by ls hold enters change c) → ⊥
     not_stale rooted s =
         let it = in_map (λ l. base_of l) ls s.number s.named in
@@ -93,7 +93,7 @@ module _ (at : Lookup) (tree : IsTree at) where
         let over = s.long in
         absurd (omega arith)
 
-  pub not_misplaced : (change : told_change.Change) (ls : List Location) (paths : List Names) → AllZip (IsShortPath at) ls paths → MayChange change paths → (e : ℤ) → IsMisplaced at (change_in change ls) e → ⊥
+  pub not_misplaced : (change : told_change.ChangeKind) (ls : List Location) (paths : List Names) → AllZip (IsShortPath at) ls paths → MayChange change paths → (e : ℤ) → IsMisplaced at (change_in change ls) e → ⊥
   not_misplaced Stays ls paths zip may e bad = bad
   not_misplaced Cuts [] paths zip may e bad = bad
   not_misplaced Cuts (l ∷ ls) paths zip may e bad = bad
@@ -114,7 +114,7 @@ module _ (at : Lookup) (tree : IsTree at) where
       let target = location_once at tree m bad.new_path q bad.new_leads zip.1.0.0 in
       may e (subst (λ (r : Names). IsRefusedExchange r q e) source (subst (λ (r : Names). IsRefusedExchange bad.path r e) target bad.refused))
 
-  pub sound : (ls : List Location) (hold : HoldMode) (enters : Bool) (change : told_change.Change) (c : Case) (paths : List Names) → AreRooted at ls → AllZip (IsShortPath at) ls paths → MayChange change paths → IsSound at (footprint_by ls hold enters change c)
+  pub sound : (ls : List Location) (hold : HoldMode) (enters : Bool) (change : told_change.ChangeKind) (c : Case) (paths : List Names) → AreRooted at ls → AllZip (IsShortPath at) ls paths → MayChange change paths → IsSound at (footprint_by ls hold enters change c)
   sound ls hold enters change c paths rooted zip may = record {
     not_stale = not_stale ls hold enters change c rooted;
     not_long = not_long ls hold enters change c paths zip;
@@ -123,12 +123,12 @@ module _ (at : Lookup) (tree : IsTree at) where
 
   -- ---- refusals
 
-  pub lost_refused : (ls : List Location) (hold : HoldMode) (enters : Bool) (change : told_change.Change) (c : Case) → Any (IsLost at) ls → IsUnsound at (footprint_by ls hold enters change c) (refusal_errno refusal.Stale)
+  pub lost_refused : (ls : List Location) (hold : HoldMode) (enters : Bool) (change : told_change.ChangeKind) (c : Case) → Any (IsLost at) ls → IsUnsound at (footprint_by ls hold enters change c) (refusal_errno refusal.Stale)
   lost_refused ls hold enters change c lost =
       let it = in_any (IsLost at) ls lost in
       stale refl (record { number = base_of it.0; named = map_in (λ l. base_of l) ls it.0 it.1; lost = it.2 })
 
-  pub bad_refused : (ls : List Location) (hold : HoldMode) (enters : Bool) (change : told_change.Change) (c : Case) → AreRooted at ls → (r : FootprintRefusal) → IsBadFootprint at ls r → IsUnsound at (footprint_by ls hold enters change c) (refusal_errno r)
+  pub bad_refused : (ls : List Location) (hold : HoldMode) (enters : Bool) (change : told_change.ChangeKind) (c : Case) → AreRooted at ls → (r : FootprintRefusal) → IsBadFootprint at ls r → IsUnsound at (footprint_by ls hold enters change c) (refusal_errno r)
   bad_refused ls hold enters change c rooted refusal.Stale bad = absurd bad
   bad_refused ls hold enters change c rooted refusal.TooLong bad =
       let it = in_any (IsLongPath at) ls bad in
@@ -137,7 +137,7 @@ module _ (at : Lookup) (tree : IsTree at) where
   bad_refused ls hold enters change c rooted refusal.OntoFolder bad = absurd bad
   bad_refused ls hold enters change c rooted refusal.Memory bad = no_memory refl (not_stale ls hold enters change c rooted)
 
-  pub changed_wrong : (change : told_change.Change) (ls : List Location) (paths : List Names) → AllZip (IsShortPath at) ls paths → (e : ℤ) → IsWrongChange change paths e → IsMisplaced at (change_in change ls) e
+  pub changed_wrong : (change : told_change.ChangeKind) (ls : List Location) (paths : List Names) → AllZip (IsShortPath at) ls paths → (e : ℤ) → IsWrongChange change paths e → IsMisplaced at (change_in change ls) e
   changed_wrong Stays ls paths zip e wrong = absurd wrong
   changed_wrong Cuts ls paths zip e wrong = absurd wrong
   changed_wrong Moves ls [] zip e wrong = absurd wrong
@@ -151,14 +151,14 @@ module _ (at : Lookup) (tree : IsTree at) where
   changed_wrong Exchanges (l ∷ []) (p ∷ q ∷ paths) zip e wrong = absurd zip.1
   changed_wrong Exchanges (l ∷ m ∷ ls) (p ∷ q ∷ paths) zip e wrong = record { path = p; leads = zip.0.0; new_path = q; new_leads = zip.1.0.0; refused = wrong }
 
-  pub change_refused : (ls : List Location) (hold : HoldMode) (enters : Bool) (change : told_change.Change) (c : Case) (paths : List Names) → AreRooted at ls → AllZip (IsShortPath at) ls paths → (e : ℤ) → IsWrongChange change paths e → IsUnsound at (footprint_by ls hold enters change c) e
+  pub change_refused : (ls : List Location) (hold : HoldMode) (enters : Bool) (change : told_change.ChangeKind) (c : Case) (paths : List Names) → AreRooted at ls → AllZip (IsShortPath at) ls paths → (e : ℤ) → IsWrongChange change paths e → IsUnsound at (footprint_by ls hold enters change c) e
   change_refused ls hold enters change c paths rooted zip e wrong =
       misplaced (not_stale ls hold enters change c rooted) (not_long ls hold enters change c paths zip) (changed_wrong change ls paths zip e wrong)
 
   -- ---- holds, pins and paths
 
   module _ (ls : List Location) (x : Gathering) where
-    shared_for : (hold : HoldMode) → AreNames (exclusive_in hold ls) → (enters : Bool) (change : told_change.Change) (c : Case) → IsGathering at hold ls x → (p : Names) → Contains x.shared p ↔ IsShared at (footprint_by ls hold enters change c) p
+    shared_for : (hold : HoldMode) → AreNames (exclusive_in hold ls) → (enters : Bool) (change : told_change.ChangeKind) (c : Case) → IsGathering at hold ls x → (p : Names) → Contains x.shared p ↔ IsShared at (footprint_by ls hold enters change c) p
     shared_for Shared names enters change c is p = (
       λ h. inl ((is.shared p).0 h),
       λ h. elim h [ inl any ↦ (is.shared p).1 any | inr none ↦ absurd (any_none (IsAboveAt at p) none) ],
@@ -168,14 +168,14 @@ module _ (at : Lookup) (tree : IsTree at) where
       λ h. elim h [ inl none ↦ absurd (any_none (IsPrefixAt at p) none) | inr any ↦ (is.shared p).1 (aboves_back p ls names any) ],
     )
 
-    own_for : (hold : HoldMode) → (enters : Bool) (change : told_change.Change) (c : Case) → IsGathering at hold ls x → (p : Names) → Contains x.exclusive p ↔ IsExclusive at (footprint_by ls hold enters change c) p
+    own_for : (hold : HoldMode) → (enters : Bool) (change : told_change.ChangeKind) (c : Case) → IsGathering at hold ls x → (p : Names) → Contains x.exclusive p ↔ IsExclusive at (footprint_by ls hold enters change c) p
     own_for Shared enters change c is p = (
       λ h. absurd (in_any (IsOwnAt at Shared p) ls ((is.exclusive p).0 h)).2,
       λ h. absurd (any_none (λ l. HasPath at l p) h),
     )
     own_for Exclusive enters change c is p = is.exclusive p
 
-    pub holds_for : (hold : HoldMode) → AreNames (exclusive_in hold ls) → (enters : Bool) (change : told_change.Change) (c : Case) → IsGathering at hold ls x → Holds at (footprint_by ls hold enters change c) (record { given = x.given; shared = x.shared; exclusive = x.exclusive })
+    pub holds_for : (hold : HoldMode) → AreNames (exclusive_in hold ls) → (enters : Bool) (change : told_change.ChangeKind) (c : Case) → IsGathering at hold ls x → Holds at (footprint_by ls hold enters change c) (record { given = x.given; shared = x.shared; exclusive = x.exclusive })
     holds_for hold names enters change c is = record {
       numbers = is.numbers;
       leads = is.leads;
@@ -183,7 +183,7 @@ module _ (at : Lookup) (tree : IsTree at) where
       exclusive = own_for hold enters change c is;
     }
 
-    pub pins_for : (hold : HoldMode) (enters : Bool) (change : told_change.Change) (c : Case) → IsGathering at hold ls x → (n : ℕ) → Contains x.pins.numbers n ↔ IsPin at (footprint_by ls hold enters change c) n
+    pub pins_for : (hold : HoldMode) (enters : Bool) (change : told_change.ChangeKind) (c : Case) → IsGathering at hold ls x → (n : ℕ) → Contains x.pins.numbers n ↔ IsPin at (footprint_by ls hold enters change c) n
     pins_for hold enters change c is n = (
       λ h.
           let it = in_any (IsPinAt at n) ls ((is.pins n).0 h) in
@@ -217,7 +217,7 @@ one_entry true [] entered = absurd entered
 one_entry true (AtNode n ∷ ls) entered = absurd entered
 one_entry true (AtName parent name ∷ ls) entered = refl
 
-pub promise_for : (enters none : Bool) (ls : List Location) (hold : HoldMode) (change : told_change.Change) → IsEntered enters ls
+pub promise_for : (enters none : Bool) (ls : List Location) (hold : HoldMode) (change : told_change.ChangeKind) → IsEntered enters ls
     → (let p : Promise = record { nodes = births_in (entered_case none enters); postings = 3 * (if enters then 1 else 0); files = 0 } in p ≡ promise_of (footprint_by ls hold enters change (entered_case none enters)))
 promise_for false true ls hold change entered = refl
 promise_for false false ls hold change entered = refl
@@ -239,13 +239,13 @@ may_exchange [] p q two a b can = tt
 may_exchange (x ∷ []) p q two a b can = tt
 may_exchange (x ∷ y ∷ paths) p q two a b can = subst (λ (r : Names). AreExchangeable x r) b (subst (λ (r : Names). AreExchangeable r q) a can)
 
-pub enough_more : (change : told_change.Change) (m n : ℕ) → m ≤ n → AreEnough change m → AreEnough change n
+pub enough_more : (change : told_change.ChangeKind) (m n : ℕ) → m ≤ n → AreEnough change m → AreEnough change n
 enough_more Stays m n more h = tt
 enough_more Cuts m n more h = tt
 enough_more Moves m n more h = omega (arith, more, h)
 enough_more Exchanges m n more h = omega (arith, more, h)
 
-pub enough_paths : (change : told_change.Change) (m n : ℕ) → m ≡ n → AreEnough change m → AreEnough change n
+pub enough_paths : (change : told_change.ChangeKind) (m n : ℕ) → m ≡ n → AreEnough change m → AreEnough change n
 enough_paths change m n e h = subst (λ k. AreEnough change k) e h
 
 pub agreed : (at : Lookup) → IsTree at → (footprint : UniformFootprint) (x : Gathering) (births entries : ℕ) (t : Reservation) → IsFit footprint → AreRooted at (locations_of footprint) → IsGathering at footprint.hold (locations_of footprint) x → MayChange footprint.change x.paths

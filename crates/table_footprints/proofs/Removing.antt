@@ -146,7 +146,7 @@ gathered_more at tree ls all l f old new is found adds = record {
       );
 }
 
-module _ (at : Lookup) (tree : IsTree at) (ls : List Location) (change : told_change.Change) (folder : ℕ) (hidden : List Name) where
+module _ (at : Lookup) (tree : IsTree at) (ls : List Location) (change : told_change.ChangeKind) (folder : ℕ) (hidden : List Name) where
   abbrev all : List Location
   all = ls ++ names_under folder hidden
 

@@ -73,7 +73,7 @@ key_in [] = []
 key_in (AtNode number ∷ ls) = []
 key_in (AtName parent name ∷ ls) = record { parent = parent; name = name } ∷ []
 
-abbrev pub change_in : told_change.Change → List Location → Change
+abbrev pub change_in : told_change.ChangeKind → List Location → Change
 change_in Stays ls = stays
 change_in Cuts [] = stays
 change_in Cuts (l ∷ ls) = cuts l
@@ -84,7 +84,7 @@ change_in Exchanges [] = stays
 change_in Exchanges (l ∷ []) = stays
 change_in Exchanges (l ∷ m ∷ ls) = exchanges l m
 
-abbrev pub footprint_by : List Location → HoldMode → Bool → told_change.Change → Case → Footprint
+abbrev pub footprint_by : List Location → HoldMode → Bool → told_change.ChangeKind → Case → Footprint
 footprint_by ls hold enters change c = record {
   given = map (λ l. base_of l) ls;
   paths = ls;
@@ -125,7 +125,7 @@ IsEntered true ls = IsOneName ls
 IsEntered false ls = Unit {0}
 
 -- a move and an exchange have two locations
-abbrev pub AreEnough : told_change.Change → ℕ → Type 0
+abbrev pub AreEnough : told_change.ChangeKind → ℕ → Type 0
 AreEnough Stays n = Unit {0}
 AreEnough Cuts n = Unit {0}
 AreEnough Moves n = 2 ≤ n
@@ -182,7 +182,7 @@ abbrev pub AreExchangeable : Names → Names → Type 0
 AreExchangeable source target = (e : ℤ) → IsRefusedExchange source target e → ⊥
 
 -- what the paths of a change must keep, and why they do not
-abbrev pub MayChange : told_change.Change → List Names → Type 0
+abbrev pub MayChange : told_change.ChangeKind → List Names → Type 0
 MayChange Stays paths = Unit {0}
 MayChange Cuts paths = Unit {0}
 MayChange Moves [] = Unit {0}
@@ -192,7 +192,7 @@ MayChange Exchanges [] = Unit {0}
 MayChange Exchanges (p ∷ []) = Unit {0}
 MayChange Exchanges (p ∷ q ∷ paths) = AreExchangeable p q
 
-abbrev pub IsWrongChange : told_change.Change → List Names → ℤ → Type 0
+abbrev pub IsWrongChange : told_change.ChangeKind → List Names → ℤ → Type 0
 IsWrongChange Stays paths e = ⊥
 IsWrongChange Cuts paths e = ⊥
 IsWrongChange Moves [] e = ⊥

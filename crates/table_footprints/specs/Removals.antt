@@ -25,7 +25,7 @@ pub record IsGoing (footprint : UniformFootprint) (gone : Gone) : Type 0 where
   pub under : Contains (map (λ l. base_of l) (locations_of footprint)) gone.parent
 
 -- the footprint of these locations, with names in that folder beside them
-abbrev pub going_in : List Location → told_change.Change → ℕ → List Name → Footprint
+abbrev pub going_in : List Location → told_change.ChangeKind → ℕ → List Name → Footprint
 going_in ls change folder hidden = record no_footprint {
   given = map (λ l. base_of l) ls;
   paths = ls ++ names_under folder hidden;
