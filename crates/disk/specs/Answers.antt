@@ -1,6 +1,6 @@
 -- What an honest system answers, and what stands below its folder then. An error by which POSIX has the system say what stands there is
 -- true; any other error is one of the device, and says nothing.
-use Rattle.std.specs.Prelude.{ℕ, ◌≡◌, ◌<◌, ◌≤◌, ◌⊎◌, ◌||◌, Bool, false, List, [], ◌∷◌, ◌++◌, Option, Some, None, IsSome, is_some, Result, Ok, Err, length, take, drop, if◌then◌else◌}
+use Rattle.std.specs.Prelude.{ℕ, ◌≡◌, ◌<◌, ◌≤◌, ◌⊎◌, ◌||◌, Bool, false, List, [], ◌∷◌, ◌++◌, Some, None, IsSome, is_some, Result, Ok, Err, length, take, drop, if◌then◌else◌}
 use Rattle.paths.specs.Prefixes.{Name, Names, is_name, is_prefix}
 use Rattle.backing.specs.declared.entries.Item.{Item}
 use Rattle.backing.specs.declared.entries.Item.TheVariants.{Folder, File}
@@ -68,10 +68,6 @@ EachOnce (name ∷ names) = (is_among names name ≡ false) × EachOnce names
 pub record ListsNames (at : Tree) (p : Names) (names : List Name) : Type 0 where
   pub stands : (name : Name) → is_among names name ≡ is_some (at (p ++ name ∷ []))
   pub once : EachOnce names
-
-abbrev pub Lists : Tree → Names → Result (List Name) DiskError → Type 0
-Lists at p (Ok names) = ListsNames at p names
-Lists at p (Err error) = Unit {0}
 
 -- What is open stands where it stood.
 abbrev pub AllStay : {H : Type 0} → (H → Names → Type 0) → (H → Names → Type 0) → Type 0

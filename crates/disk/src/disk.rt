@@ -16,7 +16,7 @@ use std::alloc::Global;
 pub trait Disk {
     ghost use Rattle.backing.specs.Tree.{Tree, IsTree};
     ghost use Rattle.disk.specs.declared.stat.Change.{Change};
-    ghost use Rattle.disk.specs.Answers.{Inspects, Looks, OpensDir, OpensFile, Reads, Lists, Makes, MakesDir, Removes, RemovesDir, Renames, Writes, Cuts, AreApart};
+    ghost use Rattle.disk.specs.Answers.{Inspects, Looks, OpensDir, OpensFile, Reads, ListsNames, Makes, MakesDir, Removes, RemovesDir, Renames, Writes, Cuts, AreApart};
 
     /// A file or folder that is open for as long as the value is there. No value ever comes back.
     type Handle: Drop;
@@ -89,7 +89,7 @@ pub trait Disk {
 
     /// The names in an open folder, without `.` and `..`: `getdents`.
     fn list(&self, dir: &Self::Handle) -> Result<Vec<Name>, DiskError>
-        ensures { (p : Names) → stands self.now dir.now p → Lists (tree self.now) p result };
+        ensures { (p : Names) → stands self.now dir.now p → IfOk result (λ names. ListsNames (tree self.now) p names.items) };
 
     /// Brings an open file or folder to the disk: `fsync`.
     fn sync(&self, handle: &Self::Handle) -> Result<(), DiskError>
