@@ -96,6 +96,38 @@ fn use_folders(alloc: Global, dirs: &Dirs) -> Worked {
     worked
 }
 
+/// How many of these handles it gave up.
+fn retire_all(dirs: &Dirs, handles: &[u64]) -> u64 {
+    let mut count = 0u64;
+    for fh in handles {
+        if dirs.retire(*fh) {
+            count = count.saturating_add(1);
+        }
+    }
+    count
+}
+
+// Of calls that meet one alone is answered true.
+#[test]
+fn each_handle_is_given_up_once(rt: HostRuntime) -> Result<(), Fail> {
+    let alloc = rt.alloc();
+    let dirs = Dirs::new(alloc)?;
+    for _round in 0..20 {
+        let mut handles = Vec::new(alloc);
+        for _folder in 0..1_000 {
+            handles.push(put(&dirs, listing(alloc, ONE)?)?)?;
+        }
+        let (shared, all) = (&dirs, handles.as_slice());
+        let counts = thread::map_indices(&rt, alloc, 4, &|_thread| retire_all(shared, all))?;
+        let mut retired = 0u64;
+        for count in &counts {
+            retired = retired.saturating_add(*count);
+        }
+        assert_eq!(rt; retired, 1_000);
+    }
+    Ok(())
+}
+
 // What one thread puts no other one disturbs, and nothing is left of it.
 #[test]
 fn four_threads(rt: HostRuntime) -> Result<(), Fail> {

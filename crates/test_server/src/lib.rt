@@ -17,3 +17,5 @@ mod meetings;
 mod pipes;
 #[cfg(test)]
 mod sample_folders;
+#[cfg(test)]
+mod socket_places;

@@ -19,7 +19,7 @@ use test_support::Handles;
 
 /// What a client does next.
 #[derive(Clone, Copy)]
-enum Turn<'a> {
+pub enum Turn<'a> {
     /// It writes this, and then waits for that.
     Asks(&'a str, &'a str),
     /// It looks into the folder that is served: what stands at a name.
@@ -30,17 +30,17 @@ use Turn::{Asks, Sees};
 
 /// A client: what it does in turn, and what must come of it.
 #[derive(Clone, Copy)]
-struct Meeting<'a> {
+pub struct Meeting<'a> {
     says: &'a str,
     /// What it does, one after another. It leaves after the last of them.
-    turns: &'a [Turn<'a>],
+    pub turns: &'a [Turn<'a>],
     status: u8,
-    fault: &'a str,
+    pub fault: &'a str,
     after: &'a [(&'a str, Shown)],
 }
 
 /// Connects to a socket that is made in a moment.
-fn connect(rt: &impl Host, path: &str) -> io::Result<UnixStream> {
+pub fn connect(rt: &impl Host, path: &str) -> io::Result<UnixStream> {
     for _try in 0..2000 {
         match UnixStream::connect(rt, path) {
             Ok(stream) => return Ok(stream),
@@ -84,7 +84,7 @@ fn is_right(
 }
 
 /// How many of its turns came out as they should.
-fn be_client(rt: &impl Host, root: &str, path: &str, turns: &[Turn]) -> u64 {
+pub fn be_client(rt: &impl Host, root: &str, path: &str, turns: &[Turn]) -> u64 {
     let mut right = 0u64;
     let Ok(mut stream) = connect(rt, path) else {
         return right;
@@ -100,13 +100,13 @@ fn be_client(rt: &impl Host, root: &str, path: &str, turns: &[Turn]) -> u64 {
 }
 
 /// The word of a command line for a session on one thread.
-const ONE_THREAD: &str = "-s";
+pub const ONE_THREAD: &str = "-s";
 
 /// It, and the word for four workers.
 const EITHER: &[&str] = &[ONE_THREAD, "--workers=4"];
 
 /// Runs `serve`: its status, and whether it wrote just that line.
-fn be_server(
+pub fn be_server(
     rt: &impl Host,
     host: &HostRuntime,
     root: &str,
@@ -126,7 +126,7 @@ fn be_server(
 }
 
 /// What came of it is what the row says.
-fn judge(
+pub fn judge(
     rt: &impl Host,
     root: &str,
     row: &Meeting,
@@ -144,7 +144,7 @@ fn judge(
 const UNTOUCHED: &[(&str, Shown)] = &[("a", Shown::File(3))];
 
 /// Each client leaves otherwise.
-const MEETINGS: &[Meeting] = &[
+pub const MEETINGS: &[Meeting] = &[
     Meeting {
         says: "a whole session",
         turns: &[

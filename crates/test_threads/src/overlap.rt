@@ -9,7 +9,7 @@ use std::sync::atomic::{AtomicU32, Ordering};
 use std::sync::{Arc, Wait};
 use std::test::Fail;
 use std::thread;
-use wire::Operation::Lookup;
+use wire::Operation::{Destroy, Lookup, Unlink};
 
 /// How often a first call looks whether another has come.
 const LOOKS: u32 = 10_000_000;
@@ -74,6 +74,59 @@ fn meeting<H: Wait + Drop>(
         })?;
     }
     Ok(trees)
+}
+
+/// A hold on a tree whose calls take a while.
+#[derive(Drop)]
+struct Slowed<H: Wait + Drop> {
+    tree: Shared<H>,
+}
+
+impl<H: Wait + Drop> Calls for Slowed<H> {
+    ghost use Rattle.backing.specs.KnownTreeLemmas.{shared_counts};
+    ghost use Rattle.backing.specs.SharedTree.{Shows};
+
+    ghost gives = { λ old call answer new. Shows old.tree call answer new.tree };
+
+    ghost faults = { λ slowed. slowed.tree };
+
+    ghost counts = { λ old new call answer shown. shared_counts old.tree new.tree call answer shown };
+
+    fn call(&mut self, call: Call<'_>) -> Answer {
+        for _look in 0..200_000u32 {
+            thread::yield_now();
+        }
+        self.tree.call(call)
+    }
+}
+
+const SAME_NAME: Story = Story {
+    says: "one name is removed by two requests at once",
+    workers: 2,
+    comes: Comes::Together,
+    asks: &[
+        (1, Unlink { name: "a" }),
+        (1, Unlink { name: "a" }),
+        (0, Destroy),
+    ],
+    rest: &[],
+    fates: Fates::Taken,
+    end: SessionEnd::Destroyed,
+    offers: 4,
+    last: 4,
+    taken: 3,
+    births: None,
+    totals: Some((0, 0, 0)),
+};
+
+// One of them waits until the other has finished.
+#[test]
+fn a_request_waits_for_another(rt: HostRuntime) -> Result<(), Fail> {
+    let mut trees = Vec::new(rt.alloc());
+    for tree in holds_of(&rt, rt.alloc(), SAME_NAME.workers)? {
+        trees.push(Slowed { tree })?;
+    }
+    check_by(&rt, rt.alloc(), &SAME_NAME, trees)
 }
 
 const TWO: Story = Story {

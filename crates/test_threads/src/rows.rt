@@ -57,6 +57,35 @@ fn one_table_for_all_workers(rt: HostRuntime) -> Result<(), Fail> {
     Ok(())
 }
 
+#[test]
+fn nothing_is_received_after_a_break(rt: HostRuntime) -> Result<(), Fail> {
+    let broken = Story {
+        says: "the link breaks at the second reply, and a receive for each frame",
+        comes: Comes::Alone,
+        fates: Fates::Reply(2, Sent::Broken),
+        end: SessionEnd::LinkBroken,
+        offers: 2,
+        taken: 2,
+        totals: Some((1, 1, 0)),
+        ..NINE
+    };
+    check(&rt, rt.alloc(), &broken)
+}
+
+#[test]
+fn a_session_may_be_long(rt: HostRuntime) -> Result<(), Fail> {
+    let long = Story {
+        says: "1,100 entries by two workers",
+        workers: 2,
+        asks: &[(1, Lookup { name: "a" }); 1_100],
+        offers: 1_101,
+        taken: 1_101,
+        totals: Some((1_100, 0, 0)),
+        ..NINE
+    };
+    check(&rt, rt.alloc(), &long)
+}
+
 const BY_NONE: &[Story] = &[
     Story {
         says: "no worker",

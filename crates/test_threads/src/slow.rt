@@ -51,6 +51,18 @@ const MANY: Story = Story {
     totals: Some((100, 0, 0)),
 };
 
+#[test]
+fn one_worker_and_a_hundred_at_once(rt: HostRuntime) -> Result<(), Fail> {
+    let one = Story {
+        says: "a hundred entries at once by one worker",
+        workers: 1,
+        ..MANY
+    };
+    let trees = holds_of(&rt, rt.alloc(), 1)?;
+    let Client { asks, hears, heard } = client_of(&rt, rt.alloc(), &one)?;
+    check_over(&rt, rt.alloc(), &one, asks, Slow { hears }, &heard, trees)
+}
+
 // Where all threads waited for a place in the queue of replies, none would be left who offers them.
 #[test]
 fn more_replies_than_places(rt: HostRuntime) -> Result<(), Fail> {

@@ -1,0 +1,48 @@
+//! Where the socket of `serve` stands, and what else may stand there.
+
+use crate::host::Host;
+use crate::meetings::{MEETINGS, ONE_THREAD, be_client, be_server, connect, judge};
+use crate::sample_folders::{Shown, expect, new_folder, place_of};
+use std::test::Fail;
+use std::{env, fs, thread};
+
+// It leads on from where the server was started, not from the folder that is served.
+#[test]
+fn a_relative_socket(rt: HostRuntime) -> Result<(), Fail> {
+    let root = new_folder(&rt, "relative")?;
+    let current = env::current_dir(&rt)?;
+    let path = place_of(rt.alloc(), current.as_str(), "relative-socket")?;
+    let (there, place) = (root.as_str(), path.as_str());
+    let row = &MEETINGS[0];
+    let (served, right) = thread::join(
+        &rt,
+        || be_server(&rt, &rt, there, "relative-socket", ONE_THREAD, row.fault),
+        || be_client(&rt, there, place, row.turns),
+    );
+    judge(&rt, there, row, served, right)
+}
+
+/// Connects, puts a file of three bytes in the place of the socket's, and leaves.
+fn replace_socket(rt: &impl Host, path: &str) -> bool {
+    let Ok(_stream) = connect(rt, path) else {
+        return false;
+    };
+    fs::remove_file(rt, path).is_ok() && fs::write(rt, path, "abc").is_ok()
+}
+
+// What somebody put in its place during the session stays at its end.
+#[test]
+fn another_file_in_the_place_of_the_socket(rt: HostRuntime) -> Result<(), Fail> {
+    let root = new_folder(&rt, "replaced")?;
+    let path = place_of(rt.alloc(), root.as_str(), "socket")?;
+    let (there, place) = (root.as_str(), path.as_str());
+    let (served, is_replaced) = thread::join(
+        &rt,
+        || be_server(&rt, &rt, there, place, ONE_THREAD, ""),
+        || replace_socket(&rt, place),
+    );
+    if served != (0, true) || !is_replaced {
+        return Err(Fail::from(("it came otherwise", served, is_replaced)));
+    }
+    expect(&rt, there, &[("socket", Shown::File(3))])
+}
