@@ -9,23 +9,23 @@ use Rattle.backing.specs.declared.told.Told.{Told}
 use Rattle.backing.specs.declared.refusal.Refusal.{Refusal}
 use Rattle.backing.specs.declared.refusal.Refusal.TheVariants.{Errno, Memory}
 use Rattle.backing.specs.Tree.{Tree}
-use Rattle.backing.specs.Calls.{Asked, AskMake, AskMakeDir, AskWrite, Works, Starves, Does}
+use Rattle.backing.specs.Calls.{memory_limit, Asked, AskMake, AskMakeDir, AskWrite, Works, Starves, Does}
 use Rattle.backing.specs.Device.{Device, Sound, Before, After}
 use Rattle.backing.specs.Memory.{Treated, LetsWork, PutsDir, PutsFile}
 use Rattle.backing.specs.Refusals.{Ends, answered, errno_after, settled}
 
-works_refused : (old new : Tree) (call : Asked) (errno : ℤ) → Ends old call (Err (Errno errno)) new → Works old call (Fault errno) new
+works_refused : (old new : Tree) (call : Asked) (errno : ℤ) → Ends old call (Err (Errno errno)) new → Works memory_limit old call (Fault errno) new
 works_refused old new call errno ends = inr (errno, ends.0, refl, ends.1)
 
 abbrev pub failure : ℤ → Told
 failure errno = record { answer = Fault errno; failed = true }
 
-works_answered : (old new : Tree) (call : Asked) (ended : Result Answer Refusal) (answer : Answer) → Ends old call ended new → answered ended ≡ Some answer → Works old call answer new
-works_answered old new call (Ok own) answer ends is = subst (λ (a : Answer). Works old call a new) (same_Some own answer is) (inl ends)
-works_answered old new call (Err (Errno errno)) answer ends is = subst (λ (a : Answer). Works old call a new) (same_Some (Fault errno) answer is) (works_refused old new call errno ends)
+works_answered : (old new : Tree) (call : Asked) (ended : Result Answer Refusal) (answer : Answer) → Ends old call ended new → answered ended ≡ Some answer → Works memory_limit old call answer new
+works_answered old new call (Ok own) answer ends is = subst (λ (a : Answer). Works memory_limit old call a new) (same_Some own answer is) (inl ends)
+works_answered old new call (Err (Errno errno)) answer ends is = subst (λ (a : Answer). Works memory_limit old call a new) (same_Some (Fault errno) answer is) (works_refused old new call errno ends)
 works_answered old new call (Err Memory) answer ends is = cc
 
-unanswered : (old new : Tree) (call : Asked) (ended : Result Answer Refusal) → Ends old call ended new → answered ended ≡ None → Starves old call × (new ≡ old)
+unanswered : (old new : Tree) (call : Asked) (ended : Result Answer Refusal) → Ends old call ended new → answered ended ≡ None → Starves memory_limit old call × (new ≡ old)
 unanswered old new call (Ok own) ends is = cc
 unanswered old new call (Err (Errno errno)) ends is = cc
 unanswered old new call (Err Memory) ends is = ends
@@ -34,7 +34,7 @@ pub soundly_answered : (old new : Tree) (call : Asked) (ended : Result Answer Re
 soundly_answered old new call ended found answer ends is some = record { device = Sound; treats = inl refl; performs = works_answered old new call ended answer ends (sym is ∙ some); failed = refl }
 
 -- memory was refused for the work of a call that was let do it
-starved : (old new : Tree) (planned : Device) (call : Asked) (told : Told) → LetsWork planned → Starves old call → new ≡ old → told ≡ failure ENOMEM → Treated old planned call told new
+starved : (old new : Tree) (planned : Device) (call : Asked) (told : Told) → LetsWork planned → Starves memory_limit old call → new ≡ old → told ≡ failure ENOMEM → Treated old planned call told new
 starved old new planned call told lets starves stays is = record {
   device = Before ENOMEM;
   treats = inr (lets, starves, refl);
@@ -57,7 +57,7 @@ failed_before old call errno told is = record {
 }
 
 -- a call that did its work, or was refused, and failed then
-failed_after : (old new : Tree) (call : Asked) (errno : ℤ) (told : Told) (own : Answer) → Works old call own new → told ≡ failure errno → Treated old (After errno) call told new
+failed_after : (old new : Tree) (call : Asked) (errno : ℤ) (told : Told) (own : Answer) → Works memory_limit old call own new → told ≡ failure errno → Treated old (After errno) call told new
 failed_after old new call errno told own works is = record {
   device = After errno;
   treats = inl refl;
@@ -79,12 +79,12 @@ pub puts_no_file : (old new : Tree) (p : Names) (bytes : List ℕ) (made : Resul
 puts_no_file old new p bytes (Ok answer) errno ends is = cc
 puts_no_file old new p bytes (Err (Errno refused)) errno ends is =
     let e : refused ≡ errno = cc in
-    inl (inl (subst (λ (n : ℤ). Works old (AskMake p None) (Fault n) new) e (works_refused old new (AskMake p None) refused ends)))
+    inl (inl (subst (λ (n : ℤ). Works memory_limit old (AskMake p None) (Fault n) new) e (works_refused old new (AskMake p None) refused ends)))
 puts_no_file old new p bytes (Err Memory) errno ends is =
     let e : ENOMEM ≡ errno = cc in
     inl (inr (ends.0, sym e, ends.1))
 
-works_made : (old mid : Tree) (p : Names) (made : Result Answer Refusal) (done : Unit {0}) → Ends old (AskMake p None) made mid → settled made ≡ Ok done → Works old (AskMake p None) Done mid
+works_made : (old mid : Tree) (p : Names) (made : Result Answer Refusal) (done : Unit {0}) → Ends old (AskMake p None) made mid → settled made ≡ Ok done → Works memory_limit old (AskMake p None) Done mid
 works_made old mid p (Ok answer) done ends is = inl (ends.0, (refl, ends.1.1))
 works_made old mid p (Err refusal) done ends is = cc
 

@@ -9,7 +9,7 @@ use Rattle.backing.specs.declared.refusal.Refusal.{Refusal}
 use Rattle.backing.specs.declared.refusal.Refusal.TheVariants.{Errno}
 use Rattle.backing.specs.declared.entries.TreeEntry.{TreeEntry}
 use Rattle.backing.specs.Tree.{Tree, IsTree, Resolves, IsBare, moved, without}
-use Rattle.backing.specs.Calls.{Asked, AskRename, PassesAll, Refuses, Does, tests_of, unless}
+use Rattle.backing.specs.Calls.{memory_limit, Asked, AskRename, PassesAll, Refuses, Does, tests_of, unless}
 use Rattle.backing.specs.Checks.{source_tests, room_tests}
 use Rattle.backing.specs.Entries.{tree_of, IsDistinct, IsEntryTree}
 use Rattle.backing.specs.Moves.{moved_path, with_paths, Clears}
@@ -21,19 +21,19 @@ use Rattle.backing.proofs.Putting.{removed_tree, removed_lawful}
 use Rattle.backing.proofs.Relocating.{all_moved, Outside, outside, relocated_all, distinct_moved, tree-moved, moved-without, longer_root, moved_tree}
 use Rattle.backing.proofs.Tests.{refuses_later, passes_both}
 
-pub renames_same : (at : Tree) (s t : Names) → s ≡ t → PassesAll at (source_tests s t) → PassesAll at (tests_of (AskRename s t)) × Does at (AskRename s t) Done at
+pub renames_same : (at : Tree) (s t : Names) → s ≡ t → PassesAll at (source_tests s t) → PassesAll at (tests_of memory_limit (AskRename s t)) × Does at (AskRename s t) Done at
 renames_same at s t same source =
     subst (λ (b : Bool). PassesAll at (source_tests s t ++ unless b (room_tests s t)) × ((Done ≡ Done) × (at ≡ cond b at (moved at s t)))) (sym (is_path-yes s t same)) (passes_both at (source_tests s t) [] source tt, (refl, refl))
 
-pub renames_moved : (at new : Tree) (s t : Names) → (s ≡ t → ⊥) → PassesAll at (source_tests s t) → PassesAll at (room_tests s t) → new ≡ moved at s t → PassesAll at (tests_of (AskRename s t)) × Does at (AskRename s t) Done new
+pub renames_moved : (at new : Tree) (s t : Names) → (s ≡ t → ⊥) → PassesAll at (source_tests s t) → PassesAll at (room_tests s t) → new ≡ moved at s t → PassesAll at (tests_of memory_limit (AskRename s t)) × Does at (AskRename s t) Done new
 renames_moved at new s t other source room is =
     subst (λ (b : Bool). PassesAll at (source_tests s t ++ unless b (room_tests s t)) × ((Done ≡ Done) × (new ≡ cond b at (moved at s t)))) (sym (is_path-no s t other)) (passes_both at (source_tests s t) (room_tests s t) source room, (refl, is))
 
-pub renames_refused : (at : Tree) (s t : Names) (errno : ℤ) → (s ≡ t → ⊥) → PassesAll at (source_tests s t) → Refuses at (room_tests s t) errno → Refuses at (tests_of (AskRename s t)) errno
+pub renames_refused : (at : Tree) (s t : Names) (errno : ℤ) → (s ≡ t → ⊥) → PassesAll at (source_tests s t) → Refuses at (room_tests s t) errno → Refuses at (tests_of memory_limit (AskRename s t)) errno
 renames_refused at s t errno other source room =
     subst (λ (b : Bool). Refuses at (source_tests s t ++ unless b (room_tests s t)) errno) (sym (is_path-no s t other)) (refuses_later at (source_tests s t) (room_tests s t) errno source room)
 
-pub ends_refused : (old : Tree) (call : Asked) (result : Result Answer Refusal) (errno : ℤ) → IsErrAnd result (λ refusal. refusal ≡ Errno errno) → Refuses old (tests_of call) errno → Ends old call result old
+pub ends_refused : (old : Tree) (call : Asked) (result : Result Answer Refusal) (errno : ℤ) → IsErrAnd result (λ refusal. refusal ≡ Errno errno) → Refuses old (tests_of memory_limit call) errno → Ends old call result old
 ends_refused old call (Ok answer) errno h refused = absurd h
 ends_refused old call (Err refusal) errno h refused = subst (λ (r : Refusal). Ends old call (Err r) old) (sym h) (refused, refl)
 

@@ -10,7 +10,7 @@ use Rattle.backing.specs.declared.entries.Item.{Item}
 use Rattle.backing.specs.declared.entries.Item.TheVariants.{Folder}
 use Rattle.backing.specs.declared.entries.TreeEntry.{TreeEntry}
 use Rattle.backing.specs.Tree.{Tree, IsTree, Resolves, is_path, exchanged}
-use Rattle.backing.specs.Calls.{AskExchange, PassesAll, Refuses, Does, tests_of, unless}
+use Rattle.backing.specs.Calls.{memory_limit, AskExchange, PassesAll, Refuses, Does, tests_of, unless}
 use Rattle.backing.specs.Checks.{source_tests, exchange_tests}
 use Rattle.backing.specs.Entries.{look, tree_of, IsDistinct, IsEntryTree}
 use Rattle.backing.specs.Moves.{exchanged_path, with_path, with_paths}
@@ -20,15 +20,15 @@ use Rattle.backing.proofs.Lawful.{parent_leads}
 use Rattle.backing.proofs.Relocating.{last_of, no_prefix, prefix_of_root, prefix_cases, root_cases}
 use Rattle.backing.proofs.Tests.{refuses_later, passes_both}
 
-pub exchanges_same : (at : Tree) (s t : Names) → s ≡ t → PassesAll at (source_tests s t) → PassesAll at (tests_of (AskExchange s t)) × Does at (AskExchange s t) Done at
+pub exchanges_same : (at : Tree) (s t : Names) → s ≡ t → PassesAll at (source_tests s t) → PassesAll at (tests_of memory_limit (AskExchange s t)) × Does at (AskExchange s t) Done at
 exchanges_same at s t same source =
     subst (λ (b : Bool). PassesAll at (source_tests s t ++ unless b (exchange_tests s t)) × ((Done ≡ Done) × (at ≡ cond b at (exchanged at s t)))) (sym (is_path-yes s t same)) (passes_both at (source_tests s t) [] source tt, (refl, refl))
 
-pub exchanges : (at new : Tree) (s t : Names) → (s ≡ t → ⊥) → PassesAll at (source_tests s t) → PassesAll at (exchange_tests s t) → new ≡ exchanged at s t → PassesAll at (tests_of (AskExchange s t)) × Does at (AskExchange s t) Done new
+pub exchanges : (at new : Tree) (s t : Names) → (s ≡ t → ⊥) → PassesAll at (source_tests s t) → PassesAll at (exchange_tests s t) → new ≡ exchanged at s t → PassesAll at (tests_of memory_limit (AskExchange s t)) × Does at (AskExchange s t) Done new
 exchanges at new s t other source room is =
     subst (λ (b : Bool). PassesAll at (source_tests s t ++ unless b (exchange_tests s t)) × ((Done ≡ Done) × (new ≡ cond b at (exchanged at s t)))) (sym (is_path-no s t other)) (passes_both at (source_tests s t) (exchange_tests s t) source room, (refl, is))
 
-pub exchanges_refused : (at : Tree) (s t : Names) (errno : ℤ) → (s ≡ t → ⊥) → PassesAll at (source_tests s t) → Refuses at (exchange_tests s t) errno → Refuses at (tests_of (AskExchange s t)) errno
+pub exchanges_refused : (at : Tree) (s t : Names) (errno : ℤ) → (s ≡ t → ⊥) → PassesAll at (source_tests s t) → Refuses at (exchange_tests s t) errno → Refuses at (tests_of memory_limit (AskExchange s t)) errno
 exchanges_refused at s t errno other source room =
     subst (λ (b : Bool). Refuses at (source_tests s t ++ unless b (exchange_tests s t)) errno) (sym (is_path-no s t other)) (refuses_later at (source_tests s t) (exchange_tests s t) errno source room)
 

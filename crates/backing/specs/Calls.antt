@@ -68,7 +68,21 @@ pub data Test : Type 0 where
   NotOver : (s t : Names) → Test  -- s is not below t, else ENOTEMPTY
   NoFileOnFolder : (s t : Names) → Test  -- not a file onto a folder, else EISDIR
   NoFolderOnFile : (s t : Names) → Test  -- not a folder onto a file, else ENOTDIR
-  Fits : (end : ℕ) → Test  -- a file may end there, else EFBIG
+  Fits : (limit : Option ℕ) (end : ℕ) → Test  -- a file may end there, else EFBIG
+
+-- How long a file may be, in a tree in memory. A directory that has no limit of its own has none here, and its device fails.
+abbrev pub memory_limit : Option ℕ
+memory_limit = Some MAX_FILE_LEN
+
+-- a file may end there
+abbrev pub IsWithin : Option ℕ → ℕ → Type 0
+IsWithin None end = Unit {0}
+IsWithin (Some limit) end = end ≤ limit
+
+-- no file may
+abbrev pub IsBeyond : Option ℕ → ℕ → Type 0
+IsBeyond None end = ⊥
+IsBeyond (Some limit) end = limit < end
 
 abbrev pub Passes : Tree → Test → Type 0
 Passes at (BelowRoot p) = p ≢ []
@@ -83,7 +97,7 @@ Passes at (NotInto s t) = is_prefix s t ≡ false
 Passes at (NotOver s t) = is_prefix t s ≡ false
 Passes at (NoFileOnFolder s t) = IsFile (at s) → IsFolder (at t) → ⊥
 Passes at (NoFolderOnFile s t) = IsFolder (at s) → IsFile (at t) → ⊥
-Passes at (Fits end) = end ≤ MAX_FILE_LEN
+Passes at (Fits limit end) = IsWithin limit end
 
 abbrev pub Fails : Tree → Test → ℤ → Type 0
 Fails at (BelowRoot p) errno = (p ≡ []) × (errno ≡ EBUSY)
@@ -98,7 +112,7 @@ Fails at (NotInto s t) errno = (is_prefix s t ≡ true) × (errno ≡ EINVAL)
 Fails at (NotOver s t) errno = (is_prefix t s ≡ true) × (errno ≡ ENOTEMPTY)
 Fails at (NoFileOnFolder s t) errno = IsFile (at s) × IsFolder (at t) × (errno ≡ EISDIR)
 Fails at (NoFolderOnFile s t) errno = IsFolder (at s) × IsFile (at t) × (errno ≡ ENOTDIR)
-Fails at (Fits end) errno = (MAX_FILE_LEN < end) × (errno ≡ EFBIG)
+Fails at (Fits limit end) errno = IsBeyond limit end × (errno ≡ EFBIG)
 
 -- all of the tests pass
 abbrev pub PassesAll : Tree → List Test → Type 0
@@ -121,23 +135,23 @@ end_of offset [] = 0
 end_of offset (byte ∷ piece) = offset + length (byte ∷ piece)
 
 -- the tests of a call, in their order
-abbrev pub tests_of : Asked → List Test
-tests_of (AskStat p) = Reached p ∷ Present p ∷ []
-tests_of (AskList p) = Reached p ∷ Present p ∷ NoFile p ∷ []
-tests_of (AskMake p permissions) = Reached p ∷ Free p ∷ []
-tests_of (AskMakeDir p permissions) = Reached p ∷ Free p ∷ []
-tests_of (AskRemove p) = Reached p ∷ Present p ∷ NoFolder p ∷ []
-tests_of (AskRemoveDir p) = BelowRoot p ∷ Reached p ∷ Present p ∷ NoFile p ∷ Bare p ∷ []
-tests_of (AskRename s t) = BelowRoot s ∷ BelowRoot t ∷ Reached s ∷ Present s ∷ unless (is_path s t) (NotInto s t ∷ NotOver s t ∷ Reached t ∷ NoFileOnFolder s t ∷ NoFolderOnFile s t ∷ Bare t ∷ [])
-tests_of (AskRenameNew s t) = BelowRoot s ∷ BelowRoot t ∷ Reached s ∷ Present s ∷ Differs s t ∷ NotInto s t ∷ NotOver s t ∷ Reached t ∷ Free t ∷ []
-tests_of (AskExchange s t) = BelowRoot s ∷ BelowRoot t ∷ Reached s ∷ Present s ∷ unless (is_path s t) (NotInto s t ∷ NotInto t s ∷ Reached t ∷ Present t ∷ [])
-tests_of (AskRead p offset size) = Reached p ∷ Present p ∷ NoFolder p ∷ []
-tests_of (AskWrite p offset piece) = Reached p ∷ Present p ∷ NoFolder p ∷ Fits (end_of offset piece) ∷ []
-tests_of (AskSetLen p size) = Reached p ∷ Present p ∷ NoFolder p ∷ Fits size ∷ []
-tests_of (AskSync p) = Reached p ∷ Present p ∷ []
-tests_of (AskSetPermissions p permissions) = Reached p ∷ Present p ∷ []
-tests_of (AskSetOwner p uid gid) = Reached p ∷ Present p ∷ []
-tests_of (AskSetTimes p accessed modified) = Reached p ∷ Present p ∷ []
+abbrev pub tests_of : Option ℕ → Asked → List Test
+tests_of limit (AskStat p) = Reached p ∷ Present p ∷ []
+tests_of limit (AskList p) = Reached p ∷ Present p ∷ NoFile p ∷ []
+tests_of limit (AskMake p permissions) = Reached p ∷ Free p ∷ []
+tests_of limit (AskMakeDir p permissions) = Reached p ∷ Free p ∷ []
+tests_of limit (AskRemove p) = Reached p ∷ Present p ∷ NoFolder p ∷ []
+tests_of limit (AskRemoveDir p) = BelowRoot p ∷ Reached p ∷ Present p ∷ NoFile p ∷ Bare p ∷ []
+tests_of limit (AskRename s t) = BelowRoot s ∷ BelowRoot t ∷ Reached s ∷ Present s ∷ unless (is_path s t) (NotInto s t ∷ NotOver s t ∷ Reached t ∷ NoFileOnFolder s t ∷ NoFolderOnFile s t ∷ Bare t ∷ [])
+tests_of limit (AskRenameNew s t) = BelowRoot s ∷ BelowRoot t ∷ Reached s ∷ Present s ∷ Differs s t ∷ NotInto s t ∷ NotOver s t ∷ Reached t ∷ Free t ∷ []
+tests_of limit (AskExchange s t) = BelowRoot s ∷ BelowRoot t ∷ Reached s ∷ Present s ∷ unless (is_path s t) (NotInto s t ∷ NotInto t s ∷ Reached t ∷ Present t ∷ [])
+tests_of limit (AskRead p offset size) = Reached p ∷ Present p ∷ NoFolder p ∷ []
+tests_of limit (AskWrite p offset piece) = Reached p ∷ Present p ∷ NoFolder p ∷ Fits limit (end_of offset piece) ∷ []
+tests_of limit (AskSetLen p size) = Reached p ∷ Present p ∷ NoFolder p ∷ Fits limit size ∷ []
+tests_of limit (AskSync p) = Reached p ∷ Present p ∷ []
+tests_of limit (AskSetPermissions p permissions) = Reached p ∷ Present p ∷ []
+tests_of limit (AskSetOwner p uid gid) = Reached p ∷ Present p ∷ []
+tests_of limit (AskSetTimes p accessed modified) = Reached p ∷ Present p ∷ []
 
 -- the kind that a name has in a listing
 abbrev pub kind_in : List Child → Name → Option Kind
@@ -177,8 +191,8 @@ Does old (AskSetTimes p accessed modified) answer new = (answer ≡ Done) × (ne
 
 -- The tree's own answer and effect: the call's work where all of its tests pass, else the error of the first that fails
 -- and no change.
-abbrev pub Works : Tree → Asked → Answer → Tree → Type 0
-Works old call answer new = (PassesAll old (tests_of call) × Does old call answer new) ⊎ ((errno : ℤ) × Refuses old (tests_of call) errno × (answer ≡ Fault errno) × (new ≡ old))
+abbrev pub Works : Option ℕ → Tree → Asked → Answer → Tree → Type 0
+Works limit old call answer new = (PassesAll old (tests_of limit call) × Does old call answer new) ⊎ ((errno : ℤ) × Refuses old (tests_of limit call) errno × (answer ≡ Fault errno) × (new ≡ old))
 
 -- the calls that a tree in memory takes memory for
 abbrev pub TakesMemory : Asked → Type 0
@@ -200,5 +214,5 @@ TakesMemory (AskSetOwner p uid gid) = ⊥
 TakesMemory (AskSetTimes p accessed modified) = ⊥
 
 -- Nothing but want of memory keeps the tree from doing the call's work.
-abbrev pub Starves : Tree → Asked → Type 0
-Starves old call = PassesAll old (tests_of call) × TakesMemory call
+abbrev pub Starves : Option ℕ → Tree → Asked → Type 0
+Starves limit old call = PassesAll old (tests_of limit call) × TakesMemory call

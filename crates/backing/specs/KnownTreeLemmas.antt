@@ -2,8 +2,8 @@
 use Rattle.std.proofs.Common.{ℕ, ◌≡◌, ◌+◌, ap, ◌∙◌, inl, inr, arith}
 use Rattle.backing.specs.declared.call.Answer.{Answer}
 use Rattle.backing.specs.Tree.{Tree, IsTree}
-use Rattle.backing.specs.Calls.{Asked}
-use Rattle.backing.specs.Device.{Device, Sound, Before, After, Performs, Counted, Counts, counted, faulty}
+use Rattle.backing.specs.Calls.{memory_limit, Asked}
+use Rattle.backing.specs.Device.{Device, Sound, Before, Within, After, Performs, Counted, Counts, counted, faulty}
 use Rattle.backing.specs.Memory.{Memory, Gives, memory_tree}
 use Rattle.backing.specs.SharedTree.{Shows}
 
@@ -15,12 +15,13 @@ counted_none n = omega arith
 pub counted_on : (n a b : ℕ) → counted (counted n a) b ≡ counted n (a + b)
 counted_on n a b = omega arith
 
-known_counts : (old new : Tree) (before after : ℕ) (device : Device) (call : Asked) (answer : Answer) → Performs old device call answer new → after ≡ counted before (faulty device) → Counts before answer after
+known_counts : (old new : Tree) (before after : ℕ) (device : Device) (call : Asked) (answer : Answer) → Performs memory_limit old device call answer new → after ≡ counted before (faulty device) → Counts before answer after
 known_counts old new before after Sound call answer performs count = inl (count ∙ counted_none before)
 known_counts old new before after (Before errno) call answer performs count = inr (count, (errno, performs.0))
+known_counts old new before after (Within errno) call answer performs count = inr (count, (errno, performs.0))
 known_counts old new before after (After errno) call answer performs count = inr (count, (errno, performs.0))
 
-pub memory_known : (old new : Memory) (call : Asked) (answer : Answer) → Gives old call answer new → Counted (memory_tree old) old.failed call answer (memory_tree new) new.failed
+pub memory_known : (old new : Memory) (call : Asked) (answer : Answer) → Gives old call answer new → Counted memory_limit (memory_tree old) old.failed call answer (memory_tree new) new.failed
 memory_known old new call answer given = (given.device, given.performs, ap (λ (m : Memory). m.failed) given.kept)
 
 pub memory_counts : (old new : Memory) (call : Asked) (answer : Answer) → Gives old call answer new → Counts old.failed answer new.failed

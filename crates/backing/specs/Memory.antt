@@ -10,8 +10,8 @@ use Rattle.backing.specs.declared.plans.Plan.{Plan}
 use Rattle.backing.specs.declared.plans.PlannedFault.{PlannedFault as Planned}
 use Rattle.backing.specs.declared.plans.PlannedFault.TheVariants as planned
 use Rattle.backing.specs.Tree.{Tree, IsTree}
-use Rattle.backing.specs.Calls.{Asked, AskMake, AskMakeDir, AskWrite, Works, Starves}
-use Rattle.backing.specs.Device.{Device, Sound, Before, After, Performs, counted, fails, faulty}
+use Rattle.backing.specs.Calls.{memory_limit, Asked, AskMake, AskMakeDir, AskWrite, Works, Starves}
+use Rattle.backing.specs.Device.{Device, Sound, Before, Within, After, Performs, counted, fails, faulty}
 use Rattle.backing.specs.Entries.{tree_of}
 
 -- what a memory tree is: what stands in it, how many calls were made, which of them are planned to fail, and how many failed
@@ -47,24 +47,25 @@ next_device plans made = if nat_lt made (2 ^ 64 - 1) then planned_at plans (made
 abbrev pub LetsWork : Device → Type 0
 LetsWork Sound = Unit {0}
 LetsWork (Before errno) = ⊥
+LetsWork (Within errno) = ⊥
 LetsWork (After errno) = Unit {0}
 
 -- The device treats a call as planned; or memory was refused for its work, where it was let do it.
 abbrev pub Treats : Tree → Asked → Device → Device → Type 0
-Treats old call planned device = (device ≡ planned) ⊎ (LetsWork planned × Starves old call × (device ≡ Before ENOMEM))
+Treats old call planned device = (device ≡ planned) ⊎ (LetsWork planned × Starves memory_limit old call × (device ≡ Before ENOMEM))
 
 -- a call for which this was planned: how the device treated it, and whether it failed
 pub record Treated (old : Tree) (planned : Device) (call : Asked) (told : Told) (new : Tree) : Type 0 where
   pub device : Device
   pub treats : Treats old call planned device
-  pub performs : Performs old device call told.answer new
+  pub performs : Performs memory_limit old device call told.answer new
   pub failed : told.failed ≡ fails device
 
 -- a call, and what it leaves: the next one by the plans, and each failure is counted
 pub record Gives (old : Memory) (call : Asked) (answer : Answer) (new : Memory) : Type 0 where
   pub device : Device
   pub treats : Treats (memory_tree old) call (next_device old.plans old.made) device
-  pub performs : Performs (memory_tree old) device call answer (memory_tree new)
+  pub performs : Performs memory_limit (memory_tree old) device call answer (memory_tree new)
   pub kept : new ≡ record old { entries = new.entries; made = counted old.made 1; failed = counted old.failed (faulty device) }
   pub old_is_tree : IsTree (memory_tree old)
   pub new_is_tree : IsTree (memory_tree new)
@@ -82,10 +83,10 @@ pub record SameBut (old new : Memory) : Type 0 where
 
 -- what a folder that is put there is, and why it is not
 abbrev pub PutsDir : Tree → Names → Result (Unit {0}) ℤ → Tree → Type 0
-PutsDir old p (Ok done) new = Works old (AskMakeDir p None) Done new
-PutsDir old p (Err errno) new = Works old (AskMakeDir p None) (Fault errno) new ⊎ (Starves old (AskMakeDir p None) × (errno ≡ ENOMEM) × (new ≡ old))
+PutsDir old p (Ok done) new = Works memory_limit old (AskMakeDir p None) Done new
+PutsDir old p (Err errno) new = Works memory_limit old (AskMakeDir p None) (Fault errno) new ⊎ (Starves memory_limit old (AskMakeDir p None) × (errno ≡ ENOMEM) × (new ≡ old))
 
 -- a file is made and then written; where the write fails, the empty file stays
 abbrev pub PutsFile : Tree → Names → List ℕ → Result (Unit {0}) ℤ → Tree → Type 0
-PutsFile old p bytes (Ok done) new = (mid : Tree) × Works old (AskMake p None) Done mid × ((n : ℕ) × Works mid (AskWrite p 0 bytes) (Wrote n) new)
-PutsFile old p bytes (Err errno) new = (Works old (AskMake p None) (Fault errno) new ⊎ (Starves old (AskMake p None) × (errno ≡ ENOMEM) × (new ≡ old))) ⊎ ((mid : Tree) × Works old (AskMake p None) Done mid × (Works mid (AskWrite p 0 bytes) (Fault errno) new ⊎ (Starves mid (AskWrite p 0 bytes) × (errno ≡ ENOMEM) × (new ≡ mid))))
+PutsFile old p bytes (Ok done) new = (mid : Tree) × Works memory_limit old (AskMake p None) Done mid × ((n : ℕ) × Works memory_limit mid (AskWrite p 0 bytes) (Wrote n) new)
+PutsFile old p bytes (Err errno) new = (Works memory_limit old (AskMake p None) (Fault errno) new ⊎ (Starves memory_limit old (AskMake p None) × (errno ≡ ENOMEM) × (new ≡ old))) ⊎ ((mid : Tree) × Works memory_limit old (AskMake p None) Done mid × (Works memory_limit mid (AskWrite p 0 bytes) (Fault errno) new ⊎ (Starves memory_limit mid (AskWrite p 0 bytes) × (errno ≡ ENOMEM) × (new ≡ mid))))

@@ -6,13 +6,13 @@ use Rattle.backing.specs.declared.refusal.Refusal.TheVariants.{Errno, Memory}
 use Rattle.backing.specs.declared.call.Answer.TheVariants.{Fault}
 use Rattle.errno.specs.declared.TheConstants.{ENOMEM}
 use Rattle.backing.specs.Tree.{Tree}
-use Rattle.backing.specs.Calls.{Asked, Test, tests_of, PassesAll, Refuses, Does, Starves}
+use Rattle.backing.specs.Calls.{memory_limit, Asked, Test, tests_of, PassesAll, Refuses, Does, Starves}
 
 -- It did its work; or the first test that failed gave the error; or there was no memory for its work. Only its work changes the tree.
 abbrev pub Ends : Tree → Asked → Result Answer Refusal → Tree → Type 0
-Ends old call (Ok answer) new = PassesAll old (tests_of call) × Does old call answer new
-Ends old call (Err (Errno errno)) new = Refuses old (tests_of call) errno × (new ≡ old)
-Ends old call (Err Memory) new = Starves old call × (new ≡ old)
+Ends old call (Ok answer) new = PassesAll old (tests_of memory_limit call) × Does old call answer new
+Ends old call (Err (Errno errno)) new = Refuses old (tests_of memory_limit call) errno × (new ≡ old)
+Ends old call (Err Memory) new = Starves memory_limit old call × (new ≡ old)
 
 -- why these tests did not all pass, unless they did and there was no memory
 abbrev pub Refusing : Tree → List Test → Refusal → Type 0

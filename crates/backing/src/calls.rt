@@ -1,6 +1,6 @@
 //! A directory, as far as its callers know it.
 
-ghost use Rattle.std.specs.Prelude.{◌≡◌, ℕ};
+ghost use Rattle.std.specs.Prelude.{◌≡◌, ℕ, Option};
 ghost use Rattle.backing.specs.declared.call.Answer.{Answer};
 
 use crate::call::{Answer, Call};
@@ -37,8 +37,11 @@ pub trait KnownTree: Calls {
 
     ghost tree: { Self → Tree };
 
+    /// How many bytes a file may have, where the directory itself has such a limit.
+    ghost limit: { Option ℕ };
+
     /// Each call is one of the tree, or of a device that fails and counts it.
-    ghost known: { (old new : Self) (call : Asked) (answer : Answer) → Self.gives old call answer new → Counted (tree old) (Self.faults old) call answer (tree new) (Self.faults new) };
+    ghost known: { (old new : Self) (call : Asked) (answer : Answer) → Self.gives old call answer new → Counted limit (tree old) (Self.faults old) call answer (tree new) (Self.faults new) };
 
     /// Before each call and after it the root is a folder, and each other path's parent is a folder of the tree.
     ghost stands: { (old new : Self) (call : Asked) (answer : Answer) → Self.gives old call answer new → IsTree (tree old) × IsTree (tree new) };

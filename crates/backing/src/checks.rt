@@ -3,7 +3,7 @@
 ghost use Rattle.std.specs.Prelude.{◌≡◌, ◌≢◌, ◌≤◌, ◌<◌, [], ◌∷◌, None, Some, IfOk, IfErr, OnOk};
 ghost use Rattle.std.specs.Option.{option_map};
 ghost use Rattle.backing.specs.Tree.{kind_of, Resolves, Stops};
-ghost use Rattle.backing.specs.Calls.{PassesAll, Refuses, Bare, Fits};
+ghost use Rattle.backing.specs.Calls.{PassesAll, Refuses, Bare, Fits, memory_limit};
 ghost use Rattle.backing.specs.Checks.{present_tests, free_tests, file_tests, folder_tests};
 ghost use Rattle.backing.specs.Entries.{tree_of, IsFoundAt, IsEntryTree};
 
@@ -104,7 +104,7 @@ pub fn expect_bare(entries: &[TreeEntry], path: &Path) -> Result<(), i32>
 /// A file may be so long.
 pub fn expect_fits(entries: &[TreeEntry], end: u64) -> Result<(), i32>
     ensures ok { OnOk result (end ≤ MAX_FILE_LEN) }
-    ensures err { IfErr result (Refuses (tree_of entries.now) (Fits end ∷ [])) }
+    ensures err { IfErr result (Refuses (tree_of entries.now) (Fits memory_limit end ∷ [])) }
 {
     if end > MAX_FILE_LEN {
         Err(EFBIG)

@@ -150,10 +150,13 @@ impl Calls for MemTree {
 }
 
 impl KnownTree for MemTree {
+    ghost use Rattle.backing.specs.Calls.{memory_limit};
     ghost use Rattle.backing.specs.Memory.{memory_tree};
     ghost use Rattle.backing.specs.KnownTreeLemmas.{memory_known, memory_stands};
 
     ghost tree = { memory_tree };
+
+    ghost limit = { memory_limit };
 
     ghost known = { memory_known };
 

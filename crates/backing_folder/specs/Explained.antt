@@ -10,7 +10,7 @@ use Rattle.backing_folder.specs.declared.host_error.HostError.{HostError}
 use Rattle.backing_folder.specs.declared.host_error.Reason.{Reason}
 use Rattle.backing_folder.specs.declared.host_error.Reason.TheVariants.{Root, Nothing, Taken, NoFolder, Folder, Below, Names}
 use Rattle.backing.specs.Tree.{Tree, IsTree}
-use Rattle.backing.specs.Calls.{Asked, AskStat, AskList, AskMake, AskMakeDir, AskRemove, AskRemoveDir, AskRename, AskRenameNew, AskExchange, AskRead, AskWrite, AskSetLen, AskSync, AskSetPermissions, AskSetOwner, AskSetTimes, Test, Refuses, tests_of}
+use Rattle.backing.specs.Calls.{Asked, AskStat, AskList, AskMake, AskMakeDir, AskRemove, AskRemoveDir, AskRename, AskRenameNew, AskExchange, AskRead, AskWrite, AskSetLen, AskSync, AskSetPermissions, AskSetOwner, AskSetTimes, Test, Refuses, memory_limit, tests_of}
 use Rattle.backing.specs.Device.{IsFault, counted, one_if}
 
 abbrev pub reason_errno : Reason → ℤ
@@ -30,7 +30,7 @@ pub record Explained (tests : List Test) (errno : ℤ) : Type 0 where
 
 -- some tree refuses the call with that error
 abbrev pub Explains : Asked → ℤ → Type 0
-Explains call errno = Explained (tests_of call) errno
+Explains call errno = Explained (tests_of memory_limit call) errno
 
 -- What a call answers that is done: the kind of answer, and how many bytes. The system has no call that exchanges two paths
 -- and that the standard library knows: it is done by being refused, whatever stands there, and that is no failure.

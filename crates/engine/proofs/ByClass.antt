@@ -26,14 +26,14 @@ confirmed unique = refl
 -- ---- INIT
 
 module _ {L : Type 0} (sends : L → List ℕ → Sent → L → Type 0) where
-  pub welcomed : (unique : ℕ) (answer : Negotiated) (before : Bool) (old new : L) (sent : Sent) (now : Bool) → sends old (reply_bytes (record { unique = unique; body = init_reply_of answer })) sent new → now ≡ agrees None answer before
+  pub welcomed : (unique : ℕ) (answer : Negotiated) (before : Bool) (old new : L) (sent : Sent) (now : Bool) → sends old (reply_bytes (record { unique = unique; body = init_reply_of answer })) sent new → now ≡ agrees answer before
       → RepliesInit sends unique answer before old sent new now
   welcomed unique answer before old new sent now s is = record {
     told = record { refused = None; said = init_reply_of answer; said_is = refl; offer = s };
     agreed = is;
   }
 
-  pub unwelcomed : (unique : ℕ) (answer : Negotiated) (before : Bool) (old new : L) (sent : Sent) (now : Bool) → TakesMemory (init_reply_of answer) → sends old (reply_bytes (refusal unique ENOMEM)) sent new → now ≡ before
+  pub unwelcomed : (unique : ℕ) (answer : Negotiated) (before : Bool) (old new : L) (sent : Sent) (now : Bool) → TakesMemory (init_reply_of answer) → sends old (reply_bytes (refusal unique ENOMEM)) sent new → now ≡ agrees answer before
       → RepliesInit sends unique answer before old sent new now
   unwelcomed unique answer before old new sent now takes s is = record {
     told = record { refused = Some AtReply; said = Failed ENOMEM; said_is = (takes, refl); offer = s };

@@ -189,16 +189,15 @@ init_reply_of (Use out) = Init out
 init_reply_of (Again out) = Init out
 init_reply_of Refuse = Failed EPROTO
 
--- Whether a version is agreed on then, whatever becomes of the reply. An INIT that finds no memory for its reply has agreed on nothing.
-abbrev pub agrees : (refused : Option Place) → Negotiated → (before : Bool) → Bool
-agrees (Some place) answer before = before
-agrees None (Use out) before = true
-agrees None (Again out) before = before
-agrees None Refuse before = before
+-- Whether a version is agreed on then, whatever becomes of the reply, also where it finds no memory.
+abbrev pub agrees : Negotiated → (before : Bool) → Bool
+agrees (Use out) before = true
+agrees (Again out) before = before
+agrees Refuse before = before
 
 abbrev pub HandlesInit : {W : Type 0} → ℕ → Option Negotiated → (before : Bool) → W → Turn → W → (now : Bool) → Type 0
 HandlesInit unique None before old turn new now = ⊥
-HandlesInit unique (Some answer) before old turn new now = Answers unique (init_reply_of answer) old turn new × (now ≡ agrees turn.refused answer before)
+HandlesInit unique (Some answer) before old turn new now = Answers unique (init_reply_of answer) old turn new × (now ≡ agrees answer before)
 
 -- ---- the rules, by the table's steps
 

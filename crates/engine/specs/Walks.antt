@@ -140,7 +140,7 @@ pub record IsAnswered {L : Type 0} (sends : L → List ℕ → Sent → L → Ty
 -- an INIT that is answered, and whether a version is agreed on then
 pub record RepliesInit {L : Type 0} (sends : L → List ℕ → Sent → L → Type 0) (unique : ℕ) (answer : Negotiated) (before : Bool) (old : L) (sent : Sent) (new : L) (now : Bool) : Type 0 where
   pub told : IsAnswered sends (record { unique = unique; body = init_reply_of answer }) old sent new
-  pub agreed : now ≡ agrees told.refused answer before
+  pub agreed : now ≡ agrees answer before
 
 abbrev pub RepliesInitBy : {L : Type 0} → (L → List ℕ → Sent → L → Type 0) → ℕ → Option Negotiated → (before : Bool) → L → Sent → L → (now : Bool) → Type 0
 RepliesInitBy sends unique None before old sent new now = ⊥

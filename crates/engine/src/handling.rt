@@ -47,7 +47,7 @@ fn init_reply_of(answer: Negotiated) -> ReplyBody
 
 /// Whether a version is agreed on by the answer to an INIT, or was before.
 fn agrees(answer: Negotiated, before: bool) -> bool
-    ensures { result ≡ agrees None answer before }
+    ensures { result ≡ agrees answer before }
 {
     match answer {
         Negotiated::Use(_) => true,
@@ -82,7 +82,7 @@ fn handle_destroy<L: Outlet>(link: &mut L, frame: &[u8], unique: u64) -> (Sent, 
 }
 
 impl Session {
-    /// Answers an INIT by what it comes to.
+    /// Answers an INIT by what it comes to. A version is agreed on also where memory is refused for the reply, which is ENOMEM then.
     fn reply_init<L: Outlet>(&mut self, link: &mut L, unique: u64, answer: Negotiated) -> Sent
         ensures replies { RepliesInit L.sends unique answer self.old.agreed link.old result link.new self.new.agreed }
         ensures settings { self.new.settings ≡ self.old.settings }
@@ -93,7 +93,10 @@ impl Session {
                 self.agreed = agrees(answer, self.agreed);
                 sent
             }
-            None => refuse(link, unique, ENOMEM),
+            None => {
+                self.agreed = agrees(answer, self.agreed);
+                refuse(link, unique, ENOMEM)
+            }
         }
     }
 

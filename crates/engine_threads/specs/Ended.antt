@@ -9,7 +9,7 @@ use Rattle.engine.specs.declared.ends.SessionEnd.{SessionEnd}
 use Rattle.engine.specs.declared.ends.SessionEnd.TheVariants.{LinkBroken}
 use Rattle.engine_queues.specs.declared.job.Job.{Job}
 use Rattle.engine_queues.specs.Gathered.{puts_of, takings_of}
-use Rattle.engine_queues.specs.Jobs.{Accounts}
+use Rattle.engine_queues.specs.Jobs.{Accounts, numbers}
 use Rattle.engine_queues.specs.Replies.{IsWhole}
 use Rattle.engine_queues.specs.declared.jobs.Hand.{Hand}
 use Rattle.engine_queues.specs.declared.replies.QueuedReply.{QueuedReply}
@@ -37,9 +37,11 @@ EndsAs input true end = end ≡ LinkBroken
 EndsAs (Some over) false end = end ≡ over
 EndsAs None false end = ⊥
 
--- Of the jobs that were read each was taken by one of these or is left, as often as it was read; and of the replies of each of these the
--- writer got the first ones, in their order, and the others are left.
+-- The jobs that were read are numbered from 0, in the order in which they were queued. Each was taken by one of these or is left, as often as
+-- it was read: so the ordinals of those taken and of those left are the numbers below how many there are, each once. And of the replies of
+-- each of these the writer got the first ones, in their order, and the others are left.
 pub record IsShared (read : Hand Job) (passes : List (Passes Job JobReply)) (written : ReplyLane JobReply) : Type 0 where
+  pub numbered : map (λ (j : Job). j.ordinal) read.put ≡ numbers 0 (length read.put)
   pub jobs_left : List Job
   pub jobs : Accounts read.put (flat_map (λ js. js) (takings_of passes)) jobs_left
   pub replies_left : List (QueuedReply JobReply)

@@ -15,12 +15,17 @@ use engine_queues::jobs::{Fair, Hand, JobPass, JobReceiver, JobSender};
 use engine_queues::replies::{
     InOrder, QueuedReply, ReplyLane, ReplyPass, ReplyReceiver, ReplySender,
 };
-use engine_turns::{JobReply, Reader, Shares, ThreadShare, Writer};
+use engine_turns::{JobReply, READ_AT_ONCE, Reader, Shares, ThreadShare, Writer};
 use ledger::Ledgers;
 use std::alloc::Global;
+use wire::HEADER_LEN;
 
 /// How many jobs wait at most: more than one receive can bring, which has 3,276 frames at most.
 const JOBS: usize = 3_328;
+
+// A receive ends at most the one frame that was begun before it, and brings whole frames of a header's length at least. With a place for
+// each of them a session with one worker reads on only once it has room.
+const _: () = prove!(READ_AT_ONCE / HEADER_LEN + 1 < JOBS);
 
 /// How many replies wait to be offered at most: as many as four threads may leave, so that nobody waits for a place.
 const REPLIES: usize = 4 * JOINED;

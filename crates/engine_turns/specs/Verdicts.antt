@@ -18,7 +18,7 @@ use Rattle.engine.specs.declared.ends.SessionEnd.TheVariants as ends
 -- whether a version is agreed on by the answer to an INIT, or was before
 abbrev pub greeted : Option Negotiated → (before : Bool) → Bool
 greeted None before = before
-greeted (Some answer) before = agrees None answer before
+greeted (Some answer) before = agrees answer before
 
 -- whether a version is agreed on after a frame: a lawful INIT that is in its place may agree on one
 abbrev pub VerdictBy : Class → (before : Bool) → List ℕ → (now : Bool) → Type 0

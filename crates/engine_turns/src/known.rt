@@ -27,7 +27,7 @@ impl Worker {
         served: &mut Served<C, D>,
     ) -> Turn
         ensures queues { (receives_on self.new.jobs ≡ receives_on self.old.jobs) × (sends_on self.new.replies ≡ sends_on self.old.replies) × (self.new.number ≡ self.old.number) }
-        ensures worked { (settled : Option Settlement) → result ≡ Turn.Worked settled → WorkedKnown (does C.gives D.keeps) C.tree C.faults self.old.session.settings self.old.number (standing (view self.old.job_pass) (outbox (view self.old.reply_pass) self.old.handed_back) (means served.old share.old (on_table_of table_handle.old.thread_log))) settled
+        ensures worked { (settled : Option Settlement) → result ≡ Turn.Worked settled → WorkedKnown (does C.gives D.keeps) C.limit C.tree C.faults self.old.session.settings self.old.number (standing (view self.old.job_pass) (outbox (view self.old.reply_pass) self.old.handed_back) (means served.old share.old (on_table_of table_handle.old.thread_log))) settled
             (standing (view self.new.job_pass) (outbox (view self.new.reply_pass) self.new.handed_back) (means served.new share.new (on_table_of table_handle.new.thread_log))) }
         ensures nothing { result ≡ Turn.Nothing → (view self.new.job_pass ≡ view self.old.job_pass) × (view self.new.reply_pass ≡ view self.old.reply_pass) × (self.new.handed_back ≡ self.old.handed_back) × (share.new ≡ share.old) × (served.new ≡ served.old) × (table_handle.new ≡ table_handle.old) }
         ensures settings { self.new.session.settings ≡ self.old.session.settings }

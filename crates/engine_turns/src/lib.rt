@@ -22,7 +22,7 @@ mod writing;
 
 pub use batches::{BATCH, Batch};
 pub use origins::{Sink, Source};
-pub use reader::Reader;
+pub use reader::{READ_AT_ONCE, Reader};
 pub use reader_role::ReaderRole;
 pub use reading::ReaderEnd;
 pub use replies::JobReply;

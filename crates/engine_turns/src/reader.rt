@@ -17,7 +17,7 @@ use std::sync::Wait;
 use wire::{CutFault, Cutter, Frame};
 
 /// How many bytes are asked of a link at a time: more than the longest frame has.
-const ROOM: usize = 131_072;
+pub const READ_AT_ONCE: usize = 131_072;
 
 #[derive(Drop)]
 pub struct Reader {
@@ -82,7 +82,7 @@ impl Reader {
         ensures none_back { IfOk result (λ r. (r.unkept ≡ 0) × (r.handed_back ≡ None)) }
     {
         let mut room = Vec::new(alloc);
-        room.resize(ROOM, 0)?;
+        room.resize(READ_AT_ONCE, 0)?;
         Ok(Reader {
             to,
             pass,

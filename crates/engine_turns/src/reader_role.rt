@@ -1,9 +1,10 @@
 //! The reader as a role.
 
-ghost use Rattle.std.specs.Prelude.{◌≡◌, ◌+◌, is_some, length, Some, IfSome, IfNone};
+ghost use Rattle.std.specs.Prelude.{◌≡◌, ◌+◌, is_some, length, map, Some, IfSome, IfNone};
 ghost use Rattle.std.specs.Option.{option_map};
 ghost use Rattle.crossbeam_channel.specs.Claims.{view, IsSeatAt};
 ghost use Rattle.crossbeam_channel.specs.Ends.{sends_on};
+ghost use Rattle.engine_queues.specs.Jobs.{numbers};
 ghost use Rattle.engine_turns.specs.Shown.{queued_of, reading, shown};
 ghost use Rattle.engine_turns.specs.Verdicts.{Reads};
 ghost use Rattle.engine_turns.specs.Reads.{beginning, HasRead, HasReadAll};
@@ -61,6 +62,7 @@ impl<I: LinkIn + Drop, S: Source<I>> ReaderRole<I, S> {
         ensures seat { IfSome S.jobs (λ jobs. IsSeatAt jobs result.pass) }
         ensures parts { (view result.pass).parts + S.parted ≡ 8 }
         ensures takes_none { length (view result.pass).taken ≡ 0 }
+        ensures numbered { map (λ j. j.ordinal) (view result.pass).put ≡ numbers 0 (length (view result.pass).put) }
         ensures same { (result.end ≡ self.end) × (result.last_job ≡ self.reader.last_job) × (result.is_handed_back ≡ is_some self.reader.handed_back) }
         ensures read { ∥ HasReadAll I.receives S.heard_from result.end (queued_of (view result.pass).put) (option_map shown result.last_job) result.is_handed_back ∥₁ }
     {

@@ -1,8 +1,9 @@
 //! What a reader leaves.
 
-ghost use Rattle.std.specs.Prelude.{◌≡◌, is_some, length};
+ghost use Rattle.std.specs.Prelude.{◌≡◌, is_some, length, map};
 ghost use Rattle.crossbeam_channel.specs.Claims.{view, IsSeatAt};
 ghost use Rattle.crossbeam_channel.specs.Ends.{sends_on};
+ghost use Rattle.engine_queues.specs.Jobs.{numbers};
 
 use crate::reader::Reader;
 use engine::SessionEnd;
@@ -27,6 +28,7 @@ impl ReaderEnd {
         ensures seat { IsSeatAt (sends_on reader.to) result.pass }
         ensures same { (view result.pass ≡ view reader.pass) × (result.end ≡ end) × (result.last_job ≡ reader.last_job) × (result.is_handed_back ≡ is_some reader.handed_back) }
         ensures takes_none { length (view result.pass).taken ≡ 0 }
+        ensures numbered { map (λ j. j.ordinal) (view result.pass).put ≡ numbers 0 (length (view result.pass).put) }
     {
         let Reader {
             to,

@@ -1,7 +1,7 @@
 -- What the puts of the sample names make of a tree.
 use Rattle.std.proofs.Common.{ℕ, ◌≡◌, Bool, true, false, if◌then◌else◌, List, [], ◌∷◌, codes, Option, Some, None, Ok, inl, inr, refl, ap, ◌∙◌}
 use Rattle.paths.specs.Prefixes.{Names}
-use Rattle.backing.specs.Calls.{AskMake, AskMakeDir, AskWrite, Works}
+use Rattle.backing.specs.Calls.{AskMake, AskMakeDir, AskWrite, Works, memory_limit}
 use Rattle.backing.specs.Entries.{tree_of}
 use Rattle.backing.specs.Files.{written}
 use Rattle.backing.specs.Memory.{PutsDir, PutsFile}
@@ -22,19 +22,19 @@ last_counts : (b : Bool) (first last other : Option Item) → (if b then last el
 last_counts true first last other = refl
 last_counts false first last other = refl
 
-made_file : (old new : Tree) (p : Names) → Works old (AskMake p None) Done new → new ≡ with_item old p (File [])
+made_file : (old new : Tree) (p : Names) → Works memory_limit old (AskMake p None) Done new → new ≡ with_item old p (File [])
 made_file old new p (inl (passes, (done, is))) = is
 made_file old new p (inr (errno, refuses, told, same)) = cc
 
-made_dir : (old new : Tree) (p : Names) → Works old (AskMakeDir p None) Done new → new ≡ with_item old p Folder
+made_dir : (old new : Tree) (p : Names) → Works memory_limit old (AskMakeDir p None) Done new → new ≡ with_item old p Folder
 made_dir old new p (inl (passes, (done, is))) = is
 made_dir old new p (inr (errno, refuses, told, same)) = cc
 
-wrote_none : (old new : Tree) (p : Names) (n : ℕ) → Works old (AskWrite p 0 []) (Wrote n) new → new ≡ old
+wrote_none : (old new : Tree) (p : Names) (n : ℕ) → Works memory_limit old (AskWrite p 0 []) (Wrote n) new → new ≡ old
 wrote_none old new p n (inl (passes, (wrote, is))) = is
 wrote_none old new p n (inr (errno, refuses, told, same)) = same
 
-wrote : (old new : Tree) (p : Names) (n byte : ℕ) (piece : List ℕ) → old p ≡ Some (File []) → Works old (AskWrite p 0 (byte ∷ piece)) (Wrote n) new
+wrote : (old new : Tree) (p : Names) (n byte : ℕ) (piece : List ℕ) → old p ≡ Some (File []) → Works memory_limit old (AskWrite p 0 (byte ∷ piece)) (Wrote n) new
     → new ≡ with_item old p (File (written [] 0 (byte ∷ piece)))
 wrote old new p n byte piece stood (inl (passes, (told, (bytes, stands, is)))) =
     let empty : bytes ≡ [] = cc in

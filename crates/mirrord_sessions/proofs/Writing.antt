@@ -2,6 +2,7 @@
 use Rattle.std.proofs.Common.{ℕ, ◌≡◌, Bool, List, [], ◌∷◌, ◌++◌, take, Option, refl, sym, subst, ap, ◌∙◌, append_assoc, arith, inl, inr}
 use Rattle.std.proofs.KnownBytes.{Appends-nil, Appends-trans}
 use Rattle.std.specs.Io.KnownBytes.{Appends}
+use Rattle.backing.specs.Calls.{memory_limit}
 use Rattle.backing.specs.Memory.{Memory as MemTree, Gives, memory_tree}
 use Rattle.engine.specs.Chain.{Chain}
 use Rattle.engine.specs.Links.{Event, Happens, Heard, In, Out, Piece, Ended, Broke}
@@ -48,7 +49,7 @@ written old new (Out frame sent.Broken ∷ events) chain last =
     (n, subst (λ (l : Hexing). Appends old.output l.output (lines_in events ++ take n (line frame))) (sym over) (subst (λ (xs : List ℕ). Appends old.output chain.0.output (xs ++ take n (line frame))) (sym none) chain.1.0.1))
 
 -- a link that was served from a new tree
-pub hex_served : (sampled : Bool) (postings : ℕ) (tree : MemTree) (old : Hexing) (over : SessionEnd) (new : Hexing) → IsStart sampled tree → ServesKnown (unowned postings) (traffic Receives Sends) (known_calls Gives memory_tree failed_in) tree old over new → ServesHex sampled postings old over new
+pub hex_served : (sampled : Bool) (postings : ℕ) (tree : MemTree) (old : Hexing) (over : SessionEnd) (new : Hexing) → IsStart sampled tree → ServesKnown (unowned postings) (traffic Receives Sends) (known_calls Gives memory_limit memory_tree failed_in) tree old over new → ServesHex sampled postings old over new
 hex_served sampled postings tree old over new start (inl known) =
     let client = known.served.run.client in
     let wrote = written old new (events_of client.steps) client.passes (breaks_last [] client.steps client.kept client.paces) in

@@ -1,5 +1,5 @@
 -- Sessions from a tree that is known.
-use Rattle.std.specs.Prelude.{ℕ, ◌≡◌, ◌⊎◌, ◌++◌}
+use Rattle.std.specs.Prelude.{ℕ, ◌≡◌, ◌⊎◌, ◌++◌, Option}
 use Rattle.backing.specs.Calls.{Asked}
 use Rattle.backing.specs.Tree.{Tree}
 use Rattle.backing.specs.declared.call.Answer.{Answer}
@@ -10,19 +10,20 @@ use Rattle.engine.specs.Known.{KnownRun}
 use Rattle.terms.specs.declared.terms.Terms.{Terms}
 use Rattle.mirrord_sessions.specs.Sessions.{IsServed}
 
--- what calls of a directory may answer that tells the tree in it and its count of failures
+-- what calls of a directory may answer that tells the tree in it, how long a file may be there, and its count of failures
 pub record KnownCalls (C : Type 0) : Type 1 where
   pub gives : C → Asked → Answer → C → Type 0
+  pub limit : Option ℕ
   pub tree : C → Tree
   pub faults : C → ℕ
 
-abbrev pub known_calls : {C : Type 0} → (C → Asked → Answer → C → Type 0) → (C → Tree) → (C → ℕ) → KnownCalls C
-known_calls gives tree faults = record { gives = gives; tree = tree; faults = faults }
+abbrev pub known_calls : {C : Type 0} → (C → Asked → Answer → C → Type 0) → Option ℕ → (C → Tree) → (C → ℕ) → KnownCalls C
+known_calls gives limit tree faults = record { gives = gives; limit = limit; tree = tree; faults = faults }
 
 -- All calls of a session are those of the tree from first to last, with the faults of its device as inputs; each is counted, and nothing else is.
 pub record IsKnownServed {L C : Type 0} (terms : Terms) (link : Traffic L) (calls : KnownCalls C) (first : C) (old : L) (over : SessionEnd) (new : L) : Type 0 where
   pub served : IsServed terms link calls.gives first old over new
-  pub known : KnownRun calls.tree calls.faults first (made_of (turns_of served.run.client.steps) ++ served.run.removal.removals) served.left
+  pub known : KnownRun calls.limit calls.tree calls.faults first (made_of (turns_of served.run.client.steps) ++ served.run.removal.removals) served.left
 
 -- the same, unless there is no memory for a table
 abbrev pub ServesKnown : {L C : Type 0} → Terms → Traffic L → KnownCalls C → C → L → SessionEnd → L → Type 0

@@ -2,6 +2,7 @@
 use Rattle.std.specs.Prelude.{ℕ, ◌≡◌, ◌≢◌, ◌⊎◌, ◌++◌, Bool, List, take, Option, Some, Result}
 use Rattle.std.specs.Borrow.{Bor}
 use Rattle.std.specs.Io.KnownBytes.{Appends}
+use Rattle.backing.specs.Calls.{memory_limit}
 use Rattle.backing.specs.Memory.{Memory as MemTree, Gives, memory_tree}
 use Rattle.clap.specs.Words.{Text}
 use Rattle.clap.specs.declared.error.kind.ErrorKind.{ErrorKind}
@@ -37,7 +38,7 @@ failed_in m = m.failed
 pub record IsHexServed (sampled : Bool) (postings : ℕ) (old : Hexing) (over : SessionEnd) (new : Hexing) : Type 0 where
   pub tree : MemTree
   pub start : IsStart sampled tree
-  pub known : IsKnownServed (unowned postings) (traffic Receives Sends) (known_calls Gives memory_tree failed_in) tree old over new
+  pub known : IsKnownServed (unowned postings) (traffic Receives Sends) (known_calls Gives memory_limit memory_tree failed_in) tree old over new
   pub part : ℕ
   pub written : Appends old.output new.output (lines_in (events_of known.served.run.client.steps) ++ take part (broken_line (events_of known.served.run.client.steps)))
 

@@ -94,7 +94,7 @@ pub fn serve_known<H: Wait, L: Link, C: KnownTree + Drop>(
     link: &mut L,
     terms: Terms,
 ) -> SessionEnd
-    ensures { ServesKnown terms (traffic L.receives L.sends) (known_calls C.gives C.tree C.faults) tree link.old result link.new }
+    ensures { ServesKnown terms (traffic L.receives L.sends) (known_calls C.gives C.limit C.tree C.faults) tree link.old result link.new }
 {
     serve_alone(rt, alloc, seeds, tree, link, terms)
 }

@@ -1,4 +1,5 @@
 use Rattle.std.proofs.Common.{subst}
+use Rattle.backing.specs.Calls.{memory_limit}
 use Rattle.backing.specs.Memory.{Gives, memory_tree}
 use Rattle.engine.specs.Serving.{traffic}
 use Rattle.mirrord_sessions.specs.Known.{known_calls, ServesKnown}
@@ -11,4 +12,4 @@ use Rattle.mirrord_sessions.proofs.runs.serve_new.Goals as goal
 pub returns : goal.returns
 returns g c =
     hex_served c.args.sample c.args.postings c.in-Ok.tree c.args.link.now c.serve_known.result c.serve_known.new.link c.in-Ok.ensures
-    (subst (λ (terms : Terms). ServesKnown terms (traffic Receives Sends) (known_calls Gives memory_tree failed_in) c.in-Ok.tree c.args.link.now c.serve_known.result c.serve_known.new.link) c.unowned.ensures c.serve_known.ensures)
+    (subst (λ (terms : Terms). ServesKnown terms (traffic Receives Sends) (known_calls Gives memory_limit memory_tree failed_in) c.in-Ok.tree c.args.link.now c.serve_known.result c.serve_known.new.link) c.unowned.ensures c.serve_known.ensures)

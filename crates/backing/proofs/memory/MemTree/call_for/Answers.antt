@@ -1,7 +1,7 @@
 use Rattle.std.proofs.Common.{◌≡◌, ◌∙◌, ℕ, Bool, ap, sym, subst}
 use Rattle.backing.specs.declared.call.Answer.{Answer}
 use Rattle.backing.specs.declared.told.Told.{Told}
-use Rattle.backing.specs.Calls.{Asked, asked}
+use Rattle.backing.specs.Calls.{memory_limit, Asked, asked}
 use Rattle.backing.specs.Device.{Performs, counted, one_if}
 use Rattle.backing.specs.Memory.{Memory, MakesCall, memory_tree}
 use Rattle.backing.specs.SharedTree.{CallsFor}
@@ -14,7 +14,7 @@ counted_for old new before after call told answer makes is count = record {
   gives = record {
     device = makes.gives.device;
     treats = makes.gives.treats;
-    performs = subst (λ (a : Answer). Performs (memory_tree old) makes.gives.device call a (memory_tree new)) (sym is) makes.gives.performs;
+    performs = subst (λ (a : Answer). Performs memory_limit (memory_tree old) makes.gives.device call a (memory_tree new)) (sym is) makes.gives.performs;
     kept = makes.gives.kept;
     old_is_tree = makes.gives.old_is_tree;
     new_is_tree = makes.gives.new_is_tree;

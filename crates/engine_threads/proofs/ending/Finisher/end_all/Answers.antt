@@ -68,7 +68,7 @@ pub returns-clause-shared : goal.returns-clause-shared
 returns-clause-shared g c =
     let j = c.gather-taken.ensures.jobs in
     let r = c.gather-taken.ensures.replies in
-    shared_as _ _ _ _ _ _ (ap view c.of.ensures) (ap (λ v. v.items) c.of-3.ensures) (ap view c.of-2.ensures) j.0 j.1 r.0 r.1
+    shared_as _ _ _ _ _ _ (ap view c.of.ensures) (ap (λ v. v.items) c.of-3.ensures) (ap view c.of-2.ensures) c.into_end-pass.ensures.numbered j.0 j.1 r.0 r.1
 
 pub returns-clause-worked : goal.returns-clause-worked
 returns-clause-worked g c =

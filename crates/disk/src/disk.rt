@@ -1,0 +1,172 @@
+//! The calls of a system below an open folder.
+
+ghost use Rattle.std.specs.Prelude.{ℕ, List, [], ◌∷◌, ◌++◌, ◌≡◌, ◌<◌, ◌≤◌, IfOk, OnOk, length};
+ghost use Rattle.paths.specs.Prefixes.{Names};
+ghost use Rattle.disk.specs.Names.{IsLawfulName};
+
+use crate::error::DiskError;
+use crate::stat::{Access, Change, Stat};
+use paths::Name;
+use std::alloc::Global;
+
+/// A folder of a system, and all that is below it. What is below it is reached from a folder that is open, by one name.
+///
+/// Each clause is about one call of an honest system, and supposes that what is handed to it stands somewhere. A system of which
+/// nothing is known says that nothing stands anywhere, and meets all of them.
+pub trait Disk {
+    ghost use Rattle.backing.specs.Tree.{Tree, IsTree};
+    ghost use Rattle.disk.specs.declared.stat.Change.{Change};
+    ghost use Rattle.disk.specs.Answers.{Inspects, Looks, OpensDir, OpensFile, Reads, ListsNames, Makes, MakesDir, Removes, RemovesDir, Renames, Writes, Cuts, AreApart};
+
+    /// A file or folder that is open for as long as the value is there. No value ever comes back.
+    type Handle: Drop;
+
+    /// What stands at each path below the folder.
+    ghost tree: { Self → Tree };
+
+    /// At which path an open file or folder stands.
+    ghost stands: { Self → Self.Handle → Names → Type 0 };
+
+    /// What was set of what stands at a path.
+    ghost has_set: { Self → Names → Change → Type 0 };
+
+    /// What stands at that path was brought to the disk.
+    ghost has_synced: { Self → Names → Type 0 };
+
+    /// The system does what it says, and nobody else changes the folder.
+    ghost honest: { Type 0 };
+
+    /// Where memory comes from.
+    fn alloc(&self) -> Global;
+
+    /// Milliseconds by a clock that does not go back.
+    fn now(&self) -> u64;
+
+    /// How often others who serve the same folder with this process have removed or moved a name.
+    fn changes(&self) -> u64;
+
+    /// Whether the system keeps files open by itself, so that opening one again costs no call.
+    fn keeps_files(&self) -> bool;
+
+    /// Opens the folder itself.
+    fn open_root(&self) -> Result<Self::Handle, DiskError>
+        ensures { IfOk result (λ handle. honest → stands self.now handle []) };
+
+    /// What an open file or folder is: `fstat`.
+    fn inspect(&self, handle: &Self::Handle) -> Result<Stat, DiskError>
+        ensures { (p : Names) → stands self.now handle.now p → Inspects (tree self.now) p result };
+
+    /// What stands at the name, a link itself: `fstatat`.
+    fn look(&self, dir: &Self::Handle, name: &Name) -> Result<Stat, DiskError>
+        requires { IsLawfulName name.now }
+        ensures { (up : Names) → stands self.now dir.now up → Looks (tree self.now) (up ++ name.now ∷ []) result };
+
+    /// Opens the folder at the name, and no link: `openat`.
+    fn open_dir(&self, dir: &Self::Handle, name: &Name) -> Result<Self::Handle, DiskError>
+        requires { IsLawfulName name.now }
+        ensures { (up : Names) → stands self.now dir.now up → OpensDir (tree self.now) (stands self.now) (up ++ name.now ∷ []) result };
+
+    /// Opens the file at the name, and no link: `openat`. It is neither made nor cut.
+    fn open_file(
+        &self,
+        dir: &Self::Handle,
+        name: &Name,
+        access: Access,
+    ) -> Result<Self::Handle, DiskError>
+        requires { IsLawfulName name.now }
+        ensures { (up : Names) → stands self.now dir.now up → OpensFile (tree self.now) (stands self.now) (up ++ name.now ∷ []) result };
+
+    /// Reads a part, to the buffer's start: how many bytes (`pread`).
+    fn read_at(
+        &self,
+        file: &Self::Handle,
+        buffer: &mut [u8],
+        offset: u64,
+    ) -> Result<usize, DiskError>
+        requires { 0 < length buffer.old }
+        ensures within { IfOk result (λ n. n ≤ length buffer.new) }
+        ensures bytes { (p : Names) → stands self.now file.now p → Reads (tree self.now) p offset result buffer.new };
+
+    /// The names in an open folder, without `.` and `..`: `getdents`.
+    fn list(&self, dir: &Self::Handle) -> Result<Vec<Name>, DiskError>
+        ensures { (p : Names) → stands self.now dir.now p → IfOk result (λ names. ListsNames (tree self.now) p names.items) };
+
+    /// Brings an open file or folder to the disk: `fsync`.
+    fn sync(&self, handle: &Self::Handle) -> Result<(), DiskError>
+        ensures { (p : Names) → stands self.now handle.now p → OnOk result (has_synced self.now p) };
+
+    /// Sets it of an open file or folder: `fchmod`, `fchown`, `futimens`.
+    fn set(&self, handle: &Self::Handle, change: Change) -> Result<(), DiskError>
+        ensures { (p : Names) → stands self.now handle.now p → OnOk result (has_set self.now p change) };
+
+    /// Sets it of what stands at the name and cannot be opened, and of no link: `fchmodat`, `fchownat`, `utimensat`.
+    fn set_at(&self, dir: &Self::Handle, name: &Name, change: Change) -> Result<(), DiskError>
+        requires { IsLawfulName name.now }
+        ensures { (up : Names) → stands self.now dir.now up → OnOk result (has_set self.now (up ++ name.now ∷ []) change) };
+
+    /// Writes a part: how many bytes (`pwrite`).
+    fn write_at(
+        &mut self,
+        file: &Self::Handle,
+        bytes: &[u8],
+        offset: u64,
+    ) -> Result<usize, DiskError>
+        requires { 0 < length bytes.now }
+        ensures within { IfOk result (λ n. n ≤ length bytes.now) }
+        ensures bytes { (p : Names) → stands self.old file.now p → Writes (tree self.old) (stands self.old) p offset bytes.now result (tree self.new) (stands self.new) };
+
+    /// Cuts the file, or fills it with zeros: `ftruncate`.
+    fn set_len(&mut self, file: &Self::Handle, size: u64) -> Result<(), DiskError>
+        ensures { (p : Names) → stands self.old file.now p → Cuts (tree self.old) (stands self.old) p size result (tree self.new) (stands self.new) };
+
+    /// Makes an empty file where nothing stands, and opens it to be read and written: `openat`. It has these permission bits, or
+    /// else the process's default.
+    fn make_file(
+        &mut self,
+        dir: &Self::Handle,
+        name: &Name,
+        permissions: Option<u32>,
+    ) -> Result<Self::Handle, DiskError>
+        requires { IsLawfulName name.now }
+        ensures { (up : Names) → stands self.old dir.now up → Makes (tree self.old) (stands self.old) (up ++ name.now ∷ []) result (tree self.new) (stands self.new) };
+
+    /// Makes an empty folder where nothing stands, with permission bits as `make_file`: `mkdirat`.
+    fn make_dir(
+        &mut self,
+        dir: &Self::Handle,
+        name: &Name,
+        permissions: Option<u32>,
+    ) -> Result<(), DiskError>
+        requires { IsLawfulName name.now }
+        ensures { (up : Names) → stands self.old dir.now up → MakesDir (tree self.old) (stands self.old) (up ++ name.now ∷ []) result (tree self.new) (stands self.new) };
+
+    /// Removes the file: `unlinkat`.
+    fn remove_file(&mut self, dir: &Self::Handle, name: &Name) -> Result<(), DiskError>
+        requires { IsLawfulName name.now }
+        ensures { (up : Names) → stands self.old dir.now up → Removes (tree self.old) (stands self.old) (up ++ name.now ∷ []) result (tree self.new) (stands self.new) };
+
+    /// Removes the folder, which has no names: `unlinkat`.
+    fn remove_dir(&mut self, dir: &Self::Handle, name: &Name) -> Result<(), DiskError>
+        requires { IsLawfulName name.now }
+        ensures { (up : Names) → stands self.old dir.now up → RemovesDir (tree self.old) (stands self.old) (up ++ name.now ∷ []) result (tree self.new) (stands self.new) };
+
+    /// Renames, to another path, and replaces what stands there: `renameat`.
+    fn rename(
+        &mut self,
+        from_dir: &Self::Handle,
+        from: &Name,
+        to_dir: &Self::Handle,
+        to: &Name,
+    ) -> Result<(), DiskError>
+        requires from { IsLawfulName from.now }
+        requires to { IsLawfulName to.now }
+        ensures { (up up' : Names) → stands self.old from_dir.now up → stands self.old to_dir.now up' → AreApart (up ++ from.now ∷ []) (up' ++ to.now ∷ []) → Renames (tree self.old) (stands self.old) (up ++ from.now ∷ []) (up' ++ to.now ∷ []) result (tree self.new) (stands self.new) };
+
+    /// What stands below the folder is a tree.
+    ghost is_tree: { (disk : Self) → IsTree (tree disk) };
+}
+
+/// A system that does what it says, below a folder that nobody else changes.
+pub trait HonestDisk: Disk {
+    ghost is_honest: { Self.honest };
+}
