@@ -17,7 +17,7 @@ returns-in-Some-clause-replies g c =
 pub returns-in-None-clause-replies : goal.returns-in-None-clause-replies
 returns-in-None-clause-replies g c =
     let none = c.in-None.ensures.none in
-    unwelcomed g.L.Outlet.sends c.args.unique c.args.answer c.args.self.now.agreed c.args.link.now c.refuse.new.link c.refuse.result c.agrees-self.result
+    unwelcomed g.L.Outlet.sends c.args.unique c.args.answer c.args.self.now.agreed c.args.link.now c.refuse.new.link c.refuse.result c.agrees-self-in-None.result
     (subst (λ (b : ReplyBody). TakesMemory b) c.init_reply_of-body.ensures none.0)
     (sent_from g.L.Outlet.sends c.args.link.now c.offer.new.link c.refuse.new.link (reply_bytes (refusal c.args.unique ENOMEM)) c.refuse.result none.1 c.refuse.ensures)
-    (c.agrees-self.ensures ∙ ap (λ (b : Bool). agrees c.args.answer b) c.in-None.ensures.agreed)
+    (c.agrees-self-in-None.ensures ∙ ap (λ (b : Bool). agrees c.args.answer b) c.in-None.ensures.agreed)
