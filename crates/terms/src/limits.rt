@@ -5,22 +5,22 @@ ghost use Rattle.std.specs.Prelude.{◌≡◌};
 /// What bounds the lookup counts.
 #[derive(Clone, Copy, Debug, PartialEq, Eq)]
 pub enum Counts {
-    /// The postings of a period: there is room for one by which each of them may be forgotten.
+    /// The postings of a period: room is kept for the posting that forgets each of them.
     Bounded,
-    /// 64 bits alone: where a call has no room for its postings, the period ends before it.
+    /// 64 bits alone: where a call finds no room for its postings, the period is ended before it.
     Free,
 }
 
 /// How far a table may grow.
 #[derive(Clone, Copy, Debug, PartialEq, Eq)]
 pub struct Limits {
-    /// Living nodes, with the root and with those that requests in flight were promised: at least 1.
+    /// Living nodes, including the root and those that requests in flight were promised: at least 1.
     pub nodes: u64,
-    /// Postings of a period, with those by which all counts may be taken back where these are bounded. Where they are free, at least as
-    /// many as nodes: so many may be carried into the next period.
+    /// Postings of a period; where counts are bounded, including those that take back all counts. Where they are free,
+    /// at least as many as there may be nodes, since that many may be carried into the next period.
     pub postings: u64,
     pub counts: Counts,
-    /// Requests in flight, those whose reply is not settled yet among them.
+    /// Requests in flight, including those whose reply is not settled yet.
     pub flights: u64,
     /// Open files.
     pub files: u64,
