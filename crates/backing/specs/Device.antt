@@ -1,4 +1,4 @@
--- A device that may fail, before a call's work or after it, and counts it.
+-- A device that may fail, before or after a call's work, and counts its failures.
 use Rattle.std.specs.Prelude.{ℕ, ℤ, ◌≡◌, ◌⊎◌, ◌+◌, ◌-◌, ◌^◌, min, Bool, true, false}
 use Rattle.backing.specs.declared.call.Answer.{Answer}
 use Rattle.backing.specs.declared.call.Answer.TheVariants.{Fault}
@@ -11,7 +11,7 @@ pub data Device : Type 0 where
   Before : (errno : ℤ) → Device
   After : (errno : ℤ) → Device
 
--- The answer and effect of a call, as the device treats it. What the tree itself refuses has no work to lose.
+-- The answer and effect of a call on this device. What the tree itself refuses has no work that could be lost.
 abbrev pub Performs : Tree → Device → Asked → Answer → Tree → Type 0
 Performs old Sound call answer new = Works old call answer new
 Performs old (Before errno) call answer new = (answer ≡ Fault errno) × (new ≡ old)
@@ -31,17 +31,17 @@ one_if false = 0
 abbrev pub faulty : Device → ℕ
 faulty device = one_if (fails device)
 
--- so many more on a count of 64 bits, which stays when it is full
+-- a count of 64 bits increased by that much, which stays at its maximum
 abbrev pub counted : ℕ → ℕ → ℕ
 counted n by = n + min by (2 ^ 64 - 1 - n)
 
--- A call on a tree, as the device treats it, whose failure is one more, and nothing else is.
+-- A call on a tree through this device. A failure increases the count by one, and nothing else does.
 abbrev pub Counted : Tree → ℕ → Asked → Answer → Tree → ℕ → Type 0
 Counted old before call answer new after = (device : Device) × Performs old device call answer new × (after ≡ counted before (faulty device))
 
 abbrev pub IsFault : Answer → Type 0
 IsFault answer = (errno : ℤ) × (answer ≡ Fault errno)
 
--- A count of failures over a call: as before, or one more, which a fault tells.
+-- The count of failures after a call: unchanged, or increased by one if the call gave a fault.
 abbrev pub Counts : ℕ → Answer → ℕ → Type 0
 Counts before answer after = (after ≡ before) ⊎ ((after ≡ counted before 1) × IsFault answer)
