@@ -1,4 +1,4 @@
--- Sessions from a tree that is known.
+-- Sessions on a directory with a known tree.
 use Rattle.std.specs.Prelude.{ℕ, ◌≡◌, ◌⊎◌, ◌++◌}
 use Rattle.backing.specs.Calls.{Asked}
 use Rattle.backing.specs.Tree.{Tree}
@@ -10,7 +10,7 @@ use Rattle.engine.specs.Known.{KnownRun}
 use Rattle.terms.specs.declared.terms.Terms.{Terms}
 use Rattle.mirrord_sessions.specs.Sessions.{IsServed}
 
--- what calls of a directory may answer that tells the tree in it and its count of failures
+-- the possible answers of a directory, in terms of its known tree and its count of failures
 pub record KnownCalls (C : Type 0) : Type 1 where
   pub gives : C → Asked → Answer → C → Type 0
   pub tree : C → Tree
@@ -19,11 +19,12 @@ pub record KnownCalls (C : Type 0) : Type 1 where
 abbrev pub known_calls : {C : Type 0} → (C → Asked → Answer → C → Type 0) → (C → Tree) → (C → ℕ) → KnownCalls C
 known_calls gives tree faults = record { gives = gives; tree = tree; faults = faults }
 
--- All calls of a session are those of the tree from first to last, with the faults of its device as inputs; each is counted, and nothing else is.
+-- All calls of a session are calls on the tree, from the first to the last, with the failures of its device as inputs;
+-- each is counted, and nothing else is.
 pub record IsKnownServed {L C : Type 0} (terms : Terms) (link : Traffic L) (calls : KnownCalls C) (first : C) (old : L) (over : SessionEnd) (new : L) : Type 0 where
   pub served : IsServed terms link calls.gives first old over new
   pub known : KnownRun calls.tree calls.faults first (made_of (turns_of served.run.client.steps) ++ served.run.removal.removals) served.left
 
--- the same, unless there is no memory for a table
+-- the same, unless memory for a table was refused
 abbrev pub ServesKnown : {L C : Type 0} → Terms → Traffic L → KnownCalls C → C → L → SessionEnd → L → Type 0
 ServesKnown terms link calls first old over new = IsKnownServed terms link calls first old over new ⊎ ((over ≡ end.Memory) × (new ≡ old))
