@@ -236,7 +236,6 @@ fn serve_table<
 /// Serves a client until its session ends, with one thread for each of 1 to 4 directories. Each thread takes whichever
 /// turn is due: it offers the replies that are ready, works on a job, or reads. With any other number of directories
 /// nothing is read. The directories should show one tree.
-/// one tree.
 pub fn serve_threads<
     H: Threads + Wait + Clone + Send + Sync + Drop + 'static,
     I: LinkIn + Send + Drop + 'static,
