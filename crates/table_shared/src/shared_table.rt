@@ -107,8 +107,8 @@ impl<T: Ledgers, O: Opening> SharedTable<T, O> {
         }
     }
 
-    /// Locks the table. Whoever holds the lock releases it within a microsecond or two, and sleeping and being woken
-    /// takes longer. So the lock is tried for a while before the thread waits for it.
+    /// Locks the table. The thread that holds the lock releases it within a microsecond or two, and sleeping and being
+    /// woken takes longer. So the lock is tried for a while before the thread waits for it.
     fn enter<H: Wait>(&self, rt: &H) -> MutexGuard<'_, Recorded<T, O>> {
         for _ in 0..ASKED {
             if let Some(table) = self.table.try_lock() {
