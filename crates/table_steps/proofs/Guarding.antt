@@ -140,7 +140,7 @@ module _ (old : Lookup) (flights : RequestsInFlight) (d : Footprint) (held : Hel
   follows_to hidden new c p t false beside same n w h = (w, subst (λ (at : Lookup). Stands at n w) (sym same) h, λ e. e)
   follows_to hidden new c p t true beside changes n w h = (after_follow c p t w, changes.moved n w h, followed_from c p t q beside w)
 
-  -- a node that comes to that path was there before
+  -- a node that is at that path afterwards was there before
   pub lands : (change : Change) (new : Lookup) → AreOwn d.exclusive change → Alters old change new → (n : ℕ) (w : Where) → Stands old n w → (v : Where) × Stands new n v × (v ≡ at_path q → w ≡ at_path q)
   lands stays new own same n w h = (w, subst (λ (at : Lookup). Stands at n w) (sym same) h, λ e. e)
   lands (cuts l) new own it n w h = (after_cut it.path w, it.changes.moved n w h, cut_from it.path q w)
