@@ -256,7 +256,7 @@ fn a_folder_is_not_removed_with_what_came_into_it(rt: HostRuntime) -> Result<(),
     tell(rt, "late", Trick::Enter, rows.as_slice(), 1)
 }
 
-// What another process creates between the `lstat` of a target and the rename is replaced, and nobody is told.
+// What another process creates between the `lstat` of a target and the rename is replaced without an error.
 #[test]
 fn a_move_replaces_what_came_after_its_look(rt: HostRuntime) -> Result<(), Fail> {
     let rows = [("rename-new a b", "done"), ("read b 0 9", "bytes 616263")];
