@@ -100,7 +100,7 @@ impl LinkOut for Client {
 
     fn send(&mut self, frame: &[u8]) -> Sent {
         self.sends = self.sends.saturating_add(1);
-        // Its handle is read whether it is then taken or not.
+        // The handle in it is read whether or not the reply is then taken.
         let told = self.handles.told(*self.taken.allocator(), frame);
         info!(self.log; target: "link", "{} bytes are offered", frame.len());
         if self.sends == self.declined {

@@ -32,7 +32,6 @@ fn sample_names_or_none(rt: HostRuntime) -> Result<(), Fail> {
 const WITH_SIX: [(&[&str], &[&str]); 2] = [
     // A period ends before the third LOOKUP. The fourth has no room for its postings. After everything is forgotten
     // another period ends, and number 2 is born again with the next generation.
-    // born again with the next generation.
     (
         &[
             INIT,
