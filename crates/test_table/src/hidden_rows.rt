@@ -149,7 +149,6 @@ fn candidate_is_taken(rt: HostRuntime) -> Result<(), Fail> {
 
 /// The files of `e`, `d/x` and `a` are hidden in this order, and listed by the numbers of their nodes. A folder that is
 /// moved takes its hidden file along, and one that is removed takes away the mark.
-/// that is removed takes away the mark.
 const LEFTOVERS: Story = Story {
     limits: DEFAULT,
     steps: &[
@@ -208,7 +207,6 @@ fn leftovers_by_number(rt: HostRuntime) -> Result<(), Fail> {
 
 /// A path of 4,067 bytes with a candidate in it has 4,096 bytes. In a folder whose path is one byte longer the removal
 /// of an open file is refused, though the path of the file is short enough, and before any conflict.
-/// of the file is short enough, before any request in the way.
 #[test]
 fn candidate_is_too_long(rt: HostRuntime) -> Result<(), Fail> {
     let name = long_name(rt.alloc(), 4_067)?;
