@@ -5,9 +5,9 @@ ghost use Rattle.std.specs.Prelude.{◌≡◌};
 /// What bounds the lookup counts.
 #[derive(Clone, Copy, Debug, PartialEq, Eq)]
 pub enum Counts {
-    /// The postings of a period: room is kept for the posting that forgets each of them.
+    /// The postings of a period: room is kept for forgetting each lookup with a posting of its own.
     Bounded,
-    /// 64 bits alone: where a call finds no room for its postings, the period is ended before it.
+    /// Only the 64 bits of a count: if a call has no room for its postings, the period ends first.
     Free,
 }
 
@@ -16,8 +16,8 @@ pub enum Counts {
 pub struct Limits {
     /// Living nodes, including the root and those that requests in flight were promised: at least 1.
     pub nodes: u64,
-    /// Postings of a period; where counts are bounded, including those that take back all counts. Where they are free,
-    /// at least as many as there may be nodes, since that many may be carried into the next period.
+    /// Postings of a period. If counts are bounded, this includes those that take back all counts. If they are free, it
+    /// is at least the maximum number of nodes, since that many may be carried over into the next period.
     pub postings: u64,
     pub counts: Counts,
     /// Requests in flight, including those whose reply is not settled yet.

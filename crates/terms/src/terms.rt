@@ -15,9 +15,9 @@ pub struct Bounds {
     pub files: u32,
     /// How many requests may be in flight, including those whose reply is not settled yet.
     pub requests: u32,
-    /// How many postings a period of the ledger may have; where counts are free, at least two per node.
+    /// How many postings a period of the ledger may have; if counts are free, at least two per node.
     pub postings: u32,
-    /// What bounds the lookup counts: the postings of a period, or 64 bits alone.
+    /// What bounds the lookup counts: the postings of a period, or only 64 bits.
     pub counts: Counts,
 }
 
