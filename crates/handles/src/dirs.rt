@@ -107,8 +107,8 @@ impl Dirs {
         put
     }
 
-    /// Lends the listing under the handle. None means EBADF (own). It also is the answer if too many hold the listing
-    /// already (2^30).
+    /// Lends the listing under the handle. None means EBADF (own). It is also the answer if the listing is already lent
+    /// too often (2^30 times).
     pub fn lend(&self, fh: u64) -> Option<Lent<'_>>
         ensures { IfSome result (IsLent fh) }
     {
