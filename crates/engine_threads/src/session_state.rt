@@ -116,7 +116,7 @@ impl Signs {
     }
 }
 
-/// What all threads of a session share. The locks of both roles are mostly only tried: a thread that finds one taken
+/// What all threads of a session share. A thread usually only tries the locks of the two roles: if one is taken, it
 /// goes on to another turn.
 #[derive(Drop)]
 pub struct Common<
