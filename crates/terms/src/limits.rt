@@ -7,7 +7,7 @@ ghost use Rattle.std.specs.Prelude.{◌≡◌};
 pub enum Counts {
     /// The postings of a period: room is kept for forgetting each lookup with a posting of its own.
     Bounded,
-    /// Only the 64 bits of a count: if a call has no room for its postings, the period ends first.
+    /// Only 64 bits: if a call has no room for its postings, the period ends first.
     Free,
 }
 
